@@ -14,20 +14,20 @@ use ftp_operation::Login;
 use std::alloc::Allocator;
 
 /// A client. `F` is what a transfer carries; its calls are those of the trait `Near` of `ftp_client_model`.
-pub struct Client<A: Allocator, F: Drop> {
+pub struct Client<A: Allocator + Copy, F: Drop> {
     pub(crate) counted: Counted<A, F>,
     /// It holds little, and goes on so.
     ghost fit: { ∥ StaysFit counted ∥₁ },
 }
 
 /// By hand: a derived drop is proved again, part by part, wherever a client is let go.
-impl<A: Allocator, F: Drop> Drop for Client<A, F> {
+impl<A: Allocator + Copy, F: Drop> Drop for Client<A, F> {
     fn drop(self) {
         let Self { counted: _ } = self;
     }
 }
 
-impl<A: Allocator + Clone, F: ClientTransfer<A>> Client<A, F> {
+impl<A: Allocator + Copy, F: ClientTransfer<A>> Client<A, F> {
     ghost use Rattle.ftp_client.specs.Calls.{client_of};
 
     /// A client of this login, on this host, of the server on its peer's host. Refused memory, it hands the login back.

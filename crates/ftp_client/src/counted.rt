@@ -24,13 +24,13 @@ use std::alloc::Allocator;
 
 /// What a client holds, and how many growths were refused to it. `F` is what a transfer carries.
 #[derive(Drop)]
-pub struct Counted<A: Allocator, F: Drop> {
+pub struct Counted<A: Allocator + Copy, F: Drop> {
     pub(crate) dialogue: Dialogue<A, F>,
     /// Moves on by wrapping.
     pub(crate) refusals: u64,
 }
 
-impl<A: Allocator + Clone, F: ClientTransfer<A>> Counted<A, F> {
+impl<A: Allocator + Copy, F: ClientTransfer<A>> Counted<A, F> {
     ghost use Rattle.ftp_client.specs.Counted.{counted_of};
 
     /// A client of this login, on this host, of the server on its peer's host. Refused memory, it hands the login back.

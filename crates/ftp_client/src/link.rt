@@ -17,7 +17,7 @@ use std::alloc::{AllocError, Allocator};
 
 /// A port is listened at, and PORT names it. Refused memory, it is listened at all the same.
 #[tactic(auto, unfolding(ftp_client_model::specs::Calls::listening))]
-pub fn listening<A: Allocator + Clone, F: ClientTransfer<A>>(
+pub fn listening<A: Allocator + Copy, F: ClientTransfer<A>>(
     dialogue: &mut Dialogue<A, F>,
     port: u16,
 ) -> Result<(), AllocError>
@@ -41,7 +41,7 @@ pub fn listening<A: Allocator + Clone, F: ClientTransfer<A>>(
 
 /// No port can be had: the operation is not opened.
 #[tactic(auto, unfolding(ftp_client_model::specs::Calls::listen_refused), using(ftp_client_session::proofs::HeardLemmas::short_alike))]
-pub fn listen_refused<A: Allocator + Clone, F: ClientTransfer<A>>(
+pub fn listen_refused<A: Allocator + Copy, F: ClientTransfer<A>>(
     dialogue: &mut Dialogue<A, F>,
 ) -> Result<(), AllocError>
     ensures ok { OnOk result (view_of F.flow dialogue.new ≡ listen_refused (view_of F.flow dialogue.old)) }
@@ -58,7 +58,7 @@ pub fn listen_refused<A: Allocator + Clone, F: ClientTransfer<A>>(
 
 /// The link is open; this host is at its other end.
 #[tactic(auto, unfolding(ftp_client_model::specs::Calls::data_opened), using(ftp_client_session::proofs::HeardLemmas::short_alike))]
-pub fn data_opened<A: Allocator + Clone, F: ClientTransfer<A>>(
+pub fn data_opened<A: Allocator + Copy, F: ClientTransfer<A>>(
     dialogue: &mut Dialogue<A, F>,
     host: Host,
 ) -> Result<(), AllocError>
@@ -79,7 +79,7 @@ pub fn data_opened<A: Allocator + Clone, F: ClientTransfer<A>>(
 
 /// The link broke, or the server closed it before its time.
 #[tactic(auto, unfolding(ftp_client_model::specs::Calls::data_fault), using(ftp_client_session::proofs::HeardLemmas::short_alike))]
-pub fn data_fault<A: Allocator + Clone, F: ClientTransfer<A>>(
+pub fn data_fault<A: Allocator + Copy, F: ClientTransfer<A>>(
     dialogue: &mut Dialogue<A, F>,
 ) -> Result<(), AllocError>
     ensures ok { OnOk result (view_of F.flow dialogue.new ≡ data_fault (view_of F.flow dialogue.old)) }
@@ -96,7 +96,7 @@ pub fn data_fault<A: Allocator + Clone, F: ClientTransfer<A>>(
 
 /// The server closed the open link.
 #[tactic(auto, unfolding(ftp_client_model::specs::Calls::data_end), using(ftp_client_session::proofs::HeardLemmas::short_alike))]
-pub fn data_end<A: Allocator + Clone, F: ClientTransfer<A>>(
+pub fn data_end<A: Allocator + Copy, F: ClientTransfer<A>>(
     dialogue: &mut Dialogue<A, F>,
 ) -> Result<(), AllocError>
     ensures ok { OnOk result (view_of F.flow dialogue.new ≡ data_end (view_of F.flow dialogue.old)) }
@@ -114,7 +114,7 @@ pub fn data_end<A: Allocator + Clone, F: ClientTransfer<A>>(
 
 /// The link was not had: an operation without one is not opened, and at the client's port it counts as broken (own choice).
 #[tactic(auto, unfolding(ftp_client_model::specs::Calls::data_refused), using(ftp_client_session::proofs::HeardLemmas::short_alike))]
-pub fn data_refused<A: Allocator + Clone, F: ClientTransfer<A>>(
+pub fn data_refused<A: Allocator + Copy, F: ClientTransfer<A>>(
     dialogue: &mut Dialogue<A, F>,
 ) -> Result<(), AllocError>
     ensures ok { OnOk result (view_of F.flow dialogue.new ≡ data_refused (view_of F.flow dialogue.old)) }
@@ -136,7 +136,7 @@ pub fn data_refused<A: Allocator + Clone, F: ClientTransfer<A>>(
 }
 
 /// The link that the client opened is there, and the next command is sent.
-fn connected<A: Allocator + Clone, F: ClientTransfer<A>>(
+fn connected<A: Allocator + Copy, F: ClientTransfer<A>>(
     dialogue: &mut Dialogue<A, F>,
 ) -> Result<(), AllocError>
     ensures ok { OnOk result (view_of F.flow dialogue.new ≡ connected (view_of F.flow dialogue.old).job (view_of F.flow dialogue.old)) }
@@ -151,7 +151,7 @@ fn connected<A: Allocator + Clone, F: ClientTransfer<A>>(
 }
 
 /// A link at the client's port has to come from the server's host, and another is closed (own choice).
-fn accepted<A: Allocator + Clone, F: ClientTransfer<A>>(
+fn accepted<A: Allocator + Copy, F: ClientTransfer<A>>(
     dialogue: &mut Dialogue<A, F>,
     host: Host,
 ) -> Result<(), AllocError>
@@ -170,7 +170,7 @@ fn accepted<A: Allocator + Clone, F: ClientTransfer<A>>(
 }
 
 /// The link is over, in this way.
-fn over<A: Allocator + Clone, F: ClientTransfer<A>>(
+fn over<A: Allocator + Copy, F: ClientTransfer<A>>(
     dialogue: &mut Dialogue<A, F>,
     ending: Ending,
 ) -> Result<(), AllocError>

@@ -10,7 +10,7 @@ use ftp_client_steps::{ClientTransfer, Verdict};
 use std::alloc::{AllocError, Allocator};
 
 /// After a greeting USER is sent; 120 is skipped, and another greeting has no place (own choice).
-pub(crate) fn greeted<A: Allocator + Clone, F: ClientTransfer<A>>(
+pub(crate) fn greeted<A: Allocator + Copy, F: ClientTransfer<A>>(
     dialogue: &mut Dialogue<A, F>,
     verdict: Verdict,
     code: u16,
@@ -39,7 +39,7 @@ pub(crate) fn greeted<A: Allocator + Clone, F: ClientTransfer<A>>(
 }
 
 /// PASS is sent where USER is answered that it is needed.
-pub(crate) fn user_answered<A: Allocator + Clone, F: ClientTransfer<A>>(
+pub(crate) fn user_answered<A: Allocator + Copy, F: ClientTransfer<A>>(
     dialogue: &mut Dialogue<A, F>,
     verdict: Verdict,
 ) -> Result<(), AllocError>
@@ -58,7 +58,7 @@ pub(crate) fn user_answered<A: Allocator + Clone, F: ClientTransfer<A>>(
 }
 
 /// What PASS is answered with ends the login, a refusal too.
-pub(crate) fn pass_answered<A: Allocator + Clone, F: ClientTransfer<A>>(
+pub(crate) fn pass_answered<A: Allocator + Copy, F: ClientTransfer<A>>(
     dialogue: &mut Dialogue<A, F>,
     verdict: Verdict,
 ) -> Result<(), AllocError>

@@ -8,7 +8,7 @@ use ftp_facts::Text;
 use ftp_operation::{Answer, How, Op};
 use std::alloc::Allocator;
 
-impl<A: Allocator + Clone, F: ClientTransfer<A>> Near<A> for Client<A, F> {
+impl<A: Allocator + Copy, F: ClientTransfer<A>> Near<A> for Client<A, F> {
     ghost use Rattle.ftp_client.specs.Calls.{client_of};
 
     ghost client = { client_of F.flow };

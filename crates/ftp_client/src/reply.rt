@@ -15,7 +15,7 @@ use ftp_reply::Reply;
 use std::alloc::{AllocError, Allocator};
 
 /// Takes an octet of the control connection. Refused memory, the client is short of it, as it was before the octet.
-pub fn hear_octet<A: Allocator + Clone, F: ClientTransfer<A>>(
+pub fn hear_octet<A: Allocator + Copy, F: ClientTransfer<A>>(
     dialogue: &mut Dialogue<A, F>,
     octet: u8,
 ) -> Result<(), AllocError>
@@ -33,7 +33,7 @@ pub fn hear_octet<A: Allocator + Clone, F: ClientTransfer<A>>(
 
 /// A reply came.
 #[tactic(auto, unfolding(ftp_client_model::specs::Dialogue::answered))]
-fn answered<A: Allocator + Clone, F: ClientTransfer<A>>(
+fn answered<A: Allocator + Copy, F: ClientTransfer<A>>(
     dialogue: &mut Dialogue<A, F>,
     reply: &Reply<A>,
 ) -> Result<(), AllocError>
@@ -57,7 +57,7 @@ fn answered<A: Allocator + Clone, F: ClientTransfer<A>>(
 }
 
 /// Who is answered: the greeting, USER, PASS, or the operation under way.
-fn stand_answered<A: Allocator + Clone, F: ClientTransfer<A>>(
+fn stand_answered<A: Allocator + Copy, F: ClientTransfer<A>>(
     dialogue: &mut Dialogue<A, F>,
     verdict: Verdict,
     reply: &Reply<A>,
@@ -78,7 +78,7 @@ fn stand_answered<A: Allocator + Clone, F: ClientTransfer<A>>(
 }
 
 /// A reply that comes while an operation is under way, or that nobody waits for.
-fn job_answered<A: Allocator + Clone, F: ClientTransfer<A>>(
+fn job_answered<A: Allocator + Copy, F: ClientTransfer<A>>(
     dialogue: &mut Dialogue<A, F>,
     verdict: Verdict,
     reply: &Reply<A>,

@@ -17,7 +17,7 @@ use ftp_reply::{Reply, extended_of, passive_of};
 use std::alloc::{AllocError, Allocator};
 
 /// A reply to the command of a step, by its first digit.
-pub(crate) fn step_answered<A: Allocator + Clone, F: ClientTransfer<A>>(
+pub(crate) fn step_answered<A: Allocator + Copy, F: ClientTransfer<A>>(
     dialogue: &mut Dialogue<A, F>,
     step: Step,
     verdict: Verdict,
@@ -41,7 +41,7 @@ pub(crate) fn step_answered<A: Allocator + Clone, F: ClientTransfer<A>>(
 }
 
 /// A 2yz at a step.
-fn step_done<A: Allocator + Clone, F: ClientTransfer<A>>(
+fn step_done<A: Allocator + Copy, F: ClientTransfer<A>>(
     dialogue: &mut Dialogue<A, F>,
     step: Step,
     reply: &Reply<A>,
@@ -66,7 +66,7 @@ fn step_done<A: Allocator + Clone, F: ClientTransfer<A>>(
 }
 
 /// REST and RNFR are answered that a command follows.
-fn intermediate<A: Allocator + Clone, F: ClientTransfer<A>>(
+fn intermediate<A: Allocator + Copy, F: ClientTransfer<A>>(
     dialogue: &mut Dialogue<A, F>,
     step: Step,
 ) -> Result<(), AllocError>
@@ -86,7 +86,7 @@ fn intermediate<A: Allocator + Clone, F: ClientTransfer<A>>(
 }
 
 /// A refusal at a step.
-fn refused<A: Allocator + Clone, F: ClientTransfer<A>>(
+fn refused<A: Allocator + Copy, F: ClientTransfer<A>>(
     dialogue: &mut Dialogue<A, F>,
     step: Step,
     code: u16,
@@ -103,7 +103,7 @@ fn refused<A: Allocator + Clone, F: ClientTransfer<A>>(
 }
 
 /// What EPSV or PASV was answered with, by which of them was sent.
-fn passive_named<A: Allocator + Clone, F: ClientTransfer<A>>(
+fn passive_named<A: Allocator + Copy, F: ClientTransfer<A>>(
     dialogue: &mut Dialogue<A, F>,
     reply: &Reply<A>,
 ) -> Result<(), AllocError>
@@ -133,7 +133,7 @@ fn passive_named<A: Allocator + Clone, F: ClientTransfer<A>>(
 }
 
 /// The endpoint of a 227 has to be on the server's host: no other is contacted (own choice).
-fn endpoint_named<A: Allocator + Clone, F: ClientTransfer<A>>(
+fn endpoint_named<A: Allocator + Copy, F: ClientTransfer<A>>(
     dialogue: &mut Dialogue<A, F>,
     endpoint: Endpoint,
 ) -> Result<(), AllocError>

@@ -13,7 +13,7 @@ use ftp_reply::{Reply, mark_of};
 use std::alloc::{AllocError, Allocator};
 
 /// A reply during a transfer, by the replies that came before.
-pub(crate) fn transfer_answered<A: Allocator + Clone, F: ClientTransfer<A>>(
+pub(crate) fn transfer_answered<A: Allocator + Copy, F: ClientTransfer<A>>(
     dialogue: &mut Dialogue<A, F>,
     verdict: Verdict,
     reply: &Reply<A>,
@@ -34,7 +34,7 @@ pub(crate) fn transfer_answered<A: Allocator + Clone, F: ClientTransfer<A>>(
 }
 
 /// Before its 1yz a transfer is refused or begins; a 2yz or 3yz has no place.
-fn before_opening<A: Allocator + Clone, F: ClientTransfer<A>>(
+fn before_opening<A: Allocator + Copy, F: ClientTransfer<A>>(
     dialogue: &mut Dialogue<A, F>,
     verdict: Verdict,
     code: u16,
@@ -64,7 +64,7 @@ fn before_opening<A: Allocator + Clone, F: ClientTransfer<A>>(
 }
 
 /// After the 1yz, a 2yz, 4yz or 5yz is the transfer's final reply.
-fn behind_opening<A: Allocator + Clone, F: ClientTransfer<A>>(
+fn behind_opening<A: Allocator + Copy, F: ClientTransfer<A>>(
     dialogue: &mut Dialogue<A, F>,
     verdict: Verdict,
     reply: &Reply<A>,
@@ -96,7 +96,7 @@ fn behind_opening<A: Allocator + Clone, F: ClientTransfer<A>>(
 
 /// A 110 during a transfer is noted, and any other 1yz is passed over.
 #[tactic(auto, using(crate::proofs::ReplyLemmas::noted_is))]
-fn note<A: Allocator + Clone, F: ClientTransfer<A>>(dialogue: &mut Dialogue<A, F>, reply: &Reply<A>)
+fn note<A: Allocator + Copy, F: ClientTransfer<A>>(dialogue: &mut Dialogue<A, F>, reply: &Reply<A>)
     ensures { view_of F.flow dialogue.new ≡ in_transfer (noted reply.now.code (joined reply.now.lines)) (view_of F.flow dialogue.old) }
 {
     if reply.code == 110 {

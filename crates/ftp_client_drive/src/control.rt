@@ -13,7 +13,7 @@ use std::io::{Read, Write};
 /// Hears octets that were read, as many as the client takes; fails where it takes none.
 pub(crate) fn hear<A, N, R, W>(client: &mut N, control: &mut Control<R, W>) -> Result<(), Failed>
 where
-    A: Allocator,
+    A: Allocator + Copy,
     N: Near<A>,
     R: Read + Drop,
     W: Write + Drop,
@@ -30,7 +30,7 @@ where
 /// Reads from the control connection, and tells the client where it ended.
 pub(crate) fn read<A, N, R, W>(client: &mut N, control: &mut Control<R, W>) -> Result<(), Failed>
 where
-    A: Allocator,
+    A: Allocator + Copy,
     N: Near<A>,
     R: Read + Drop,
     W: Write + Drop,
@@ -47,7 +47,7 @@ where
 /// Writes all control octets that the client owes.
 pub(crate) fn flush<A, N, R, W>(client: &mut N, control: &mut Control<R, W>) -> Result<(), Failed>
 where
-    A: Allocator,
+    A: Allocator + Copy,
     N: Near<A>,
     R: Read + Drop,
     W: Write + Drop,

@@ -36,7 +36,7 @@ impl<S: Read + Write> Data<S> {
     }
 
     /// Takes octets of an upload from the client, where all before were written, and notes whether it has more.
-    pub(crate) fn fill<A: Allocator, N: Near<A>>(&mut self, client: &mut N)
+    pub(crate) fn fill<A: Allocator + Copy, N: Near<A>>(&mut self, client: &mut N)
         requires { self.old.connection.at ≡ self.old.connection.end }
         ensures quiet { (asked : Option (List Asked)) → Quietly client_side (held (N.client client.old) (lane_at S.remaining S.contents asked self.old [])) (held (N.client client.new) (lane_at S.remaining S.contents asked self.new [])) }
         ensures rest { (self.new.connection.rest ≡ Rest.Nothing) → wants (N.client client.new).view ≢ Wants.Send }
@@ -99,7 +99,7 @@ impl<S: Read + Write> Data<S> {
 }
 
 /// Whether the client has more octets of an upload.
-fn rest_of<A: Allocator, N: Near<A>>(client: &N) -> Rest
+fn rest_of<A: Allocator + Copy, N: Near<A>>(client: &N) -> Rest
     ensures { (result ≡ Rest.Nothing) → wants (N.client client.now).view ≢ Wants.Send }
 {
     match client.wants() {

@@ -34,7 +34,7 @@ pub fn drive_client<A, N, R, W, P>(
     ports: &mut P,
 ) -> Option<Answer<A>>
 where
-    A: Allocator,
+    A: Allocator + Copy,
     N: Near<A>,
     R: Read + Drop,
     W: Write + Drop,
@@ -61,7 +61,7 @@ where
 /// Closes what stands of the data connection, and tells the client.
 fn close<A, N, P>(client: &mut N, ports: &mut P, data: &mut Data<P::Stream>)
 where
-    A: Allocator,
+    A: Allocator + Copy,
     N: Near<A>,
     P: Ports,
     requires { wants (N.client client.old).view ≡ Wants.CloseData }
@@ -79,7 +79,7 @@ fn turns<A, N, R, W, P>(
     data: &mut Data<P::Stream>,
 ) -> Result<Answer<A>, Failed>
 where
-    A: Allocator,
+    A: Allocator + Copy,
     N: Near<A>,
     R: Read + Drop,
     W: Write + Drop,
@@ -104,7 +104,7 @@ fn turn<A, N, R, W, P>(
     data: &mut Data<P::Stream>,
 ) -> Result<(), Failed>
 where
-    A: Allocator,
+    A: Allocator + Copy,
     N: Near<A>,
     R: Read + Drop,
     W: Write + Drop,
@@ -129,7 +129,7 @@ fn serve<A, N, R, W, P>(
     data: &mut Data<P::Stream>,
 ) -> Result<(), Failed>
 where
-    A: Allocator,
+    A: Allocator + Copy,
     N: Near<A>,
     R: Read + Drop,
     W: Write + Drop,
@@ -165,7 +165,7 @@ where
 /// Listens at a port, and tells the client which.
 fn listen<A, N, P>(client: &mut N, ports: &mut P)
 where
-    A: Allocator,
+    A: Allocator + Copy,
     N: Near<A>,
     P: Ports,
     requires { wants (N.client client.old).view ≡ Wants.Listen }
@@ -180,7 +180,7 @@ where
 /// Opens the data connection to an endpoint, and tells the client.
 fn connect<A, N, P>(client: &mut N, ports: &mut P, data: &mut Data<P::Stream>, endpoint: Endpoint)
 where
-    A: Allocator,
+    A: Allocator + Copy,
     N: Near<A>,
     P: Ports,
     requires { wants (N.client client.old).view ≡ Wants.Connect endpoint }
@@ -201,7 +201,7 @@ fn opened<A, N, P>(
     host: Host,
 )
 where
-    A: Allocator,
+    A: Allocator + Copy,
     N: Near<A>,
     P: Ports,
     ensures { (before : Option (List Asked)) (had : Asked) → Adds before (P.history ports.old) (had ∷ []) → IsHad host had (P.Stream.remaining stream) (P.Stream.contents stream) → IsWanted (wants (N.client client.old).view) had → Quietly client_side (held (N.client client.old) (lane_at P.Stream.remaining P.Stream.contents before «data».old [])) (held (N.client client.new) (lane_at P.Stream.remaining P.Stream.contents (P.history ports.new) «data».new [])) }
@@ -218,7 +218,7 @@ fn accept<A, N, R, W, P>(
     data: &mut Data<P::Stream>,
 ) -> Result<(), Failed>
 where
-    A: Allocator,
+    A: Allocator + Copy,
     N: Near<A>,
     R: Read + Drop,
     W: Write + Drop,
@@ -248,7 +248,7 @@ fn send<A, N, R, W, P>(
     data: &mut Data<P::Stream>,
 ) -> Result<(), Failed>
 where
-    A: Allocator,
+    A: Allocator + Copy,
     N: Near<A>,
     R: Read + Drop,
     W: Write + Drop,
@@ -271,7 +271,7 @@ fn receive<A, N, R, W, P>(
     data: &mut Data<P::Stream>,
 ) -> Result<(), Failed>
 where
-    A: Allocator,
+    A: Allocator + Copy,
     N: Near<A>,
     R: Read + Drop,
     W: Write + Drop,
@@ -303,7 +303,7 @@ fn halted<A, N, R, W, P>(
     halt: Halt,
 ) -> Result<(), Failed>
 where
-    A: Allocator,
+    A: Allocator + Copy,
     N: Near<A>,
     R: Read + Drop,
     W: Write + Drop,
@@ -324,7 +324,7 @@ where
 /// The data connection ended: the client is told, and it is closed.
 fn end<A, N, P>(client: &mut N, ports: &mut P, data: &mut Data<P::Stream>)
 where
-    A: Allocator,
+    A: Allocator + Copy,
     N: Near<A>,
     P: Ports,
     requires ended { IsAtEnd (left_of P.Stream.remaining «data».old.connection) }
@@ -338,7 +338,7 @@ where
 /// The data connection broke: the client is told, and it is reset.
 fn lose<A, N, P>(client: &mut N, ports: &mut P, data: &mut Data<P::Stream>)
 where
-    A: Allocator,
+    A: Allocator + Copy,
     N: Near<A>,
     P: Ports,
     ensures { Quietly client_side (held (N.client client.old) (lane_at P.Stream.remaining P.Stream.contents (P.history ports.old) «data».old [])) (held (N.client client.new) (lane_at P.Stream.remaining P.Stream.contents (P.history ports.new) «data».new [])) }
@@ -348,7 +348,7 @@ where
 }
 
 /// Hands octets of a download to the client until it has taken them all or the transfer is over, which drops the rest.
-fn hand<A: Allocator, N: Near<A>>(client: &mut N, octets: &[u8]) -> Result<(), Failed>
+fn hand<A: Allocator + Copy, N: Near<A>>(client: &mut N, octets: &[u8]) -> Result<(), Failed>
     ensures { (lane : Lane) → Hands octets.now (N.client client.old) (N.client client.new) lane result }
 {
     let mut at = 0;

@@ -17,7 +17,7 @@ use std::alloc::Allocator;
 
 /// The client's end. Where the count of refused growths changed in a call (it moves on by wrapping), the client is short of
 /// memory, and every operation answers so.
-pub trait Near<A: Allocator>: Drop {
+pub trait Near<A: Allocator + Copy>: Drop {
     /// What it holds, and how many growths were refused to it.
     ghost client: { Self → Client };
 

@@ -12,7 +12,7 @@ use ftp_command::Command;
 use std::alloc::{AllocError, Allocator};
 use std::mem;
 
-impl<A: Allocator + Clone, F: ClientTransfer<A>> Dialogue<A, F> {
+impl<A: Allocator + Copy, F: ClientTransfer<A>> Dialogue<A, F> {
     ghost use Rattle.ftp_client_session.specs.Client.{in_transfer, shorted, to_abort, view_of};
 
     /// What follows of where a transfer stands.

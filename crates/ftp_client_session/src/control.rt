@@ -15,7 +15,7 @@ use std::alloc::{AllocError, Allocator};
 /// The most octets that are owed where an octet is taken.
 const OWED_LIMIT: usize = 1024;
 
-impl<A: Allocator + Clone, F: ClientTransfer<A>> Dialogue<A, F> {
+impl<A: Allocator + Copy, F: ClientTransfer<A>> Dialogue<A, F> {
     ghost use Rattle.ftp_client_session.specs.Calm.{is_under_way};
     ghost use Rattle.ftp_client_session.specs.Client.{shorted, view_of};
     ghost use Rattle.ftp_client_session.specs.Replies.{reply_answered};

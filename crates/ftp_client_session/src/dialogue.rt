@@ -13,7 +13,7 @@ use ftp_settings::Representation;
 use std::alloc::Allocator;
 
 /// A client as commands, replies and events change it.
-pub struct Dialogue<A: Allocator, F: Drop> {
+pub struct Dialogue<A: Allocator + Copy, F: Drop> {
     pub(crate) alloc: A,
     pub(crate) login: Login<A>,
     pub(crate) here: Host,
@@ -36,7 +36,7 @@ pub struct Dialogue<A: Allocator, F: Drop> {
 }
 
 /// By hand, as the drop of a place: a client is let go at each way out of what holds one.
-impl<A: Allocator, F: Drop> Drop for Dialogue<A, F> {
+impl<A: Allocator + Copy, F: Drop> Drop for Dialogue<A, F> {
     fn drop(self) {
         let Self {
             alloc: _,

@@ -15,7 +15,7 @@ use ftp_client_steps::{ClientTransfer, is_size, next_in};
 use ftp_operation::Answer;
 use std::alloc::{AllocError, Allocator};
 
-impl<A: Allocator + Clone, F: ClientTransfer<A>> Dialogue<A, F> {
+impl<A: Allocator + Copy, F: ClientTransfer<A>> Dialogue<A, F> {
     ghost use Rattle.ftp_client_session.specs.Calm.{is_under_way};
     ghost use Rattle.ftp_client_session.specs.Client.{job_of, shorted, view_of};
 
@@ -188,7 +188,7 @@ pub(crate) fn is_sound(standing: Standing) -> bool
 }
 
 /// The answer of every operation after a failure.
-pub(crate) fn failure_answer<A: Allocator>(failure: Failure) -> Answer<A>
+pub(crate) fn failure_answer<A: Allocator + Copy>(failure: Failure) -> Answer<A>
     ensures { said_of result ≡ failure_said failure }
 {
     match failure {

@@ -8,7 +8,7 @@ use ftp_client_model::client::Standing;
 use ftp_client_steps::ClientTransfer;
 use std::alloc::Allocator;
 
-impl<A: Allocator + Clone, F: ClientTransfer<A>> Dialogue<A, F> {
+impl<A: Allocator + Copy, F: ClientTransfer<A>> Dialogue<A, F> {
     ghost use Rattle.ftp_client_session.specs.Client.{view_of};
 
     /// The login, the line that is being read, the reply that it is of, and what is owed; after a failure nothing is read any more.

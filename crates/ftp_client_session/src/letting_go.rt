@@ -3,4 +3,4 @@ use ftp_operation::Answer;
 use std::alloc::Allocator;
 
 /// Lets an answer go.
-pub(crate) fn let_go<A: Allocator>(_answer: Answer<A>) {}
+pub(crate) fn let_go<A: Allocator + Copy>(_answer: Answer<A>) {}

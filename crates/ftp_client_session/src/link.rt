@@ -8,7 +8,7 @@ use ftp_client_model::client::{ClientLink, Ending};
 use ftp_client_steps::ClientTransfer;
 use std::alloc::Allocator;
 
-impl<A: Allocator + Clone, F: ClientTransfer<A>> Dialogue<A, F> {
+impl<A: Allocator + Copy, F: ClientTransfer<A>> Dialogue<A, F> {
     ghost use Rattle.ftp_client_session.specs.Client.{view_of};
 
     /// How the data connection stands.

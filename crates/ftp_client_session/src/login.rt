@@ -12,7 +12,7 @@ use ftp_client_steps::ClientTransfer;
 use ftp_command::{Argument, Command};
 use std::alloc::{AllocError, Allocator};
 
-impl<A: Allocator + Clone, F: ClientTransfer<A>> Dialogue<A, F> {
+impl<A: Allocator + Copy, F: ClientTransfer<A>> Dialogue<A, F> {
     ghost use Rattle.ftp_client_session.specs.Client.{view_of};
 
     /// USER is sent, and its reply awaited.
@@ -22,7 +22,7 @@ impl<A: Allocator + Clone, F: ClientTransfer<A>> Dialogue<A, F> {
             ≡ sends (Commands.User (view_of F.flow self.old).user) (record (view_of F.flow self.old) { standing = Stands.User })) }
         ensures err { OnErr result (view_of F.flow self.new ≡ view_of F.flow self.old) }
     {
-        let user = Argument::new(self.alloc.clone()?, self.login.user())?;
+        let user = Argument::new(self.alloc, self.login.user())?;
         self.send(Command::User(user))?;
         self.standing = Standing::User;
         Ok(())
@@ -35,7 +35,7 @@ impl<A: Allocator + Clone, F: ClientTransfer<A>> Dialogue<A, F> {
             ≡ sends (Commands.Pass (view_of F.flow self.old).pass) (record (view_of F.flow self.old) { standing = Stands.Pass })) }
         ensures err { OnErr result (view_of F.flow self.new ≡ view_of F.flow self.old) }
     {
-        let pass = Argument::new(self.alloc.clone()?, self.login.pass())?;
+        let pass = Argument::new(self.alloc, self.login.pass())?;
         self.send(Command::Pass(pass))?;
         self.standing = Standing::Pass;
         Ok(())

@@ -13,7 +13,7 @@ use ftp_client_steps::ClientTransfer;
 use ftp_ends::Wants;
 use std::alloc::Allocator;
 
-impl<A: Allocator + Clone, F: ClientTransfer<A>> Dialogue<A, F> {
+impl<A: Allocator + Copy, F: ClientTransfer<A>> Dialogue<A, F> {
     ghost use Rattle.ftp_client_session.specs.Client.{job_left, job_went, shorted, view_of};
 
     /// Whether octets may be taken: of a download whose command was sent, while its link is open.

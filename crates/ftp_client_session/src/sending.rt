@@ -20,7 +20,7 @@ use ftp_ends::is_v6;
 use ftp_operation::How;
 use std::alloc::{AllocError, Allocator};
 
-impl<A: Allocator + Clone, F: ClientTransfer<A>> Dialogue<A, F> {
+impl<A: Allocator + Copy, F: ClientTransfer<A>> Dialogue<A, F> {
     ghost use Rattle.ftp_client_session.specs.Client.{view_of};
 
     /// A command's line is owed. Without memory nothing changes.
@@ -151,7 +151,7 @@ impl<A: Allocator + Clone, F: ClientTransfer<A>> Dialogue<A, F> {
 }
 
 /// Owes a command's line. Without memory nothing changes. What sends a command gives it away here: each drop of one is proved anew.
-fn owe<A: Allocator + Clone>(
+fn owe<A: Allocator + Copy>(
     output: &mut Output<A>,
     command: Command<Argument<A>>,
     alloc: &A,

@@ -23,7 +23,7 @@ use ftp_settings::Representation;
 use std::alloc::{AllocError, Allocator};
 use std::mem;
 
-impl<A: Allocator + Clone, F: ClientTransfer<A>> Dialogue<A, F> {
+impl<A: Allocator + Copy, F: ClientTransfer<A>> Dialogue<A, F> {
     ghost use Rattle.ftp_client_session.specs.Client.{shorted, view_of};
 
     /// A client as it begins: the server is to speak first. Refused memory, it hands the login back.
@@ -165,10 +165,10 @@ impl<A: Allocator + Clone, F: ClientTransfer<A>> Dialogue<A, F> {
 }
 
 /// What a client reserves at its start.
-fn buffers<A: Allocator + Clone>(alloc: &A) -> Result<(Hearing<A>, Output<A>), AllocError>
+fn buffers<A: Allocator + Copy>(alloc: &A) -> Result<(Hearing<A>, Output<A>), AllocError>
     ensures { IfOk result (λ buffers. (buffers.0.ear ≡ quiet) × (buffers.0.gathered ≡ Between) × (buffers.1 ≡ [])) }
 {
-    let hearing = Hearing::new(alloc.clone()?)?;
-    let output = Output::new(alloc.clone()?)?;
+    let hearing = Hearing::new(*alloc)?;
+    let output = Output::new(*alloc)?;
     Ok((hearing, output))
 }

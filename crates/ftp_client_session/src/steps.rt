@@ -11,7 +11,7 @@ use ftp_endpoint::Endpoint;
 use ftp_reply::Reply;
 use std::alloc::{AllocError, Allocator};
 
-impl<A: Allocator + Clone, F: ClientTransfer<A>> Dialogue<A, F> {
+impl<A: Allocator + Copy, F: ClientTransfer<A>> Dialogue<A, F> {
     ghost use Rattle.ftp_client_session.specs.Client.{shorted, view_of};
 
     /// The operation is answered with what the reply to its own command says.

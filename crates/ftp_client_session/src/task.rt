@@ -22,7 +22,7 @@ pub struct Transfer<F: Drop> {
 }
 
 /// How far the operation that was begun last has come.
-pub enum Task<A: Allocator, F: Drop> {
+pub enum Task<A: Allocator + Copy, F: Drop> {
     /// No operation is under way, and no answer waits.
     Idle,
     /// It waits for the end of the login.
@@ -36,7 +36,7 @@ pub enum Task<A: Allocator, F: Drop> {
 }
 
 /// By hand: a derived drop is proved again wherever a place is let go.
-impl<A: Allocator, F: Drop> Drop for Task<A, F> {
+impl<A: Allocator + Copy, F: Drop> Drop for Task<A, F> {
     fn drop(self) {
         match self {
             Task::Idle | Task::Waiting | Task::Doing(_) | Task::Transferring(_) => {}
@@ -45,7 +45,7 @@ impl<A: Allocator, F: Drop> Drop for Task<A, F> {
     }
 }
 
-impl<A: Allocator, F: ClientTransfer<A>> Task<A, F> {
+impl<A: Allocator + Copy, F: ClientTransfer<A>> Task<A, F> {
     ghost use Rattle.ftp_client_session.specs.Calm.{is_under_way};
     ghost use Rattle.ftp_client_session.specs.Client.{JobNotYet, job_heard, job_left, job_noted, job_of, job_unsent, job_went};
     ghost use Rattle.ftp_client_session.specs.Judged.{job_judged};

@@ -11,7 +11,7 @@ use ftp_client_model::client::{Abort, ClientLink, Ending, Replied};
 use ftp_client_steps::{ClientTransfer, Verdict};
 use std::alloc::{AllocError, Allocator};
 
-impl<A: Allocator + Clone, F: ClientTransfer<A>> Dialogue<A, F> {
+impl<A: Allocator + Copy, F: ClientTransfer<A>> Dialogue<A, F> {
     ghost use Rattle.ftp_client_session.specs.Client.{in_transfer, job_noted, shorted, view_of};
 
     /// A 1yz opens the transfer, and the server is awaited at the port. A 110 doesn't (own choice).

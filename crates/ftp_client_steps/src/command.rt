@@ -11,7 +11,7 @@ use ftp_settings::Representation;
 use std::alloc::{AllocError, Allocator};
 
 /// An operation's own command, which ends it.
-pub fn own_command<A: Allocator + Clone>(
+pub fn own_command<A: Allocator + Copy>(
     op: &Op<Text<A>>,
     alloc: &A,
 ) -> Result<Command<Argument<A>>, AllocError>
@@ -41,7 +41,7 @@ pub fn own_command<A: Allocator + Clone>(
 }
 
 /// RNFR, of a rename.
-pub fn source_command<A: Allocator + Clone>(
+pub fn source_command<A: Allocator + Copy>(
     op: &Op<Text<A>>,
     alloc: &A,
 ) -> Result<Option<Command<Argument<A>>>, AllocError>
@@ -54,7 +54,7 @@ pub fn source_command<A: Allocator + Clone>(
 }
 
 /// TYPE, STRU or MODE, of an operation that asks for settings.
-pub fn set_command<A: Allocator>(
+pub fn set_command<A: Allocator + Copy>(
     step: Step,
     wanted: Option<Representation>,
 ) -> Option<Command<Argument<A>>>
@@ -67,7 +67,10 @@ pub fn set_command<A: Allocator>(
 }
 
 /// TYPE, STRU or MODE, of the settings wanted.
-fn setting_command<A: Allocator>(step: Step, wanted: Representation) -> Option<Command<Argument<A>>>
+fn setting_command<A: Allocator + Copy>(
+    step: Step,
+    wanted: Representation,
+) -> Option<Command<Argument<A>>>
     ensures { result ≡ setting_command step wanted }
 {
     match step {
@@ -79,7 +82,7 @@ fn setting_command<A: Allocator>(step: Step, wanted: Representation) -> Option<C
 }
 
 /// REST, where there is an offset.
-pub fn restart_command<A: Allocator>(offset: Option<u64>) -> Option<Command<Argument<A>>>
+pub fn restart_command<A: Allocator + Copy>(offset: Option<u64>) -> Option<Command<Argument<A>>>
     ensures { result ≡ restart_command offset }
 {
     match offset {
@@ -89,7 +92,7 @@ pub fn restart_command<A: Allocator>(offset: Option<u64>) -> Option<Command<Argu
 }
 
 /// PORT, or EPRT (RFC 2428, section 2).
-pub fn port_command<A: Allocator>(extended: bool, endpoint: Endpoint) -> Command<Argument<A>>
+pub fn port_command<A: Allocator + Copy>(extended: bool, endpoint: Endpoint) -> Command<Argument<A>>
     ensures { result ≡ port_command extended endpoint }
 {
     if extended {
@@ -100,7 +103,7 @@ pub fn port_command<A: Allocator>(extended: bool, endpoint: Endpoint) -> Command
 }
 
 /// PASV, or EPSV of any family (RFC 2428, section 3).
-pub fn passive_command<A: Allocator>(extended: bool) -> Command<Argument<A>>
+pub fn passive_command<A: Allocator + Copy>(extended: bool) -> Command<Argument<A>>
     ensures { result ≡ passive_command extended }
 {
     if extended {
@@ -111,14 +114,14 @@ pub fn passive_command<A: Allocator>(extended: bool) -> Command<Argument<A>>
 }
 
 /// A text as an argument.
-fn copied<A: Allocator + Clone>(text: &Text<A>, alloc: &A) -> Result<Argument<A>, AllocError>
+fn copied<A: Allocator + Copy>(text: &Text<A>, alloc: &A) -> Result<Argument<A>, AllocError>
     ensures { IfOk result (λ argument. argument ≡ text.now) }
 {
-    Argument::new(alloc.clone()?, text.as_slice())
+    Argument::new(*alloc, text.as_slice())
 }
 
 /// A text as an argument that may be left out: an empty one is none.
-fn optional<A: Allocator + Clone>(
+fn optional<A: Allocator + Copy>(
     text: &Text<A>,
     alloc: &A,
 ) -> Result<Option<Argument<A>>, AllocError>

@@ -16,7 +16,7 @@ pub const REPLY_LIMIT: usize = 4096;
 
 /// The unfinished line and the unfinished reply that a client hears. Contracts see it as both.
 #[derive(Drop)]
-pub struct Hearing<A: Allocator> {
+pub struct Hearing<A: Allocator + Copy> {
     alloc: A,
     ear: Ear<A>,
     reader: Reader<A>,
@@ -24,7 +24,7 @@ pub struct Hearing<A: Allocator> {
     gathered: Option<usize>,
 }
 
-impl<A: Allocator> Model for Hearing<A> {
+impl<A: Allocator + Copy> Model for Hearing<A> {
     ghost use Rattle.ftp_nvt.specs.Fold.{ear_of};
     ghost use Rattle.ftp_client_steps.specs.Reader.{Held, CanBeHeld, gathered_in};
 
@@ -35,7 +35,7 @@ impl<A: Allocator> Model for Hearing<A> {
     ghost invariant = { λ hearing. CanBeHeld hearing.ear hearing.reader hearing.gathered };
 }
 
-impl<A: Allocator + Clone> Hearing<A> {
+impl<A: Allocator + Copy> Hearing<A> {
     ghost use Rattle.ftp_client_steps.specs.Comes.{Comes};
 
     /// Nothing was heard. All memory for lines is taken now.
@@ -43,10 +43,10 @@ impl<A: Allocator + Clone> Hearing<A> {
         ensures ear { IfOk result (λ hearing. hearing.ear ≡ quiet) }
         ensures gathered { IfOk result (λ hearing. hearing.gathered ≡ Between) }
     {
-        let Ok(ear) = Ear::new(alloc.clone()?, REPLY_LIMIT) else {
+        let Ok(ear) = Ear::new(alloc, REPLY_LIMIT) else {
             return Err(AllocError);
         };
-        let reader = Reader::new(alloc.clone()?);
+        let reader = Reader::new(alloc);
         Ok(Hearing {
             alloc,
             ear,

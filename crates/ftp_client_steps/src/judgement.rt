@@ -12,7 +12,7 @@ use std::alloc::{AllocError, Allocator};
 
 /// The answer of a transfer whose final reply has this code: another host first, then a Peek that sent its ABOR, whatever the final
 /// reply says, then a refusal, whatever became of the link.
-pub fn judged<A: Allocator, F: ClientTransfer<A>>(
+pub fn judged<A: Allocator + Copy, F: ClientTransfer<A>>(
     ending: Ending,
     abort: Abort,
     code: u16,
@@ -35,7 +35,7 @@ pub fn judged<A: Allocator, F: ClientTransfer<A>>(
 }
 
 /// After a refusal: 425 tells that no link was opened, and nothing done; 426 that it broke.
-fn refused_answer<A: Allocator, F: ClientTransfer<A>>(
+fn refused_answer<A: Allocator + Copy, F: ClientTransfer<A>>(
     ending: Ending,
     code: u16,
     op: &Op<Text<A>>,
@@ -54,7 +54,7 @@ fn refused_answer<A: Allocator, F: ClientTransfer<A>>(
 }
 
 /// After 426. A Peek goes by its link's end (own choice).
-fn broken_off_answer<A: Allocator, F: ClientTransfer<A>>(
+fn broken_off_answer<A: Allocator + Copy, F: ClientTransfer<A>>(
     ending: Ending,
     op: &Op<Text<A>>,
     flow: F,
@@ -72,7 +72,7 @@ fn broken_off_answer<A: Allocator, F: ClientTransfer<A>>(
 }
 
 /// After a 2yz, by the link's end.
-fn ended_answer<A: Allocator, F: ClientTransfer<A>>(
+fn ended_answer<A: Allocator + Copy, F: ClientTransfer<A>>(
     ending: Ending,
     op: &Op<Text<A>>,
     flow: F,

@@ -11,7 +11,7 @@ use std::mem;
 
 /// What an octet of the control connection comes to.
 #[derive(Drop)]
-pub enum Spoken<A: Allocator> {
+pub enum Spoken<A: Allocator + Copy> {
     /// Nothing yet.
     Nothing,
     /// The answer that Telnet octets are owed.
@@ -24,7 +24,7 @@ pub enum Spoken<A: Allocator> {
 
 /// Takes a line without its end. A line that has no place leaves the reader between two replies. `gathered` counts the octets that
 /// the texts of the reply that has begun have.
-pub(crate) fn take_line<A: Allocator + Clone>(
+pub(crate) fn take_line<A: Allocator + Copy>(
     reader: &mut Reader<A>,
     gathered: &mut Option<usize>,
     line: &[u8],
@@ -36,7 +36,7 @@ pub(crate) fn take_line<A: Allocator + Clone>(
     ensures counted { Counts gathered.new (gathered_in reader.new) }
     ensures heard { IfOk result (λ heard. Leads (line_heard (gathered_in reader.old) line.now) heard (gathered_in reader.new)) }
 {
-    let fresh = Reader::new(alloc.clone()?);
+    let fresh = Reader::new(*alloc);
     let mut taken = mem::replace(reader, fresh);
     let before = gathered.take();
     match taken.line(line) {

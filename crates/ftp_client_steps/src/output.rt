@@ -14,11 +14,11 @@ pub const OUTPUT_ROOM: usize = 8192;
 
 /// The control octets that are owed. What has no room is answered as want of memory.
 #[derive(Drop)]
-pub struct Output<A: Allocator> {
+pub struct Output<A: Allocator + Copy> {
     octets: HeapCircularBuffer<u8, A>,
 }
 
-impl<A: Allocator> Model for Output<A> {
+impl<A: Allocator + Copy> Model for Output<A> {
     ghost use Rattle.std.specs.Prelude.{ℕ, List, ◌≡◌};
     ghost use Rattle.ftp_client_steps.specs.declared.output.TheConstants.{OUTPUT_ROOM};
 
@@ -29,7 +29,7 @@ impl<A: Allocator> Model for Output<A> {
     ghost invariant = { λ output. output.octets.capacity ≡ OUTPUT_ROOM };
 }
 
-impl<A: Allocator> Output<A> {
+impl<A: Allocator + Copy> Output<A> {
     /// No octets are owed.
     pub fn new(alloc: A) -> Result<Output<A>, AllocError>
         ensures { IfOk result (λ output. output ≡ []) }
@@ -81,7 +81,7 @@ impl<A: Allocator> Output<A> {
         alloc: &A,
     ) -> Result<(), AllocError>
     where
-        A: Clone,
+        A: Copy,
         ensures ok { OnOk result (self.new ≡ self.old ++ written_line (line_of command.now)) }
         ensures err { OnErr result (self.new ≡ self.old) }
     {
@@ -91,17 +91,17 @@ impl<A: Allocator> Output<A> {
 }
 
 /// The line of a command as it goes over the control connection.
-fn written<A: Allocator + Clone>(
+fn written<A: Allocator + Copy>(
     command: &Command<Argument<A>>,
     alloc: &A,
 ) -> Result<Vec<u8, A>, AllocError>
     ensures { IfOk result (λ line. line.items ≡ written_line (line_of command.now)) }
 {
-    let mut text = Vec::new(alloc.clone()?);
+    let mut text = Vec::new(*alloc);
     if write(command, &mut text).is_err() {
         return Err(AllocError);
     }
-    let mut line = Vec::new(alloc.clone()?);
+    let mut line = Vec::new(*alloc);
     if put_line(text.as_slice(), &mut line).is_err() {
         return Err(AllocError);
     }

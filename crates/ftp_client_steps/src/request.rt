@@ -8,7 +8,7 @@ use ftp_settings::{Kind, Mode, Representation, Structure};
 use std::alloc::Allocator;
 
 /// How the octets of an operation go, where it has a transfer.
-pub fn how_of<A: Allocator>(op: &Op<Text<A>>) -> Option<How>
+pub fn how_of<A: Allocator + Copy>(op: &Op<Text<A>>) -> Option<How>
     ensures { result ≡ how_of op.now }
 {
     match op {
@@ -32,7 +32,7 @@ pub fn listing_settings(mode: Mode) -> Representation
 
 /// The settings that an operation asks for, where it does. SIZE depends on the type, and is asked in file structure and stream
 /// mode (RFC 3659, section 4).
-pub fn asked_settings<A: Allocator>(op: &Op<Text<A>>) -> Option<Representation>
+pub fn asked_settings<A: Allocator + Copy>(op: &Op<Text<A>>) -> Option<Representation>
     ensures { result ≡ asked_settings op.now }
 {
     match op {
@@ -51,7 +51,7 @@ pub fn asked_settings<A: Allocator>(op: &Op<Text<A>>) -> Option<Representation>
 }
 
 /// The offset of a transfer, where it has one.
-pub fn offset_of<A: Allocator>(op: &Op<Text<A>>) -> Option<u64>
+pub fn offset_of<A: Allocator + Copy>(op: &Op<Text<A>>) -> Option<u64>
     ensures { result ≡ offset_of op.now }
 {
     match op {
@@ -61,7 +61,7 @@ pub fn offset_of<A: Allocator>(op: &Op<Text<A>>) -> Option<u64>
 }
 
 /// How many first octets a Peek asks for.
-pub fn count_of<A: Allocator>(op: &Op<Text<A>>) -> Option<u64>
+pub fn count_of<A: Allocator + Copy>(op: &Op<Text<A>>) -> Option<u64>
     ensures { result ≡ count_of op.now }
 {
     match op {

@@ -13,7 +13,7 @@ use std::alloc::Allocator;
 
 /// The first step of an operation, where the server has these settings: TYPE, STRU and MODE in that order, each only where it
 /// differs, and behind them the opening.
-pub fn first_step<A: Allocator>(now: Representation, op: &Op<Text<A>>) -> Step
+pub fn first_step<A: Allocator + Copy>(now: Representation, op: &Op<Text<A>>) -> Step
     ensures { result ≡ first_step now op.now }
 {
     let opening = opening_of(op);
@@ -24,7 +24,7 @@ pub fn first_step<A: Allocator>(now: Representation, op: &Op<Text<A>>) -> Step
 }
 
 /// The step behind one that was answered well.
-pub fn next_step<A: Allocator>(now: Representation, op: &Op<Text<A>>, step: Step) -> Step
+pub fn next_step<A: Allocator + Copy>(now: Representation, op: &Op<Text<A>>, step: Step) -> Step
     ensures { result ≡ next_step now op.now step }
 {
     match step {
@@ -106,7 +106,7 @@ fn from_mode(now: Representation, wanted: Representation, behind: Step) -> Step
 }
 
 /// Behind the settings: the opening of a transfer's data connection, or what an operation without one sends first.
-fn opening_of<A: Allocator>(op: &Op<Text<A>>) -> Step
+fn opening_of<A: Allocator + Copy>(op: &Op<Text<A>>) -> Step
     ensures { result ≡ opening_of (plan.how_of op.now) op.now }
 {
     match how_of(op) {
@@ -116,7 +116,7 @@ fn opening_of<A: Allocator>(op: &Op<Text<A>>) -> Step
 }
 
 /// Of an operation without a transfer: a rename names its source first.
-fn alone_step<A: Allocator>(op: &Op<Text<A>>) -> Step
+fn alone_step<A: Allocator + Copy>(op: &Op<Text<A>>) -> Step
     ensures { result ≡ alone_step op.now }
 {
     match op {

@@ -13,7 +13,7 @@ use ftp_operation::{Answer, Op};
 use std::alloc::{AllocError, Allocator};
 
 /// The octets of a transfer: those of an upload that are still to give, or what those of a download have said.
-pub trait ClientTransfer<A: Allocator>: Drop {
+pub trait ClientTransfer<A: Allocator + Copy>: Drop {
     /// How it is seen, where this operation is under way.
     ghost flow: { AnyOp (List ℕ) → Self → Flow };
 

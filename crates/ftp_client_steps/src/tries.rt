@@ -19,7 +19,7 @@ pub const MOST_TRIES: u64 = 16;
 
 /// An upload over breaks that is under way.
 #[derive(Drop)]
-pub struct Run<A: Allocator> {
+pub struct Run<A: Allocator + Copy> {
     pub path: Text<A>,
     /// All octets of the file. They are lent to the operation under way while that is a Put, so that they are held once.
     pub octets: Option<Text<A>>,
@@ -29,7 +29,7 @@ pub struct Run<A: Allocator> {
 }
 
 /// Whether an upload over breaks can be sent: in type I and file structure, to a path text.
-pub fn can_be_tried<A: Allocator>(path: &Text<A>, octets: &Text<A>, how: How) -> bool
+pub fn can_be_tried<A: Allocator + Copy>(path: &Text<A>, octets: &Text<A>, how: How) -> bool
     ensures { result ≡ can_be_sent (first_try (over_breaks path.now octets.now how)) }
 {
     counts_as_file(how.representation) && is_path_text(path.as_slice())
@@ -37,7 +37,7 @@ pub fn can_be_tried<A: Allocator>(path: &Text<A>, octets: &Text<A>, how: How) ->
 
 /// The first try of an upload that can be sent, and the run that it begins, which lends it all octets.
 #[tactic(auto, using(crate::proofs::TriesLemmas::first_is))]
-pub fn first_try<A: Allocator + Clone>(
+pub fn first_try<A: Allocator + Copy>(
     path: Text<A>,
     octets: Text<A>,
     how: How,
@@ -59,7 +59,7 @@ pub fn first_try<A: Allocator + Clone>(
 
 /// What follows an operation that was answered so takes its place; `false` says that nothing does. Behind the last try nothing does.
 /// Refused memory, nothing changes.
-pub fn next_in<A: Allocator + Clone>(
+pub fn next_in<A: Allocator + Copy>(
     run: &mut Run<A>,
     op: &mut Op<Text<A>>,
     answer: &Answer<A>,
@@ -80,14 +80,14 @@ pub fn next_in<A: Allocator + Clone>(
 }
 
 /// Whether an operation is SIZE. Every other one of a run is a try.
-pub fn is_size<A: Allocator>(op: &Op<Text<A>>) -> bool
+pub fn is_size<A: Allocator + Copy>(op: &Op<Text<A>>) -> bool
     ensures { result ≡ is_size op.now }
 {
     matches!(op, Op::Size(_, _))
 }
 
 /// After SIZE: the rest, or all anew where there is no file.
-fn after_size<A: Allocator + Clone>(
+fn after_size<A: Allocator + Copy>(
     run: &mut Run<A>,
     op: &mut Op<Text<A>>,
     answer: &Answer<A>,
@@ -112,7 +112,7 @@ fn after_size<A: Allocator + Clone>(
 }
 
 /// After a Put or a PutFrom: SIZE after a break, and the same again where nothing was opened.
-fn after_try<A: Allocator + Clone>(
+fn after_try<A: Allocator + Copy>(
     run: &mut Run<A>,
     op: &mut Op<Text<A>>,
     answer: &Answer<A>,
@@ -134,7 +134,7 @@ fn after_try<A: Allocator + Clone>(
 }
 
 /// The server has so many octets of the file: the rest, or all anew where they are more than there are.
-fn put_behind<A: Allocator + Clone>(
+fn put_behind<A: Allocator + Copy>(
     run: &mut Run<A>,
     op: &mut Op<Text<A>>,
     count: u64,
@@ -151,13 +151,13 @@ fn put_behind<A: Allocator + Clone>(
     }
     let (_, rest) = octets.split_at(count as usize);
     let path = copied(&run.path, alloc)?;
-    let rest = Text::copy_of(alloc.clone()?, rest)?;
+    let rest = Text::copy_of(*alloc, rest)?;
     *op = Op::PutFrom(path, count, rest, run.how);
     Ok(true)
 }
 
 /// All octets from the start, which are lent.
-fn put_whole<A: Allocator + Clone>(
+fn put_whole<A: Allocator + Copy>(
     run: &mut Run<A>,
     op: &mut Op<Text<A>>,
     alloc: &A,
@@ -168,14 +168,14 @@ fn put_whole<A: Allocator + Clone>(
     ensures err { OnErr result (op.new ≡ op.old) }
 {
     let path = copied(&run.path, alloc)?;
-    let none = Text::from_vec(Vec::new(alloc.clone()?));
+    let none = Text::from_vec(Vec::new(*alloc));
     let octets = run.octets.take().unwrap_or(none);
     *op = Op::Put(path, octets, run.how);
     Ok(true)
 }
 
 /// The octets that an operation has of its run are the run's again.
-fn take_back<A: Allocator>(octets: &mut Option<Text<A>>, op: Op<Text<A>>)
+fn take_back<A: Allocator + Copy>(octets: &mut Option<Text<A>>, op: Op<Text<A>>)
     ensures { unwrap_or octets.new [] ≡ all_octets octets.old op }
 {
     if octets.is_none() {
@@ -184,7 +184,7 @@ fn take_back<A: Allocator>(octets: &mut Option<Text<A>>, op: Op<Text<A>>)
 }
 
 /// The octets that a run has itself.
-fn own<A: Allocator>(octets: &Option<Text<A>>) -> &[u8]
+fn own<A: Allocator + Copy>(octets: &Option<Text<A>>) -> &[u8]
     ensures { result.now ≡ unwrap_or octets.now [] }
 {
     match octets {
@@ -194,10 +194,10 @@ fn own<A: Allocator>(octets: &Option<Text<A>>) -> &[u8]
 }
 
 /// A copy of a text.
-fn copied<A: Allocator + Clone>(text: &Text<A>, alloc: &A) -> Result<Text<A>, AllocError>
+fn copied<A: Allocator + Copy>(text: &Text<A>, alloc: &A) -> Result<Text<A>, AllocError>
     ensures { IfOk result (λ copy. copy ≡ text.now) }
 {
-    Text::copy_of(alloc.clone()?, text.as_slice())
+    Text::copy_of(*alloc, text.as_slice())
 }
 
 /// Whether the octets of a file are those of its transfer, and SIZE counts them: type I and file structure.

@@ -15,7 +15,7 @@ use ftp_reply::{Lines, Reply, ReplyFault, moment_of, quoted_of, size_of};
 use std::alloc::{AllocError, Allocator};
 
 /// What the reply to an operation's own command answers; `None` where it has no value that is asked for.
-pub fn answer_in<A: Allocator + Clone>(
+pub fn answer_in<A: Allocator + Copy>(
     op: &Op<Text<A>>,
     reply: &Reply<A>,
     alloc: &A,
@@ -33,21 +33,21 @@ pub fn answer_in<A: Allocator + Clone>(
 }
 
 /// The path that a reply quotes.
-fn path_answer<A: Allocator + Clone>(
+fn path_answer<A: Allocator + Copy>(
     reply: &Reply<A>,
     alloc: &A,
 ) -> Result<Option<Answer<A>>, AllocError>
     ensures { IfOk result (λ answer. option_map said_of answer ≡ option_map Path (path_value (joined reply.now.lines))) }
 {
-    match quoted_of(alloc.clone()?, reply) {
-        Ok(path) => Ok(Some(Answer::Path(Text::copy_of(alloc.clone()?, path.as_slice())?))),
+    match quoted_of(*alloc, reply) {
+        Ok(path) => Ok(Some(Answer::Path(Text::copy_of(*alloc, path.as_slice())?))),
         Err(ReplyFault::NoPath) => Ok(None),
         Err(_) => Err(AllocError),
     }
 }
 
 /// The number that a reply's text is.
-fn number_answer<A: Allocator>(reply: &Reply<A>) -> Option<Answer<A>>
+fn number_answer<A: Allocator + Copy>(reply: &Reply<A>) -> Option<Answer<A>>
     ensures { option_map said_of result ≡ option_map Number (number_value (joined reply.now.lines)) }
 {
     match size_of(reply) {
@@ -57,7 +57,7 @@ fn number_answer<A: Allocator>(reply: &Reply<A>) -> Option<Answer<A>>
 }
 
 /// The moment that a reply's text is.
-fn stamp_answer<A: Allocator>(reply: &Reply<A>) -> Option<Answer<A>>
+fn stamp_answer<A: Allocator + Copy>(reply: &Reply<A>) -> Option<Answer<A>>
     ensures { option_map said_of result ≡ option_map Stamp (moment_value (joined reply.now.lines)) }
 {
     match moment_of(reply) {
@@ -67,7 +67,7 @@ fn stamp_answer<A: Allocator>(reply: &Reply<A>) -> Option<Answer<A>>
 }
 
 /// The entry in a reply to MLST: the line behind the first, behind one SP, and never the last (RFC 3659, section 7.2).
-fn entry_answer<A: Allocator + Clone>(
+fn entry_answer<A: Allocator + Copy>(
     lines: &Lines<A>,
     alloc: &A,
 ) -> Result<Option<Answer<A>>, AllocError>
@@ -90,13 +90,10 @@ fn entry_answer<A: Allocator + Clone>(
 
 /// The entry that a line says, if it says one (RFC 3659, section 7.2).
 #[tactic(auto, using(crate::proofs::EntryLemmas::says_none))]
-pub fn entry_in<A: Allocator + Clone>(
-    line: &[u8],
-    alloc: &A,
-) -> Result<Option<Entry<A>>, AllocError>
+pub fn entry_in<A: Allocator + Copy>(line: &[u8], alloc: &A) -> Result<Option<Entry<A>>, AllocError>
     ensures { IfOk result (λ entry. option_map listed_of entry ≡ entry_value line.now) }
 {
-    match read_entry(alloc.clone()?, line) {
+    match read_entry(*alloc, line) {
         Ok(entry) => Ok(Some(entry)),
         Err(FactFault::Memory) => Err(AllocError),
         Err(FactFault::NoSpace) => Ok(None),

@@ -11,7 +11,7 @@ use std::alloc::{AllocError, Allocator};
 
 /// What the octets of a whole download answer; `None` where a line of a listing says nothing. Those of a file go into the answer
 /// themselves, and none is copied.
-pub(crate) fn content_in<A: Allocator + Clone>(
+pub(crate) fn content_in<A: Allocator + Copy>(
     op: &Op<Text<A>>,
     octets: Vec<u8, A>,
     alloc: &A,
@@ -27,7 +27,7 @@ pub(crate) fn content_in<A: Allocator + Clone>(
 }
 
 /// The entries of a machine listing.
-fn entries_answer<A: Allocator + Clone>(
+fn entries_answer<A: Allocator + Copy>(
     octets: &[u8],
     alloc: &A,
 ) -> Result<Option<Answer<A>>, AllocError>
@@ -40,7 +40,7 @@ fn entries_answer<A: Allocator + Clone>(
 }
 
 /// The pathnames of a listing of names.
-fn names_answer<A: Allocator + Clone>(
+fn names_answer<A: Allocator + Copy>(
     octets: &[u8],
     alloc: &A,
 ) -> Result<Option<Answer<A>>, AllocError>
@@ -53,14 +53,14 @@ fn names_answer<A: Allocator + Clone>(
 }
 
 /// A copy of octets.
-pub(crate) fn copy_of<A: Allocator + Clone>(octets: &[u8], alloc: &A) -> Result<Text<A>, AllocError>
+pub(crate) fn copy_of<A: Allocator + Copy>(octets: &[u8], alloc: &A) -> Result<Text<A>, AllocError>
     ensures { IfOk result (λ text. text ≡ octets.now) }
 {
-    Text::copy_of(alloc.clone()?, octets)
+    Text::copy_of(*alloc, octets)
 }
 
 /// The first octets, so many if there are so many.
-fn first<A: Allocator>(octets: Vec<u8, A>, count: u64) -> Text<A>
+fn first<A: Allocator + Copy>(octets: Vec<u8, A>, count: u64) -> Text<A>
     ensures { result ≡ take count octets.items }
 {
     let mut front = octets;

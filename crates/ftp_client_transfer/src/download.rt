@@ -13,13 +13,13 @@ use std::alloc::{AllocError, Allocator};
 
 /// A download: what was settled of the file.
 #[derive(Drop)]
-pub struct Download<A: Allocator> {
+pub struct Download<A: Allocator + Copy> {
     pub(crate) decoder: Decoder<Vec<u8, A>>,
     /// The last restart marker that is a number.
     pub(crate) mark: Option<u64>,
 }
 
-impl<A: Allocator> Download<A> {
+impl<A: Allocator + Copy> Download<A> {
     ghost use Rattle.ftp_client_transfer.specs.Flow.{receiving};
 
     /// A download in these settings, before its first octet.

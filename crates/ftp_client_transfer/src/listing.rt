@@ -12,13 +12,13 @@ use ftp_path::is_listed_text;
 use std::alloc::{AllocError, Allocator};
 
 /// The entries of a machine listing, one a line; `None` where a line says none.
-pub(crate) fn entries_in<A: Allocator + Clone>(
+pub(crate) fn entries_in<A: Allocator + Copy>(
     octets: &[u8],
     alloc: &A,
 ) -> Result<Option<Vec<Entry<A>, A>>, AllocError>
     ensures { IfOk result (λ entries. option_map (λ entries. map listed_of entries.items) entries ≡ entries_value octets.now) }
 {
-    let mut entries = Vec::new(alloc.clone()?);
+    let mut entries = Vec::new(*alloc);
     let mut rest = octets;
     while !rest.is_empty() {
         let (line, behind) = cut_line(rest);
@@ -32,7 +32,10 @@ pub(crate) fn entries_in<A: Allocator + Clone>(
 }
 
 /// Keeps an entry, if it counts.
-fn keep<A: Allocator>(entries: &mut Vec<Entry<A>, A>, entry: Entry<A>) -> Result<(), AllocError>
+fn keep<A: Allocator + Copy>(
+    entries: &mut Vec<Entry<A>, A>,
+    entry: Entry<A>,
+) -> Result<(), AllocError>
     ensures { OnOk result (map listed_of entries.new.items ≡ kept (map listed_of entries.old.items) (listed_of entry)) }
 {
     if !is_shown(&entry) {
@@ -43,13 +46,13 @@ fn keep<A: Allocator>(entries: &mut Vec<Entry<A>, A>, entry: Entry<A>) -> Result
 }
 
 /// The pathnames of a listing of names, one a line; `None` where a line can be none.
-pub(crate) fn names_in<A: Allocator + Clone>(
+pub(crate) fn names_in<A: Allocator + Copy>(
     octets: &[u8],
     alloc: &A,
 ) -> Result<Option<Vec<Text<A>, A>>, AllocError>
     ensures { IfOk result (λ names. option_map (λ names. names.items) names ≡ names_value octets.now) }
 {
-    let mut names = Vec::new(alloc.clone()?);
+    let mut names = Vec::new(*alloc);
     let mut rest = octets;
     while !rest.is_empty() {
         let (line, behind) = cut_line(rest);
@@ -87,7 +90,7 @@ fn line_end(octets: &[u8]) -> usize
 }
 
 /// Whether an entry counts: the directory itself, its parent and types of another word are left out (own choice).
-fn is_shown<A: Allocator>(entry: &Entry<A>) -> bool
+fn is_shown<A: Allocator + Copy>(entry: &Entry<A>) -> bool
     ensures { result ≡ is_shown (listed_of entry.now) }
 {
     match &entry.kind {

@@ -11,13 +11,13 @@ use ftp_operation::{Answer, Op};
 use std::alloc::{AllocError, Allocator};
 
 /// An upload, or a download.
-pub enum OperationTransfer<A: Allocator> {
+pub enum OperationTransfer<A: Allocator + Copy> {
     Upload(Upload),
     Download(Download<A>),
 }
 
 /// By hand: a derived drop is made anew in each crate that lets a transfer go, and with it each client of that crate.
-impl<A: Allocator> Drop for OperationTransfer<A> {
+impl<A: Allocator + Copy> Drop for OperationTransfer<A> {
     fn drop(self) {
         match self {
             OperationTransfer::Upload(_) | OperationTransfer::Download(_) => {}
@@ -25,7 +25,7 @@ impl<A: Allocator> Drop for OperationTransfer<A> {
     }
 }
 
-impl<A: Allocator + Clone> ClientTransfer<A> for OperationTransfer<A> {
+impl<A: Allocator + Copy> ClientTransfer<A> for OperationTransfer<A> {
     ghost use Rattle.ftp_client_transfer.specs.Flow.{flow_in};
 
     ghost flow = { flow_in };
@@ -41,12 +41,12 @@ impl<A: Allocator + Clone> ClientTransfer<A> for OperationTransfer<A> {
                 Ok(Some(OperationTransfer::Upload(upload)))
             }
             Op::Get(_, how) | Op::GetFrom(_, _, how) | Op::Peek(_, _, how) => {
-                let download = Download::new(how.representation, alloc.clone()?);
+                let download = Download::new(how.representation, *alloc);
                 Ok(Some(OperationTransfer::Download(download)))
             }
             Op::List(_, how) | Op::Names(_, how) => {
                 let settings = listing_settings(how.representation.mode);
-                let download = Download::new(settings, alloc.clone()?);
+                let download = Download::new(settings, *alloc);
                 Ok(Some(OperationTransfer::Download(download)))
             }
             _ => Ok(None),
@@ -88,7 +88,7 @@ impl<A: Allocator + Clone> ClientTransfer<A> for OperationTransfer<A> {
 
     fn content(self, op: &Op<Text<A>>, alloc: &A) -> Result<Option<Answer<A>>, AllocError> {
         match self {
-            OperationTransfer::Upload(_) => content_in(op, Vec::new(alloc.clone()?), alloc),
+            OperationTransfer::Upload(_) => content_in(op, Vec::new(*alloc), alloc),
             OperationTransfer::Download(download) => content_in(
                 op,
                 download.decoder.into_sink(),
@@ -116,7 +116,7 @@ impl<A: Allocator + Clone> ClientTransfer<A> for OperationTransfer<A> {
         }
         match self {
             OperationTransfer::Upload(upload) => Ok(Some(Answer::Broken {
-                got: Text::from_vec(Vec::new(alloc.clone()?)),
+                got: Text::from_vec(Vec::new(*alloc)),
                 mark: upload.mark,
             })),
             OperationTransfer::Download(download) => Ok(Some(Answer::Broken {
@@ -143,7 +143,7 @@ impl<A: Allocator + Clone> ClientTransfer<A> for OperationTransfer<A> {
 }
 
 /// How many of so many octets are taken at once: a Peek looks behind each whether it has enough.
-fn most_at_once<A: Allocator>(op: &Op<Text<A>>, octets: usize) -> usize
+fn most_at_once<A: Allocator + Copy>(op: &Op<Text<A>>, octets: usize) -> usize
     ensures within { result ≤ octets }
     ensures some { 0 < octets → 0 < result }
     ensures one { (result ≤ 1) ⊎ (count_of op.now ≡ None) }

@@ -44,14 +44,14 @@ impl Upload {
     }
 
     /// Whether all octets are out.
-    pub(crate) fn is_given<A: Allocator>(&self, op: &Op<Text<A>>) -> bool
+    pub(crate) fn is_given<A: Allocator + Copy>(&self, op: &Op<Text<A>>) -> bool
         ensures { result ≡ is_given (sending (octets_of op.now) self.now) }
     {
         self.encoder.is_out(octets_of(op).len() <= self.at)
     }
 
     /// Gives octets, and says how many.
-    pub(crate) fn give<A: Allocator>(&mut self, op: &Op<Text<A>>, room: &mut [u8]) -> usize
+    pub(crate) fn give<A: Allocator + Copy>(&mut self, op: &Op<Text<A>>, room: &mut [u8]) -> usize
         ensures within { (result ≤ length room.old) × (result ≤ length (left_in (octets_of op.now) self.old)) }
         ensures gave { take result room.new ≡ take result (left_in (octets_of op.now) self.old) }
         ensures now { left_in (octets_of op.now) self.new ≡ drop result (left_in (octets_of op.now) self.old) }
@@ -67,7 +67,7 @@ impl Upload {
 }
 
 /// The octets of an upload; none of another operation.
-pub(crate) fn octets_of<A: Allocator>(op: &Op<Text<A>>) -> &[u8]
+pub(crate) fn octets_of<A: Allocator + Copy>(op: &Op<Text<A>>) -> &[u8]
     ensures { result.now ≡ octets_of op.now }
 {
     match op {

@@ -20,7 +20,7 @@ pub const LINE_LIMIT: usize = 1024;
 type Line = ArrayVec<u8, LINE_LIMIT>;
 
 /// The line of a command that one stands for.
-pub(crate) fn line_of<A: Allocator>(command: &Command<Argument<A>>) -> Line
+pub(crate) fn line_of<A: Allocator + Copy>(command: &Command<Argument<A>>) -> Line
     requires { IsStated command.now }
     ensures { result.items ≡ line_text command.now }
 {
@@ -30,7 +30,7 @@ pub(crate) fn line_of<A: Allocator>(command: &Command<Argument<A>>) -> Line
     line
 }
 
-fn command_verb<A: Allocator>(command: &Command<Argument<A>>) -> Verb
+fn command_verb<A: Allocator + Copy>(command: &Command<Argument<A>>) -> Verb
     ensures { result ≡ verb_of command.now }
 {
     match command {
@@ -76,7 +76,7 @@ fn command_verb<A: Allocator>(command: &Command<Argument<A>>) -> Verb
 }
 
 // What is behind the verb: nothing, or SP and the argument.
-fn put_tail<A: Allocator>(command: &Command<Argument<A>>, line: &mut Line)
+fn put_tail<A: Allocator + Copy>(command: &Command<Argument<A>>, line: &mut Line)
     requires stated { IsStated command.now }
     requires room { length line.old.items ≤ 4 }
     ensures { line.new.items ≡ line.old.items ++ tail_of command.now }

@@ -25,7 +25,10 @@ use std::alloc::Allocator;
 /// The word before the first SP names the verb, in capitals or small letters; all octets behind that SP are the
 /// argument. Each fault stands for one reply: see `CommandFault`. Memory is asked for last, and only for the text that a
 /// command holds.
-pub fn read<A: Allocator>(alloc: A, line: &[u8]) -> Result<Command<Argument<A>>, CommandFault>
+pub fn read<A: Allocator + Copy>(
+    alloc: A,
+    line: &[u8],
+) -> Result<Command<Argument<A>>, CommandFault>
     ensures says { IfOk result (λ command. Says line.now command) }
     ensures refuses { IfErr result (λ fault. (fault ≡ CommandFault.Memory) ⊎ Refuses line.now fault) }
     ensures refused { (fault : CommandFault) → Refuses line.now fault → result ≡ Err fault }
@@ -35,7 +38,10 @@ pub fn read<A: Allocator>(alloc: A, line: &[u8]) -> Result<Command<Argument<A>>,
     read_line(alloc, line)
 }
 
-fn read_line<A: Allocator>(alloc: A, line: &[u8]) -> Result<Command<Argument<A>>, CommandFault>
+fn read_line<A: Allocator + Copy>(
+    alloc: A,
+    line: &[u8],
+) -> Result<Command<Argument<A>>, CommandFault>
     ensures says { IfOk result (λ command. Says line.now command) }
     ensures refuses { IfErr result (λ fault. ((fault ≡ CommandFault.Memory) × SaysText line.now) ⊎ Refuses line.now fault) }
 {
@@ -57,7 +63,7 @@ macro_rules! asks {
 }
 
 // The command of a verb with this argument.
-fn read_argument<A: Allocator>(
+fn read_argument<A: Allocator + Copy>(
     alloc: A,
     verb: Verb,
     argument: &[u8],
@@ -148,7 +154,7 @@ fn space(text: &[u8]) -> Result<(u64, Option<u64>), CommandFault>
 }
 
 // A path text.
-fn path<A: Allocator>(alloc: A, argument: &[u8]) -> Result<Argument<A>, CommandFault>
+fn path<A: Allocator + Copy>(alloc: A, argument: &[u8]) -> Result<Argument<A>, CommandFault>
     ensures ok { IfOk result (λ text. (argument.now ≡ text) × IsPathText text) }
     ensures err { IfErr result (λ fault. ((fault ≡ CommandFault.Memory) × IsPathText argument.now) ⊎ ((fault ≡ CommandFault.BadArgument) × (¬ IsPathText argument.now))) }
 {
@@ -159,7 +165,7 @@ fn path<A: Allocator>(alloc: A, argument: &[u8]) -> Result<Argument<A>, CommandF
 }
 
 // A user name.
-fn name<A: Allocator>(alloc: A, argument: &[u8]) -> Result<Argument<A>, CommandFault>
+fn name<A: Allocator + Copy>(alloc: A, argument: &[u8]) -> Result<Argument<A>, CommandFault>
     ensures ok { IfOk result (λ text. (argument.now ≡ text) × IsName text) }
     ensures err { IfErr result (λ fault. ((fault ≡ CommandFault.Memory) × IsName argument.now) ⊎ ((fault ≡ CommandFault.BadArgument) × (¬ IsName argument.now))) }
 {
@@ -170,7 +176,7 @@ fn name<A: Allocator>(alloc: A, argument: &[u8]) -> Result<Argument<A>, CommandF
 }
 
 // A password.
-fn password<A: Allocator>(alloc: A, argument: &[u8]) -> Result<Argument<A>, CommandFault>
+fn password<A: Allocator + Copy>(alloc: A, argument: &[u8]) -> Result<Argument<A>, CommandFault>
     ensures ok { IfOk result (λ text. (argument.now ≡ text) × IsPassword text) }
     ensures err { IfErr result (λ fault. ((fault ≡ CommandFault.Memory) × IsPassword argument.now) ⊎ ((fault ≡ CommandFault.BadArgument) × (¬ IsPassword argument.now))) }
 {
@@ -181,7 +187,7 @@ fn password<A: Allocator>(alloc: A, argument: &[u8]) -> Result<Argument<A>, Comm
 }
 
 // Words, of one octet or more.
-fn words<A: Allocator>(alloc: A, text: &[u8]) -> Result<Argument<A>, CommandFault>
+fn words<A: Allocator + Copy>(alloc: A, text: &[u8]) -> Result<Argument<A>, CommandFault>
     ensures ok { IfOk result (λ words. (text.now ≡ words) × (1 ≤ length words)) }
     ensures err { IfErr result (λ fault. ((fault ≡ CommandFault.Memory) × (1 ≤ length text.now)) ⊎ ((fault ≡ CommandFault.BadArgument) × (¬ (1 ≤ length text.now)))) }
 {
@@ -192,7 +198,10 @@ fn words<A: Allocator>(alloc: A, text: &[u8]) -> Result<Argument<A>, CommandFaul
 }
 
 // Words, or nothing.
-fn words_or_none<A: Allocator>(alloc: A, text: &[u8]) -> Result<Option<Argument<A>>, CommandFault>
+fn words_or_none<A: Allocator + Copy>(
+    alloc: A,
+    text: &[u8],
+) -> Result<Option<Argument<A>>, CommandFault>
     ensures ok { IfOk result (λ words. SaysTextOrNone text.now words) }
     ensures err { IfErr result (λ fault. (fault ≡ CommandFault.Memory) × (1 ≤ length text.now)) }
 {
@@ -206,7 +215,10 @@ fn words_or_none<A: Allocator>(alloc: A, text: &[u8]) -> Result<Option<Argument<
 }
 
 // A path text, or nothing.
-fn path_or_none<A: Allocator>(alloc: A, text: &[u8]) -> Result<Option<Argument<A>>, CommandFault>
+fn path_or_none<A: Allocator + Copy>(
+    alloc: A,
+    text: &[u8],
+) -> Result<Option<Argument<A>>, CommandFault>
     ensures ok { IfOk result (λ path. SaysPathOrNone text.now path) }
     ensures err { IfErr result (λ fault. ((fault ≡ CommandFault.Memory) × IsPathText text.now) ⊎ ((fault ≡ CommandFault.BadArgument) × (¬ ((text.now ≡ []) ⊎ IsPathText text.now)))) }
 {
@@ -223,7 +235,7 @@ fn path_or_none<A: Allocator>(alloc: A, text: &[u8]) -> Result<Option<Argument<A
 }
 
 // A copy of an argument.
-fn own<A: Allocator>(alloc: A, octets: &[u8]) -> Result<Argument<A>, CommandFault>
+fn own<A: Allocator + Copy>(alloc: A, octets: &[u8]) -> Result<Argument<A>, CommandFault>
     ensures ok { IfOk result (λ text. octets.now ≡ text) }
     ensures err { IfErr result (λ fault. fault ≡ CommandFault.Memory) }
 {

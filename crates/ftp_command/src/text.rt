@@ -6,11 +6,11 @@ use std::marker::Model;
 
 /// A text that a command owns: a path, a name, a password or the words of an argument.
 #[derive(Drop)]
-pub struct Argument<A: Allocator> {
+pub struct Argument<A: Allocator + Copy> {
     octets: Vec<u8, A>,
 }
 
-impl<A: Allocator> Model for Argument<A> {
+impl<A: Allocator + Copy> Model for Argument<A> {
     ghost use Rattle.std.specs.Prelude.{ℕ, List};
 
     ghost Value = { List ℕ };
@@ -18,7 +18,7 @@ impl<A: Allocator> Model for Argument<A> {
     ghost view = { λ t. t.octets.items };
 }
 
-impl<A: Allocator> Argument<A> {
+impl<A: Allocator + Copy> Argument<A> {
     /// A copy of these octets; only memory can be refused.
     pub fn new(alloc: A, octets: &[u8]) -> Result<Argument<A>, AllocError>
         ensures { IfOk result (λ text. text ≡ octets.now) }

@@ -20,7 +20,7 @@ use std::alloc::Allocator;
 ///
 /// BadArgument: no line stands for the value, as a path of no octet, or a host of IPv6 in PORT. Memory: a growth was
 /// refused. After either, `out` is as it was.
-pub fn write<A: Allocator, B: Allocator>(
+pub fn write<A: Allocator + Copy, B: Allocator + Copy>(
     command: &Command<Argument<A>>,
     out: &mut Vec<u8, B>,
 ) -> Result<(), CommandFault>
@@ -40,7 +40,7 @@ pub fn write<A: Allocator, B: Allocator>(
 }
 
 // Whether a line stands for a command.
-fn is_stated<A: Allocator>(command: &Command<Argument<A>>) -> bool
+fn is_stated<A: Allocator + Copy>(command: &Command<Argument<A>>) -> bool
     ensures { IsTrue result ↔ IsStated command.now }
 {
     match command {

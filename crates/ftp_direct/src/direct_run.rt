@@ -23,7 +23,7 @@ use std::alloc::{AllocError, Allocator};
 ///
 /// Where the count of the tree's device failures changes in an operation's call, that operation is refused by 451 and changes
 /// nothing. It gives up only where memory was refused: then a beginning of the list was done, and the rest was not begun.
-pub fn direct<A: Allocator + Clone, T: Tree<A>>(
+pub fn direct<A: Allocator + Copy, T: Tree<A>>(
     alloc: &A,
     tree: &mut T,
     accounts: &Accounts<A>,
@@ -35,7 +35,7 @@ pub fn direct<A: Allocator + Clone, T: Tree<A>>(
     ensures begun { IfErr result (λ _. let root = login_root accounts.now login.now.user login.now.pass in
         (count : ℕ) × (said : List Said) × Ran (T.failures tree.old) (start (T.table tree.old) root) (take count (orders_of list.now)) said (T.failures tree.new) (T.table tree.new)) }
 {
-    let top = Path::root(alloc.clone()?);
+    let top = Path::root(*alloc);
     match accounts.login_root(login) {
         Some(root) => {
             let known = is_dir(tree, &top, root);
@@ -46,7 +46,7 @@ pub fn direct<A: Allocator + Clone, T: Tree<A>>(
 }
 
 /// Runs operations below a root, for a login that is known or not.
-fn run<A: Allocator + Clone, T: Tree<A>>(
+fn run<A: Allocator + Copy, T: Tree<A>>(
     alloc: &A,
     tree: &mut T,
     root: &Path<A>,
@@ -58,8 +58,8 @@ fn run<A: Allocator + Clone, T: Tree<A>>(
     ensures begun { IfErr result (λ _.
         (count : ℕ) × (said : List Said) × Ran (T.failures tree.old) (standing (T.table tree.old) root.now [] known) (take count (orders_of list.now)) said (T.failures tree.new) (T.table tree.new)) }
 {
-    let mut answers = Vec::new(alloc.clone()?);
-    let mut cwd = Path::root(alloc.clone()?);
+    let mut answers = Vec::new(*alloc);
+    let mut cwd = Path::root(*alloc);
     for (op, moment) in list {
         answers.push(answer(alloc, tree, root, &mut cwd, known, op, *moment)?)?;
     }
@@ -67,7 +67,7 @@ fn run<A: Allocator + Clone, T: Tree<A>>(
 }
 
 /// Answers one operation, from a current directory and for a login that is known or not.
-fn answer<A: Allocator + Clone, T: Tree<A>>(
+fn answer<A: Allocator + Copy, T: Tree<A>>(
     alloc: &A,
     tree: &mut T,
     root: &Path<A>,
@@ -90,7 +90,7 @@ fn answer<A: Allocator + Clone, T: Tree<A>>(
 }
 
 /// Answers one operation that can be sent, for a login that is known.
-fn due<A: Allocator + Clone, T: Tree<A>>(
+fn due<A: Allocator + Copy, T: Tree<A>>(
     alloc: &A,
     tree: &mut T,
     root: &Path<A>,

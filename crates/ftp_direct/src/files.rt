@@ -17,7 +17,7 @@ use ftp_tree::{Content, Path, Tree, TreeFault};
 use std::alloc::{AllocError, Allocator};
 
 /// Puts a file with these octets.
-pub(crate) fn put<A: Allocator + Clone, T: Tree<A>>(
+pub(crate) fn put<A: Allocator + Copy, T: Tree<A>>(
     alloc: &A,
     tree: &mut T,
     root: &Path<A>,
@@ -38,7 +38,7 @@ pub(crate) fn put<A: Allocator + Clone, T: Tree<A>>(
 }
 
 /// Puts these octets behind those of a file, or a new file.
-pub(crate) fn append<A: Allocator + Clone, T: Tree<A>>(
+pub(crate) fn append<A: Allocator + Copy, T: Tree<A>>(
     alloc: &A,
     tree: &mut T,
     root: &Path<A>,
@@ -60,7 +60,7 @@ pub(crate) fn append<A: Allocator + Clone, T: Tree<A>>(
 }
 
 /// Puts these octets behind the first ones of a file, so many as an offset skips.
-pub(crate) fn put_from<A: Allocator + Clone, T: Tree<A>>(
+pub(crate) fn put_from<A: Allocator + Copy, T: Tree<A>>(
     alloc: &A,
     tree: &mut T,
     root: &Path<A>,
@@ -89,7 +89,7 @@ pub(crate) fn put_from<A: Allocator + Clone, T: Tree<A>>(
 }
 
 /// Installs a file: the first octets of the one that stands there, and these behind them.
-fn install<A: Allocator + Clone, T: Tree<A>>(
+fn install<A: Allocator + Copy, T: Tree<A>>(
     alloc: &A,
     tree: &mut T,
     root: &Path<A>,
@@ -113,7 +113,7 @@ fn install<A: Allocator + Clone, T: Tree<A>>(
     if !has_room(room, kept, octets) {
         return Ok(tell(Refusal::TooMuch));
     }
-    let mut content = front(alloc.clone()?, tree, root, path, kept)?;
+    let mut content = front(*alloc, tree, root, path, kept)?;
     content.push(octets.as_slice())?;
     match tree.install(root, path, &mut content, moment) {
         Ok(()) => Ok(Answer::Done),
@@ -132,7 +132,7 @@ fn name_refusal(fault: TreeFault) -> Refusal
 }
 
 /// Whether so many octets and these behind them are within the room.
-fn has_room<A: Allocator>(room: u64, kept: u64, octets: &Text<A>) -> bool
+fn has_room<A: Allocator + Copy>(room: u64, kept: u64, octets: &Text<A>) -> bool
     ensures { result ≡ nat_le (kept + length octets.now) room }
 {
     let more = octets.as_slice().len() as u64;
@@ -140,7 +140,7 @@ fn has_room<A: Allocator>(room: u64, kept: u64, octets: &Text<A>) -> bool
 }
 
 /// The first octets of the file at a path, to be installed again.
-fn front<A: Allocator + Clone, T: Tree<A>>(
+fn front<A: Allocator + Copy, T: Tree<A>>(
     alloc: A,
     tree: &T,
     root: &Path<A>,

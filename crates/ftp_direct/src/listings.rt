@@ -19,7 +19,7 @@ use ftp_tree::{Path, Tree, TreeFault};
 use std::alloc::{AllocError, Allocator};
 
 /// Says the entry of what stands at a path.
-pub(crate) fn facts<A: Allocator + Clone, T: Tree<A>>(
+pub(crate) fn facts<A: Allocator + Copy, T: Tree<A>>(
     alloc: &A,
     tree: &T,
     root: &Path<A>,
@@ -39,7 +39,7 @@ pub(crate) fn facts<A: Allocator + Clone, T: Tree<A>>(
 }
 
 /// Lists a directory.
-pub(crate) fn list<A: Allocator + Clone, T: Tree<A>>(
+pub(crate) fn list<A: Allocator + Copy, T: Tree<A>>(
     alloc: &A,
     tree: &T,
     root: &Path<A>,
@@ -69,7 +69,7 @@ fn listing_refusal(fault: TreeFault) -> Refusal
 }
 
 /// Names a directory's files, or a file.
-pub(crate) fn names<A: Allocator + Clone, T: Tree<A>>(
+pub(crate) fn names<A: Allocator + Copy, T: Tree<A>>(
     alloc: &A,
     tree: &T,
     root: &Path<A>,
@@ -89,7 +89,7 @@ pub(crate) fn names<A: Allocator + Clone, T: Tree<A>>(
 }
 
 /// The path that a text names, or the current directory's where it is empty; `None` past the limits of paths.
-fn find_here<A: Allocator + Clone>(
+fn find_here<A: Allocator + Copy>(
     alloc: &A,
     cwd: &Path<A>,
     text: &Text<A>,
@@ -101,12 +101,12 @@ fn find_here<A: Allocator + Clone>(
     if !text.as_slice().is_empty() {
         return find(alloc, cwd, text);
     }
-    let here = Text::copy_of(alloc.clone()?, b".")?;
+    let here = Text::copy_of(*alloc, b".")?;
     find(alloc, cwd, &here)
 }
 
 /// The entry of what stands at a path, under a name.
-fn entry<A: Allocator + Clone, T: Tree<A>>(
+fn entry<A: Allocator + Copy, T: Tree<A>>(
     alloc: &A,
     tree: &T,
     root: &Path<A>,
@@ -116,9 +116,9 @@ fn entry<A: Allocator + Clone, T: Tree<A>>(
     requires { IsPathText name.now }
     ensures { IfOk result (λ entry. listed_of entry ≡ entry_at (under (T.table tree.now) root.now) path.now name.now) }
 {
-    let name = Text::copy_of(alloc.clone()?, name)?;
+    let name = Text::copy_of(*alloc, name)?;
     if !is_file(tree, root, path) {
-        let perm = Text::copy_of(alloc.clone()?, dir_perm(path))?;
+        let perm = Text::copy_of(*alloc, dir_perm(path))?;
         return Ok(Entry {
             name,
             kind: Some(EntryKind::Dir),
@@ -127,7 +127,7 @@ fn entry<A: Allocator + Clone, T: Tree<A>>(
             perm: Some(perm),
         });
     }
-    let perm = Text::copy_of(alloc.clone()?, b"adfrw")?;
+    let perm = Text::copy_of(*alloc, b"adfrw")?;
     Ok(Entry {
         name,
         kind: Some(EntryKind::File),
@@ -138,7 +138,7 @@ fn entry<A: Allocator + Clone, T: Tree<A>>(
 }
 
 /// The permissions of a directory (RFC 3659, section 7.5.5).
-fn dir_perm<A: Allocator>(path: &Path<A>) -> &'static [u8]
+fn dir_perm<A: Allocator + Copy>(path: &Path<A>) -> &'static [u8]
     ensures perm { result.now ≡ perm_of path.now Dir }
     ensures value { IsValue result.now }
 {
@@ -150,7 +150,11 @@ fn dir_perm<A: Allocator>(path: &Path<A>) -> &'static [u8]
 }
 
 /// The size of the file at a path, where it can be said.
-fn size_fact<A: Allocator, T: Tree<A>>(tree: &T, root: &Path<A>, path: &Path<A>) -> Option<u64>
+fn size_fact<A: Allocator + Copy, T: Tree<A>>(
+    tree: &T,
+    root: &Path<A>,
+    path: &Path<A>,
+) -> Option<u64>
     ensures value { result ≡ option_and_then size_fact (size_at (under (T.table tree.now) root.now) path.now) }
     ensures fits { ForSome result (λ size. size < 1_000_000_000_000_000_000) }
 {
@@ -161,7 +165,7 @@ fn size_fact<A: Allocator, T: Tree<A>>(tree: &T, root: &Path<A>, path: &Path<A>)
 }
 
 /// The entries of a directory.
-fn entries<A: Allocator + Clone, T: Tree<A>>(
+fn entries<A: Allocator + Copy, T: Tree<A>>(
     alloc: &A,
     tree: &T,
     root: &Path<A>,
@@ -170,7 +174,7 @@ fn entries<A: Allocator + Clone, T: Tree<A>>(
     ensures { IfOk result (λ entries. map listed_of entries.items ≡ entries_in (under (T.table tree.now) root.now) path.now) }
 {
     let names = names_in(alloc, tree, root, path)?;
-    let mut entries = Vec::new(alloc.clone()?);
+    let mut entries = Vec::new(*alloc);
     for name in &names {
         push_some(&mut entries, entry_in(alloc, tree, root, path, name)?)?;
     }
@@ -178,7 +182,7 @@ fn entries<A: Allocator + Clone, T: Tree<A>>(
 }
 
 /// The entry of a name in a directory, where its path is within the limits of paths.
-pub fn entry_in<A: Allocator + Clone, T: Tree<A>>(
+pub fn entry_in<A: Allocator + Copy, T: Tree<A>>(
     alloc: &A,
     tree: &T,
     root: &Path<A>,
@@ -195,7 +199,7 @@ pub fn entry_in<A: Allocator + Clone, T: Tree<A>>(
 }
 
 /// The text of a file, or the pathnames of a directory's files.
-fn pathnames<A: Allocator + Clone, T: Tree<A>>(
+fn pathnames<A: Allocator + Copy, T: Tree<A>>(
     alloc: &A,
     tree: &T,
     root: &Path<A>,
@@ -207,13 +211,13 @@ fn pathnames<A: Allocator + Clone, T: Tree<A>>(
     if !is_file(tree, root, path) {
         return files(alloc, tree, root, path, text);
     }
-    let mut names = Vec::new(alloc.clone()?);
-    names.push(Text::copy_of(alloc.clone()?, text.as_slice())?)?;
+    let mut names = Vec::new(*alloc);
+    names.push(Text::copy_of(*alloc, text.as_slice())?)?;
     Ok(names)
 }
 
 /// The pathnames of a directory's files.
-fn files<A: Allocator + Clone, T: Tree<A>>(
+fn files<A: Allocator + Copy, T: Tree<A>>(
     alloc: &A,
     tree: &T,
     root: &Path<A>,
@@ -223,7 +227,7 @@ fn files<A: Allocator + Clone, T: Tree<A>>(
     ensures { IfOk result (λ files. files.items ≡ filter_map (file_in (under (T.table tree.now) root.now) path.now text.now) (children (under (T.table tree.now) root.now) path.now)) }
 {
     let names = names_in(alloc, tree, root, path)?;
-    let mut files = Vec::new(alloc.clone()?);
+    let mut files = Vec::new(*alloc);
     for name in &names {
         push_some(&mut files, file_in(alloc, tree, root, path, text, name)?)?;
     }
@@ -231,7 +235,7 @@ fn files<A: Allocator + Clone, T: Tree<A>>(
 }
 
 /// The pathname of a name in a directory, where it is a file's. `text` names the directory.
-pub fn file_in<A: Allocator + Clone, T: Tree<A>>(
+pub fn file_in<A: Allocator + Copy, T: Tree<A>>(
     alloc: &A,
     tree: &T,
     root: &Path<A>,
@@ -252,19 +256,19 @@ pub fn file_in<A: Allocator + Clone, T: Tree<A>>(
 }
 
 /// A name behind the text that names its directory, with a `/` between them.
-fn behind<A: Allocator + Clone>(alloc: &A, text: &[u8], name: &[u8]) -> Result<Text<A>, AllocError>
+fn behind<A: Allocator + Copy>(alloc: &A, text: &[u8], name: &[u8]) -> Result<Text<A>, AllocError>
     ensures { IfOk result (λ joined. joined ≡ behind text.now name.now) }
 {
-    let mut joined = Vec::from_slice(alloc.clone()?, text)?;
+    let mut joined = Vec::from_slice(*alloc, text)?;
     if !text.is_empty() && !text.ends_with(b"/") {
         joined.push(b'/')?;
     }
     joined.extend_from_slice(name)?;
-    Text::copy_of(alloc.clone()?, joined.as_slice())
+    Text::copy_of(*alloc, joined.as_slice())
 }
 
 /// The names in a directory, in the order of their octets.
-fn names_in<A: Allocator + Clone, T: Tree<A>>(
+fn names_in<A: Allocator + Copy, T: Tree<A>>(
     alloc: &A,
     tree: &T,
     root: &Path<A>,
@@ -273,15 +277,18 @@ fn names_in<A: Allocator + Clone, T: Tree<A>>(
     ensures names { IfOk result (λ names. names.items ≡ children (under (T.table tree.now) root.now) path.now) }
     ensures named { IfOk result (λ names. IsTrue (list_all is_name names.items)) }
 {
-    let mut names = Vec::new(alloc.clone()?);
+    let mut names = Vec::new(*alloc);
     while let Some(name) = tree.nth_name(root, path, names.len()) {
-        names.push(Text::copy_of(alloc.clone()?, name.octets())?)?;
+        names.push(Text::copy_of(*alloc, name.octets())?)?;
     }
     Ok(names)
 }
 
 /// Puts an item behind the others, if there is one.
-fn push_some<X: Drop, A: Allocator>(list: &mut Vec<X, A>, item: Option<X>) -> Result<(), AllocError>
+fn push_some<X: Drop, A: Allocator + Copy>(
+    list: &mut Vec<X, A>,
+    item: Option<X>,
+) -> Result<(), AllocError>
     ensures { OnOk result (list.new.items ≡ list.old.items ++ option_to_list item) }
 {
     if let Some(item) = item {

@@ -8,7 +8,7 @@ use std::alloc::Allocator;
 
 /// Why no directory is had at a path.
 #[tactic(auto, using(crate::proofs::NodeLemmas::directory_kind))]
-pub fn directory_fault<A: Allocator, T: Tree<A>>(
+pub fn directory_fault<A: Allocator + Copy, T: Tree<A>>(
     tree: &T,
     root: &Path<A>,
     path: &Path<A>,
@@ -24,7 +24,7 @@ pub fn directory_fault<A: Allocator, T: Tree<A>>(
 
 /// Why no file is had at a path.
 #[tactic(auto, using(crate::proofs::NodeLemmas::file_kind))]
-pub fn file_fault<A: Allocator, T: Tree<A>>(
+pub fn file_fault<A: Allocator + Copy, T: Tree<A>>(
     tree: &T,
     root: &Path<A>,
     path: &Path<A>,
@@ -40,7 +40,7 @@ pub fn file_fault<A: Allocator, T: Tree<A>>(
 
 /// Why nothing is had at a path.
 #[tactic(auto, using(crate::proofs::NodeLemmas::absent_kind))]
-pub fn absent_fault<A: Allocator, T: Tree<A>>(
+pub fn absent_fault<A: Allocator + Copy, T: Tree<A>>(
     tree: &T,
     root: &Path<A>,
     path: &Path<A>,
@@ -55,7 +55,7 @@ pub fn absent_fault<A: Allocator, T: Tree<A>>(
 
 /// Whether a directory stands at a path, read from the top of the tree.
 #[tactic(auto, using(ftp_tree::proofs::PartLemmas::under_all, crate::proofs::NodeLemmas::is_directory_kind))]
-pub fn is_dir<A: Allocator, T: Tree<A>>(tree: &T, top: &Path<A>, path: &Path<A>) -> bool
+pub fn is_dir<A: Allocator + Copy, T: Tree<A>>(tree: &T, top: &Path<A>, path: &Path<A>) -> bool
     requires { top.now ≡ [] }
     ensures { result ≡ is_directory (node_at (T.table tree.now) path.now) }
 {
@@ -67,7 +67,7 @@ pub fn is_dir<A: Allocator, T: Tree<A>>(tree: &T, top: &Path<A>, path: &Path<A>)
 
 /// Whether a file stands at a path.
 #[tactic(auto, using(crate::proofs::NodeLemmas::is_file_kind))]
-pub fn is_file<A: Allocator, T: Tree<A>>(tree: &T, root: &Path<A>, path: &Path<A>) -> bool
+pub fn is_file<A: Allocator + Copy, T: Tree<A>>(tree: &T, root: &Path<A>, path: &Path<A>) -> bool
     ensures { result ≡ is_file (node_at (under (T.table tree.now) root.now) path.now) }
 {
     match tree.kind(root, path) {
@@ -78,7 +78,7 @@ pub fn is_file<A: Allocator, T: Tree<A>>(tree: &T, root: &Path<A>, path: &Path<A
 
 /// How many octets the file at a path has; none where no file stands.
 #[tactic(auto, using(crate::proofs::NodeLemmas::len_size))]
-pub fn len_at<A: Allocator, T: Tree<A>>(tree: &T, root: &Path<A>, path: &Path<A>) -> u64
+pub fn len_at<A: Allocator + Copy, T: Tree<A>>(tree: &T, root: &Path<A>, path: &Path<A>) -> u64
     ensures { result ≡ length (octets_or_none (under (T.table tree.now) root.now) path.now) }
 {
     tree.size(root, path).unwrap_or(0)

@@ -31,7 +31,7 @@ fn is_in_files(structure: Structure) -> bool
 }
 
 /// How many first octets of the file at a path go as so many octets of a transfer in that type, where some do.
-pub fn place_at<A: Allocator, T: Tree<A>>(
+pub fn place_at<A: Allocator + Copy, T: Tree<A>>(
     tree: &T,
     root: &Path<A>,
     path: &Path<A>,

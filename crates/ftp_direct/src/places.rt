@@ -16,17 +16,17 @@ use ftp_tree::{Path, Tree};
 use std::alloc::{AllocError, Allocator};
 
 /// Says which directory is the current one.
-pub(crate) fn say_where<A: Allocator + Clone>(
+pub(crate) fn say_where<A: Allocator + Copy>(
     alloc: &A,
     cwd: &Path<A>,
 ) -> Result<Answer<A>, AllocError>
     ensures { (table : Table) (root : Names) → IfOk result (λ answer. let old = here table root cwd.now in Gives (due old Op.Where 0) (said_of answer) old) }
 {
-    Ok(Answer::Path(Text::copy_of(alloc.clone()?, cwd.text())?))
+    Ok(Answer::Path(Text::copy_of(*alloc, cwd.text())?))
 }
 
 /// Goes to a directory.
-pub(crate) fn change_dir<A: Allocator + Clone, T: Tree<A>>(
+pub(crate) fn change_dir<A: Allocator + Copy, T: Tree<A>>(
     alloc: &A,
     tree: &T,
     root: &Path<A>,
@@ -50,14 +50,14 @@ pub(crate) fn change_dir<A: Allocator + Clone, T: Tree<A>>(
 
 /// Goes to the parent of the current directory; from the root nowhere.
 #[tactic(auto, using(crate::proofs::ResolveLemmas::up_parent))]
-pub(crate) fn go_up<A: Allocator + Clone>(
+pub(crate) fn go_up<A: Allocator + Copy>(
     alloc: &A,
     cwd: &mut Path<A>,
 ) -> Result<Answer<A>, AllocError>
     ensures answer { (table : Table) (root : Names) → IfOk result (λ answer. Gives (due (here table root cwd.old) Op.Up 0) (said_of answer) (here table root cwd.new)) }
     ensures kept { OnErr result (cwd.new ≡ cwd.old) }
 {
-    match cwd.resolve(alloc.clone()?, b"..") {
+    match cwd.resolve(*alloc, b"..") {
         Ok(path) => {
             *cwd = path;
             Ok(Answer::Done)
@@ -67,7 +67,7 @@ pub(crate) fn go_up<A: Allocator + Clone>(
 }
 
 /// Makes a directory, and says its path.
-pub(crate) fn make_dir<A: Allocator + Clone, T: Tree<A>>(
+pub(crate) fn make_dir<A: Allocator + Copy, T: Tree<A>>(
     alloc: &A,
     tree: &mut T,
     root: &Path<A>,
@@ -82,7 +82,7 @@ pub(crate) fn make_dir<A: Allocator + Clone, T: Tree<A>>(
     let Some(path) = find(alloc, cwd, text)? else {
         return Ok(tell(Refusal::Unavailable));
     };
-    let made = Text::copy_of(alloc.clone()?, path.text())?;
+    let made = Text::copy_of(*alloc, path.text())?;
     match tree.make_dir(root, &path) {
         Ok(()) => Ok(Answer::Path(made)),
         Err(fault) => refused(fault, Refusal::Unavailable),
@@ -90,7 +90,7 @@ pub(crate) fn make_dir<A: Allocator + Clone, T: Tree<A>>(
 }
 
 /// Removes a directory.
-pub(crate) fn remove_dir<A: Allocator + Clone, T: Tree<A>>(
+pub(crate) fn remove_dir<A: Allocator + Copy, T: Tree<A>>(
     alloc: &A,
     tree: &mut T,
     root: &Path<A>,
@@ -115,7 +115,7 @@ pub(crate) fn remove_dir<A: Allocator + Clone, T: Tree<A>>(
 }
 
 /// Deletes a file.
-pub(crate) fn delete<A: Allocator + Clone, T: Tree<A>>(
+pub(crate) fn delete<A: Allocator + Copy, T: Tree<A>>(
     alloc: &A,
     tree: &mut T,
     root: &Path<A>,
@@ -137,7 +137,7 @@ pub(crate) fn delete<A: Allocator + Clone, T: Tree<A>>(
 }
 
 /// Moves what stands at a path, with all below it.
-pub(crate) fn rename<A: Allocator + Clone, T: Tree<A>>(
+pub(crate) fn rename<A: Allocator + Copy, T: Tree<A>>(
     alloc: &A,
     tree: &mut T,
     root: &Path<A>,
@@ -167,7 +167,7 @@ pub(crate) fn rename<A: Allocator + Clone, T: Tree<A>>(
 }
 
 /// Whether nothing can be moved from a path: nothing stands there, or it is in use.
-pub fn is_held<A: Allocator, T: Tree<A>>(
+pub fn is_held<A: Allocator + Copy, T: Tree<A>>(
     tree: &T,
     root: &Path<A>,
     path: &Path<A>,
@@ -179,7 +179,7 @@ pub fn is_held<A: Allocator, T: Tree<A>>(
 }
 
 /// Whether the current directory is at or below a path.
-pub fn is_busy<A: Allocator>(path: &Path<A>, cwd: &Path<A>) -> bool
+pub fn is_busy<A: Allocator + Copy>(path: &Path<A>, cwd: &Path<A>) -> bool
     ensures { result ≡ is_within path.now cwd.now }
 {
     is_within(path.key(), cwd.key())

@@ -16,7 +16,7 @@ use ftp_tree::{Path, Tree};
 use std::alloc::{AllocError, Allocator};
 
 /// Gets a file's octets.
-pub(crate) fn get<A: Allocator + Clone, T: Tree<A>>(
+pub(crate) fn get<A: Allocator + Copy, T: Tree<A>>(
     alloc: &A,
     tree: &T,
     root: &Path<A>,
@@ -34,7 +34,7 @@ pub(crate) fn get<A: Allocator + Clone, T: Tree<A>>(
 }
 
 /// Gets a file's octets behind those that an offset skips.
-pub(crate) fn get_from<A: Allocator + Clone, T: Tree<A>>(
+pub(crate) fn get_from<A: Allocator + Copy, T: Tree<A>>(
     alloc: &A,
     tree: &T,
     root: &Path<A>,
@@ -60,7 +60,7 @@ pub(crate) fn get_from<A: Allocator + Clone, T: Tree<A>>(
 }
 
 /// Gets a file's first octets, at most so many.
-pub(crate) fn peek<A: Allocator + Clone, T: Tree<A>>(
+pub(crate) fn peek<A: Allocator + Copy, T: Tree<A>>(
     alloc: &A,
     tree: &T,
     root: &Path<A>,
@@ -79,7 +79,7 @@ pub(crate) fn peek<A: Allocator + Clone, T: Tree<A>>(
 }
 
 /// Says when a file was installed.
-pub(crate) fn modified<A: Allocator + Clone, T: Tree<A>>(
+pub(crate) fn modified<A: Allocator + Copy, T: Tree<A>>(
     alloc: &A,
     tree: &T,
     root: &Path<A>,
@@ -99,7 +99,7 @@ pub(crate) fn modified<A: Allocator + Clone, T: Tree<A>>(
 }
 
 /// The path of the file that a text names, or `None` where no file stands there.
-pub(crate) fn find_file<A: Allocator + Clone, T: Tree<A>>(
+pub(crate) fn find_file<A: Allocator + Copy, T: Tree<A>>(
     alloc: &A,
     tree: &T,
     root: &Path<A>,
@@ -120,7 +120,7 @@ pub(crate) fn find_file<A: Allocator + Clone, T: Tree<A>>(
 }
 
 /// Answers the octets of the file at a path from a place on up to another.
-fn say_octets<A: Allocator + Clone, T: Tree<A>>(
+fn say_octets<A: Allocator + Copy, T: Tree<A>>(
     alloc: &A,
     tree: &T,
     root: &Path<A>,
@@ -131,12 +131,12 @@ fn say_octets<A: Allocator + Clone, T: Tree<A>>(
     requires { end ≤ length (octets_or_none (under (T.table tree.now) root.now) path.now) }
     ensures { IfOk result (λ answer. said_of answer ≡ Octets (drop from (take end (octets_or_none (under (T.table tree.now) root.now) path.now)))) }
 {
-    let octets = read(alloc.clone()?, tree, root, path, from, end)?;
-    Ok(Answer::Octets(Text::copy_of(alloc.clone()?, octets.as_slice())?))
+    let octets = read(*alloc, tree, root, path, from, end)?;
+    Ok(Answer::Octets(Text::copy_of(*alloc, octets.as_slice())?))
 }
 
 /// The octets of the file at a path from a place on up to another.
-fn read<A: Allocator, T: Tree<A>>(
+fn read<A: Allocator + Copy, T: Tree<A>>(
     alloc: A,
     tree: &T,
     root: &Path<A>,

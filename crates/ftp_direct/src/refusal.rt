@@ -49,7 +49,7 @@ impl Refusal {
 }
 
 /// The answer that tells a refusal.
-pub(crate) fn tell<A: Allocator>(why: Refusal) -> Answer<A>
+pub(crate) fn tell<A: Allocator + Copy>(why: Refusal) -> Answer<A>
     ensures { said_of result ≡ Refused (code_of why) }
 {
     Answer::Refused(why.code())
@@ -57,7 +57,10 @@ pub(crate) fn tell<A: Allocator>(why: Refusal) -> Answer<A>
 
 /// What a call that the tree refused makes of an operation: want of memory ends the run, a failure of the device is a local
 /// fault, and any other refusal is told as it is given.
-pub(crate) fn refused<A: Allocator>(fault: TreeFault, why: Refusal) -> Result<Answer<A>, AllocError>
+pub(crate) fn refused<A: Allocator + Copy>(
+    fault: TreeFault,
+    why: Refusal,
+) -> Result<Answer<A>, AllocError>
     ensures said { IfOk result (λ answer. said_of answer ≡ Refused (code_of (told fault why))) }
     ensures memory { IfErr result (λ _. fault ≡ TreeFault.Memory) }
     ensures other { OnOk result (fault ≢ TreeFault.Memory) }
@@ -70,7 +73,7 @@ pub(crate) fn refused<A: Allocator>(fault: TreeFault, why: Refusal) -> Result<An
 }
 
 /// The path that a text names, read from the current directory, or `None` where it is past the limits of paths.
-pub fn find<A: Allocator + Clone>(
+pub fn find<A: Allocator + Copy>(
     alloc: &A,
     cwd: &Path<A>,
     text: &Text<A>,
@@ -79,7 +82,7 @@ pub fn find<A: Allocator + Clone>(
     ensures { IfOk result (λ found. MatchOption found (fits (resolved cwd.now text.now) ≡ false)
         (λ path. (path ≡ resolved cwd.now text.now) × (fits path ≡ true))) }
 {
-    match cwd.resolve(alloc.clone()?, text.as_slice()) {
+    match cwd.resolve(*alloc, text.as_slice()) {
         Ok(path) => Ok(Some(path)),
         Err(PathFault::TooBig) => Ok(None),
         Err(_) => Err(AllocError),

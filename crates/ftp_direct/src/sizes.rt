@@ -17,7 +17,7 @@ use ftp_tree::{Path, Tree};
 use std::alloc::{AllocError, Allocator};
 
 /// Says how many octets a transfer of a file would have.
-pub(crate) fn size<A: Allocator + Clone, T: Tree<A>>(
+pub(crate) fn size<A: Allocator + Copy, T: Tree<A>>(
     alloc: &A,
     tree: &T,
     root: &Path<A>,
@@ -40,7 +40,7 @@ pub(crate) fn size<A: Allocator + Clone, T: Tree<A>>(
 }
 
 /// How many octets the file at a path goes as in that type, or `u64::MAX` where they are more.
-pub fn wire_len<A: Allocator, T: Tree<A>>(
+pub fn wire_len<A: Allocator + Copy, T: Tree<A>>(
     tree: &T,
     root: &Path<A>,
     path: &Path<A>,

@@ -11,7 +11,7 @@ use std::alloc::Allocator;
 
 /// The type of an entry (RFC 3659, section 7.5.1).
 #[derive(Debug, Drop)]
-pub enum EntryKind<A: Allocator> {
+pub enum EntryKind<A: Allocator + Copy> {
     /// A file.
     File,
     /// A directory.
@@ -26,7 +26,7 @@ pub enum EntryKind<A: Allocator> {
 
 /// An entry of a machine listing: a pathname and the facts that are given (RFC 3659, section 7.2).
 #[derive(Debug, Drop)]
-pub struct Entry<A: Allocator> {
+pub struct Entry<A: Allocator + Copy> {
     /// A path text.
     pub name: Text<A>,
     pub kind: Option<EntryKind<A>>,

@@ -43,7 +43,7 @@ pub fn entry_is_said()
 {}
 
 /// No line says two entries.
-pub fn one_entry<A: Allocator>(line: &[u8], first: &Entry<A>, second: &Entry<A>)
+pub fn one_entry<A: Allocator + Copy>(line: &[u8], first: &Entry<A>, second: &Entry<A>)
     requires first { SaysEntry line.now first.now }
     requires second { SaysEntry line.now second.now }
     ensures { first.now ≡ second.now }
@@ -57,28 +57,25 @@ pub fn one_fault(line: &[u8], first: FactFault, second: FactFault)
 {}
 
 /// A line that says an entry meets no fault: only memory can be refused.
-pub fn no_fault<A: Allocator>(line: &[u8], entry: &Entry<A>)
+pub fn no_fault<A: Allocator + Copy>(line: &[u8], entry: &Entry<A>)
     requires { SaysEntry line.now entry.now }
     ensures { Refuses line.now FactFault.Memory }
 {}
 
 /// The line of an entry says that entry.
-pub fn entry_line_says<A: Allocator>(entry: &Entry<A>)
+pub fn entry_line_says<A: Allocator + Copy>(entry: &Entry<A>)
     ensures { SaysEntry (entry_line entry.now) entry.now }
 {}
 
 /// The line of an entry is read as that entry.
-pub fn entry_comes_back<A: Allocator + Clone>(
+pub fn entry_comes_back<A: Allocator + Copy>(
     alloc: A,
     entry: &Entry<A>,
 ) -> Result<Entry<A>, FactFault>
     ensures back { IfOk result (λ back. back ≡ entry.now) }
     ensures fault { IfErr result (λ fault. fault ≡ FactFault.Memory) }
 {
-    let mut line = match alloc.clone() {
-        Ok(alloc) => Vec::new(alloc),
-        Err(_) => return Err(FactFault::Memory),
-    };
+    let mut line = Vec::new(alloc);
     write_entry(entry, &mut line)?;
     read_entry(alloc, line.as_slice())
 }

@@ -19,7 +19,7 @@ use std::alloc::{AllocError, Allocator};
 ///
 /// Of several faults the one with the lowest number is given; the whole line is always read. Memory is asked for last, so
 /// that `Memory` comes only where there is no other fault.
-pub fn read_entry<A: Allocator + Clone>(alloc: A, line: &[u8]) -> Result<Entry<A>, FactFault>
+pub fn read_entry<A: Allocator + Copy>(alloc: A, line: &[u8]) -> Result<Entry<A>, FactFault>
     ensures says { IfOk result (SaysEntry line.now) }
     ensures refuses { IfErr result (Refuses line.now) }
 {
@@ -121,7 +121,7 @@ fn read_modify(text: Option<&[u8]>) -> Result<Option<Moment>, FactFault>
 }
 
 /// The entry that owns what was seen.
-fn keep<A: Allocator + Clone>(alloc: A, seen: Seen<'_>) -> Result<Entry<A>, AllocError>
+fn keep<A: Allocator + Copy>(alloc: A, seen: Seen<'_>) -> Result<Entry<A>, AllocError>
     requires { CanBeKept seen }
     ensures { IfOk result (λ entry. listed_of entry ≡ listed_in seen.entry) }
 {
@@ -137,7 +137,7 @@ fn keep<A: Allocator + Clone>(alloc: A, seen: Seen<'_>) -> Result<Entry<A>, Allo
     })
 }
 
-fn keep_kind<A: Allocator + Clone>(
+fn keep_kind<A: Allocator + Copy>(
     alloc: &A,
     word: Option<&[u8]>,
 ) -> Result<Option<EntryKind<A>>, AllocError>
@@ -151,7 +151,7 @@ fn keep_kind<A: Allocator + Clone>(
     }
 }
 
-fn kind_of<A: Allocator + Clone>(alloc: &A, word: &[u8]) -> Result<EntryKind<A>, AllocError>
+fn kind_of<A: Allocator + Copy>(alloc: &A, word: &[u8]) -> Result<EntryKind<A>, AllocError>
     requires { IsValue word.now }
     ensures word { IfOk result (λ kind. word_of kind ≡ kind_word word.now) }
     ensures fits { IfOk result (λ kind. (other : List ℕ) → kind ≡ Other other → IsOtherWord other) }
@@ -165,11 +165,11 @@ fn kind_of<A: Allocator + Clone>(alloc: &A, word: &[u8]) -> Result<EntryKind<A>,
     } else if is_word(word, b"pdir") {
         Ok(EntryKind::ParentDir)
     } else {
-        Ok(EntryKind::Other(Text::copy_of(alloc.clone()?, word)?))
+        Ok(EntryKind::Other(Text::copy_of(*alloc, word)?))
     }
 }
 
-fn keep_text<A: Allocator + Clone>(
+fn keep_text<A: Allocator + Copy>(
     alloc: &A,
     text: Option<&[u8]>,
 ) -> Result<Option<Text<A>>, AllocError>
@@ -177,6 +177,6 @@ fn keep_text<A: Allocator + Clone>(
 {
     match text {
         None => Ok(None),
-        Some(text) => Ok(Some(Text::copy_of(alloc.clone()?, text)?)),
+        Some(text) => Ok(Some(Text::copy_of(*alloc, text)?)),
     }
 }

@@ -6,18 +6,18 @@ use std::marker::Model;
 
 /// Octets that an entry owns: a pathname, or the value of a fact.
 #[derive(Debug)]
-pub struct Text<A: Allocator> {
+pub struct Text<A: Allocator + Copy> {
     octets: Vec<u8, A>,
 }
 
 /// By hand: a derived drop is proved again in each crate that lets a text go.
-impl<A: Allocator> Drop for Text<A> {
+impl<A: Allocator + Copy> Drop for Text<A> {
     fn drop(self) {
         let Self { octets: _ } = self;
     }
 }
 
-impl<A: Allocator> Model for Text<A> {
+impl<A: Allocator + Copy> Model for Text<A> {
     ghost use Rattle.std.specs.Prelude.{List, ℕ};
 
     ghost Value = { List ℕ };
@@ -25,7 +25,7 @@ impl<A: Allocator> Model for Text<A> {
     ghost view = { λ text. text.octets.items };
 }
 
-impl<A: Allocator> Text<A> {
+impl<A: Allocator + Copy> Text<A> {
     /// A copy of these octets.
     pub fn copy_of(alloc: A, octets: &[u8]) -> Result<Text<A>, AllocError>
         ensures { IfOk result (λ text. text ≡ octets.now) }

@@ -9,7 +9,7 @@ use std::alloc::{AllocError, Allocator};
 
 /// Appends the line of an entry, without an end: its Type, Size, Modify and Perm in that order, each where it is
 /// there, a space and the pathname (RFC 3659, section 7.2). Refused memory, `out` is as before.
-pub fn write_entry<A: Allocator, B: Allocator>(
+pub fn write_entry<A: Allocator + Copy, B: Allocator + Copy>(
     entry: &Entry<A>,
     out: &mut Vec<u8, B>,
 ) -> Result<(), FactFault>
@@ -27,7 +27,7 @@ pub fn write_entry<A: Allocator, B: Allocator>(
     }
 }
 
-fn append_entry<A: Allocator, B: Allocator>(
+fn append_entry<A: Allocator + Copy, B: Allocator + Copy>(
     entry: &Entry<A>,
     out: &mut Vec<u8, B>,
 ) -> Result<(), AllocError>
@@ -41,7 +41,7 @@ fn append_entry<A: Allocator, B: Allocator>(
     append_name(&entry.name, out)
 }
 
-fn append_kind<A: Allocator, B: Allocator>(
+fn append_kind<A: Allocator + Copy, B: Allocator + Copy>(
     kind: &Option<EntryKind<A>>,
     out: &mut Vec<u8, B>,
 ) -> Result<(), AllocError>
@@ -55,7 +55,10 @@ fn append_kind<A: Allocator, B: Allocator>(
     }
 }
 
-fn append_size<B: Allocator>(size: Option<u64>, out: &mut Vec<u8, B>) -> Result<(), AllocError>
+fn append_size<B: Allocator + Copy>(
+    size: Option<u64>,
+    out: &mut Vec<u8, B>,
+) -> Result<(), AllocError>
     ensures fact { OnOk result (out.new.items ≡ out.old.items
         ++ facts_text (given (codes "Size") (option_map decimal size))) }
     ensures front { OnErr result (GoesOn out.old.items out.new.items) }
@@ -66,7 +69,7 @@ fn append_size<B: Allocator>(size: Option<u64>, out: &mut Vec<u8, B>) -> Result<
     }
 }
 
-fn append_modify<B: Allocator>(
+fn append_modify<B: Allocator + Copy>(
     modify: Option<Moment>,
     out: &mut Vec<u8, B>,
 ) -> Result<(), AllocError>
@@ -80,7 +83,7 @@ fn append_modify<B: Allocator>(
     }
 }
 
-fn append_perm<A: Allocator, B: Allocator>(
+fn append_perm<A: Allocator + Copy, B: Allocator + Copy>(
     perm: &Option<Text<A>>,
     out: &mut Vec<u8, B>,
 ) -> Result<(), AllocError>
@@ -93,7 +96,7 @@ fn append_perm<A: Allocator, B: Allocator>(
     }
 }
 
-fn append_name<A: Allocator, B: Allocator>(
+fn append_name<A: Allocator + Copy, B: Allocator + Copy>(
     name: &Text<A>,
     out: &mut Vec<u8, B>,
 ) -> Result<(), AllocError>
@@ -105,7 +108,7 @@ fn append_name<A: Allocator, B: Allocator>(
 }
 
 /// Appends `name=value;`.
-fn append_fact<B: Allocator>(
+fn append_fact<B: Allocator + Copy>(
     name: &[u8],
     value: &[u8],
     out: &mut Vec<u8, B>,
@@ -120,7 +123,7 @@ fn append_fact<B: Allocator>(
     out.extend_from_slice(b";")
 }
 
-fn word<A: Allocator>(kind: &EntryKind<A>) -> &[u8]
+fn word<A: Allocator + Copy>(kind: &EntryKind<A>) -> &[u8]
     ensures { result.now ≡ word_of kind.now }
 {
     match kind {

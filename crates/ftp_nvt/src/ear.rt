@@ -10,12 +10,12 @@ use std::alloc::Allocator;
 /// Hears the lines of a control connection in its octets, however they are cut into pieces, and which answers
 /// its Telnet octets are owed (RFC 854; RFC 959, section 4).
 #[derive(Drop)]
-pub struct Ear<A: Allocator> {
+pub struct Ear<A: Allocator + Copy> {
     place: TelnetState,
     line: LineBuffer<A>,
 }
 
-impl<A: Allocator> Ear<A> {
+impl<A: Allocator + Copy> Ear<A> {
     ghost use Rattle.ftp_nvt.specs.Ear.{HasHeard, Hears, event_list, limit_of, line_of, room_of};
     ghost use Rattle.ftp_nvt.specs.Fold.{ear_of};
 

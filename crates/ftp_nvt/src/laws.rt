@@ -31,6 +31,6 @@ pub fn fold_gives_events()
 {}
 
 /// An ear is seen as the fold behind what it has heard.
-pub fn ear_is_its_fold<A: Allocator>(ear: &Ear<A>)
+pub fn ear_is_its_fold<A: Allocator + Copy>(ear: &Ear<A>)
     ensures { ReaderIsEar ear.now }
 {}

@@ -27,7 +27,7 @@ pub enum Stage {
 
 /// The unfinished line of an ear: reads octets that Telnet octets were taken out of.
 #[derive(Drop)]
-pub struct LineBuffer<A: Allocator> {
+pub struct LineBuffer<A: Allocator + Copy> {
     limit: usize,
     count: usize,
     stage: Stage,
@@ -37,7 +37,7 @@ pub struct LineBuffer<A: Allocator> {
     ghost room: { vec_capacity text ≡ limit },
 }
 
-impl<A: Allocator> LineBuffer<A> {
+impl<A: Allocator + Copy> LineBuffer<A> {
     ghost use Rattle.ftp_nvt.specs.Event.{event_list};
     ghost use Rattle.ftp_nvt.specs.Fold.{line_at};
     ghost use Rattle.ftp_nvt.specs.LineBuffer.{Bites, HasRead, Reads, Steps};

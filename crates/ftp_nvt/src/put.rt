@@ -10,7 +10,7 @@ use std::alloc::{AllocError, Allocator};
 ///
 /// The text has no LF, which the caller sees to: an LF in it would end the line there. After a fault the vector
 /// has what it had.
-pub fn put_line<A: Allocator>(text: &[u8], out: &mut Vec<u8, A>) -> Result<(), NvtFault>
+pub fn put_line<A: Allocator + Copy>(text: &[u8], out: &mut Vec<u8, A>) -> Result<(), NvtFault>
     ensures ok { OnOk result (out.new.items ≡ out.old.items ++ written_line text.now) }
     ensures err { OnErr result (out.new.items ≡ out.old.items) }
     ensures memory { IfErr result (λ fault. fault ≡ NvtFault.Memory) }
@@ -30,7 +30,7 @@ pub fn put_line<A: Allocator>(text: &[u8], out: &mut Vec<u8, A>) -> Result<(), N
 }
 
 // Appends a line, or a front of it.
-fn append_line<A: Allocator>(text: &[u8], out: &mut Vec<u8, A>) -> Result<(), AllocError>
+fn append_line<A: Allocator + Copy>(text: &[u8], out: &mut Vec<u8, A>) -> Result<(), AllocError>
     ensures ok { OnOk result (out.new.items ≡ out.old.items ++ written_line text.now) }
     ensures err { OnErr result (take (length out.old.items) out.new.items ≡ out.old.items) }
     ensures full { OnErr result
@@ -43,7 +43,7 @@ fn append_line<A: Allocator>(text: &[u8], out: &mut Vec<u8, A>) -> Result<(), Al
 }
 
 // Appends an octet of a text.
-fn put_octet<A: Allocator>(octet: u8, out: &mut Vec<u8, A>) -> Result<(), AllocError>
+fn put_octet<A: Allocator + Copy>(octet: u8, out: &mut Vec<u8, A>) -> Result<(), AllocError>
     ensures ok { OnOk result (out.new.items ≡ out.old.items ++ written_octet octet) }
     ensures err { OnErr result (out.new.items ≡ out.old.items) }
     ensures full { OnErr result

@@ -22,14 +22,14 @@ pub struct Account<P, R> {
 
 /// A user name of 1 to 255 octets and a password of at most 255, without CR, LF and NUL.
 #[derive(Debug, Drop)]
-pub struct Login<A: Allocator> {
+pub struct Login<A: Allocator + Copy> {
     user: Text<A>,
     pass: Text<A>,
     ghost user_fits: { IsTrue (is_user user) },
     ghost pass_fits: { IsTrue (is_password pass) },
 }
 
-impl<A: Allocator> Login<A> {
+impl<A: Allocator + Copy> Login<A> {
     /// The login of a user name and a password, or `None` where one is past its limits. Takes no memory.
     pub fn new(user: Text<A>, pass: Text<A>) -> Option<Login<A>>
         ensures same { IfSome result (λ login. (login.user ≡ user) × (login.pass ≡ pass)) }
@@ -61,11 +61,11 @@ impl<A: Allocator> Login<A> {
 
 /// Accounts of which no two have one user name, and no root is below another.
 #[derive(Drop)]
-pub struct Accounts<A: Allocator> {
+pub struct Accounts<A: Allocator + Copy> {
     list: Vec<Account<Text<A>, Path<A>>, A>,
 }
 
-impl<A: Allocator> Model for Accounts<A> {
+impl<A: Allocator + Copy> Model for Accounts<A> {
     ghost use Rattle.std.specs.Prelude.{List};
     ghost use Rattle.ftp_operation.specs.Account.{Account};
 
@@ -86,27 +86,27 @@ pub enum AccountsFault {
 
 /// A list of accounts that was refused, handed back, and why.
 #[derive(Drop)]
-pub struct RefusedAccounts<A: Allocator> {
+pub struct RefusedAccounts<A: Allocator + Copy> {
     pub fault: AccountsFault,
     pub list: Vec<Account<Text<A>, Path<A>>, A>,
 }
 
-impl<A: Allocator> fmt::Display for RefusedAccounts<A> {
+impl<A: Allocator + Copy> fmt::Display for RefusedAccounts<A> {
     fn fmt<W: fmt::Write>(&self, f: &mut fmt::Formatter<W>) -> fmt::Result {
         write!(f, "accounts are refused: {}", self.fault)
     }
 }
 
 /// No password is shown.
-impl<A: Allocator> fmt::Debug for RefusedAccounts<A> {
+impl<A: Allocator + Copy> fmt::Debug for RefusedAccounts<A> {
     fn fmt<W: fmt::Write>(&self, f: &mut fmt::Formatter<W>) -> fmt::Result {
         write!(f, "RefusedAccounts {{ fault: {:?}, .. }}", self.fault)
     }
 }
 
-impl<A: Allocator> Error for RefusedAccounts<A> {}
+impl<A: Allocator + Copy> Error for RefusedAccounts<A> {}
 
-impl<A: Allocator> Accounts<A> {
+impl<A: Allocator + Copy> Accounts<A> {
     /// These accounts, in this order, or the list back with the first reason why not. An account with a user name or a
     /// password that no login has is accepted. Takes no memory.
     pub fn new(list: Vec<Account<Text<A>, Path<A>>, A>) -> Result<Accounts<A>, RefusedAccounts<A>>
@@ -158,7 +158,7 @@ impl<A: Allocator> Accounts<A> {
 }
 
 /// Whether no two accounts have one user name.
-fn are_distinct<A: Allocator>(list: &[Account<Text<A>, Path<A>>]) -> bool
+fn are_distinct<A: Allocator + Copy>(list: &[Account<Text<A>, Path<A>>]) -> bool
     ensures { result ≡ are_distinct list.now }
 {
     for at in 0..list.len() {
@@ -170,14 +170,14 @@ fn are_distinct<A: Allocator>(list: &[Account<Text<A>, Path<A>>]) -> bool
 }
 
 /// Whether an account has a user name.
-fn is_taken<A: Allocator>(list: &[Account<Text<A>, Path<A>>], user: &[u8]) -> bool
+fn is_taken<A: Allocator + Copy>(list: &[Account<Text<A>, Path<A>>], user: &[u8]) -> bool
     ensures { result ≡ list_any (has_user user.now) list.now }
 {
     list.iter().any(|account| account.user.as_slice() == user)
 }
 
 /// Whether no account's root is below another's.
-fn are_apart<A: Allocator>(list: &[Account<Text<A>, Path<A>>]) -> bool
+fn are_apart<A: Allocator + Copy>(list: &[Account<Text<A>, Path<A>>]) -> bool
     ensures { result ≡ are_apart list.now }
 {
     for at in 0..list.len() {
@@ -189,35 +189,35 @@ fn are_apart<A: Allocator>(list: &[Account<Text<A>, Path<A>>]) -> bool
 }
 
 /// Whether an account's root is below this one, or above it.
-fn is_nested<A: Allocator>(list: &[Account<Text<A>, Path<A>>], root: &Path<A>) -> bool
+fn is_nested<A: Allocator + Copy>(list: &[Account<Text<A>, Path<A>>], root: &Path<A>) -> bool
     ensures { result ≡ list_any (has_nested root.now) list.now }
 {
     list.iter().any(|account| is_below(root, &account.root) || is_below(&account.root, root))
 }
 
 /// Whether the second path is below the first, and not the first.
-fn is_below<A: Allocator>(above: &Path<A>, path: &Path<A>) -> bool
+fn is_below<A: Allocator + Copy>(above: &Path<A>, path: &Path<A>) -> bool
     ensures { result ≡ is_below above.now path.now }
 {
     is_within(above.key(), path.key()) && !is_within(path.key(), above.key())
 }
 
 /// Whether an account is that of a user name and needs no password or this one.
-fn knows<A: Allocator>(account: &Account<Text<A>, Path<A>>, user: &[u8], pass: &[u8]) -> bool
+fn knows<A: Allocator + Copy>(account: &Account<Text<A>, Path<A>>, user: &[u8], pass: &[u8]) -> bool
     ensures { result ≡ knows user.now pass.now account.now }
 {
     account.user.as_slice() == user && passes(&account.pass, pass)
 }
 
 /// Whether an account is that of a user name and needs no password.
-fn is_open<A: Allocator>(account: &Account<Text<A>, Path<A>>, user: &[u8]) -> bool
+fn is_open<A: Allocator + Copy>(account: &Account<Text<A>, Path<A>>, user: &[u8]) -> bool
     ensures { result ≡ is_open user.now account.now }
 {
     account.user.as_slice() == user && account.pass.is_none()
 }
 
 /// Whether a password is the one that is needed, or none is.
-fn passes<A: Allocator>(right: &Option<Text<A>>, pass: &[u8]) -> bool
+fn passes<A: Allocator + Copy>(right: &Option<Text<A>>, pass: &[u8]) -> bool
     ensures { result ≡ passes right.now pass.now }
 {
     match right {

@@ -4,7 +4,7 @@ use std::alloc::Allocator;
 
 /// The answer of an operation: what was asked for, or why it was not had.
 #[derive(Drop)]
-pub enum Answer<A: Allocator> {
+pub enum Answer<A: Allocator + Copy> {
     Done,
     Path(Text<A>),
     Octets(Text<A>),

@@ -10,7 +10,7 @@ use std::alloc::Allocator;
 
 /// Whether an operation can be sent: its path texts are path texts (where one may be left out, none too), its number has at
 /// most 18 digits, and the text of names does not begin with `-`.
-pub fn can_be_sent<A: Allocator>(op: &Op<Text<A>>) -> bool
+pub fn can_be_sent<A: Allocator + Copy>(op: &Op<Text<A>>) -> bool
     ensures { result ≡ can_be_sent op.now }
 {
     match op {

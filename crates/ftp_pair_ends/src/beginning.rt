@@ -20,7 +20,7 @@ use std::alloc::Allocator;
 /// A login, accounts, a tree and the hosts of client and server that a session can begin with. The tree holds at most 67,108,864 octets where the
 /// login sees it, and both hosts are of one family.
 #[derive(Drop)]
-pub struct Beginning<A: Allocator, T: Tree<A>> {
+pub struct Beginning<A: Allocator + Copy, T: Tree<A>> {
     pub(crate) login: Login<A>,
     pub(crate) accounts: Accounts<A>,
     pub(crate) tree: T,
@@ -90,7 +90,7 @@ fn are_related(one: Host, other: Host) -> bool
 
 /// Whether the tree is within its limit where a login sees it: at the account's root, and else whole.
 #[tactic(auto, using(crate::proofs::Fairness::part_some, crate::proofs::Fairness::part_none))]
-fn fits<A: Allocator, T: Tree<A>>(
+fn fits<A: Allocator + Copy, T: Tree<A>>(
     alloc: A,
     login: &Login<A>,
     accounts: &Accounts<A>,

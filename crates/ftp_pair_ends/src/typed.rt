@@ -35,7 +35,7 @@ fn are_octets(octets: &[u8])
 }
 
 /// Each account's root is a path.
-pub(crate) fn are_paths<A: Allocator>(list: &[Account<Text<A>, Path<A>>])
+pub(crate) fn are_paths<A: Allocator + Copy>(list: &[Account<Text<A>, Path<A>>])
     ensures { IsTrue (list_all (λ account. is_path account.root) list.now) }
 {
     for account in list {
@@ -45,7 +45,7 @@ pub(crate) fn are_paths<A: Allocator>(list: &[Account<Text<A>, Path<A>>])
 
 /// A path has names within the limits; whether its canonical text is within its own.
 #[tactic(auto, using(crate::proofs::Paths::kept_is_path))]
-fn is_path<A: Allocator>(path: &Path<A>) -> bool
+fn is_path<A: Allocator + Copy>(path: &Path<A>) -> bool
     ensures { IsTrue (is_path path.now) }
 {
     path.key().len() <= 900

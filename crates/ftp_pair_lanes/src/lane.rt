@@ -8,12 +8,12 @@ pub const ROOM: usize = 4096;
 
 /// Octets on their way, with room for 4,096 at least from the start on.
 #[derive(Drop)]
-pub struct Lane<A: Allocator> {
+pub struct Lane<A: Allocator + Copy> {
     pub octets: Vec<u8, A>,
     pub ghost roomy: { 4096 ≤ vec_capacity octets },
 }
 
-impl<A: Allocator> Lane<A> {
+impl<A: Allocator + Copy> Lane<A> {
     /// No octets yet, and room for 4,096.
     pub fn new(alloc: A) -> Result<Lane<A>, AllocError>
         ensures { IfOk result (λ lane. lane.octets.items ≡ []) }

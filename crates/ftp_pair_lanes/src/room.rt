@@ -6,7 +6,7 @@ use std::alloc::{AllocError, Allocator};
 
 /// What a world has room for from the start: octets of each queue, those that are lent, and a report, a `T`.
 #[derive(Drop)]
-pub struct Room<A: Allocator, T: Drop> {
+pub struct Room<A: Allocator + Copy, T: Drop> {
     pub control_to_server: Lane<A>,
     pub control_to_client: Lane<A>,
     pub data_to_server: Lane<A>,
@@ -40,7 +40,7 @@ impl<A: Allocator + Copy, T: Drop> Room<A, T> {
 }
 
 /// Adds an item, for which there is room.
-pub fn keep<A: Allocator, T: Drop>(items: &mut Vec<T, A>, item: T)
+pub fn keep<A: Allocator + Copy, T: Drop>(items: &mut Vec<T, A>, item: T)
     requires { vec_len items.old < vec_capacity items.old }
     ensures { items.new.items ≡ items.old.items ++ item ∷ [] }
 {

@@ -17,7 +17,7 @@ use ftp_server_model::Far;
 use ftp_tree::Tree;
 use std::alloc::{AllocError, Allocator};
 
-impl<A: Allocator, T: Tree<A>, N: Near<A>, F: Far<A, T>> Parts<A, T, N, F> {
+impl<A: Allocator + Copy, T: Tree<A>, N: Near<A>, F: Far<A, T>> Parts<A, T, N, F> {
     /// The operation that is given is begun, where none is open and no link stands or is wanted. Room for its report and a mark is made first.
     pub(crate) fn step_next(
         &mut self,

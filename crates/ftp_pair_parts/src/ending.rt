@@ -11,7 +11,7 @@ use ftp_server_model::Far;
 use ftp_tree::Tree;
 use std::alloc::Allocator;
 
-impl<A: Allocator, T: Tree<A>, N: Near<A>, F: Far<A, T>> Parts<A, T, N, F> {
+impl<A: Allocator + Copy, T: Tree<A>, N: Near<A>, F: Far<A, T>> Parts<A, T, N, F> {
     /// The control connection ends; it answers whether an end was on it. Takes no memory.
     pub(crate) fn step_end_control(&mut self) -> bool
         requires report { HasRoom N.client self.old }

@@ -6,7 +6,7 @@ use std::alloc::Allocator;
 
 /// What may happen to a world (RFC 959, section 2.3). Moments are those of the server's clock.
 #[derive(Drop)]
-pub enum Event<A: Allocator> {
+pub enum Event<A: Allocator + Copy> {
     /// So many octets go over a queue: its sender fills it up to them, and the first are offered to its receiver, which takes some. Of none, one call
     /// of the sender moves at most 4,096, and none is offered (own choice).
     Deliver(Queue, usize),

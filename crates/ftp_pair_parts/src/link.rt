@@ -32,7 +32,7 @@ fn is_connecting(wants: Wants) -> bool
 }
 
 /// One mark more.
-fn add<A: Allocator>(marks: &mut Vec<Mark, A>, mark: Mark) -> Result<(), AllocError>
+fn add<A: Allocator + Copy>(marks: &mut Vec<Mark, A>, mark: Mark) -> Result<(), AllocError>
     ensures ok { OnOk result (marks.new.items ≡ marks.old.items ++ mark ∷ []) }
     ensures err { OnErr result (marks.new.items ≡ marks.old.items) }
 {
@@ -42,7 +42,10 @@ fn add<A: Allocator>(marks: &mut Vec<Mark, A>, mark: Mark) -> Result<(), AllocEr
 
 /// The last of these has one mark more.
 #[tactic(auto, using(crate::proofs::Marking::marks_last, crate::proofs::Marking::marks_none))]
-fn mark_last<A: Allocator>(marks: &mut Vec<Vec<Mark, A>, A>, mark: Mark) -> Result<(), AllocError>
+fn mark_last<A: Allocator + Copy>(
+    marks: &mut Vec<Vec<Mark, A>, A>,
+    mark: Mark,
+) -> Result<(), AllocError>
     ensures ok { OnOk result (map (λ marks. map mark_of marks.items) marks.new.items ≡ marked_last (mark_of mark) (map (λ marks. map mark_of marks.items) marks.old.items)) }
     ensures err { OnErr result (map (λ marks. map mark_of marks.items) marks.new.items ≡ map (λ marks. map mark_of marks.items) marks.old.items) }
 {
@@ -54,7 +57,7 @@ fn mark_last<A: Allocator>(marks: &mut Vec<Vec<Mark, A>, A>, mark: Mark) -> Resu
     added
 }
 
-impl<A: Allocator, T: Tree<A>, N: Near<A>, F: Far<A, T>> Parts<A, T, N, F> {
+impl<A: Allocator + Copy, T: Tree<A>, N: Near<A>, F: Far<A, T>> Parts<A, T, N, F> {
     /// Whether a link is wanted: there is none, one end connects and the other accepts.
     pub(crate) fn is_asked_for(&self) -> bool
         ensures { result ≡ is_asked_for (shown N.client F.server self.now) }

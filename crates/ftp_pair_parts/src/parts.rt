@@ -6,7 +6,7 @@ use std::marker::PhantomData;
 
 /// Two ends, and what lies between them. `calm` is true while neither end was refused memory and no device failed.
 #[derive(Drop)]
-pub struct Parts<A: Allocator, T, N: Drop, F: Drop> {
+pub struct Parts<A: Allocator + Copy, T, N: Drop, F: Drop> {
     pub near: N,
     pub far: F,
     pub control_to_server: Lane<A>,

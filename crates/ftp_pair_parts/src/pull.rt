@@ -11,7 +11,7 @@ use ftp_server_model::Far;
 use ftp_tree::Tree;
 use std::alloc::Allocator;
 
-impl<A: Allocator, T: Tree<A>, N: Near<A>, F: Far<A, T>> Parts<A, T, N, F> {
+impl<A: Allocator + Copy, T: Tree<A>, N: Near<A>, F: Far<A, T>> Parts<A, T, N, F> {
     #[tactic(auto, using(crate::proofs::Busy::control_out_busy))]
     pub(crate) fn pull_control_to_server(&mut self, most: usize) -> usize
         requires few { most ≤ 4096 }

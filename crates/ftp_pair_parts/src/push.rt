@@ -12,7 +12,7 @@ use ftp_server_model::Far;
 use ftp_tree::Tree;
 use std::alloc::Allocator;
 
-impl<A: Allocator, T: Tree<A>, N: Near<A>, F: Far<A, T>> Parts<A, T, N, F> {
+impl<A: Allocator + Copy, T: Tree<A>, N: Near<A>, F: Far<A, T>> Parts<A, T, N, F> {
     pub(crate) fn push_control_to_client(&mut self, most: usize) -> usize
         requires room { most ≤ vec_capacity self.old.taken.octets }
         ensures moved { Calmly self.old self.new ((read : Reading) → IsReading read → shown N.client F.server self.new ≡ pushed read ControlToClient result (taking ControlToClient result (shown N.client F.server self.old))) }

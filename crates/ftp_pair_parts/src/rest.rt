@@ -11,7 +11,7 @@ use ftp_server_model::Far;
 use ftp_tree::Tree;
 use std::alloc::Allocator;
 
-impl<A: Allocator, T: Tree<A>, N: Near<A>, F: Far<A, T>> Parts<A, T, N, F> {
+impl<A: Allocator + Copy, T: Tree<A>, N: Near<A>, F: Far<A, T>> Parts<A, T, N, F> {
     /// How many octets are on their way.
     pub(crate) fn len_of(&self, queue: Queue) -> usize
         ensures { result ≡ len_of queue self.now }

@@ -34,7 +34,7 @@ fn next_of(listens: u16) -> u16
     (listens % PORTS + 1) % PORTS
 }
 
-impl<A: Allocator, T: Tree<A>, N: Near<A>, F: Far<A, T>> Parts<A, T, N, F> {
+impl<A: Allocator + Copy, T: Tree<A>, N: Near<A>, F: Far<A, T>> Parts<A, T, N, F> {
     pub(crate) fn serve_near(&mut self)
         ensures moved { Calmly self.old self.new (shown N.client F.server self.new ≡ near_served (shown N.client F.server self.old)) }
         ensures report { HasRoom N.client self.old → HasRoom N.client self.new }

@@ -13,7 +13,7 @@ use ftp_server_model::Far;
 use ftp_tree::Tree;
 use std::alloc::{AllocError, Allocator};
 
-impl<A: Allocator, T: Tree<A>, N: Near<A>, F: Far<A, T>> Parts<A, T, N, F> {
+impl<A: Allocator + Copy, T: Tree<A>, N: Near<A>, F: Far<A, T>> Parts<A, T, N, F> {
     /// An event happens where it is possible; it answers whether it was. The room that it takes is made first.
     pub fn step(&mut self, alloc: A, event: Event<A>) -> Result<bool, AllocError>
         requires report { HasRoom N.client self.old }

@@ -20,7 +20,7 @@ pub enum Turn {
     End(Queue),
 }
 
-impl<A: Allocator, T: Tree<A>, N: Near<A>, F: Far<A, T>> Parts<A, T, N, F> {
+impl<A: Allocator + Copy, T: Tree<A>, N: Near<A>, F: Far<A, T>> Parts<A, T, N, F> {
     /// One delivery of at most 4,096 octets, opening or end happens, if one is possible; it answers whether one was. Takes no memory.
     pub fn turn(&mut self) -> bool
         requires report { HasRoom N.client self.old }

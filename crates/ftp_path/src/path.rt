@@ -11,18 +11,18 @@ use std::marker::Model;
 
 /// A list of names from the root on, each a `Name`, whose canonical text has at most 900 octets. That something
 /// stands there is not said.
-pub struct Path<A: Allocator> {
+pub struct Path<A: Allocator + Copy> {
     octets: Vec<u8, A>,
 }
 
 /// By hand: a derived drop is proved again in each crate that lets a path go.
-impl<A: Allocator> Drop for Path<A> {
+impl<A: Allocator + Copy> Drop for Path<A> {
     fn drop(self) {
         let Self { octets: _ } = self;
     }
 }
 
-impl<A: Allocator> Model for Path<A> {
+impl<A: Allocator + Copy> Model for Path<A> {
     ghost use Rattle.std.specs.Prelude.{ℕ, List};
 
     ghost Value = { List (List ℕ) };
@@ -34,7 +34,7 @@ impl<A: Allocator> Model for Path<A> {
     ghost invariant = { λ path. IsKept path.octets.items };
 }
 
-impl<A: Allocator> Path<A> {
+impl<A: Allocator + Copy> Path<A> {
     /// The root's. Takes no memory.
     pub fn root(alloc: A) -> Path<A>
         ensures { result ≡ [] }
@@ -123,7 +123,7 @@ impl<A: Allocator> Path<A> {
     }
 
     /// The same path, in memory of its own.
-    pub fn copy<B: Allocator>(&self, alloc: B) -> Result<Path<B>, AllocError>
+    pub fn copy<B: Allocator + Copy>(&self, alloc: B) -> Result<Path<B>, AllocError>
         ensures { IfOk result (λ path. path ≡ self.now) }
     {
         let octets = Vec::from_slice(alloc, self.octets.as_slice())?;
@@ -131,7 +131,11 @@ impl<A: Allocator> Path<A> {
     }
 
     /// Whether this path is within the limits once what stands at `from` is called `to`.
-    pub fn fits_moved<B: Allocator, C: Allocator>(&self, from: &Path<B>, to: &Path<C>) -> bool
+    pub fn fits_moved<B: Allocator + Copy, C: Allocator + Copy>(
+        &self,
+        from: &Path<B>,
+        to: &Path<C>,
+    ) -> bool
         requires { IsTrue (is_within from.now self.now) }
         ensures { result ≡ fits (moved_path from.now to.now self.now) }
     {
@@ -140,7 +144,7 @@ impl<A: Allocator> Path<A> {
     }
 
     /// Where this path leads then, in memory of its own.
-    pub fn moved<B: Allocator, C: Allocator, D: Allocator>(
+    pub fn moved<B: Allocator + Copy, C: Allocator + Copy, D: Allocator + Copy>(
         &self,
         alloc: D,
         from: &Path<B>,

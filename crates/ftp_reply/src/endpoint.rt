@@ -14,7 +14,7 @@ use std::alloc::Allocator;
 /// run of one to three digits, in parentheses or not (RFC 959, section 4.1.2; RFC 1123, section 4.1.2.6).
 ///
 /// `NoEndpoint` where there are none. Takes no memory.
-pub fn passive_of<A: Allocator>(reply: &Reply<A>) -> Result<Endpoint, ReplyFault>
+pub fn passive_of<A: Allocator + Copy>(reply: &Reply<A>) -> Result<Endpoint, ReplyFault>
     ensures value { result_ok result ≡ passive_value (joined reply.now.lines) }
     ensures fault { IfErr result (λ fault. fault ≡ ReplyFault.NoEndpoint) }
 {
@@ -27,7 +27,7 @@ pub fn passive_of<A: Allocator>(reply: &Reply<A>) -> Result<Endpoint, ReplyFault
 /// The port that a 229 reply names: that of the first `(<d><d><d>port<d>)` (RFC 2428, section 3).
 ///
 /// `NoEndpoint` where there is none. Takes no memory.
-pub fn extended_of<A: Allocator>(reply: &Reply<A>) -> Result<u16, ReplyFault>
+pub fn extended_of<A: Allocator + Copy>(reply: &Reply<A>) -> Result<u16, ReplyFault>
     ensures value { result_ok result ≡ extended_value (joined reply.now.lines) }
     ensures fault { IfErr result (λ fault. fault ≡ ReplyFault.NoEndpoint) }
 {

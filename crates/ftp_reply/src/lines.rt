@@ -18,14 +18,14 @@ pub const LF: u8 = 10;
 
 /// The texts of up to 64 lines, of up to 8,192 octets together. Contracts see them as a list of texts.
 #[derive(Debug, Drop)]
-pub struct Lines<A: Allocator> {
+pub struct Lines<A: Allocator + Copy> {
     /// The lines, an LF between two.
     buffer: Vec<u8, A>,
     /// The length of each.
     lens: ArrayVec<u16, MAX_LINES>,
 }
 
-impl<A: Allocator> Model for Lines<A> {
+impl<A: Allocator + Copy> Model for Lines<A> {
     ghost use Rattle.std.specs.Prelude.{ℕ, List};
     ghost use Rattle.ftp_reply.specs.Lines.{lines_at, AreCut, AreWithin};
 
@@ -37,7 +37,7 @@ impl<A: Allocator> Model for Lines<A> {
         × AreWithin (lines_at lines.buffer.items lines.lens.items) };
 }
 
-impl<A: Allocator> Lines<A> {
+impl<A: Allocator + Copy> Lines<A> {
     /// No line. Takes no memory.
     pub fn new(alloc: A) -> Lines<A>
         ensures { result ≡ [] }
@@ -99,13 +99,13 @@ impl<A: Allocator> Lines<A> {
     /// Hands the lines out with one more behind them, and is without lines then. Without memory all is as before.
     pub fn finish(&mut self, line: &[u8]) -> Result<Lines<A>, AllocError>
     where
-        A: Clone,
+        A: Copy,
         requires { AreWithin (self.old ++ line.now ∷ []) }
         ensures ok { IfOk result (λ lines. lines ≡ self.old ++ line.now ∷ []) }
         ensures none { OnOk result (self.new ≡ []) }
         ensures err { OnErr result (self.new ≡ self.old) }
     {
-        let none = Lines::new(self.buffer.allocator().clone()?);
+        let none = Lines::new(*self.buffer.allocator());
         self.push(line)?;
         Ok(mem::replace(self, none))
     }

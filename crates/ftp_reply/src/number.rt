@@ -19,7 +19,7 @@ use std::alloc::Allocator;
 /// The number that the text of a 213 reply is, 1 to 18 digits: octets of the transfer (RFC 3659, section 4).
 ///
 /// `NoNumber` where the text is none. Takes no memory.
-pub fn size_of<A: Allocator>(reply: &Reply<A>) -> Result<u64, ReplyFault>
+pub fn size_of<A: Allocator + Copy>(reply: &Reply<A>) -> Result<u64, ReplyFault>
     ensures value { result_ok result ≡ number_value (joined reply.now.lines) }
     ensures fault { IfErr result (λ fault. fault ≡ ReplyFault.NoNumber) }
 {
@@ -32,7 +32,7 @@ pub fn size_of<A: Allocator>(reply: &Reply<A>) -> Result<u64, ReplyFault>
 /// The mmmm of `MARK yyyy = mmmm`, the text of a 110 reply, 1 to 18 digits (RFC 959, section 4.2).
 ///
 /// `NoNumber` where the text has none. Takes no memory.
-pub fn mark_of<A: Allocator>(reply: &Reply<A>) -> Result<u64, ReplyFault>
+pub fn mark_of<A: Allocator + Copy>(reply: &Reply<A>) -> Result<u64, ReplyFault>
     ensures value { result_ok result ≡ mark_value (joined reply.now.lines) }
     ensures fault { IfErr result (λ fault. fault ≡ ReplyFault.NoNumber) }
 {
@@ -45,7 +45,7 @@ pub fn mark_of<A: Allocator>(reply: &Reply<A>) -> Result<u64, ReplyFault>
 /// The moment that the text of a 213 reply is (RFC 3659, section 3).
 ///
 /// `NoNumber` where the text is none. Takes no memory.
-pub fn moment_of<A: Allocator>(reply: &Reply<A>) -> Result<Moment, ReplyFault>
+pub fn moment_of<A: Allocator + Copy>(reply: &Reply<A>) -> Result<Moment, ReplyFault>
     ensures value { option_map (λ moment. moment.seconds) (result_ok result) ≡ moment_value (joined reply.now.lines) }
     ensures fault { IfErr result (λ fault. fault ≡ ReplyFault.NoNumber) }
 {

@@ -25,7 +25,7 @@ enum Front<'a> {
 /// (RFC 959, section 4.1.3 and appendix II), where that is a path text.
 ///
 /// `NoPath` where nothing is quoted, or no path text is.
-pub fn quoted_of<A: Allocator, B: Allocator>(
+pub fn quoted_of<A: Allocator + Copy, B: Allocator + Copy>(
     alloc: B,
     reply: &Reply<A>,
 ) -> Result<Vec<u8, B>, ReplyFault>

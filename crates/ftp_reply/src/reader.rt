@@ -11,12 +11,12 @@ use std::marker::Model;
 /// Reads replies line by line. Contracts see it as between replies, as the code and the texts of the reply that has begun
 /// and not ended, or as stopped.
 #[derive(Debug, Drop)]
-pub struct Reader<A: Allocator> {
+pub struct Reader<A: Allocator + Copy> {
     stage: Stage,
     lines: Lines<A>,
 }
 
-impl<A: Allocator> Model for Reader<A> {
+impl<A: Allocator + Copy> Model for Reader<A> {
     ghost use Rattle.ftp_reply.specs.Reader.{Standing, standing_at, AreKept};
 
     ghost Value = { Standing };
@@ -26,7 +26,7 @@ impl<A: Allocator> Model for Reader<A> {
     ghost invariant = { λ reader. AreKept reader.stage reader.lines };
 }
 
-impl<A: Allocator> Reader<A> {
+impl<A: Allocator + Copy> Reader<A> {
     ghost use Rattle.ftp_reply.specs.Reader.{Between, Reading};
 
     /// No line heard yet. Takes no memory.
@@ -40,7 +40,7 @@ impl<A: Allocator> Reader<A> {
     }
 }
 
-impl<A: Allocator + Clone> Reader<A> {
+impl<A: Allocator + Copy> Reader<A> {
     ghost use Rattle.ftp_reply.specs.Reader.{Answers, heard_at};
 
     /// Takes a line without its end. Answers a reply with its last line, until then nothing.

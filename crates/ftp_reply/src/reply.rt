@@ -8,7 +8,7 @@ use std::alloc::{AllocError, Allocator};
 
 /// A reply of one line or of several (RFC 959, section 4.2).
 #[derive(Debug, Drop)]
-pub struct Reply<A: Allocator> {
+pub struct Reply<A: Allocator + Copy> {
     /// From 100 to 599.
     pub code: u16,
     /// The text of each line; of the first and the last what follows the code and the octet after it.
@@ -18,7 +18,7 @@ pub struct Reply<A: Allocator> {
     pub ghost within: { AreWithin lines },
 }
 
-impl<A: Allocator> Reply<A> {
+impl<A: Allocator + Copy> Reply<A> {
     /// A reply of one line.
     pub fn new(alloc: A, code: u16, text: &[u8]) -> Result<Reply<A>, AllocError>
         requires code { IsCode code }

@@ -11,7 +11,7 @@ use std::alloc::{AllocError, Allocator};
 ///
 /// A line between the first and the last that begins with three digits gets one SP before it. The texts have no LF,
 /// which the caller sees to. Without memory all is as before.
-pub fn write<A: Allocator, B: Allocator>(
+pub fn write<A: Allocator + Copy, B: Allocator + Copy>(
     reply: &Reply<A>,
     out: &mut Vec<u8, B>,
 ) -> Result<(), AllocError>
@@ -27,7 +27,7 @@ pub fn write<A: Allocator, B: Allocator>(
 }
 
 /// Appends the lines, or without memory a part of them.
-fn put_lines<A: Allocator, B: Allocator>(
+fn put_lines<A: Allocator + Copy, B: Allocator + Copy>(
     code: u16,
     lines: &Lines<A>,
     out: &mut Vec<u8, B>,
@@ -52,7 +52,7 @@ fn put_lines<A: Allocator, B: Allocator>(
 }
 
 /// Appends the code, the octet that marks the line, and the text.
-fn put_marked<B: Allocator>(
+fn put_marked<B: Allocator + Copy>(
     code: u16,
     mark: u8,
     text: &[u8],
@@ -73,7 +73,7 @@ fn put_marked<B: Allocator>(
 }
 
 /// Appends a line between the first and the last.
-fn put_padded<B: Allocator>(line: &[u8], out: &mut Vec<u8, B>) -> Result<(), AllocError>
+fn put_padded<B: Allocator + Copy>(line: &[u8], out: &mut Vec<u8, B>) -> Result<(), AllocError>
     ensures ok { OnOk result (out.new.items ≡ out.old.items ++ padded line.now) }
     ensures err { OnErr result ((part : List ℕ) × (out.new.items ≡ out.old.items ++ part)) }
 {

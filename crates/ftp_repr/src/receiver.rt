@@ -61,7 +61,7 @@ impl Receiver {
     /// an end of record is an LF (section 3.1.2.2); else it is passed over. A CR that nothing came behind stays open
     /// until the next item. Nothing comes of items behind the end of file.
     /// Without memory all is as before.
-    pub fn take<A: Allocator>(
+    pub fn take<A: Allocator + Copy>(
         &mut self,
         item: Item<'_>,
         out: &mut Vec<u8, A>,
@@ -88,7 +88,7 @@ impl Receiver {
     /// The wire ended as its file does, as by the end of the connection in stream mode with file structure
     /// (RFC 959, section 3.4.1): the same as an end of file. An unpaired CR is kept.
     /// Without memory all is as before.
-    pub fn end<A: Allocator>(&mut self, out: &mut Vec<u8, A>) -> Result<(), ReprFault>
+    pub fn end<A: Allocator + Copy>(&mut self, out: &mut Vec<u8, A>) -> Result<(), ReprFault>
         ensures ok { OnOk result (Receives self.old (end_file ∷ []) self.new out.old.items out.new.items) }
         ensures err { OnErr result ((self.new ≡ self.old) × (out.new.items ≡ out.old.items)) }
         ensures full { OnErr result (HasNoRoom self.old (end_file ∷ []) (vec_capacity out.old) (vec_len out.old)) }
@@ -206,7 +206,11 @@ impl Receiver {
     }
 
     /// Puts at the end of the file what the item settles, or some of it.
-    fn add<A: Allocator>(&mut self, item: Item<'_>, out: &mut Vec<u8, A>) -> Result<(), AllocError>
+    fn add<A: Allocator + Copy>(
+        &mut self,
+        item: Item<'_>,
+        out: &mut Vec<u8, A>,
+    ) -> Result<(), AllocError>
         ensures ok { OnOk result (Receives self.old (signs item.entry) self.new out.old.items out.new.items) }
         ensures err { OnErr result ((rest : List ℕ) × (out.new.items ≡ out.old.items ++ rest)) }
         ensures full { OnErr result (HasNoRoom self.old (signs item.entry) (vec_capacity out.old) (vec_len out.old)) }
@@ -223,7 +227,7 @@ impl Receiver {
 }
 
 /// Puts what was lent at the end of the file, or some of it.
-fn put<A: Allocator>(lent: Lent<'_>, out: &mut Vec<u8, A>) -> Result<(), AllocError>
+fn put<A: Allocator + Copy>(lent: Lent<'_>, out: &mut Vec<u8, A>) -> Result<(), AllocError>
     ensures ok { OnOk result (out.new.items ≡ out.old.items ++ lent_octets lent.entry) }
     ensures err { OnErr result ((rest : List ℕ) × (out.new.items ≡ out.old.items ++ rest)) }
     ensures full { OnErr result (vec_capacity out.old < vec_len out.old + length (lent_octets lent.entry)) }

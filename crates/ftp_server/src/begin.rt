@@ -17,24 +17,24 @@ use std::fmt;
 
 /// What a server was to be made of, where memory was refused.
 #[derive(Drop)]
-pub struct NotBegun<A: Allocator, T: Drop> {
+pub struct NotBegun<A: Allocator + Copy, T: Drop> {
     pub tree: T,
     pub accounts: Accounts<A>,
 }
 
-impl<A: Allocator, T: Drop> fmt::Display for NotBegun<A, T> {
+impl<A: Allocator + Copy, T: Drop> fmt::Display for NotBegun<A, T> {
     fn fmt<W: fmt::Write>(&self, f: &mut fmt::Formatter<W>) -> fmt::Result {
         f.write_str("no server: out of memory")
     }
 }
 
-impl<A: Allocator, T: Drop> fmt::Debug for NotBegun<A, T> {
+impl<A: Allocator + Copy, T: Drop> fmt::Debug for NotBegun<A, T> {
     fn fmt<W: fmt::Write>(&self, f: &mut fmt::Formatter<W>) -> fmt::Result {
         f.write_str("NotBegun { .. }")
     }
 }
 
-impl<A: Allocator, T: Drop> Error for NotBegun<A, T> {}
+impl<A: Allocator + Copy, T: Drop> Error for NotBegun<A, T> {}
 
 impl<A: Allocator + Copy, T: Tree<A>, J: ServerTransfer<A, T>> Server<A, T, J> {
     ghost use Rattle.ftp_server.specs.Server.{view_of};

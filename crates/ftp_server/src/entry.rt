@@ -35,7 +35,7 @@ pub(crate) fn say_entry<A: Allocator + Copy, T: Tree<A>, J: ServerTransfer<A, T>
 }
 
 /// The permissions of a directory (RFC 3659, section 7.5.5).
-fn dir_perm<A: Allocator>(path: &Path<A>) -> &'static [u8]
+fn dir_perm<A: Allocator + Copy>(path: &Path<A>) -> &'static [u8]
     ensures perm { result.now ≡ perm_of path.now Dir }
     ensures short { length result.now ≤ 7 }
 {
@@ -47,7 +47,11 @@ fn dir_perm<A: Allocator>(path: &Path<A>) -> &'static [u8]
 }
 
 /// The size of the file at a path, where it can be said.
-fn size_fact<A: Allocator, T: Tree<A>>(tree: &T, root: &Path<A>, path: &Path<A>) -> Option<u64>
+fn size_fact<A: Allocator + Copy, T: Tree<A>>(
+    tree: &T,
+    root: &Path<A>,
+    path: &Path<A>,
+) -> Option<u64>
     ensures { result ≡ option_and_then size_fact (size_at (under (T.table tree.now) root.now) path.now) }
 {
     match tree.size(root, path) {

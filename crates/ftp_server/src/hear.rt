@@ -141,7 +141,7 @@ impl<A: Allocator + Copy, T: Tree<A>, J: ServerTransfer<A, T>> Server<A, T, J> {
 }
 
 /// Whether a line is an ABOR.
-fn is_abor<A: Allocator>(heard: &HeardLine<Argument<A>>) -> bool
+fn is_abor<A: Allocator + Copy>(heard: &HeardLine<Argument<A>>) -> bool
     ensures { result ≡ is_abor heard.now }
 {
     matches!(heard, HeardLine::Asks(Command::Abor))

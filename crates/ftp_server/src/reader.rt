@@ -10,13 +10,13 @@ use std::alloc::{AllocError, Allocator};
 
 /// An ear for lines of the limit of commands, which has heard octets from the start of its connection on.
 #[derive(Drop)]
-pub struct Reader<A: Allocator> {
+pub struct Reader<A: Allocator + Copy> {
     ear: Ear<A>,
     ghost limit: { limit_of ear ≡ line_limit },
     ghost heard: { ∥ HasHeardSome ear ∥₁ },
 }
 
-impl<A: Allocator> Reader<A> {
+impl<A: Allocator + Copy> Reader<A> {
     ghost use Rattle.ftp_nvt.specs.Fold.{ear_of, ear_out, ear_step, quiet};
     ghost use Rattle.ftp_nvt.specs.Ear.{event_list, line_of};
 

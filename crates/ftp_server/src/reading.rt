@@ -10,7 +10,10 @@ use ftp_server_model::HeardLine;
 use std::alloc::Allocator;
 
 /// What a line says, or `None` where the memory for its text was refused.
-pub(crate) fn read_line<A: Allocator>(alloc: A, text: &[u8]) -> Option<HeardLine<Argument<A>>>
+pub(crate) fn read_line<A: Allocator + Copy>(
+    alloc: A,
+    text: &[u8],
+) -> Option<HeardLine<Argument<A>>>
     requires { length text.now ≤ line_limit }
     ensures read { (read : Reading) → IsReading read → IsReadAs (read text.now) result }
     ensures waits { MayWait result }

@@ -12,7 +12,7 @@ use std::alloc::Allocator;
 
 /// A server's end of a session: who may log in, the session, the line that is read and the one that waits, and the octets
 /// that are owed. `J` is how a transfer is held.
-pub struct Server<A: Allocator, T: Drop, J: Drop> {
+pub struct Server<A: Allocator + Copy, T: Drop, J: Drop> {
     pub(crate) footing: Footing<A>,
     pub(crate) session: Session<A, T, J>,
     pub(crate) reader: Reader<A>,
@@ -26,7 +26,7 @@ pub struct Server<A: Allocator, T: Drop, J: Drop> {
 }
 
 /// By hand: a derived drop is proved again, part by part, wherever a server is let go.
-impl<A: Allocator, T: Drop, J: Drop> Drop for Server<A, T, J> {
+impl<A: Allocator + Copy, T: Drop, J: Drop> Drop for Server<A, T, J> {
     fn drop(self) {
         let Self {
             footing: _,
@@ -39,7 +39,7 @@ impl<A: Allocator, T: Drop, J: Drop> Drop for Server<A, T, J> {
     }
 }
 
-impl<A: Allocator, T: Drop, J: Drop> Server<A, T, J> {
+impl<A: Allocator + Copy, T: Drop, J: Drop> Server<A, T, J> {
     /// Its session, where nothing more is to be served.
     pub(crate) fn into_session(self) -> Session<A, T, J>
         ensures { result ≡ self.session }

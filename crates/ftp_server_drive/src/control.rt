@@ -14,7 +14,7 @@ use std::io::{Read, Write};
 /// Hears the next octet that was read; gives whether the server took it.
 pub(crate) fn hear_one<A, T, F, R, W>(server: &mut F, control: &mut Control<R, W>) -> bool
 where
-    A: Allocator,
+    A: Allocator + Copy,
     T: Tree<A>,
     F: Far<A, T>,
     R: Read + Drop,
@@ -37,7 +37,7 @@ pub(crate) fn flush<A, T, F, R, W>(
     control: &mut Control<R, W>,
 ) -> Result<(), Failed>
 where
-    A: Allocator,
+    A: Allocator + Copy,
     T: Tree<A>,
     F: Far<A, T>,
     R: Read + Drop,

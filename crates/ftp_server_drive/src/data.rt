@@ -52,7 +52,7 @@ impl<S: Read + Write> Data<S> {
     /// Notes whether the server has more octets of a download.
     pub(crate) fn note<A, T, F>(&mut self, server: &F)
     where
-        A: Allocator,
+        A: Allocator + Copy,
         T: Tree<A>,
         F: Far<A, T>,
         ensures none { (self.new.connection.rest ≡ Rest.Nothing) → wants (F.server server.now).view ≢ Wants.Send }
@@ -106,7 +106,7 @@ impl<S: Read + Write> Data<S> {
     /// Takes octets of a download from the server, where all before were written.
     fn fill<A, T, F>(&mut self, server: &mut F)
     where
-        A: Allocator,
+        A: Allocator + Copy,
         T: Tree<A>,
         F: Far<A, T>,
         ensures { (asked : Option (List Asked)) → Quietly server_side (held (F.server server.old) (lane_at S.remaining S.contents asked self.old [])) (held (F.server server.new) (lane_at S.remaining S.contents asked self.new [])) }
@@ -141,7 +141,7 @@ pub(crate) fn wait_at<A, T, F, P>(
     hears: bool,
 ) -> Ready
 where
-    A: Allocator,
+    A: Allocator + Copy,
     T: Tree<A>,
     F: Far<A, T>,
     P: Ports,
@@ -175,7 +175,7 @@ pub(crate) fn come<P: Ports>(
 /// The data connection ended now, and the control connection, which was looked at behind that, has not.
 pub(crate) fn end<A, T, F, C, S>(server: &mut F, watch: &mut C, _ended: &Data<S>, _spoken: Spoken)
 where
-    A: Allocator,
+    A: Allocator + Copy,
     T: Tree<A>,
     F: Far<A, T>,
     C: Watch,
@@ -191,7 +191,7 @@ where
 /// The data connection broke now.
 pub(crate) fn fault<A, T, F, C>(server: &mut F, watch: &mut C)
 where
-    A: Allocator,
+    A: Allocator + Copy,
     T: Tree<A>,
     F: Far<A, T>,
     C: Watch,
@@ -208,7 +208,7 @@ pub(crate) fn hand<A, T, F, R, W>(
     octets: &[u8],
 ) -> Result<(), Failed>
 where
-    A: Allocator,
+    A: Allocator + Copy,
     T: Tree<A>,
     F: Far<A, T>,
     R: Read + Drop,
@@ -233,7 +233,7 @@ fn hand_some<A, T, F, R, W>(
     octets: &[u8],
 ) -> Result<usize, Failed>
 where
-    A: Allocator,
+    A: Allocator + Copy,
     T: Tree<A>,
     F: Far<A, T>,
     R: Read + Drop,
@@ -253,7 +253,7 @@ where
 /// Writes octets of a download, once. With the last octet of it the server owes its reply, so all is written before that.
 pub(crate) fn send<A, T, F, S>(server: &mut F, data: &mut Data<S>) -> Result<(), Failed>
 where
-    A: Allocator,
+    A: Allocator + Copy,
     T: Tree<A>,
     F: Far<A, T>,
     S: Read + Write,
@@ -269,7 +269,7 @@ where
 /// Whether the server has more octets of a download.
 fn rest_of<A, T, F>(server: &F) -> Rest
 where
-    A: Allocator,
+    A: Allocator + Copy,
     T: Tree<A>,
     F: Far<A, T>,
     ensures { (result ≡ Rest.Nothing) → wants (F.server server.now).view ≢ Wants.Send }
@@ -283,7 +283,7 @@ where
 /// Fills the front of the room, so many octets at most, with the octets that the server gives; gives how many they are.
 fn fill_front<A, T, F>(server: &mut F, room: &mut [u8], most: usize) -> usize
 where
-    A: Allocator,
+    A: Allocator + Copy,
     T: Tree<A>,
     F: Far<A, T>,
     requires { most ≤ length room.old }
@@ -297,7 +297,7 @@ where
 /// Fills the room with the octets that the server gives, as far as they go; gives how many they are.
 fn fill<A, T, F>(server: &mut F, room: &mut [u8]) -> usize
 where
-    A: Allocator,
+    A: Allocator + Copy,
     T: Tree<A>,
     F: Far<A, T>,
     ensures within { result ≤ length room.new }

@@ -51,7 +51,7 @@ pub fn drive_server<A, T, F, R, W, P, C>(
     watch: &mut C,
 ) -> Result<(), Failed>
 where
-    A: Allocator,
+    A: Allocator + Copy,
     T: Tree<A>,
     F: Far<A, T>,
     R: Read + Drop,
@@ -96,7 +96,7 @@ where
 
 impl<'f, 'k, 'p, 'w, A, T, F, R, W, P, S, C> Drive<'f, 'k, 'p, 'w, A, T, F, R, W, P, S, C>
 where
-    A: Allocator,
+    A: Allocator + Copy,
     T: Tree<A>,
     F: Far<A, T>,
     R: Read + Drop,

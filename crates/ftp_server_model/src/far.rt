@@ -16,7 +16,7 @@ use std::alloc::Allocator;
 
 /// The server's end. Its `view` is what it holds; where a count of refused growths or of device failures changed in a call
 /// (both wrap), the call left what `specs/Failing` says, and every later call is a step again.
-pub trait Far<A: Allocator, T: Tree<A>>: Drop {
+pub trait Far<A: Allocator + Copy, T: Tree<A>>: Drop {
     ghost server: { Self → Server };
 
     /// The moment in force from now on.

@@ -12,7 +12,7 @@ pub const SENDING_LIMIT: usize = 10_119;
 
 /// A transfer that tells how many octets it counts as held: an upload its path and room for a marker, a download or a listing
 /// always a block, a line and a path.
-pub trait Counted<A: Allocator, T: Tree<A>>: ServerTransfer<A, T> {
+pub trait Counted<A: Allocator + Copy, T: Tree<A>>: ServerTransfer<A, T> {
     /// So many octets, at most 10,119.
     fn held(&self) -> usize
         ensures len { (part : Table) → result ≡ transfer_len (Self.view part self.now) }

@@ -9,7 +9,7 @@ use std::alloc::Allocator;
 use std::mem;
 
 /// What was pending for this line alone: nothing is pending behind it.
-pub fn pending_for<A: Allocator>(pending: &mut Pending<Path<A>>) -> Pending<Path<A>>
+pub fn pending_for<A: Allocator + Copy>(pending: &mut Pending<Path<A>>) -> Pending<Path<A>>
     ensures had { result ≡ pending.old }
     ensures nothing { pending.new ≡ Pending.Nothing }
 {
@@ -17,14 +17,14 @@ pub fn pending_for<A: Allocator>(pending: &mut Pending<Path<A>>) -> Pending<Path
 }
 
 /// Whether somebody is logged in.
-pub fn is_in<A: Allocator>(access: &Access<Argument<A>>) -> bool
+pub fn is_in<A: Allocator + Copy>(access: &Access<Argument<A>>) -> bool
     ensures { result ≡ is_in access.now }
 {
     matches!(access, Access::Known)
 }
 
 /// Whether a command needs a data connection (RFC 959, section 4.1.3; RFC 3659, section 7).
-pub fn is_transfer<A: Allocator>(command: &Command<Argument<A>>) -> bool
+pub fn is_transfer<A: Allocator + Copy>(command: &Command<Argument<A>>) -> bool
     ensures { result ≡ is_transfer command.now }
 {
     matches!(
@@ -39,7 +39,7 @@ pub fn is_transfer<A: Allocator>(command: &Command<Argument<A>>) -> bool
 }
 
 /// Whether a command is done before a login too.
-pub fn is_free<A: Allocator>(command: &Command<Argument<A>>) -> bool
+pub fn is_free<A: Allocator + Copy>(command: &Command<Argument<A>>) -> bool
     ensures { result ≡ is_free command.now }
 {
     matches!(

@@ -9,7 +9,7 @@ use itoa::Buffer;
 use std::alloc::Allocator;
 
 /// How many octets the line of a command has, without its end. Takes no memory.
-pub fn line_len<A: Allocator>(command: &Command<Argument<A>>) -> usize
+pub fn line_len<A: Allocator + Copy>(command: &Command<Argument<A>>) -> usize
     ensures { result ≡ length (line_of command.now) }
 {
     match command {
@@ -51,7 +51,7 @@ pub fn line_len<A: Allocator>(command: &Command<Argument<A>>) -> usize
 }
 
 /// SP and a text, or nothing where it is empty.
-fn spaced_len<A: Allocator>(text: &Argument<A>) -> usize
+fn spaced_len<A: Allocator + Copy>(text: &Argument<A>) -> usize
     ensures len { result ≡ length (spaced text.now) }
     ensures short { result ≤ 2 ^ 63 }
 {
@@ -59,7 +59,7 @@ fn spaced_len<A: Allocator>(text: &Argument<A>) -> usize
     if count == 0 { 0 } else { count + 1 }
 }
 
-fn given_len<A: Allocator>(text: &Option<Argument<A>>) -> usize
+fn given_len<A: Allocator + Copy>(text: &Option<Argument<A>>) -> usize
     ensures len { result ≡ length (spaced_if text.now) }
     ensures short { result ≤ 2 ^ 63 }
 {

@@ -9,7 +9,7 @@ use ftp_server_model::{Access, HeardLine, Pending};
 use std::alloc::Allocator;
 
 /// A path, by its text: at most 900 octets.
-pub fn path_len<A: Allocator>(path: &Path<A>) -> usize
+pub fn path_len<A: Allocator + Copy>(path: &Path<A>) -> usize
     ensures len { result ≡ path_len path.now }
     ensures short { result ≤ 900 }
 {
@@ -17,7 +17,7 @@ pub fn path_len<A: Allocator>(path: &Path<A>) -> usize
 }
 
 /// The name of a USER that waits for its PASS.
-pub fn access_len<A: Allocator>(access: &Access<Argument<A>>) -> usize
+pub fn access_len<A: Allocator + Copy>(access: &Access<Argument<A>>) -> usize
     ensures len { result ≡ access_len access.now }
     ensures short { result < 2 ^ 63 }
 {
@@ -28,7 +28,7 @@ pub fn access_len<A: Allocator>(access: &Access<Argument<A>>) -> usize
 }
 
 /// The path of an RNFR: at most 900 octets.
-pub fn pending_len<A: Allocator>(pending: &Pending<Path<A>>) -> usize
+pub fn pending_len<A: Allocator + Copy>(pending: &Pending<Path<A>>) -> usize
     ensures len { result ≡ pending_len pending.now }
     ensures short { result ≤ 900 }
 {
@@ -39,7 +39,7 @@ pub fn pending_len<A: Allocator>(pending: &Pending<Path<A>>) -> usize
 }
 
 /// A line that waits, as it would be written.
-pub fn waiting_len<A: Allocator>(waiting: &Option<HeardLine<Argument<A>>>) -> usize
+pub fn waiting_len<A: Allocator + Copy>(waiting: &Option<HeardLine<Argument<A>>>) -> usize
     ensures { result ≡ waiting_len waiting.now }
 {
     match waiting {

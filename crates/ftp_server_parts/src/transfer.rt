@@ -54,7 +54,7 @@ pub struct Given {
 }
 
 /// A transfer beside a tree `T`. It need not hold what it is still to give: that is read from the tree, which stays as it is meanwhile.
-pub trait ServerTransfer<A: Allocator, T: Tree<A>>: Drop {
+pub trait ServerTransfer<A: Allocator + Copy, T: Tree<A>>: Drop {
     ghost use Rattle.ftp_server_model.specs.View.{Transfer};
     ghost use Rattle.ftp_tree.specs.Tree.{Table};
 

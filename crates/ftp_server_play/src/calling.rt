@@ -108,7 +108,7 @@ where
 }
 
 /// Room for so many octets.
-fn empty<A: Allocator>(alloc: A, room: usize) -> Result<Vec<u8, A>, AllocError>
+fn empty<A: Allocator + Copy>(alloc: A, room: usize) -> Result<Vec<u8, A>, AllocError>
     ensures { IfOk result (λ octets. vec_len octets ≡ room) }
 {
     let mut octets = Vec::new(alloc);

@@ -83,7 +83,7 @@ where
 }
 
 /// Adds what a call gave, for which there is room.
-fn keep<A: Allocator>(gifts: &mut Vec<Gift<A>, A>, gift: Gift<A>)
+fn keep<A: Allocator + Copy>(gifts: &mut Vec<Gift<A>, A>, gift: Gift<A>)
     requires { vec_len gifts.old < vec_capacity gifts.old }
     ensures { gifts.new.items ≡ gifts.old.items ++ gift ∷ [] }
 {

@@ -17,7 +17,7 @@ use std::alloc::Allocator;
 /// The most octets of a word that a fact has as its value.
 const WORD_LIMIT: usize = 8;
 
-impl<A: Allocator> Output<A> {
+impl<A: Allocator + Copy> Output<A> {
     /// Owes the reply to MLST: the facts in force of what stands at a path, and the path's text (RFC 3659, section 7.2). `size` is
     /// in octets; a directory has neither size nor moment.
     pub fn put_listed(

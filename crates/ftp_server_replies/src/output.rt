@@ -24,11 +24,11 @@ const IAC: u8 = 255;
 
 /// The control octets that are owed, in room that was reserved: to owe some takes no memory.
 #[derive(Drop)]
-pub struct Output<A: Allocator> {
+pub struct Output<A: Allocator + Copy> {
     octets: HeapCircularBuffer<u8, A>,
 }
 
-impl<A: Allocator> Model for Output<A> {
+impl<A: Allocator + Copy> Model for Output<A> {
     ghost use Rattle.std.specs.Prelude.{ℕ, List, ◌≡◌};
     ghost use Rattle.ftp_server_model.specs.declared.room.TheConstants.{OUTPUT_ROOM};
 
@@ -39,7 +39,7 @@ impl<A: Allocator> Model for Output<A> {
     ghost invariant = { λ output. output.octets.capacity ≡ OUTPUT_ROOM };
 }
 
-impl<A: Allocator> Output<A> {
+impl<A: Allocator + Copy> Output<A> {
     /// No octets are owed.
     pub fn new(alloc: A) -> Result<Output<A>, AllocError>
         ensures { IfOk result (λ output. output ≡ []) }

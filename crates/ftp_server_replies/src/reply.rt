@@ -14,9 +14,9 @@ use ftp_server_model::{FREE_ROOM, Facts, OUTPUT_ROOM};
 use ftp_settings::MARKER_LIMIT;
 use std::alloc::Allocator;
 
-impl<A: Allocator> Output<A> {
+impl<A: Allocator + Copy> Output<A> {
     /// Owes the reply to PWD (RFC 959, appendix II).
-    pub fn put_here<B: Allocator>(&mut self, path: &Path<B>)
+    pub fn put_here<B: Allocator + Copy>(&mut self, path: &Path<B>)
         requires { length self.old + FREE_ROOM ≤ OUTPUT_ROOM }
         ensures { self.new ≡ self.old ++ reply_octets (reply_of 257 (here_text path.now)) }
     {
@@ -26,7 +26,7 @@ impl<A: Allocator> Output<A> {
     }
 
     /// Owes the reply that a directory was made (RFC 959, appendix II).
-    pub fn put_made<B: Allocator>(&mut self, path: &Path<B>)
+    pub fn put_made<B: Allocator + Copy>(&mut self, path: &Path<B>)
         requires { length self.old + FREE_ROOM ≤ OUTPUT_ROOM }
         ensures { self.new ≡ self.old ++ reply_octets (reply_of 257 (made_text path.now)) }
     {

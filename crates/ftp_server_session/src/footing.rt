@@ -6,7 +6,7 @@ use std::alloc::Allocator;
 
 /// What no command changes: who may log in, the hosts of the control connection, and the moment in force.
 #[derive(Drop)]
-pub struct Footing<A: Allocator> {
+pub struct Footing<A: Allocator + Copy> {
     pub accounts: Accounts<A>,
     /// The server's host.
     pub here: Host,

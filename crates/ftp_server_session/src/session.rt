@@ -15,7 +15,7 @@ use std::alloc::{AllocError, Allocator};
 
 /// A session over a tree `T`, with transfers `J`.
 #[derive(Drop)]
-pub struct Session<A: Allocator, T: Drop, J: Drop> {
+pub struct Session<A: Allocator + Copy, T: Drop, J: Drop> {
     pub alloc: A,
     pub tree: T,
     pub access: Access<Argument<A>>,

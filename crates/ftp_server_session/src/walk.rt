@@ -145,7 +145,10 @@ impl<A: Allocator + Copy, T: Tree<A>, J: ServerTransfer<A, T>> Session<A, T, J> 
 
 /// What a call that the tree refused makes of a command: refused memory and a failed device are told as such, any other refusal by a
 /// reply.
-fn refused<A: Allocator>(fault: TreeFault, text: FixedReply) -> Result<ReplyKind<Path<A>>, Fault>
+fn refused<A: Allocator + Copy>(
+    fault: TreeFault,
+    text: FixedReply,
+) -> Result<ReplyKind<Path<A>>, Fault>
     ensures { RefusedAs fault text result }
 {
     match fault {

@@ -7,11 +7,11 @@ use std::alloc::{AllocError, Allocator};
 
 /// The octets that came, held as a tree takes them.
 #[derive(Drop)]
-pub struct Came<A: Allocator> {
+pub struct Came<A: Allocator + Copy> {
     pub(crate) content: Content<A>,
 }
 
-impl<A: Allocator + Clone> Sink for Came<A> {
+impl<A: Allocator + Copy> Sink for Came<A> {
     ghost octets = { λ came. came.content };
 
     fn len(&self) -> u64 {

@@ -13,7 +13,7 @@ use ftp_wire::Encoder;
 use std::alloc::Allocator;
 
 /// A file that is sent. It holds no octet of the file but those in one block.
-pub struct Download<A: Allocator> {
+pub struct Download<A: Allocator + Copy> {
     pub(crate) path: Path<A>,
     /// The place in the file of the next octet that is encoded.
     pub(crate) at: u64,
@@ -21,7 +21,7 @@ pub struct Download<A: Allocator> {
 }
 
 /// By hand: a derived drop is proved again, part by part, wherever a download is let go.
-impl<A: Allocator> Drop for Download<A> {
+impl<A: Allocator + Copy> Drop for Download<A> {
     fn drop(self) {
         let Self {
             path: _,
@@ -31,7 +31,7 @@ impl<A: Allocator> Drop for Download<A> {
     }
 }
 
-impl<A: Allocator> Download<A> {
+impl<A: Allocator + Copy> Download<A> {
     ghost use Rattle.ftp_server_transfer.specs.Download.{rest_of};
 
     /// The file at a path from a place on, in a representation; own markers count from that place, wherever the
@@ -48,7 +48,7 @@ impl<A: Allocator> Download<A> {
     }
 
     /// Gives octets, as many as there is room for and as are left, and says how many. The tree has to be that from which it was begun.
-    pub fn give<B: Allocator, C: Allocator, T: Tree<B>>(
+    pub fn give<B: Allocator + Copy, C: Allocator + Copy, T: Tree<B>>(
         &mut self,
         tree: &T,
         root: &Path<C>,
@@ -68,7 +68,7 @@ impl<A: Allocator> Download<A> {
     }
 
     /// Whether all is given.
-    pub fn is_given_out<B: Allocator, C: Allocator, T: Tree<B>>(
+    pub fn is_given_out<B: Allocator + Copy, C: Allocator + Copy, T: Tree<B>>(
         &self,
         tree: &T,
         root: &Path<C>,
@@ -80,7 +80,7 @@ impl<A: Allocator> Download<A> {
     }
 
     /// Gives octets of the next piece of the file, which has `len` octets.
-    fn step<B: Allocator, C: Allocator, T: Tree<B>>(
+    fn step<B: Allocator + Copy, C: Allocator + Copy, T: Tree<B>>(
         &mut self,
         tree: &T,
         root: &Path<C>,
@@ -107,7 +107,7 @@ impl<A: Allocator> Download<A> {
 }
 
 /// How many octets the file at a path has; none where no file stands.
-fn len_at<A: Allocator, B: Allocator, C: Allocator, T: Tree<A>>(
+fn len_at<A: Allocator + Copy, B: Allocator + Copy, C: Allocator + Copy, T: Tree<A>>(
     tree: &T,
     root: &Path<B>,
     path: &Path<C>,

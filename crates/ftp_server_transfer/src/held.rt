@@ -6,7 +6,7 @@ use crate::upload::Upload;
 use ftp_settings::MARKER_LIMIT;
 use std::alloc::Allocator;
 
-impl<A: Allocator + Clone> Upload<A> {
+impl<A: Allocator + Copy> Upload<A> {
     ghost use Rattle.ftp_server_transfer.specs.Upload.{upload_of};
 
     /// How many octets it counts as held beside what came: its path, and the room for a marker.

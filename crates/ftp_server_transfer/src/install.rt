@@ -12,12 +12,12 @@ use std::alloc::{AllocError, Allocator};
 
 /// How many octets may come behind so many of the file at a path. `None` where those alone pass the limit, or where the tree
 /// takes no file there.
-pub(crate) fn room_behind<A: Allocator, B: Allocator, C: Allocator, T: Tree<A>>(
-    tree: &T,
-    root: &Path<B>,
-    path: &Path<C>,
-    keep: u64,
-) -> Option<u64>
+pub(crate) fn room_behind<
+    A: Allocator + Copy,
+    B: Allocator + Copy,
+    C: Allocator + Copy,
+    T: Tree<A>,
+>(tree: &T, root: &Path<B>, path: &Path<C>, keep: u64) -> Option<u64>
     ensures { IfSome result (λ room. Leaves (under (T.table tree.now) root.now) path.now keep room) }
 {
     match tree.room(root, path) {
@@ -32,7 +32,7 @@ pub(crate) fn room_behind<A: Allocator, B: Allocator, C: Allocator, T: Tree<A>>(
 }
 
 /// Whether so many octets pass a limit behind so many of the file at a path. `None` where the tree takes no file there.
-pub(crate) fn passes<A: Allocator, B: Allocator, C: Allocator, T: Tree<A>>(
+pub(crate) fn passes<A: Allocator + Copy, B: Allocator + Copy, C: Allocator + Copy, T: Tree<A>>(
     tree: &T,
     root: &Path<B>,
     path: &Path<C>,
@@ -54,7 +54,7 @@ pub(crate) fn passes<A: Allocator, B: Allocator, C: Allocator, T: Tree<A>>(
 
 /// Puts a file into the tree: the first octets of the file that stands there, `keep` of them if it has so many, and then those
 /// that came. All memory is asked for before the first change. On an error the tree is as it was.
-pub(crate) fn put_in<A: Allocator + Clone, B: Allocator, C: Allocator, T: Tree<A>>(
+pub(crate) fn put_in<A: Allocator + Copy, B: Allocator + Copy, C: Allocator + Copy, T: Tree<A>>(
     alloc: A,
     tree: &mut T,
     root: &Path<B>,
@@ -73,7 +73,7 @@ pub(crate) fn put_in<A: Allocator + Clone, B: Allocator, C: Allocator, T: Tree<A
 }
 
 /// The first octets of the file at a path, `keep` of them if it has so many, and then those that came.
-fn behind<A: Allocator + Clone, B: Allocator, C: Allocator, T: Tree<A>>(
+fn behind<A: Allocator + Copy, B: Allocator + Copy, C: Allocator + Copy, T: Tree<A>>(
     alloc: A,
     tree: &T,
     root: &Path<B>,
@@ -94,7 +94,7 @@ fn behind<A: Allocator + Clone, B: Allocator, C: Allocator, T: Tree<A>>(
 }
 
 /// The first octets of the file at a path, `keep` of them if it has so many.
-fn front<A: Allocator + Clone, B: Allocator, C: Allocator, T: Tree<A>>(
+fn front<A: Allocator + Copy, B: Allocator + Copy, C: Allocator + Copy, T: Tree<A>>(
     alloc: A,
     tree: &T,
     root: &Path<B>,
@@ -110,7 +110,7 @@ fn front<A: Allocator + Clone, B: Allocator, C: Allocator, T: Tree<A>>(
 }
 
 /// Puts the octets of a content behind those of another. Refused memory, the other has some of them.
-fn push_all<A: Allocator + Clone>(
+fn push_all<A: Allocator + Copy>(
     whole: &mut Content<A>,
     more: &Content<A>,
 ) -> Result<(), AllocError>

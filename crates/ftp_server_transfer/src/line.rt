@@ -21,7 +21,7 @@ use ftp_tree::Tree;
 use std::alloc::{AllocError, Allocator};
 
 /// What a listing says of each name.
-pub enum What<A: Allocator> {
+pub enum What<A: Allocator + Copy> {
     /// LIST: a line as many clients read it.
     Lines,
     /// NLST: the pathname of a file, behind the text that named the directory.
@@ -31,7 +31,7 @@ pub enum What<A: Allocator> {
 }
 
 /// By hand: a derived drop is proved again, part by part, wherever it is let go.
-impl<A: Allocator> Drop for What<A> {
+impl<A: Allocator + Copy> Drop for What<A> {
     fn drop(self) {
         match self {
             What::Lines | What::Names(_) | What::Entries(_) => {}
@@ -118,7 +118,7 @@ fn put_child<A: Allocator + Copy, T: Tree<A>>(
 }
 
 /// Puts the line of LIST for what stands at a path.
-pub(crate) fn put_node<A: Allocator, T: Tree<A>>(
+pub(crate) fn put_node<A: Allocator + Copy, T: Tree<A>>(
     tree: &T,
     root: &Path<A>,
     path: &Path<A>,
@@ -186,7 +186,7 @@ fn put_entry<A: Allocator + Copy, T: Tree<A>>(
 }
 
 /// Puts the line of an entry with the facts in force.
-pub fn put_chosen<A: Allocator, B: Allocator>(
+pub fn put_chosen<A: Allocator + Copy, B: Allocator + Copy>(
     entry: Entry<A>,
     facts: Facts,
     line: &mut Vec<u8, B>,
@@ -207,7 +207,10 @@ pub fn put_chosen<A: Allocator, B: Allocator>(
 }
 
 /// The type of an entry, where that fact is in force.
-fn chosen_kind<A: Allocator>(chosen: bool, kind: Option<EntryKind<A>>) -> Option<EntryKind<A>>
+fn chosen_kind<A: Allocator + Copy>(
+    chosen: bool,
+    kind: Option<EntryKind<A>>,
+) -> Option<EntryKind<A>>
     requires { (word : List ℕ) → kind ≡ Some (Other word) → IsOtherWord word }
     ensures value { result ≡ (if chosen then kind else None) }
     ensures fits { (word : List ℕ) → result ≡ Some (Other word) → IsOtherWord word }
@@ -232,7 +235,7 @@ fn chosen_moment(chosen: bool, moment: Option<Moment>) -> Option<Moment>
 }
 
 /// The permissions of an entry, where that fact is in force.
-fn chosen_perm<A: Allocator>(chosen: bool, perm: Option<Text<A>>) -> Option<Text<A>>
+fn chosen_perm<A: Allocator + Copy>(chosen: bool, perm: Option<Text<A>>) -> Option<Text<A>>
     requires { ForSome perm IsValue }
     ensures value { result ≡ (if chosen then perm else None) }
     ensures fits { ForSome result IsValue }
@@ -241,7 +244,7 @@ fn chosen_perm<A: Allocator>(chosen: bool, perm: Option<Text<A>>) -> Option<Text
 }
 
 /// The last name of a path; no octets for the root.
-pub(crate) fn last_name<A: Allocator>(path: &Path<A>) -> &[u8]
+pub(crate) fn last_name<A: Allocator + Copy>(path: &Path<A>) -> &[u8]
     ensures { result.now ≡ last_name path.now }
 {
     let octets = path.key();

@@ -13,7 +13,7 @@ const MONTHS: &[u8] = b"JanFebMarAprMayJunJulAugSepOctNovDec";
 const WORD_LEN: usize = 3;
 
 /// Puts the line of a file behind what `out` holds. Refused memory leaves some of it there.
-pub fn put_file_line<A: Allocator>(
+pub fn put_file_line<A: Allocator + Copy>(
     name: &[u8],
     size: u64,
     moment: Moment,
@@ -27,7 +27,10 @@ pub fn put_file_line<A: Allocator>(
 }
 
 /// Puts the line of a directory. It has no date of its own, and shows the first of January 1970 (own choice).
-pub fn put_dir_line<A: Allocator>(name: &[u8], out: &mut Vec<u8, A>) -> Result<(), AllocError>
+pub fn put_dir_line<A: Allocator + Copy>(
+    name: &[u8],
+    out: &mut Vec<u8, A>,
+) -> Result<(), AllocError>
     ensures { OnOk result (out.new.items ≡ out.old.items ++ list_line (codes "drwxr-xr-x") 0 0 name.now) }
 {
     out.extend_from_slice(b"drwxr-xr-x")?;
@@ -36,7 +39,7 @@ pub fn put_dir_line<A: Allocator>(name: &[u8], out: &mut Vec<u8, A>) -> Result<(
 }
 
 /// Puts what a line has behind its rights: the owner, the size in ten places, the date and the name.
-fn put_columns<A: Allocator>(
+fn put_columns<A: Allocator + Copy>(
     name: &[u8],
     size: u64,
     moment: Moment,
@@ -53,7 +56,7 @@ fn put_columns<A: Allocator>(
 }
 
 /// Puts a text with spaces before it, as wide as this.
-fn put_right<A: Allocator>(
+fn put_right<A: Allocator + Copy>(
     width: usize,
     text: &[u8],
     out: &mut Vec<u8, A>,
@@ -68,7 +71,7 @@ fn put_right<A: Allocator>(
 }
 
 /// Puts the date of a moment, in UTC.
-fn put_date<A: Allocator>(moment: Moment, out: &mut Vec<u8, A>) -> Result<(), AllocError>
+fn put_date<A: Allocator + Copy>(moment: Moment, out: &mut Vec<u8, A>) -> Result<(), AllocError>
     ensures { OnOk result (out.new.items ≡ out.old.items ++ date_text moment.seconds) }
 {
     let digits = moment_text(moment);

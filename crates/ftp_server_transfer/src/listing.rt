@@ -25,7 +25,7 @@ pub struct Made {
 }
 
 /// The octets of a listing that are still to be given. It holds two lines, and makes the others from the tree.
-pub struct Listing<A: Allocator> {
+pub struct Listing<A: Allocator + Copy> {
     alloc: A,
     what: What<A>,
     path: Path<A>,
@@ -42,7 +42,7 @@ pub struct Listing<A: Allocator> {
 }
 
 /// By hand: a derived drop is proved again, part by part, wherever a listing is let go.
-impl<A: Allocator> Drop for Listing<A> {
+impl<A: Allocator + Copy> Drop for Listing<A> {
     fn drop(self) {
         let Self {
             alloc: _,

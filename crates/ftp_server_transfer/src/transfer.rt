@@ -183,7 +183,7 @@ impl<A: Allocator + Copy, T: Tree<A>> ServerTransfer<A, T> for TreeTransfer<A> {
 }
 
 /// The text that named what is listed; none is empty.
-fn named<A: Allocator>(alloc: A, text: &Option<Argument<A>>) -> Result<Text<A>, AllocError>
+fn named<A: Allocator + Copy>(alloc: A, text: &Option<Argument<A>>) -> Result<Text<A>, AllocError>
     ensures { IfOk result (λ named. named ≡ or_empty text.now) }
 {
     match text {

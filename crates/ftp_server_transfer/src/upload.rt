@@ -23,7 +23,7 @@ use std::alloc::Allocator;
 
 /// A file that is received. It holds what is settled of it.
 #[derive(Drop)]
-pub struct Upload<A: Allocator + Clone> {
+pub struct Upload<A: Allocator + Copy> {
     pub(crate) path: Path<A>,
     /// So many octets of the file that stands at the path are kept in front.
     pub(crate) keep: u64,
@@ -38,7 +38,7 @@ pub struct Arrived {
     pub is_over: bool,
 }
 
-impl<A: Allocator + Clone> Upload<A> {
+impl<A: Allocator + Copy> Upload<A> {
     ghost use Rattle.ftp_server_transfer.specs.Receiving.{IsTold, Leaves};
     ghost use Rattle.ftp_server_transfer.specs.Upload.{upload_of};
 
@@ -60,7 +60,7 @@ impl<A: Allocator + Clone> Upload<A> {
     ///
     /// Where the octets that are kept pass a limit by themselves, or the tree takes no file at the path any more, the first octet
     /// is told as want of memory (own choice: a tree within its own limits meets neither).
-    pub fn receive<B: Allocator, C: Allocator, T: Tree<B>>(
+    pub fn receive<B: Allocator + Copy, C: Allocator + Copy, T: Tree<B>>(
         &mut self,
         tree: &T,
         root: &Path<C>,
@@ -88,7 +88,7 @@ impl<A: Allocator + Clone> Upload<A> {
     }
 
     /// How many octets may still be settled; `None` where those that are held pass a limit, or the tree takes no file there.
-    fn room_left<B: Allocator, C: Allocator, T: Tree<B>>(
+    fn room_left<B: Allocator + Copy, C: Allocator + Copy, T: Tree<B>>(
         &self,
         tree: &T,
         root: &Path<C>,
@@ -121,7 +121,7 @@ impl<A: Allocator + Clone> Upload<A> {
 
     /// The other end closed the data connection: the file is whole and put into the tree, or it ended early, which counts as broken.
     /// The reply that ends the transfer.
-    pub fn at_end<B: Allocator, T: Tree<A>>(
+    pub fn at_end<B: Allocator + Copy, T: Tree<A>>(
         mut self,
         alloc: A,
         tree: &mut T,
@@ -141,7 +141,7 @@ impl<A: Allocator + Clone> Upload<A> {
     }
 
     /// The data connection broke: what was settled is put into the tree. The reply that ends the transfer.
-    pub fn at_break<B: Allocator, T: Tree<A>>(
+    pub fn at_break<B: Allocator + Copy, T: Tree<A>>(
         self,
         alloc: A,
         tree: &mut T,
@@ -155,7 +155,7 @@ impl<A: Allocator + Clone> Upload<A> {
     }
 
     /// What was settled is put into the tree and answered so; past a limit of octets nothing is.
-    fn install<B: Allocator, T: Tree<A>>(
+    fn install<B: Allocator + Copy, T: Tree<A>>(
         self,
         alloc: A,
         tree: &mut T,

@@ -9,7 +9,10 @@ use std::alloc::Allocator;
 
 /// The fault of the first line whose account those above it do not allow: the last that has to go before the others are accounts. `numbers` are those
 /// of the lines, one for each account.
-pub(crate) fn blamed<A: Allocator>(refused: RefusedAccounts<A>, numbers: Vec<usize, A>) -> TextFault
+pub(crate) fn blamed<A: Allocator + Copy>(
+    refused: RefusedAccounts<A>,
+    numbers: Vec<usize, A>,
+) -> TextFault
     requires refused { accounts_refusal refused.list.items ≡ Some refused.fault }
     requires each { length numbers.items ≡ length refused.list.items }
     ensures { IsHeld refused.list.items numbers.items result }

@@ -16,11 +16,11 @@ pub struct Grant<P> {
 
 /// What each account may change.
 #[derive(Drop)]
-pub struct Grants<A: Allocator> {
+pub struct Grants<A: Allocator + Copy> {
     list: Vec<Grant<Text<A>>, A>,
 }
 
-impl<A: Allocator> Model for Grants<A> {
+impl<A: Allocator + Copy> Model for Grants<A> {
     ghost use Rattle.std.specs.Prelude.{List};
     ghost use Rattle.ftp_tool_accounts.specs.Grants.{Grant};
 
@@ -29,7 +29,7 @@ impl<A: Allocator> Model for Grants<A> {
     ghost view = { λ grants. grants.list.items };
 }
 
-impl<A: Allocator> Grants<A> {
+impl<A: Allocator + Copy> Grants<A> {
     pub(crate) fn of(list: Vec<Grant<Text<A>>, A>) -> Grants<A>
         ensures { result ≡ list.items }
     {
@@ -50,7 +50,7 @@ impl<A: Allocator> Grants<A> {
 }
 
 /// Whether a grant is that of a user.
-fn is_of<A: Allocator>(grant: &Grant<Text<A>>, user: &[u8]) -> bool
+fn is_of<A: Allocator + Copy>(grant: &Grant<Text<A>>, user: &[u8]) -> bool
     ensures { result ≡ has_name user.now grant.now }
 {
     grant.user.as_slice() == user

@@ -37,7 +37,7 @@ fn is_comment(line: &[u8]) -> bool
 
 /// What a line says: an account, and what it may change.
 #[derive(Drop)]
-pub(crate) struct Entry<A: Allocator> {
+pub(crate) struct Entry<A: Allocator + Copy> {
     pub(crate) account: Account<Text<A>, Path<A>>,
     pub(crate) rights: Rights,
 }
@@ -153,7 +153,7 @@ fn account<A: Allocator + Copy>(
 }
 
 /// The password that an account needs, if one.
-fn needed<A: Allocator>(alloc: A, pass: &[u8]) -> Result<Option<Text<A>>, AllocError>
+fn needed<A: Allocator + Copy>(alloc: A, pass: &[u8]) -> Result<Option<Text<A>>, AllocError>
     ensures { IfOk result (λ found. found ≡ needed pass.now) }
 {
     if pass.is_empty() {

@@ -21,7 +21,7 @@ const MARK: &[u8] = b"\xef\xbb\xbf";
 
 /// Who may log in, and what each may change.
 #[derive(Drop)]
-pub struct Users<A: Allocator> {
+pub struct Users<A: Allocator + Copy> {
     pub accounts: Accounts<A>,
     pub grants: Grants<A>,
 }

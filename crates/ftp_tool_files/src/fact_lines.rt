@@ -12,7 +12,7 @@ use std::io::{Read, Write};
 
 /// What is written for a line, and whether it is a fault.
 #[derive(Drop)]
-pub struct Answer<A: Allocator> {
+pub struct Answer<A: Allocator + Copy> {
     text: Vec<u8, A>,
     faulty: bool,
 }

@@ -49,7 +49,7 @@ impl Direction {
 
 /// A file that is being written, and what of its wire is made and not yet written.
 #[derive(Drop)]
-pub struct Sending<A: Allocator> {
+pub struct Sending<A: Allocator + Copy> {
     sender: Sender,
     framer: Framer,
     /// So many octets in front are made, and the others are to be written over.
@@ -58,7 +58,7 @@ pub struct Sending<A: Allocator> {
     ghost within: { made ≤ vec_len room },
 }
 
-impl<A: Allocator> Sending<A> {
+impl<A: Allocator + Copy> Sending<A> {
     ghost use Rattle.ftp_tool_files.specs.Sending.{made_octets, still_to_give, Puts, Gives};
 
     /// Nothing of the file was given, and own markers count its octets where they are asked for.
@@ -214,7 +214,7 @@ fn to_wire<A, R, W>(
     writer: &mut W,
 ) -> u8
 where
-    A: Allocator,
+    A: Allocator + Copy,
     R: Read,
     W: Write,
     ensures done { result ≢ 3 → Frames form marks (R.remaining reader.old) (R.remaining reader.new) (W.contents writer.old) (W.contents writer.new) result }
@@ -235,7 +235,7 @@ fn write_all<A, R, W>(
     writer: &mut W,
 ) -> Result<(), Failed>
 where
-    A: Allocator,
+    A: Allocator + Copy,
     R: Read,
     W: Write,
     ensures ok { OnOk result (Frames form marks (R.remaining reader.old) (R.remaining reader.new) (W.contents writer.old) (W.contents writer.new) 0) }

@@ -26,13 +26,13 @@ pub enum Outcome {
 
 /// A file that is being read, and what of it is settled and not yet written.
 #[derive(Drop)]
-pub struct Receiving<A: Allocator> {
+pub struct Receiving<A: Allocator + Copy> {
     deframer: Deframer,
     receiver: Receiver,
     settled: Vec<u8, A>,
 }
 
-impl<A: Allocator> Receiving<A> {
+impl<A: Allocator + Copy> Receiving<A> {
     ghost use Rattle.ftp_tool_files.specs.Receiving.{StandsAfter, HearsAfter};
     ghost use Rattle.ftp_settings.specs.declared.representation.Representation.{Representation};
 
@@ -176,7 +176,7 @@ fn write_file<A, R, W>(
     writer: &mut W,
 ) -> Result<Option<FrameFault>, Failed>
 where
-    A: Allocator,
+    A: Allocator + Copy,
     R: Read,
     W: Write,
     ensures { ReadsTo form (R.remaining reader.old) (R.remaining reader.new) (W.contents writer.old) (W.contents writer.new) result }
@@ -199,7 +199,11 @@ where
 }
 
 /// Writes a fault's line.
-fn tell<A: Allocator, F: Write>(alloc: A, fault: FrameFault, faults: &mut F) -> Result<(), Failed>
+fn tell<A: Allocator + Copy, F: Write>(
+    alloc: A,
+    fault: FrameFault,
+    faults: &mut F,
+) -> Result<(), Failed>
     ensures ok { OnOk result (Appends (F.contents faults.old) (F.contents faults.new) (fault_line fault)) }
     ensures front { AppendsFront (F.contents faults.old) (F.contents faults.new) (fault_line fault) }
 {
@@ -210,7 +214,7 @@ fn tell<A: Allocator, F: Write>(alloc: A, fault: FrameFault, faults: &mut F) -> 
 }
 
 /// A fault's text, and an LF.
-fn line_of<A: Allocator>(alloc: A, fault: FrameFault) -> Result<String<A>, AllocError>
+fn line_of<A: Allocator + Copy>(alloc: A, fault: FrameFault) -> Result<String<A>, AllocError>
     ensures { IfOk result (λ line. string_bytes line ≡ fault_line fault) }
 {
     format!(in alloc; "{fault}\n")

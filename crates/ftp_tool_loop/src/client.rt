@@ -16,7 +16,7 @@ pub(crate) struct ClientEnd<A, N: Drop> {
     growth: PhantomData<A>,
 }
 
-impl<A: Allocator, N: Near<A>> ClientEnd<A, N> {
+impl<A: Allocator + Copy, N: Near<A>> ClientEnd<A, N> {
     pub(crate) fn new(client: N) -> ClientEnd<A, N> {
         ClientEnd {
             client,
@@ -40,7 +40,7 @@ impl<A: Allocator, N: Near<A>> ClientEnd<A, N> {
     }
 }
 
-impl<A: Allocator, N: Near<A>> End for ClientEnd<A, N> {
+impl<A: Allocator + Copy, N: Near<A>> End for ClientEnd<A, N> {
     fn give(&mut self, over: Connection, room: &mut [u8]) -> usize {
         match over {
             Connection::Control => self.client.control_out(room),

@@ -67,7 +67,7 @@ where
 }
 
 /// Tells why there is no script.
-fn no_script<A: Allocator, F: Write>(alloc: A, fault: NoScript, faults: &mut F) -> Status
+fn no_script<A: Allocator + Copy, F: Write>(alloc: A, fault: NoScript, faults: &mut F) -> Status
     ensures { result ≡ status_without fault }
 {
     if let Ok(text) = format!(in alloc; "error: {fault}\n") {
@@ -77,7 +77,7 @@ fn no_script<A: Allocator, F: Write>(alloc: A, fault: NoScript, faults: &mut F) 
 }
 
 /// Tells what failed.
-fn failed<A: Allocator, F: Write>(alloc: A, error: Error, faults: &mut F) -> Status
+fn failed<A: Allocator + Copy, F: Write>(alloc: A, error: Error, faults: &mut F) -> Status
     ensures { result ≡ Failed }
 {
     if let Ok(text) = format!(in alloc; "error: {error}\n") {

@@ -5,7 +5,7 @@ use std::alloc::{AllocError, Allocator};
 
 /// The lines so far that were taken whole, and what was taken of those that are not.
 #[derive(Drop)]
-pub struct Transcript<A: Allocator> {
+pub struct Transcript<A: Allocator + Copy> {
     wanted: bool,
     lines: Vec<u8, A>,
     to_server: Vec<u8, A>,
@@ -46,7 +46,7 @@ impl<A: Allocator + Copy> Transcript<A> {
 }
 
 /// Puts the lines that end in these octets behind the others; `part` is what came of a line before, and what did.
-fn put_lines<A: Allocator>(
+fn put_lines<A: Allocator + Copy>(
     who: &[u8],
     octets: &[u8],
     part: &mut Vec<u8, A>,
@@ -66,7 +66,7 @@ fn put_lines<A: Allocator>(
 }
 
 /// Puts a line behind the others, without the CR at its end.
-fn put_line<A: Allocator>(
+fn put_line<A: Allocator + Copy>(
     who: &[u8],
     line: &[u8],
     lines: &mut Vec<u8, A>,

@@ -82,7 +82,7 @@ pub enum Deeds {
 }
 
 /// What is done of an entry of the source, where this stands under its name in the target.
-pub fn deeds_for<A: Allocator>(rules: Rules, item: &Item<A>, target: Option<Kind>) -> Deeds
+pub fn deeds_for<A: Allocator + Copy>(rules: Rules, item: &Item<A>, target: Option<Kind>) -> Deeds
     ensures { result ≡ deeds_for rules item.now target }
 {
     if is_name(item.name.as_slice()) {
@@ -204,7 +204,7 @@ fn is_untold(facts: Facts) -> bool
 }
 
 /// What is done of an entry of the target, where this stands under its name in the source.
-pub fn removal_for<A: Allocator>(rules: Rules, item: &Item<A>, source: Option<Kind>) -> Deeds
+pub fn removal_for<A: Allocator + Copy>(rules: Rules, item: &Item<A>, source: Option<Kind>) -> Deeds
     ensures { result ≡ removal_for rules item.now source }
 {
     match source {
@@ -214,7 +214,7 @@ pub fn removal_for<A: Allocator>(rules: Rules, item: &Item<A>, source: Option<Ki
 }
 
 /// An entry that the target has alone.
-fn alone<A: Allocator>(extra: Extra, item: &Item<A>) -> Deeds
+fn alone<A: Allocator + Copy>(extra: Extra, item: &Item<A>) -> Deeds
     ensures { result ≡ alone extra item.now }
 {
     match extra {

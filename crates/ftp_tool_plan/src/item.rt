@@ -22,14 +22,14 @@ pub enum Kind {
 
 /// An entry of a directory.
 #[derive(Drop)]
-pub struct Item<A: Allocator> {
+pub struct Item<A: Allocator + Copy> {
     pub name: Text<A>,
     pub kind: Kind,
 }
 
 /// The entries of a directory.
 #[derive(Drop)]
-pub enum Listing<A: Allocator> {
+pub enum Listing<A: Allocator + Copy> {
     Whole(Vec<Item<A>, A>),
     /// It has more entries than are taken.
     CutOff,

@@ -9,7 +9,7 @@ use std::alloc::{AllocError, Allocator};
 
 /// Something that is done of a name.
 #[derive(Drop)]
-pub struct Step<A: Allocator> {
+pub struct Step<A: Allocator + Copy> {
     pub deed: Deed,
     pub name: Text<A>,
 }
@@ -111,7 +111,7 @@ fn put_step<A: Allocator + Copy>(
 }
 
 /// What stands under a name among entries: the first that has it.
-fn stands<A: Allocator>(items: &[Item<A>], name: &[u8]) -> Option<Kind>
+fn stands<A: Allocator + Copy>(items: &[Item<A>], name: &[u8]) -> Option<Kind>
     ensures { result ≡ stands items.now name.now }
 {
     items
@@ -120,7 +120,7 @@ fn stands<A: Allocator>(items: &[Item<A>], name: &[u8]) -> Option<Kind>
         .map(|item| item.kind)
 }
 
-fn is_named<A: Allocator>(name: &[u8], item: &Item<A>) -> bool
+fn is_named<A: Allocator + Copy>(name: &[u8], item: &Item<A>) -> bool
     ensures { result ≡ is_named name.now item.now }
 {
     item.name.as_slice() == name

@@ -6,7 +6,7 @@ use memchr::memchr;
 use std::alloc::{AllocError, Allocator};
 
 /// What stands before, between and behind the octets of a text that are this one.
-pub(crate) fn pieces_at<A: Allocator>(
+pub(crate) fn pieces_at<A: Allocator + Copy>(
     alloc: A,
     octet: u8,
     text: &[u8],

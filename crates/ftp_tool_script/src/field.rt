@@ -22,7 +22,7 @@ pub fn octets_of<A: Allocator + Copy>(alloc: A, field: &[u8]) -> Result<Text<A>,
     }
 }
 
-fn copied<A: Allocator>(alloc: A, octets: &[u8]) -> Result<Text<A>, LineFault>
+fn copied<A: Allocator + Copy>(alloc: A, octets: &[u8]) -> Result<Text<A>, LineFault>
     ensures { Reads (λ text. text) result (Some octets.now) }
 {
     match Text::copy_of(alloc, octets) {
@@ -56,7 +56,7 @@ fn said_each<A: Allocator + Copy>(alloc: A, text: &[u8]) -> Result<Text<A>, Line
 }
 
 /// Appends the octets that a text says.
-fn put_said<A: Allocator>(text: &[u8], out: &mut Vec<u8, A>) -> Result<(), LineFault>
+fn put_said<A: Allocator + Copy>(text: &[u8], out: &mut Vec<u8, A>) -> Result<(), LineFault>
     ensures { Reads (λ _. out.new.items) result (with_front out.old.items (said_from text.now Between)) }
 {
     let mut rest = text;
@@ -70,7 +70,7 @@ fn put_said<A: Allocator>(text: &[u8], out: &mut Vec<u8, A>) -> Result<(), LineF
 }
 
 /// Appends the octet that is said first, by itself or by an escape; gives what is left of the text.
-fn put_next<'a, A: Allocator>(
+fn put_next<'a, A: Allocator + Copy>(
     octet: u8,
     behind: &'a [u8],
     out: &mut Vec<u8, A>,
@@ -88,7 +88,7 @@ fn put_next<'a, A: Allocator>(
 }
 
 /// The same behind a backslash.
-fn put_escaped<'a, A: Allocator>(
+fn put_escaped<'a, A: Allocator + Copy>(
     text: &'a [u8],
     out: &mut Vec<u8, A>,
 ) -> Result<&'a [u8], LineFault>
@@ -108,7 +108,7 @@ fn put_escaped<'a, A: Allocator>(
 }
 
 /// The same behind a backslash and `x`.
-fn put_by_digits<'a, A: Allocator>(
+fn put_by_digits<'a, A: Allocator + Copy>(
     text: &'a [u8],
     out: &mut Vec<u8, A>,
 ) -> Result<&'a [u8], LineFault>
@@ -125,7 +125,7 @@ fn put_by_digits<'a, A: Allocator>(
 }
 
 /// Appends an octet, and gives what is behind it.
-fn put_before<'a, A: Allocator>(
+fn put_before<'a, A: Allocator + Copy>(
     octet: u8,
     behind: &'a [u8],
     out: &mut Vec<u8, A>,
@@ -177,7 +177,7 @@ fn digit_value(digit: u8) -> Option<u8>
 }
 
 /// Appends the field that says these octets. Refused memory, a part of it may stand there. Octets that stand for themselves go in one go.
-pub fn put_field<A: Allocator>(octets: &[u8], out: &mut Vec<u8, A>) -> Result<(), AllocError>
+pub fn put_field<A: Allocator + Copy>(octets: &[u8], out: &mut Vec<u8, A>) -> Result<(), AllocError>
     ensures { OnOk result (out.new.items ≡ out.old.items ++ field_text octets.now) }
 {
     if octets.is_empty() {
@@ -191,7 +191,7 @@ pub fn put_field<A: Allocator>(octets: &[u8], out: &mut Vec<u8, A>) -> Result<()
 
 /// Appends octets that stand for themselves.
 #[tactic(auto, using(crate::proofs::PlainLemmas::plain_put))]
-fn put_plain<A: Allocator>(octets: &[u8], out: &mut Vec<u8, A>) -> Result<(), AllocError>
+fn put_plain<A: Allocator + Copy>(octets: &[u8], out: &mut Vec<u8, A>) -> Result<(), AllocError>
     requires { list_all is_plain octets.now ≡ true }
     ensures { OnOk result (out.new.items ≡ out.old.items ++ flat_map written octets.now) }
 {
@@ -199,7 +199,7 @@ fn put_plain<A: Allocator>(octets: &[u8], out: &mut Vec<u8, A>) -> Result<(), Al
 }
 
 /// Appends octets as a field has them.
-fn put_octets<A: Allocator>(octets: &[u8], out: &mut Vec<u8, A>) -> Result<(), AllocError>
+fn put_octets<A: Allocator + Copy>(octets: &[u8], out: &mut Vec<u8, A>) -> Result<(), AllocError>
     ensures { OnOk result (out.new.items ≡ out.old.items ++ flat_map written octets.now) }
 {
     let mut rest = octets;
@@ -214,7 +214,7 @@ fn put_octets<A: Allocator>(octets: &[u8], out: &mut Vec<u8, A>) -> Result<(), A
 
 /// Appends the first octet, or the first four in one go where each of them has to be written by digits; gives what is left.
 #[tactic(auto, using(crate::proofs::PlainLemmas::one_put))]
-fn put_some<'a, A: Allocator>(
+fn put_some<'a, A: Allocator + Copy>(
     octet: u8,
     behind: &'a [u8],
     out: &mut Vec<u8, A>,
@@ -233,7 +233,7 @@ fn put_some<'a, A: Allocator>(
 }
 
 /// Appends four octets by digits.
-fn put_four<A: Allocator>(
+fn put_four<A: Allocator + Copy>(
     one: u8,
     two: u8,
     three: u8,
@@ -249,7 +249,7 @@ fn put_four<A: Allocator>(
     out.extend_from_slice(&[a, b, c, d, e, f, g, h, i, j, k, l, m, n, o, p])
 }
 
-fn put_octet<A: Allocator>(octet: u8, out: &mut Vec<u8, A>) -> Result<(), AllocError>
+fn put_octet<A: Allocator + Copy>(octet: u8, out: &mut Vec<u8, A>) -> Result<(), AllocError>
     ensures { OnOk result (out.new.items ≡ out.old.items ++ written octet) }
 {
     match octet {
@@ -262,7 +262,7 @@ fn put_octet<A: Allocator>(octet: u8, out: &mut Vec<u8, A>) -> Result<(), AllocE
 }
 
 /// Appends an octet that has no letter.
-fn put_other<A: Allocator>(octet: u8, out: &mut Vec<u8, A>) -> Result<(), AllocError>
+fn put_other<A: Allocator + Copy>(octet: u8, out: &mut Vec<u8, A>) -> Result<(), AllocError>
     ensures { OnOk result (out.new.items ≡ out.old.items ++ other_written octet) }
 {
     if is_plain(octet) {

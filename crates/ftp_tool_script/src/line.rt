@@ -93,7 +93,7 @@ fn upload_in<A: Allocator + Copy>(alloc: A, fields: &[&[u8]]) -> Result<Order<Te
     }
 }
 
-fn alone_op<A: Allocator>(verb: Alone) -> Op<Text<A>>
+fn alone_op<A: Allocator + Copy>(verb: Alone) -> Op<Text<A>>
     ensures { result ≡ alone_op verb }
 {
     match verb {
@@ -102,7 +102,7 @@ fn alone_op<A: Allocator>(verb: Alone) -> Op<Text<A>>
     }
 }
 
-fn path_op<A: Allocator>(verb: OnPath, path: Text<A>) -> Op<Text<A>>
+fn path_op<A: Allocator + Copy>(verb: OnPath, path: Text<A>) -> Op<Text<A>>
     ensures { result ≡ path_op verb path }
 {
     match verb {
@@ -115,7 +115,7 @@ fn path_op<A: Allocator>(verb: OnPath, path: Text<A>) -> Op<Text<A>>
     }
 }
 
-fn taking_op<A: Allocator>(verb: Taking, how: How, path: Text<A>) -> Op<Text<A>>
+fn taking_op<A: Allocator + Copy>(verb: Taking, how: How, path: Text<A>) -> Op<Text<A>>
     ensures { result ≡ taking_op verb how path }
 {
     match verb {
@@ -126,7 +126,7 @@ fn taking_op<A: Allocator>(verb: Taking, how: How, path: Text<A>) -> Op<Text<A>>
     }
 }
 
-fn part_op<A: Allocator>(verb: Part, how: How, path: Text<A>, number: u64) -> Op<Text<A>>
+fn part_op<A: Allocator + Copy>(verb: Part, how: How, path: Text<A>, number: u64) -> Op<Text<A>>
     ensures { result ≡ part_op verb how path number }
 {
     match verb {
@@ -135,7 +135,12 @@ fn part_op<A: Allocator>(verb: Part, how: How, path: Text<A>, number: u64) -> Op
     }
 }
 
-fn giving_op<A: Allocator>(verb: Giving, how: How, path: Text<A>, octets: Text<A>) -> Op<Text<A>>
+fn giving_op<A: Allocator + Copy>(
+    verb: Giving,
+    how: How,
+    path: Text<A>,
+    octets: Text<A>,
+) -> Op<Text<A>>
     ensures { result ≡ giving_op verb how path octets }
 {
     match verb {
@@ -170,7 +175,7 @@ fn login_in<A: Allocator + Copy>(alloc: A, fields: &[&[u8]]) -> Result<Login<A>,
     }
 }
 
-fn login_with<A: Allocator>(user: Text<A>, pass: Text<A>) -> Result<Login<A>, LineFault>
+fn login_with<A: Allocator + Copy>(user: Text<A>, pass: Text<A>) -> Result<Login<A>, LineFault>
     ensures { Reads (λ login. (login.user, login.pass)) result (login_with (user, pass)) }
 {
     match Login::new(user, pass) {
@@ -180,7 +185,7 @@ fn login_with<A: Allocator>(user: Text<A>, pass: Text<A>) -> Result<Login<A>, Li
 }
 
 /// The fields of a line: what stands between its spaces.
-fn fields_of<A: Allocator>(alloc: A, line: &[u8]) -> Result<Vec<&[u8], A>, AllocError>
+fn fields_of<A: Allocator + Copy>(alloc: A, line: &[u8]) -> Result<Vec<&[u8], A>, AllocError>
     ensures { IfOk result (λ fields. map (λ field. field.now) fields.items ≡ slice_split is_space line.now) }
 {
     pieces_at(alloc, b' ', line)

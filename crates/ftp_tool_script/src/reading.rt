@@ -64,7 +64,7 @@ pub fn read_script<A: Allocator + Copy, R: Read>(
 
 /// All that a reader gives.
 #[tactic(auto, using(crate::proofs::ReadingLemmas::more_read, crate::proofs::ReadingLemmas::none_read))]
-fn text_of<A: Allocator, R: Read>(alloc: A, reader: &mut R) -> io::Result<Vec<u8, A>>
+fn text_of<A: Allocator + Copy, R: Read>(alloc: A, reader: &mut R) -> io::Result<Vec<u8, A>>
     ensures { IfOk result (λ text. GivesAll (R.remaining reader.old) (R.remaining reader.new) text.items) }
 {
     let mut text = Vec::new(alloc);

@@ -12,7 +12,7 @@ use itoa::Buffer;
 use std::alloc::{AllocError, Allocator};
 
 /// The report of an answer: a line, and for a list one more for each of its entries or names.
-pub fn report_of<A: Allocator, B: Allocator>(
+pub fn report_of<A: Allocator + Copy, B: Allocator + Copy>(
     alloc: B,
     answer: &Answer<A>,
 ) -> Result<Vec<u8, B>, AllocError>
@@ -23,7 +23,7 @@ pub fn report_of<A: Allocator, B: Allocator>(
     Ok(out)
 }
 
-fn put_report<A: Allocator, B: Allocator>(
+fn put_report<A: Allocator + Copy, B: Allocator + Copy>(
     answer: &Answer<A>,
     out: &mut Vec<u8, B>,
 ) -> Result<(), AllocError>
@@ -50,7 +50,11 @@ fn put_report<A: Allocator, B: Allocator>(
 }
 
 /// Appends a line: a word, and what stands behind it.
-fn put_line<B: Allocator>(word: &[u8], text: &[u8], out: &mut Vec<u8, B>) -> Result<(), AllocError>
+fn put_line<B: Allocator + Copy>(
+    word: &[u8],
+    text: &[u8],
+    out: &mut Vec<u8, B>,
+) -> Result<(), AllocError>
     ensures { OnOk result (out.new.items ≡ out.old.items ++ said_line word.now text.now) }
 {
     out.extend_from_slice(word)?;
@@ -58,7 +62,7 @@ fn put_line<B: Allocator>(word: &[u8], text: &[u8], out: &mut Vec<u8, B>) -> Res
     out.extend_from_slice(b"\n")
 }
 
-fn put_text<B: Allocator>(
+fn put_text<B: Allocator + Copy>(
     word: &[u8],
     octets: &[u8],
     out: &mut Vec<u8, B>,
@@ -70,7 +74,7 @@ fn put_text<B: Allocator>(
     out.extend_from_slice(b"\n")
 }
 
-fn put_number<B: Allocator>(
+fn put_number<B: Allocator + Copy>(
     word: &[u8],
     number: u64,
     out: &mut Vec<u8, B>,
@@ -80,13 +84,13 @@ fn put_number<B: Allocator>(
     put_line(word, Buffer::new().format(number).as_bytes(), out)
 }
 
-fn put_moment<B: Allocator>(moment: Moment, out: &mut Vec<u8, B>) -> Result<(), AllocError>
+fn put_moment<B: Allocator + Copy>(moment: Moment, out: &mut Vec<u8, B>) -> Result<(), AllocError>
     ensures { OnOk result (out.new.items ≡ out.old.items ++ said_line (codes "moment ") (moment_digits moment.seconds)) }
 {
     put_line(b"moment ", &moment_text(moment), out)
 }
 
-fn put_entry<A: Allocator, B: Allocator>(
+fn put_entry<A: Allocator + Copy, B: Allocator + Copy>(
     word: &[u8],
     entry: &Entry<A>,
     out: &mut Vec<u8, B>,
@@ -100,7 +104,7 @@ fn put_entry<A: Allocator, B: Allocator>(
     out.extend_from_slice(b"\n")
 }
 
-fn put_entries<A: Allocator, B: Allocator>(
+fn put_entries<A: Allocator + Copy, B: Allocator + Copy>(
     entries: &[Entry<A>],
     out: &mut Vec<u8, B>,
 ) -> Result<(), AllocError>
@@ -111,7 +115,7 @@ fn put_entries<A: Allocator, B: Allocator>(
     put_each_entry(entries, out)
 }
 
-fn put_each_entry<A: Allocator, B: Allocator>(
+fn put_each_entry<A: Allocator + Copy, B: Allocator + Copy>(
     entries: &[Entry<A>],
     out: &mut Vec<u8, B>,
 ) -> Result<(), AllocError>
@@ -123,7 +127,7 @@ fn put_each_entry<A: Allocator, B: Allocator>(
     Ok(())
 }
 
-fn put_names<A: Allocator, B: Allocator>(
+fn put_names<A: Allocator + Copy, B: Allocator + Copy>(
     names: &[Text<A>],
     out: &mut Vec<u8, B>,
 ) -> Result<(), AllocError>
@@ -134,7 +138,7 @@ fn put_names<A: Allocator, B: Allocator>(
     put_each_name(names, out)
 }
 
-fn put_each_name<A: Allocator, B: Allocator>(
+fn put_each_name<A: Allocator + Copy, B: Allocator + Copy>(
     names: &[Text<A>],
     out: &mut Vec<u8, B>,
 ) -> Result<(), AllocError>
@@ -146,7 +150,7 @@ fn put_each_name<A: Allocator, B: Allocator>(
     Ok(())
 }
 
-fn put_broken<B: Allocator>(
+fn put_broken<B: Allocator + Copy>(
     got: &[u8],
     mark: Option<u64>,
     out: &mut Vec<u8, B>,
@@ -160,7 +164,7 @@ fn put_broken<B: Allocator>(
 }
 
 /// Appends the last restart marker, where there was one.
-fn put_mark<B: Allocator>(mark: Option<u64>, out: &mut Vec<u8, B>) -> Result<(), AllocError>
+fn put_mark<B: Allocator + Copy>(mark: Option<u64>, out: &mut Vec<u8, B>) -> Result<(), AllocError>
     ensures { OnOk result (out.new.items ≡ out.old.items ++ mark_text mark) }
 {
     match mark {
@@ -169,7 +173,7 @@ fn put_mark<B: Allocator>(mark: Option<u64>, out: &mut Vec<u8, B>) -> Result<(),
     }
 }
 
-fn put_marked<B: Allocator>(mark: u64, out: &mut Vec<u8, B>) -> Result<(), AllocError>
+fn put_marked<B: Allocator + Copy>(mark: u64, out: &mut Vec<u8, B>) -> Result<(), AllocError>
     ensures { OnOk result (out.new.items ≡ out.old.items ++ (codes " mark " ++ decimal mark)) }
 {
     out.extend_from_slice(b" mark ")?;

@@ -12,7 +12,7 @@ use std::io;
 use std::io::Write;
 
 /// Writes the reports of answers, in order; gives the worst of their statuses.
-pub fn write_reports<A: Allocator, B: Allocator + Copy, W: Write>(
+pub fn write_reports<A: Allocator + Copy, B: Allocator + Copy, W: Write>(
     alloc: B,
     answers: &[Answer<A>],
     writer: &mut W,
@@ -28,7 +28,7 @@ pub fn write_reports<A: Allocator, B: Allocator + Copy, W: Write>(
 }
 
 /// Writes the report of an answer; gives its status.
-pub fn write_report<A: Allocator, B: Allocator, W: Write>(
+pub fn write_report<A: Allocator + Copy, B: Allocator + Copy, W: Write>(
     alloc: B,
     answer: &Answer<A>,
     writer: &mut W,
@@ -42,7 +42,7 @@ pub fn write_report<A: Allocator, B: Allocator, W: Write>(
 }
 
 /// The status of an answer: refused where it is no answer to what was asked.
-pub fn status_of<A: Allocator>(answer: &Answer<A>) -> Status
+pub fn status_of<A: Allocator + Copy>(answer: &Answer<A>) -> Status
     ensures { result ≡ status_of answer.now }
 {
     match answer {

@@ -15,7 +15,7 @@ use std::alloc::{AllocError, Allocator};
 
 /// What a script asks: who logs in, and the orders, one after another.
 #[derive(Drop)]
-pub struct Script<A: Allocator> {
+pub struct Script<A: Allocator + Copy> {
     pub login: Login<A>,
     pub orders: Vec<Order<Text<A>>, A>,
 }
@@ -40,7 +40,7 @@ pub fn script_of<A: Allocator + Copy>(alloc: A, text: &[u8]) -> Result<Script<A>
 }
 
 /// What stands between the ends of lines.
-fn pieces_of<A: Allocator>(alloc: A, text: &[u8]) -> Result<Vec<&[u8], A>, AllocError>
+fn pieces_of<A: Allocator + Copy>(alloc: A, text: &[u8]) -> Result<Vec<&[u8], A>, AllocError>
     ensures { IfOk result (λ pieces. map (λ piece. piece.now) pieces.items ≡ slice_split (λ octet. octet == line_feed) text.now) }
 {
     pieces_at(alloc, b'\n', text)
@@ -133,7 +133,7 @@ fn put_order<A: Allocator + Copy>(
 }
 
 /// Keeps an order behind others.
-fn keep<A: Allocator>(
+fn keep<A: Allocator + Copy>(
     order: Order<Text<A>>,
     orders: &mut Vec<Order<Text<A>>, A>,
 ) -> Result<(), LineFault>

@@ -11,7 +11,7 @@ use std::alloc::{AllocError, Allocator};
 /// whose name is none of a single file is left out.
 ///
 /// Refused memory, a part of them may stand there.
-pub fn put_entries<A: Allocator, B: Allocator + Copy>(
+pub fn put_entries<A: Allocator + Copy, B: Allocator + Copy>(
     alloc: B,
     entries: &[Entry<A>],
     out: &mut Vec<u8, B>,
@@ -24,7 +24,7 @@ pub fn put_entries<A: Allocator, B: Allocator + Copy>(
     Ok(())
 }
 
-fn put_entry<A: Allocator, B: Allocator + Copy>(
+fn put_entry<A: Allocator + Copy, B: Allocator + Copy>(
     alloc: B,
     entry: &Entry<A>,
     out: &mut Vec<u8, B>,
@@ -38,7 +38,7 @@ fn put_entry<A: Allocator, B: Allocator + Copy>(
     }
 }
 
-fn put_entry_line<A: Allocator, B: Allocator + Copy>(
+fn put_entry_line<A: Allocator + Copy, B: Allocator + Copy>(
     alloc: B,
     entry: &Entry<A>,
     out: &mut Vec<u8, B>,
@@ -52,7 +52,7 @@ fn put_entry_line<A: Allocator, B: Allocator + Copy>(
     put_line(plain.as_slice(), out)
 }
 
-fn put_line<B: Allocator>(octets: &[u8], out: &mut Vec<u8, B>) -> Result<(), AllocError>
+fn put_line<B: Allocator + Copy>(octets: &[u8], out: &mut Vec<u8, B>) -> Result<(), AllocError>
     ensures { OnOk result (out.new.items ≡ out.old.items ++ line octets.now) }
 {
     put_shown(octets, out)?;
@@ -60,7 +60,7 @@ fn put_line<B: Allocator>(octets: &[u8], out: &mut Vec<u8, B>) -> Result<(), All
 }
 
 /// How many entries are left out.
-pub fn strange_entries<A: Allocator>(entries: &[Entry<A>]) -> usize
+pub fn strange_entries<A: Allocator + Copy>(entries: &[Entry<A>]) -> usize
     ensures { result ≡ count_by is_strange_entry entries.now }
 {
     let mut count = 0;
@@ -72,7 +72,7 @@ pub fn strange_entries<A: Allocator>(entries: &[Entry<A>]) -> usize
     count
 }
 
-fn is_strange_entry<A: Allocator>(entry: &Entry<A>) -> bool
+fn is_strange_entry<A: Allocator + Copy>(entry: &Entry<A>) -> bool
     ensures { result ≡ is_strange_entry entry.now }
 {
     !is_name(entry.name.as_slice())
@@ -82,7 +82,7 @@ fn is_strange_entry<A: Allocator>(entry: &Entry<A>) -> bool
 /// file, alone or behind that path, is left out.
 ///
 /// Refused memory, a part of them may stand there.
-pub fn put_names<A: Allocator, B: Allocator>(
+pub fn put_names<A: Allocator + Copy, B: Allocator + Copy>(
     path: &[u8],
     names: &[Text<A>],
     out: &mut Vec<u8, B>,
@@ -95,7 +95,11 @@ pub fn put_names<A: Allocator, B: Allocator>(
     Ok(())
 }
 
-fn put_name<B: Allocator>(path: &[u8], name: &[u8], out: &mut Vec<u8, B>) -> Result<(), AllocError>
+fn put_name<B: Allocator + Copy>(
+    path: &[u8],
+    name: &[u8],
+    out: &mut Vec<u8, B>,
+) -> Result<(), AllocError>
     ensures { OnOk result (out.new.items ≡ out.old.items ++ name_text path.now name.now) }
 {
     if is_listed(path, name) {
@@ -106,7 +110,7 @@ fn put_name<B: Allocator>(path: &[u8], name: &[u8], out: &mut Vec<u8, B>) -> Res
 }
 
 /// How many names are left out.
-pub fn strange_names<A: Allocator>(path: &[u8], names: &[Text<A>]) -> usize
+pub fn strange_names<A: Allocator + Copy>(path: &[u8], names: &[Text<A>]) -> usize
     ensures { result ≡ count_by (is_strange_name path.now) names.now }
 {
     let mut count = 0;

@@ -9,7 +9,7 @@ use std::alloc::{AllocError, Allocator};
 /// backslash; for each octet of these, and for each that is of no character, `\xHH`, and `\\` for a backslash.
 ///
 /// Refused memory, a part of it may stand there.
-pub fn put_shown<A: Allocator>(octets: &[u8], out: &mut Vec<u8, A>) -> Result<(), AllocError>
+pub fn put_shown<A: Allocator + Copy>(octets: &[u8], out: &mut Vec<u8, A>) -> Result<(), AllocError>
     ensures { OnOk result (out.new.items ≡ out.old.items ++ shown octets.now) }
 {
     let mut kept = 0;
@@ -20,7 +20,11 @@ pub fn put_shown<A: Allocator>(octets: &[u8], out: &mut Vec<u8, A>) -> Result<()
 }
 
 /// Appends the first octet, where of so many at the front it is known that they stand as they are; gives how many these are behind it.
-fn put_next<A: Allocator>(kept: u8, octets: &[u8], out: &mut Vec<u8, A>) -> Result<u8, AllocError>
+fn put_next<A: Allocator + Copy>(
+    kept: u8,
+    octets: &[u8],
+    out: &mut Vec<u8, A>,
+) -> Result<u8, AllocError>
     requires { 0 < length octets.now }
     ensures kept { IfOk result (λ left. left ≡ kept_of kept octets.now - 1) }
     ensures shown { OnOk result (out.new.items ≡ out.old.items ++ octet_shown (kept_of kept octets.now) (get_or octets.now 0 0)) }
@@ -31,7 +35,11 @@ fn put_next<A: Allocator>(kept: u8, octets: &[u8], out: &mut Vec<u8, A>) -> Resu
 }
 
 /// Appends an octet at the front of a row of which so many stand as they are.
-fn put_octet<A: Allocator>(kept: u8, octet: u8, out: &mut Vec<u8, A>) -> Result<(), AllocError>
+fn put_octet<A: Allocator + Copy>(
+    kept: u8,
+    octet: u8,
+    out: &mut Vec<u8, A>,
+) -> Result<(), AllocError>
     ensures { OnOk result (out.new.items ≡ out.old.items ++ octet_shown kept octet) }
 {
     if kept == 0 {
@@ -42,7 +50,7 @@ fn put_octet<A: Allocator>(kept: u8, octet: u8, out: &mut Vec<u8, A>) -> Result<
 }
 
 /// Appends an octet as an escape.
-fn put_escaped<A: Allocator>(octet: u8, out: &mut Vec<u8, A>) -> Result<(), AllocError>
+fn put_escaped<A: Allocator + Copy>(octet: u8, out: &mut Vec<u8, A>) -> Result<(), AllocError>
     ensures { OnOk result (out.new.items ≡ out.old.items ++ escaped octet) }
 {
     if octet == b'\\' {

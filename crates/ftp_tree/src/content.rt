@@ -11,18 +11,18 @@ use std::marker::Model;
 
 /// The octets of a file, as they are gathered before it is installed.
 #[derive(Debug)]
-pub struct Content<A: Allocator> {
+pub struct Content<A: Allocator + Copy> {
     octets: Pages<A>,
 }
 
 /// By hand: a derived drop is proved again, page by page, in each crate that lets a content go.
-impl<A: Allocator> Drop for Content<A> {
+impl<A: Allocator + Copy> Drop for Content<A> {
     fn drop(self) {
         let Self { octets: _ } = self;
     }
 }
 
-impl<A: Allocator> Model for Content<A> {
+impl<A: Allocator + Copy> Model for Content<A> {
     ghost use Rattle.std.specs.Prelude.{ℕ, List};
 
     ghost Value = { List ℕ };
@@ -30,7 +30,7 @@ impl<A: Allocator> Model for Content<A> {
     ghost view = { λ content. content.octets };
 }
 
-impl<A: Allocator> Content<A> {
+impl<A: Allocator + Copy> Content<A> {
     /// No octets. Takes no memory.
     pub fn new(alloc: A) -> Content<A>
         ensures { result ≡ [] }
@@ -67,11 +67,11 @@ impl<A: Allocator> Content<A> {
     }
 }
 
-impl<A: Allocator + Clone> Content<A> {
+impl<A: Allocator + Copy> Content<A> {
     /// The first octets of the file at a path below a root.
     ///
     /// Refused: `Absent`, `WrongKind` of a directory, `BadOffset` where the file has fewer, then `Memory`.
-    pub fn of<B: Allocator, C: Allocator, D: Allocator, T: Tree<B>>(
+    pub fn of<B: Allocator + Copy, C: Allocator + Copy, D: Allocator + Copy, T: Tree<B>>(
         alloc: A,
         tree: &T,
         root: &Path<C>,
@@ -106,7 +106,7 @@ impl<A: Allocator + Clone> Content<A> {
 }
 
 /// The first reason, memory aside, why so many octets of a file cannot be had.
-fn front_refusal<B: Allocator, C: Allocator, D: Allocator, T: Tree<B>>(
+fn front_refusal<B: Allocator + Copy, C: Allocator + Copy, D: Allocator + Copy, T: Tree<B>>(
     tree: &T,
     root: &Path<C>,
     path: &Path<D>,

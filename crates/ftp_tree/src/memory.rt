@@ -65,7 +65,11 @@ impl<A: Allocator + Copy> Tree<A> for MemTree<A> {
     ghost failures = { λ tree. 0 };
 
     #[tactic(auto, unfolding(crate::specs::Tree::kind_at))]
-    fn kind<B: Allocator, C: Allocator>(&self, root: &Path<B>, path: &Path<C>) -> Option<NodeKind> {
+    fn kind<B: Allocator + Copy, C: Allocator + Copy>(
+        &self,
+        root: &Path<B>,
+        path: &Path<C>,
+    ) -> Option<NodeKind> {
         match self.standing(root, path) {
             Some(Standing::Dir) => Some(NodeKind::Dir),
             Some(Standing::File(..)) => Some(NodeKind::File),
@@ -74,7 +78,11 @@ impl<A: Allocator + Copy> Tree<A> for MemTree<A> {
     }
 
     #[tactic(auto, unfolding(crate::specs::Tree::size_at, crate::specs::Tree::octets_at))]
-    fn size<B: Allocator, C: Allocator>(&self, root: &Path<B>, path: &Path<C>) -> Option<u64> {
+    fn size<B: Allocator + Copy, C: Allocator + Copy>(
+        &self,
+        root: &Path<B>,
+        path: &Path<C>,
+    ) -> Option<u64> {
         match self.standing(root, path) {
             Some(Standing::File(content, _)) => Some(content.len()),
             Some(Standing::Dir) | None => None,
@@ -82,7 +90,11 @@ impl<A: Allocator + Copy> Tree<A> for MemTree<A> {
     }
 
     #[tactic(auto, unfolding(crate::specs::Tree::stamp_at))]
-    fn stamp<B: Allocator, C: Allocator>(&self, root: &Path<B>, path: &Path<C>) -> Option<Moment> {
+    fn stamp<B: Allocator + Copy, C: Allocator + Copy>(
+        &self,
+        root: &Path<B>,
+        path: &Path<C>,
+    ) -> Option<Moment> {
         match self.standing(root, path) {
             Some(Standing::File(_, moment)) => Some(moment),
             Some(Standing::Dir) | None => None,
@@ -90,7 +102,7 @@ impl<A: Allocator + Copy> Tree<A> for MemTree<A> {
     }
 
     #[tactic(auto, unfolding(crate::specs::Tree::octets_or_none, crate::specs::Tree::octets_at))]
-    fn piece<B: Allocator, C: Allocator>(
+    fn piece<B: Allocator + Copy, C: Allocator + Copy>(
         &self,
         root: &Path<B>,
         path: &Path<C>,
@@ -103,7 +115,7 @@ impl<A: Allocator + Copy> Tree<A> for MemTree<A> {
         }
     }
 
-    fn nth_name<B: Allocator, C: Allocator>(
+    fn nth_name<B: Allocator + Copy, C: Allocator + Copy>(
         &self,
         root: &Path<B>,
         path: &Path<C>,
@@ -116,7 +128,7 @@ impl<A: Allocator + Copy> Tree<A> for MemTree<A> {
         node.nth_name(place)
     }
 
-    fn room<B: Allocator, C: Allocator>(
+    fn room<B: Allocator + Copy, C: Allocator + Copy>(
         &self,
         root: &Path<B>,
         path: &Path<C>,
@@ -131,11 +143,11 @@ impl<A: Allocator + Copy> Tree<A> for MemTree<A> {
         0
     }
 
-    fn fits<B: Allocator>(&self, root: &Path<B>) -> bool {
+    fn fits<B: Allocator + Copy>(&self, root: &Path<B>) -> bool {
         self.count_below(root).octets <= TOTAL_LIMIT
     }
 
-    fn make_dir<B: Allocator, C: Allocator>(
+    fn make_dir<B: Allocator + Copy, C: Allocator + Copy>(
         &mut self,
         root: &Path<B>,
         path: &Path<C>,
@@ -149,7 +161,7 @@ impl<A: Allocator + Copy> Tree<A> for MemTree<A> {
         }
     }
 
-    fn remove_dir<B: Allocator, C: Allocator>(
+    fn remove_dir<B: Allocator + Copy, C: Allocator + Copy>(
         &mut self,
         root: &Path<B>,
         path: &Path<C>,
@@ -161,7 +173,7 @@ impl<A: Allocator + Copy> Tree<A> for MemTree<A> {
         Ok(())
     }
 
-    fn delete<B: Allocator, C: Allocator>(
+    fn delete<B: Allocator + Copy, C: Allocator + Copy>(
         &mut self,
         root: &Path<B>,
         path: &Path<C>,
@@ -173,7 +185,7 @@ impl<A: Allocator + Copy> Tree<A> for MemTree<A> {
         Ok(())
     }
 
-    fn rename<B: Allocator, C: Allocator, D: Allocator>(
+    fn rename<B: Allocator + Copy, C: Allocator + Copy, D: Allocator + Copy>(
         &mut self,
         root: &Path<B>,
         from: &Path<C>,
@@ -188,7 +200,7 @@ impl<A: Allocator + Copy> Tree<A> for MemTree<A> {
         }
     }
 
-    fn install<B: Allocator, C: Allocator>(
+    fn install<B: Allocator + Copy, C: Allocator + Copy>(
         &mut self,
         root: &Path<B>,
         path: &Path<C>,
@@ -218,7 +230,7 @@ impl<A: Allocator + Copy> MemTree<A> {
 
     /// The first reason, memory and a device aside, why no directory can be made at a path.
     #[tactic(auto, unfolding(crate::specs::Tree::make_refusal))]
-    pub fn make_refusal<B: Allocator, C: Allocator>(
+    pub fn make_refusal<B: Allocator + Copy, C: Allocator + Copy>(
         &self,
         root: &Path<B>,
         path: &Path<C>,
@@ -233,7 +245,7 @@ impl<A: Allocator + Copy> MemTree<A> {
 
     /// The same, why no directory can be removed.
     #[tactic(auto, unfolding(crate::specs::Tree::remove_refusal))]
-    pub fn remove_refusal<B: Allocator, C: Allocator>(
+    pub fn remove_refusal<B: Allocator + Copy, C: Allocator + Copy>(
         &self,
         root: &Path<B>,
         path: &Path<C>,
@@ -254,7 +266,7 @@ impl<A: Allocator + Copy> MemTree<A> {
 
     /// The same, why no file can be deleted.
     #[tactic(auto, unfolding(crate::specs::Tree::delete_refusal))]
-    pub fn delete_refusal<B: Allocator, C: Allocator>(
+    pub fn delete_refusal<B: Allocator + Copy, C: Allocator + Copy>(
         &self,
         root: &Path<B>,
         path: &Path<C>,
@@ -270,7 +282,7 @@ impl<A: Allocator + Copy> MemTree<A> {
 
     /// The same, why what stands at a path cannot be moved to another.
     #[tactic(auto, unfolding(crate::specs::Tree::rename_refusal))]
-    pub fn rename_refusal<B: Allocator, C: Allocator, D: Allocator>(
+    pub fn rename_refusal<B: Allocator + Copy, C: Allocator + Copy, D: Allocator + Copy>(
         &self,
         root: &Path<B>,
         from: &Path<C>,
@@ -286,7 +298,7 @@ impl<A: Allocator + Copy> MemTree<A> {
 
     /// The same, why no file of so many octets can be put at a path.
     #[tactic(auto, unfolding(crate::specs::Tree::install_refusal))]
-    pub fn install_refusal<B: Allocator, C: Allocator>(
+    pub fn install_refusal<B: Allocator + Copy, C: Allocator + Copy>(
         &self,
         root: &Path<B>,
         path: &Path<C>,
@@ -315,7 +327,7 @@ impl<A: Allocator + Copy> MemTree<A> {
     }
 
     /// What stands at a path below a root. It is asked for each page of a download, so no path is joined for it.
-    fn standing<B: Allocator, C: Allocator>(
+    fn standing<B: Allocator + Copy, C: Allocator + Copy>(
         &self,
         root: &Path<B>,
         path: &Path<C>,
@@ -329,7 +341,7 @@ impl<A: Allocator + Copy> MemTree<A> {
     }
 
     /// What stands above a path below a root.
-    fn standing_above<B: Allocator, C: Allocator>(
+    fn standing_above<B: Allocator + Copy, C: Allocator + Copy>(
         &self,
         root: &Path<B>,
         path: &Path<C>,
@@ -342,7 +354,11 @@ impl<A: Allocator + Copy> MemTree<A> {
 
     /// How many octets the file there has, and none where no file stands.
     #[tactic(auto, unfolding(crate::specs::Tree::octets_or_none, crate::specs::Tree::octets_at))]
-    fn len_at<B: Allocator, C: Allocator>(&self, root: &Path<B>, path: &Path<C>) -> u64
+    fn len_at<B: Allocator + Copy, C: Allocator + Copy>(
+        &self,
+        root: &Path<B>,
+        path: &Path<C>,
+    ) -> u64
         ensures { result ≡ length (octets_or_none (under self.now root.now) path.now) }
     {
         match self.standing(root, path) {
@@ -352,7 +368,7 @@ impl<A: Allocator + Copy> MemTree<A> {
     }
 
     /// How many nodes stand at or below a root, and how many octets their files have. What stands in the whole tree is sound.
-    fn count_below<B: Allocator>(&self, root: &Path<B>) -> Count
+    fn count_below<B: Allocator + Copy>(&self, root: &Path<B>) -> Count
         ensures nodes { result.nodes ≡ fin.len (under self.now root.now) }
         ensures octets { result.octets ≡ octets_in (under self.now root.now) }
         ensures sound { IsSoundTree self.now }
@@ -365,7 +381,11 @@ impl<A: Allocator + Copy> MemTree<A> {
 
     /// The most octets that a file may have there.
     #[tactic(auto, unfolding(crate::specs::Tree::room_at))]
-    fn room_at<B: Allocator, C: Allocator>(&self, root: &Path<B>, path: &Path<C>) -> u64
+    fn room_at<B: Allocator + Copy, C: Allocator + Copy>(
+        &self,
+        root: &Path<B>,
+        path: &Path<C>,
+    ) -> u64
         ensures { result ≡ room_at (under self.now root.now) path.now }
     {
         let freed = self.len_at(root, path) as u128;
@@ -374,7 +394,7 @@ impl<A: Allocator + Copy> MemTree<A> {
     }
 
     /// Why nothing new can stand at a path: a `Path` is within its limits.
-    fn new_refusal<B: Allocator, C: Allocator>(
+    fn new_refusal<B: Allocator + Copy, C: Allocator + Copy>(
         &self,
         root: &Path<B>,
         path: &Path<C>,
@@ -388,7 +408,7 @@ impl<A: Allocator + Copy> MemTree<A> {
     }
 
     /// Why no node can come anew below a root.
-    fn nodes_refusal<B: Allocator>(&self, root: &Path<B>) -> Option<TreeFault>
+    fn nodes_refusal<B: Allocator + Copy>(&self, root: &Path<B>) -> Option<TreeFault>
         ensures { result ≡ nodes_refusal (under self.now root.now) }
     {
         if self.count_below(root).nodes > NODE_LIMIT {
@@ -399,7 +419,7 @@ impl<A: Allocator + Copy> MemTree<A> {
 
     /// The first reason, memory aside, why what stands at a path cannot be moved.
     #[tactic(auto, unfolding(crate::specs::Tree::source_refusal))]
-    fn source_refusal<B: Allocator, C: Allocator>(
+    fn source_refusal<B: Allocator + Copy, C: Allocator + Copy>(
         &self,
         root: &Path<B>,
         path: &Path<C>,
@@ -417,7 +437,7 @@ impl<A: Allocator + Copy> MemTree<A> {
 
     /// The same, why it cannot be moved there.
     #[tactic(auto, unfolding(crate::specs::Tree::target_refusal))]
-    fn target_refusal<B: Allocator, C: Allocator, D: Allocator>(
+    fn target_refusal<B: Allocator + Copy, C: Allocator + Copy, D: Allocator + Copy>(
         &self,
         root: &Path<B>,
         from: &Path<C>,
@@ -441,7 +461,7 @@ impl<A: Allocator + Copy> MemTree<A> {
     }
 
     /// Whether each path that is moved is within the limits then.
-    fn moves_fit<B: Allocator, C: Allocator, D: Allocator>(
+    fn moves_fit<B: Allocator + Copy, C: Allocator + Copy, D: Allocator + Copy>(
         &self,
         root: &Path<B>,
         from: &Path<C>,
@@ -458,7 +478,7 @@ impl<A: Allocator + Copy> MemTree<A> {
 
     /// The same, why no file can be put at a path.
     #[tactic(auto, unfolding(crate::specs::Tree::room_refusal))]
-    fn room_refusal<B: Allocator, C: Allocator>(
+    fn room_refusal<B: Allocator + Copy, C: Allocator + Copy>(
         &self,
         root: &Path<B>,
         path: &Path<C>,
@@ -473,7 +493,7 @@ impl<A: Allocator + Copy> MemTree<A> {
     }
 
     /// Puts a file where no refusal applies. Its octets are taken out of the content, unless memory is refused.
-    fn put_file<B: Allocator, C: Allocator>(
+    fn put_file<B: Allocator + Copy, C: Allocator + Copy>(
         &mut self,
         root: &Path<B>,
         path: &Path<C>,
@@ -495,7 +515,11 @@ impl<A: Allocator + Copy> MemTree<A> {
     }
 
     /// Takes away what stands at a path, where no refusal applies to a file or to a directory there. Takes no memory.
-    pub fn take_away<B: Allocator, C: Allocator>(&mut self, root: &Path<B>, path: &Path<C>)
+    pub fn take_away<B: Allocator + Copy, C: Allocator + Copy>(
+        &mut self,
+        root: &Path<B>,
+        path: &Path<C>,
+    )
         requires { let part = under self.old root.now in (delete_refusal part path.now ≡ None) ⊎ (remove_refusal part path.now ≡ None) }
         ensures { self.new ≡ with_part self.old root.now (removed (under self.old root.now) path.now) }
     {
@@ -504,7 +528,7 @@ impl<A: Allocator + Copy> MemTree<A> {
     }
 
     /// Moves what stands at a path, with all below it, where no refusal applies: all memory is had first.
-    fn move_all<B: Allocator, C: Allocator, D: Allocator>(
+    fn move_all<B: Allocator + Copy, C: Allocator + Copy, D: Allocator + Copy>(
         &mut self,
         root: &Path<B>,
         from: &Path<C>,
@@ -521,7 +545,7 @@ impl<A: Allocator + Copy> MemTree<A> {
 }
 
 /// Why what stands there is no directory.
-fn directory_refusal<A: Allocator>(standing: Option<Standing<'_, A>>) -> Option<TreeFault>
+fn directory_refusal<A: Allocator + Copy>(standing: Option<Standing<'_, A>>) -> Option<TreeFault>
     ensures { result ≡ directory_refusal (option_map standing_node standing.entry) }
 {
     match standing {

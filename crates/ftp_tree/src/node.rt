@@ -28,7 +28,7 @@ pub(crate) struct Count {
 
 /// What stands at a path, lent.
 #[derive(Clone, Copy)]
-pub(crate) enum Standing<'a, A: Allocator> {
+pub(crate) enum Standing<'a, A: Allocator + Copy> {
     Dir,
     File(&'a Content<A>, Moment),
 }
@@ -36,14 +36,14 @@ pub(crate) enum Standing<'a, A: Allocator> {
 /// What stands somewhere, with all that stands below it.
 #[cycle(node)]
 #[derive(Drop)]
-pub(crate) struct Node<A: Allocator> {
+pub(crate) struct Node<A: Allocator + Copy> {
     kept: Branch<A>,
 }
 
 /// A node as it is kept.
 #[cycle(node)]
 #[derive(Drop)]
-enum Branch<A: Allocator> {
+enum Branch<A: Allocator + Copy> {
     File {
         content: Content<A>,
         moment: Moment,
@@ -57,12 +57,12 @@ enum Branch<A: Allocator> {
 /// A name in a directory, and what stands there.
 #[cycle(node)]
 #[derive(Drop)]
-struct Child<A: Allocator> {
+struct Child<A: Allocator + Copy> {
     name: Vec<u8, A>,
     node: Node<A>,
 }
 
-impl<A: Allocator> Model for Node<A> {
+impl<A: Allocator + Copy> Model for Node<A> {
     ghost use Rattle.ftp_tree.specs.Tree.{Table};
     ghost use Rattle.ftp_tree.specs.Store.{table_code};
     ghost use Rattle.std.specs.FinMap as fin;
@@ -84,7 +84,7 @@ impl<A: Allocator> Model for Node<A> {
     ghost size_decreases = { λ node h. falls A A.Allocator node.kept h };
 }
 
-impl<A: Allocator> Node<A> {
+impl<A: Allocator + Copy> Node<A> {
     /// An empty directory. Takes no memory.
     pub(crate) fn dir(alloc: A) -> Node<A>
         ensures { result ≡ root_alone }
@@ -341,7 +341,7 @@ fn put_new<A: Allocator + Copy>(
 }
 
 /// Takes a child out of its place.
-fn remove_child<A: Allocator>(children: &mut Vec<Box<Child<A>, A>, A>, at: usize) -> Node<A>
+fn remove_child<A: Allocator + Copy>(children: &mut Vec<Box<Child<A>, A>, A>, at: usize) -> Node<A>
     requires within { at < length children.old.items }
     ensures node { (name : List ℕ) → StandsAt (parts children.old.items) name at → Some result ≡ looked_up name_cmp name (parts children.old.items) }
     ensures left { children.new.items ≡ remove children.old.items at }
@@ -350,7 +350,7 @@ fn remove_child<A: Allocator>(children: &mut Vec<Box<Child<A>, A>, A>, at: usize
 }
 
 /// The name of a child.
-fn name_at<A: Allocator>(children: &[Box<Child<A>, A>], place: usize) -> Option<Name<'_>>
+fn name_at<A: Allocator + Copy>(children: &[Box<Child<A>, A>], place: usize) -> Option<Name<'_>>
     requires { IsTrue (list_all (λ part. is_name part.0) (parts children.now)) }
     ensures { option_map (λ name. name.octets.now) result ≡ slice_get (map (λ part. part.0) (parts children.now)) place }
 {
@@ -361,7 +361,10 @@ fn name_at<A: Allocator>(children: &[Box<Child<A>, A>], place: usize) -> Option<
 }
 
 /// What stands by a name among children.
-fn child_of<'a, A: Allocator>(children: &'a [Box<Child<A>, A>], name: &[u8]) -> Option<&'a Node<A>>
+fn child_of<'a, A: Allocator + Copy>(
+    children: &'a [Box<Child<A>, A>],
+    name: &[u8],
+) -> Option<&'a Node<A>>
     requires { IsTrue (is_sorted name_cmp (parts children.now)) }
     ensures { option_map (λ node. node.now) result ≡ looked_up name_cmp name.now (parts children.now) }
 {
@@ -372,7 +375,7 @@ fn child_of<'a, A: Allocator>(children: &'a [Box<Child<A>, A>], name: &[u8]) -> 
 }
 
 /// Where a name stands among children, or else where it would go.
-fn search<A: Allocator>(children: &[Box<Child<A>, A>], name: &[u8]) -> Result<usize, usize>
+fn search<A: Allocator + Copy>(children: &[Box<Child<A>, A>], name: &[u8]) -> Result<usize, usize>
     requires { IsTrue (is_sorted name_cmp (parts children.now)) }
     ensures there { IfOk result (λ at. StandsAt (parts children.now) name.now at) }
     ensures gap { IfErr result (λ at. HasGap (parts children.now) name.now at) }

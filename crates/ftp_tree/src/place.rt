@@ -31,14 +31,20 @@ impl Model for Joined {
 
 impl Joined {
     /// The names of a root, and behind them those of a path below it.
-    pub(crate) fn of<A: Allocator, B: Allocator>(root: &Path<A>, path: &Path<B>) -> Joined
+    pub(crate) fn of<A: Allocator + Copy, B: Allocator + Copy>(
+        root: &Path<A>,
+        path: &Path<B>,
+    ) -> Joined
         ensures { result ≡ root.now ++ path.now }
     {
         Joined::both(root.key(), path.key())
     }
 
     /// The same of what is above the path.
-    pub(crate) fn above<A: Allocator, B: Allocator>(root: &Path<A>, path: &Path<B>) -> Joined
+    pub(crate) fn above<A: Allocator + Copy, B: Allocator + Copy>(
+        root: &Path<A>,
+        path: &Path<B>,
+    ) -> Joined
         ensures names { result ≡ root.now ++ parent path.now }
         ensures fits { fits path.now ≡ true }
     {

@@ -21,27 +21,39 @@ pub enum NodeKind {
 /// A finite map from paths to directories and files (RFC 959, section 4.1.3). A refused call changes nothing; of several
 /// refusals the first of the call's own order is given, then `Memory`, then `Device`, which comes just where the count of
 /// device failures moves on in the call, by one. The calls that read take no memory, and what they lend they lend until the next change.
-pub trait Tree<A: Allocator>: Drop {
+pub trait Tree<A: Allocator + Copy>: Drop {
     /// The map that it holds, however it is kept.
     ghost table: { Self → Table };
     /// The count of its device's failures, moved on by wrapping.
     ghost failures: { Self → ℕ };
 
     /// What stands at a path, if anything does.
-    fn kind<B: Allocator, C: Allocator>(&self, root: &Path<B>, path: &Path<C>) -> Option<NodeKind>
+    fn kind<B: Allocator + Copy, C: Allocator + Copy>(
+        &self,
+        root: &Path<B>,
+        path: &Path<C>,
+    ) -> Option<NodeKind>
         ensures { result ≡ kind_at (under (table self.now) root.now) path.now };
 
     /// How many octets the file at a path has, where one stands there.
-    fn size<B: Allocator, C: Allocator>(&self, root: &Path<B>, path: &Path<C>) -> Option<u64>
+    fn size<B: Allocator + Copy, C: Allocator + Copy>(
+        &self,
+        root: &Path<B>,
+        path: &Path<C>,
+    ) -> Option<u64>
         ensures { result ≡ size_at (under (table self.now) root.now) path.now };
 
     /// When the file at a path was installed, where one stands there.
-    fn stamp<B: Allocator, C: Allocator>(&self, root: &Path<B>, path: &Path<C>) -> Option<Moment>
+    fn stamp<B: Allocator + Copy, C: Allocator + Copy>(
+        &self,
+        root: &Path<B>,
+        path: &Path<C>,
+    ) -> Option<Moment>
         ensures { option_map (λ moment. moment.seconds) result ≡ stamp_at (under (table self.now) root.now) path.now };
 
     /// Some octets of the file at a path from a place on, at most `max` of them: none only at its end, or where `max` is 0,
     /// or where no file stands.
-    fn piece<B: Allocator, C: Allocator>(
+    fn piece<B: Allocator + Copy, C: Allocator + Copy>(
         &self,
         root: &Path<B>,
         path: &Path<C>,
@@ -53,7 +65,7 @@ pub trait Tree<A: Allocator>: Drop {
         ensures some { 0 < max → at < length (octets_or_none (under (table self.now) root.now) path.now) → 0 < length result.now };
 
     /// The name that comes at a place, counted from 0, among those in a directory in the order of their octets.
-    fn nth_name<B: Allocator, C: Allocator>(
+    fn nth_name<B: Allocator + Copy, C: Allocator + Copy>(
         &self,
         root: &Path<B>,
         path: &Path<C>,
@@ -63,7 +75,7 @@ pub trait Tree<A: Allocator>: Drop {
 
     /// The most octets that `install` takes at a path, or why it takes none: `WrongKind` where a directory stands there or a
     /// file above, `Absent` where nothing stands above, `Full` where 16,384 nodes stand beside the root.
-    fn room<B: Allocator, C: Allocator>(
+    fn room<B: Allocator + Copy, C: Allocator + Copy>(
         &self,
         root: &Path<B>,
         path: &Path<C>,
@@ -79,7 +91,7 @@ pub trait Tree<A: Allocator>: Drop {
     /// it is given within it; a root above two of them may be past it.
     ///
     /// Whatever it answers, the map is a tree, and what stands in it is sound: paths of names, and of every file a moment.
-    fn fits<B: Allocator>(&self, root: &Path<B>) -> bool
+    fn fits<B: Allocator + Copy>(&self, root: &Path<B>) -> bool
         ensures octets { result ≡ nat_le (octets_in (under (table self.now) root.now)) total_limit }
         ensures sound { IsSoundTree (table self.now) };
 
@@ -87,7 +99,7 @@ pub trait Tree<A: Allocator>: Drop {
     ///
     /// Refused: `Exists` where something stands there, `Absent` where nothing stands above, `WrongKind` where a file does,
     /// `Full` where 16,384 nodes stand beside the root.
-    fn make_dir<B: Allocator, C: Allocator>(
+    fn make_dir<B: Allocator + Copy, C: Allocator + Copy>(
         &mut self,
         root: &Path<B>,
         path: &Path<C>,
@@ -98,7 +110,7 @@ pub trait Tree<A: Allocator>: Drop {
     /// Removes a directory.
     ///
     /// Refused: `Absent`, `WrongKind` of a file, `NotEmpty`, `Busy` of the root.
-    fn remove_dir<B: Allocator, C: Allocator>(
+    fn remove_dir<B: Allocator + Copy, C: Allocator + Copy>(
         &mut self,
         root: &Path<B>,
         path: &Path<C>,
@@ -109,7 +121,7 @@ pub trait Tree<A: Allocator>: Drop {
     /// Deletes a file.
     ///
     /// Refused: `Absent`, `WrongKind` of a directory.
-    fn delete<B: Allocator, C: Allocator>(
+    fn delete<B: Allocator + Copy, C: Allocator + Copy>(
         &mut self,
         root: &Path<B>,
         path: &Path<C>,
@@ -122,7 +134,7 @@ pub trait Tree<A: Allocator>: Drop {
     /// Refused: `Absent` where nothing stands there, `Busy` of the root; then `Exists` where something stands at the new path,
     /// `WrongKind` where that is below the old one, `Absent` or `WrongKind` where no directory is above it, `TooBig` where a
     /// canonical text would pass 900 octets.
-    fn rename<B: Allocator, C: Allocator, D: Allocator>(
+    fn rename<B: Allocator + Copy, C: Allocator + Copy, D: Allocator + Copy>(
         &mut self,
         root: &Path<B>,
         from: &Path<C>,
@@ -135,7 +147,7 @@ pub trait Tree<A: Allocator>: Drop {
     ///
     /// Refused: as `room` says, then `TooBig` past 67,108,864 octets, `Full` where all files below the root together would.
     /// Refused, it leaves the content as it was.
-    fn install<B: Allocator, C: Allocator>(
+    fn install<B: Allocator + Copy, C: Allocator + Copy>(
         &mut self,
         root: &Path<B>,
         path: &Path<C>,

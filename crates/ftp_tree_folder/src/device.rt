@@ -27,7 +27,7 @@ pub trait Folder: Drop {
         ensures { result ≡ failures self.now };
 
     /// Makes a directory.
-    fn make_dir<B: Allocator, C: Allocator>(
+    fn make_dir<B: Allocator + Copy, C: Allocator + Copy>(
         &mut self,
         root: &Path<B>,
         path: &Path<C>,
@@ -36,7 +36,7 @@ pub trait Folder: Drop {
         ensures failed { OnErr result (HasFailed (kept self.old) (kept self.new) (failures self.old) (failures self.new)) };
 
     /// Removes an empty directory.
-    fn remove_dir<B: Allocator, C: Allocator>(
+    fn remove_dir<B: Allocator + Copy, C: Allocator + Copy>(
         &mut self,
         root: &Path<B>,
         path: &Path<C>,
@@ -45,7 +45,7 @@ pub trait Folder: Drop {
         ensures failed { OnErr result (HasFailed (kept self.old) (kept self.new) (failures self.old) (failures self.new)) };
 
     /// Deletes a file.
-    fn delete<B: Allocator, C: Allocator>(
+    fn delete<B: Allocator + Copy, C: Allocator + Copy>(
         &mut self,
         root: &Path<B>,
         path: &Path<C>,
@@ -54,7 +54,7 @@ pub trait Folder: Drop {
         ensures failed { OnErr result (HasFailed (kept self.old) (kept self.new) (failures self.old) (failures self.new)) };
 
     /// Moves what stands at a path, with all below it, to a path where nothing stands.
-    fn rename<B: Allocator, C: Allocator, D: Allocator>(
+    fn rename<B: Allocator + Copy, C: Allocator + Copy, D: Allocator + Copy>(
         &mut self,
         root: &Path<B>,
         from: &Path<C>,
@@ -64,7 +64,7 @@ pub trait Folder: Drop {
         ensures failed { OnErr result (HasFailed (kept self.old) (kept self.new) (failures self.old) (failures self.new)) };
 
     /// Writes a file of these octets, in the place of one that stands there.
-    fn write<A: Allocator, B: Allocator, C: Allocator>(
+    fn write<A: Allocator + Copy, B: Allocator + Copy, C: Allocator + Copy>(
         &mut self,
         root: &Path<B>,
         path: &Path<C>,

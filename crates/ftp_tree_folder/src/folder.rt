@@ -42,7 +42,7 @@ impl<'a, R: Files + AllocGlobal + Clone + Drop> DiskFolder<'a, R> {
     }
 
     /// Where a path lies, to which no link leads.
-    fn place<B: Allocator, C: Allocator>(
+    fn place<B: Allocator + Copy, C: Allocator + Copy>(
         &self,
         root: &Path<B>,
         path: &Path<C>,
@@ -52,7 +52,11 @@ impl<'a, R: Files + AllocGlobal + Clone + Drop> DiskFolder<'a, R> {
         Ok(place)
     }
 
-    fn made<B: Allocator, C: Allocator>(&self, root: &Path<B>, path: &Path<C>) -> io::Result<()> {
+    fn made<B: Allocator + Copy, C: Allocator + Copy>(
+        &self,
+        root: &Path<B>,
+        path: &Path<C>,
+    ) -> io::Result<()> {
         self.reasons.check(Deed::Make, Touches::Names)?;
         let place = self.place(root, path)?;
         fs::create_dir(&self.files, place.as_str())?;
@@ -63,7 +67,7 @@ impl<'a, R: Files + AllocGlobal + Clone + Drop> DiskFolder<'a, R> {
         synced
     }
 
-    fn removed<B: Allocator, C: Allocator>(
+    fn removed<B: Allocator + Copy, C: Allocator + Copy>(
         &self,
         root: &Path<B>,
         path: &Path<C>,
@@ -74,7 +78,7 @@ impl<'a, R: Files + AllocGlobal + Clone + Drop> DiskFolder<'a, R> {
         sync_above(&self.files, place.as_str())
     }
 
-    fn deleted<B: Allocator, C: Allocator>(
+    fn deleted<B: Allocator + Copy, C: Allocator + Copy>(
         &self,
         root: &Path<B>,
         path: &Path<C>,
@@ -85,7 +89,7 @@ impl<'a, R: Files + AllocGlobal + Clone + Drop> DiskFolder<'a, R> {
         sync_above(&self.files, place.as_str())
     }
 
-    fn renamed<B: Allocator, C: Allocator, D: Allocator>(
+    fn renamed<B: Allocator + Copy, C: Allocator + Copy, D: Allocator + Copy>(
         &self,
         root: &Path<B>,
         from: &Path<C>,
@@ -109,7 +113,7 @@ impl<'a, R: Files + AllocGlobal + Clone + Drop> DiskFolder<'a, R> {
         sync_above(&self.files, from)
     }
 
-    fn written<A: Allocator, B: Allocator, C: Allocator>(
+    fn written<A: Allocator + Copy, B: Allocator + Copy, C: Allocator + Copy>(
         &self,
         root: &Path<B>,
         path: &Path<C>,
@@ -157,7 +161,7 @@ impl<'a, R: Files + AllocGlobal + Clone + Drop> Folder for DiskFolder<'a, R> {
         self.failures
     }
 
-    fn make_dir<B: Allocator, C: Allocator>(
+    fn make_dir<B: Allocator + Copy, C: Allocator + Copy>(
         &mut self,
         root: &Path<B>,
         path: &Path<C>,
@@ -166,7 +170,7 @@ impl<'a, R: Files + AllocGlobal + Clone + Drop> Folder for DiskFolder<'a, R> {
         self.counted(done)
     }
 
-    fn remove_dir<B: Allocator, C: Allocator>(
+    fn remove_dir<B: Allocator + Copy, C: Allocator + Copy>(
         &mut self,
         root: &Path<B>,
         path: &Path<C>,
@@ -175,7 +179,7 @@ impl<'a, R: Files + AllocGlobal + Clone + Drop> Folder for DiskFolder<'a, R> {
         self.counted(done)
     }
 
-    fn delete<B: Allocator, C: Allocator>(
+    fn delete<B: Allocator + Copy, C: Allocator + Copy>(
         &mut self,
         root: &Path<B>,
         path: &Path<C>,
@@ -184,7 +188,7 @@ impl<'a, R: Files + AllocGlobal + Clone + Drop> Folder for DiskFolder<'a, R> {
         self.counted(done)
     }
 
-    fn rename<B: Allocator, C: Allocator, D: Allocator>(
+    fn rename<B: Allocator + Copy, C: Allocator + Copy, D: Allocator + Copy>(
         &mut self,
         root: &Path<B>,
         from: &Path<C>,
@@ -194,7 +198,7 @@ impl<'a, R: Files + AllocGlobal + Clone + Drop> Folder for DiskFolder<'a, R> {
         self.counted(done)
     }
 
-    fn write<A: Allocator, B: Allocator, C: Allocator>(
+    fn write<A: Allocator + Copy, B: Allocator + Copy, C: Allocator + Copy>(
         &mut self,
         root: &Path<B>,
         path: &Path<C>,

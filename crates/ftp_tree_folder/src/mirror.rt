@@ -50,19 +50,31 @@ impl<A: Allocator + Copy, D: Folder> Tree<A> for Mirror<A, D> {
 
     ghost failures = { λ mirror. D.failures mirror.folder };
 
-    fn kind<B: Allocator, C: Allocator>(&self, root: &Path<B>, path: &Path<C>) -> Option<NodeKind> {
+    fn kind<B: Allocator + Copy, C: Allocator + Copy>(
+        &self,
+        root: &Path<B>,
+        path: &Path<C>,
+    ) -> Option<NodeKind> {
         self.tree.kind(root, path)
     }
 
-    fn size<B: Allocator, C: Allocator>(&self, root: &Path<B>, path: &Path<C>) -> Option<u64> {
+    fn size<B: Allocator + Copy, C: Allocator + Copy>(
+        &self,
+        root: &Path<B>,
+        path: &Path<C>,
+    ) -> Option<u64> {
         self.tree.size(root, path)
     }
 
-    fn stamp<B: Allocator, C: Allocator>(&self, root: &Path<B>, path: &Path<C>) -> Option<Moment> {
+    fn stamp<B: Allocator + Copy, C: Allocator + Copy>(
+        &self,
+        root: &Path<B>,
+        path: &Path<C>,
+    ) -> Option<Moment> {
         self.tree.stamp(root, path)
     }
 
-    fn piece<B: Allocator, C: Allocator>(
+    fn piece<B: Allocator + Copy, C: Allocator + Copy>(
         &self,
         root: &Path<B>,
         path: &Path<C>,
@@ -72,7 +84,7 @@ impl<A: Allocator + Copy, D: Folder> Tree<A> for Mirror<A, D> {
         self.tree.piece(root, path, at, max)
     }
 
-    fn nth_name<B: Allocator, C: Allocator>(
+    fn nth_name<B: Allocator + Copy, C: Allocator + Copy>(
         &self,
         root: &Path<B>,
         path: &Path<C>,
@@ -81,7 +93,7 @@ impl<A: Allocator + Copy, D: Folder> Tree<A> for Mirror<A, D> {
         self.tree.nth_name(root, path, place)
     }
 
-    fn room<B: Allocator, C: Allocator>(
+    fn room<B: Allocator + Copy, C: Allocator + Copy>(
         &self,
         root: &Path<B>,
         path: &Path<C>,
@@ -93,11 +105,11 @@ impl<A: Allocator + Copy, D: Folder> Tree<A> for Mirror<A, D> {
         self.folder.failures()
     }
 
-    fn fits<B: Allocator>(&self, root: &Path<B>) -> bool {
+    fn fits<B: Allocator + Copy>(&self, root: &Path<B>) -> bool {
         self.tree.fits(root)
     }
 
-    fn make_dir<B: Allocator, C: Allocator>(
+    fn make_dir<B: Allocator + Copy, C: Allocator + Copy>(
         &mut self,
         root: &Path<B>,
         path: &Path<C>,
@@ -115,7 +127,7 @@ impl<A: Allocator + Copy, D: Folder> Tree<A> for Mirror<A, D> {
         Ok(())
     }
 
-    fn remove_dir<B: Allocator, C: Allocator>(
+    fn remove_dir<B: Allocator + Copy, C: Allocator + Copy>(
         &mut self,
         root: &Path<B>,
         path: &Path<C>,
@@ -130,7 +142,7 @@ impl<A: Allocator + Copy, D: Folder> Tree<A> for Mirror<A, D> {
         Ok(())
     }
 
-    fn delete<B: Allocator, C: Allocator>(
+    fn delete<B: Allocator + Copy, C: Allocator + Copy>(
         &mut self,
         root: &Path<B>,
         path: &Path<C>,
@@ -145,7 +157,7 @@ impl<A: Allocator + Copy, D: Folder> Tree<A> for Mirror<A, D> {
         Ok(())
     }
 
-    fn rename<B: Allocator, C: Allocator, E: Allocator>(
+    fn rename<B: Allocator + Copy, C: Allocator + Copy, E: Allocator + Copy>(
         &mut self,
         root: &Path<B>,
         from: &Path<C>,
@@ -165,7 +177,7 @@ impl<A: Allocator + Copy, D: Folder> Tree<A> for Mirror<A, D> {
         Ok(())
     }
 
-    fn install<B: Allocator, C: Allocator>(
+    fn install<B: Allocator + Copy, C: Allocator + Copy>(
         &mut self,
         root: &Path<B>,
         path: &Path<C>,
@@ -204,7 +216,7 @@ impl<A: Allocator + Copy, D: Folder> Tree<A> for Mirror<A, D> {
 }
 
 /// Writes a file to the folder, and then puts it in the place of what stands in the tree: a file or an empty directory.
-fn put_over<A: Allocator + Copy, B: Allocator, C: Allocator, D: Folder>(
+fn put_over<A: Allocator + Copy, B: Allocator + Copy, C: Allocator + Copy, D: Folder>(
     tree: &mut MemTree<A>,
     folder: &mut D,
     root: &Path<B>,

@@ -11,7 +11,7 @@ use std::{fs, io};
 
 /// Where the path below a root lies: the text of the folder, and then a `/` before each name. No name of a path is `..`, so it is
 /// below the folder.
-pub(crate) fn place_of<B: Allocator, C: Allocator>(
+pub(crate) fn place_of<B: Allocator + Copy, C: Allocator + Copy>(
     alloc: Global,
     dir: &str,
     root: &Path<B>,

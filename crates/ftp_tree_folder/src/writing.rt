@@ -24,7 +24,7 @@ const GATHERED: u64 = 256 * 1024;
 
 /// Writes a file beside its name, flushes it, moves it over the name, and flushes the directory. It keeps the permissions of the file that it
 /// replaces. Where that fails before the move, what was written beside is removed again.
-pub(crate) fn write_over<R: Files + AllocGlobal, A: Allocator>(
+pub(crate) fn write_over<R: Files + AllocGlobal, A: Allocator + Copy>(
     files: &R,
     place: &str,
     content: &Content<A>,
@@ -64,7 +64,7 @@ fn beside(alloc: Global, place: &str) -> Result<String<Global>, AllocError> {
     Ok(text)
 }
 
-fn write_beside<R: Files + AllocGlobal, A: Allocator>(
+fn write_beside<R: Files + AllocGlobal, A: Allocator + Copy>(
     files: &R,
     place: &str,
     beside: &str,
@@ -107,7 +107,7 @@ fn create<R: Files>(files: &R, beside: &str, mode: u32) -> io::Result<R::File> {
 }
 
 /// Writes all octets of a content, many pages a call, and gives the file back.
-fn put_gathered<W: Write + Drop, A: Allocator>(
+fn put_gathered<W: Write + Drop, A: Allocator + Copy>(
     alloc: Global,
     file: W,
     content: &Content<A>,
@@ -121,7 +121,7 @@ fn put_gathered<W: Write + Drop, A: Allocator>(
 }
 
 /// Writes all octets of a content.
-fn put_all<W: Write, A: Allocator>(file: &mut W, content: &Content<A>) -> io::Result<()>
+fn put_all<W: Write, A: Allocator + Copy>(file: &mut W, content: &Content<A>) -> io::Result<()>
     ensures { OnOk result (Appends (W.contents file.old) (W.contents file.new) content.now) }
 {
     let mut at = 0u64;

@@ -8,19 +8,19 @@ use std::mem;
 
 /// A list of octets, kept in pages of 4,096: a push moves no octet but its own.
 #[derive(Debug)]
-pub struct Pages<A: Allocator> {
+pub struct Pages<A: Allocator + Copy> {
     pages: Vec<Page<A>, A>,
     len: u64,
 }
 
 /// By hand: a derived drop is proved again, page by page, in each crate that lets octets go.
-impl<A: Allocator> Drop for Pages<A> {
+impl<A: Allocator + Copy> Drop for Pages<A> {
     fn drop(self) {
         let Self { pages: _, len: _ } = self;
     }
 }
 
-impl<A: Allocator> Model for Pages<A> {
+impl<A: Allocator + Copy> Model for Pages<A> {
     ghost use Rattle.std.specs.Prelude.{ℕ, List};
 
     ghost Value = { List ℕ };
@@ -34,7 +34,7 @@ impl<A: Allocator> Model for Pages<A> {
     ghost invariant = { λ octets. IsPaged (page_octets octets.pages.items) × (octets.len ≡ length (concat (page_octets octets.pages.items))) };
 }
 
-impl<A: Allocator> Pages<A> {
+impl<A: Allocator + Copy> Pages<A> {
     /// No octets. Takes no memory.
     pub fn new(alloc: A) -> Pages<A>
         ensures { result ≡ [] }
@@ -71,7 +71,7 @@ impl<A: Allocator> Pages<A> {
     }
 }
 
-impl<A: Allocator + Clone> Pages<A> {
+impl<A: Allocator + Copy> Pages<A> {
     /// Puts octets behind those that stand. Refused memory, it leaves those.
     pub fn push(&mut self, octets: &[u8]) -> Result<(), AllocError>
         ensures ok { OnOk result (self.new ≡ self.old ++ octets.now) }

@@ -12,7 +12,7 @@ const PAGE: usize = 4_096;
 pub(crate) type Page<A> = Vec<u8, A>;
 
 /// Puts octets behind the `had` octets of the pages. Refused memory, it leaves those.
-pub(crate) fn push_all<A: Allocator + Clone>(
+pub(crate) fn push_all<A: Allocator + Copy>(
     pages: &mut Vec<Page<A>, A>,
     had: u64,
     octets: &[u8],
@@ -35,7 +35,7 @@ pub(crate) fn push_all<A: Allocator + Clone>(
 }
 
 /// Puts as many octets as go into one page behind those of the pages, and says how many.
-fn push_some<A: Allocator + Clone>(
+fn push_some<A: Allocator + Copy>(
     pages: &mut Vec<Page<A>, A>,
     octets: &[u8],
 ) -> Result<usize, AllocError>
@@ -51,7 +51,7 @@ fn push_some<A: Allocator + Clone>(
 }
 
 /// Sees to it that the last page has room.
-fn open_page<A: Allocator + Clone>(pages: &mut Vec<Page<A>, A>) -> Result<(), AllocError>
+fn open_page<A: Allocator + Copy>(pages: &mut Vec<Page<A>, A>) -> Result<(), AllocError>
     requires { IsPaged (page_octets pages.old.items) }
     ensures paged { IsPaged (page_octets pages.new.items) }
     ensures room { OnOk result (HasRoom (page_octets pages.new.items)) }
@@ -60,14 +60,14 @@ fn open_page<A: Allocator + Clone>(pages: &mut Vec<Page<A>, A>) -> Result<(), Al
     if has_room(pages.as_slice()) {
         return Ok(());
     }
-    let alloc = pages.allocator().clone()?;
+    let alloc = *pages.allocator();
     let page = new_page(pages.is_empty(), alloc)?;
     pages.push(page)?;
     Ok(())
 }
 
 /// A page with no octets. The first of a file grows with it, each behind it has its whole room at once, as more than a page came before.
-fn new_page<A: Allocator>(first: bool, alloc: A) -> Result<Page<A>, AllocError>
+fn new_page<A: Allocator + Copy>(first: bool, alloc: A) -> Result<Page<A>, AllocError>
     ensures { IfOk result (λ page. page.items ≡ []) }
 {
     if first {
@@ -78,7 +78,7 @@ fn new_page<A: Allocator>(first: bool, alloc: A) -> Result<Page<A>, AllocError>
 }
 
 /// Whether there is a last page that has room.
-fn has_room<A: Allocator>(pages: &[Page<A>]) -> bool
+fn has_room<A: Allocator + Copy>(pages: &[Page<A>]) -> bool
     ensures { IsTrue result ↔ HasRoom (page_octets pages.now) }
 {
     let count = pages.len();
@@ -86,7 +86,10 @@ fn has_room<A: Allocator>(pages: &[Page<A>]) -> bool
 }
 
 /// Puts as many octets as go into the last page there, and says how many.
-fn fill_page<A: Allocator>(pages: &mut Vec<Page<A>, A>, octets: &[u8]) -> Result<usize, AllocError>
+fn fill_page<A: Allocator + Copy>(
+    pages: &mut Vec<Page<A>, A>,
+    octets: &[u8],
+) -> Result<usize, AllocError>
     requires paged { IsPaged (page_octets pages.old.items) }
     requires room { HasRoom (page_octets pages.old.items) }
     requires some { 0 < length octets.now }
@@ -105,7 +108,7 @@ fn fill_page<A: Allocator>(pages: &mut Vec<Page<A>, A>, octets: &[u8]) -> Result
 }
 
 /// Drops all octets but the first `count`.
-fn cut<A: Allocator>(pages: &mut Vec<Page<A>, A>, count: u64)
+fn cut<A: Allocator + Copy>(pages: &mut Vec<Page<A>, A>, count: u64)
     requires paged { IsPaged (page_octets pages.old.items) }
     requires most { count ≤ length (concat (page_octets pages.old.items)) }
     ensures paged { IsPaged (page_octets pages.new.items) }
@@ -119,7 +122,7 @@ fn cut<A: Allocator>(pages: &mut Vec<Page<A>, A>, count: u64)
 }
 
 /// At most so many octets from a place on, of one page.
-pub(crate) fn piece<A: Allocator>(pages: &[Page<A>], at: u64, max: usize) -> &[u8]
+pub(crate) fn piece<A: Allocator + Copy>(pages: &[Page<A>], at: u64, max: usize) -> &[u8]
     requires { IsPaged (page_octets pages.now) }
     ensures octets { result.now ≡ take (length result.now) (drop at (concat (page_octets pages.now))) }
     ensures most { length result.now ≤ max }

@@ -17,7 +17,7 @@ pub trait Sink: Drop {
         ensures err { OnErr result (octets self.new ≡ octets self.old) };
 }
 
-impl<A: Allocator> Sink for Vec<u8, A> {
+impl<A: Allocator + Copy> Sink for Vec<u8, A> {
     ghost octets = { λ octets. octets.items };
 
     fn len(&self) -> u64 {

@@ -4,12 +4,12 @@ use std::alloc::{AllocError, Allocator};
 use std::cell::Cell;
 
 /// Passes each call on, but for the one that is refused.
-pub struct Refusing<B: Allocator> {
+pub struct Refusing<B: Allocator + Copy> {
     inner: B,
     calls: Cell<u64>,
 }
 
-impl<B: Allocator> Refusing<B> {
+impl<B: Allocator + Copy> Refusing<B> {
     /// Refuses the growth with that number, counted from 1, or none at 0.
     pub fn new(inner: B, refuses: u64) -> Refusing<B> {
         Refusing {
@@ -24,7 +24,7 @@ impl<B: Allocator> Refusing<B> {
     }
 }
 
-impl<B: Allocator> Drop for Refusing<B> {
+impl<B: Allocator + Copy> Drop for Refusing<B> {
     fn drop(self) {
         let Self { inner: _, calls: _ } = self;
     }
@@ -38,7 +38,7 @@ fn is_refused(calls: &Cell<u64>) -> bool {
     left == 1
 }
 
-unsafe impl<B: Allocator> Allocator for Refusing<B> {
+unsafe impl<B: Allocator + Copy> Allocator for Refusing<B> {
     ghost dealloc_token = { λ heap ty ptr. B.dealloc_token heap.inner ty ptr };
 
     fn allocate(&self, size: usize, align: usize) -> Result<*mut u8, AllocError> {

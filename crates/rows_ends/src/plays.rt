@@ -16,7 +16,7 @@ pub trait Holds: Drop {
     fn held(&self) -> usize;
 }
 
-impl<A: Allocator + Clone, C: ClientTransfer<A>> Holds for Client<A, C> {
+impl<A: Allocator + Copy, C: ClientTransfer<A>> Holds for Client<A, C> {
     fn held(&self) -> usize {
         self.held()
     }

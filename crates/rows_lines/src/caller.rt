@@ -7,7 +7,7 @@ use ftp_nvt::{Ear, Event, put_line};
 use std::alloc::Allocator;
 
 /// How many events a piece gives: a caller's loop, which feeds an ear until the piece is used up.
-pub fn events_in<A: Allocator>(ear: &mut Ear<A>, piece: &[u8]) -> usize
+pub fn events_in<A: Allocator + Copy>(ear: &mut Ear<A>, piece: &[u8]) -> usize
     ensures { (added : List NvtEvent) × (length added ≡ result) × Hears ear.old piece.now added ear.new }
 {
     let mut taken = 0;
@@ -25,7 +25,7 @@ pub fn events_in<A: Allocator>(ear: &mut Ear<A>, piece: &[u8]) -> usize
 }
 
 /// Whether an ear that settles nothing leaves octets of the piece: it never does.
-pub fn leaves_octets<A: Allocator>(ear: &mut Ear<A>, piece: &[u8]) -> bool
+pub fn leaves_octets<A: Allocator + Copy>(ear: &mut Ear<A>, piece: &[u8]) -> bool
     ensures { result ≡ false }
 {
     let heard = ear.feed(piece);
@@ -36,7 +36,7 @@ pub fn leaves_octets<A: Allocator>(ear: &mut Ear<A>, piece: &[u8]) -> bool
 }
 
 /// Whether NOOP is written where there is room for its line: it always is.
-pub fn writes_in_room<A: Allocator>(out: &mut Vec<u8, A>) -> bool
+pub fn writes_in_room<A: Allocator + Copy>(out: &mut Vec<u8, A>) -> bool
     requires { vec_len out.old + 6 ≤ vec_capacity out.old }
     ensures { result ≡ true }
 {

@@ -6,7 +6,7 @@ use rows_base::{Paper, Refusing};
 use std::alloc::{Allocator, Global};
 
 /// Writes the line of what is said.
-fn write_said<A: Allocator, B: Allocator>(
+fn write_said<A: Allocator + Copy, B: Allocator + Copy>(
     said: &Result<Command<Argument<A>>, CommandFault>,
     out: &mut Vec<u8, B>,
 ) -> Result<(), CommandFault> {
@@ -17,7 +17,7 @@ fn write_said<A: Allocator, B: Allocator>(
 }
 
 /// The endpoint of PORT or EPRT.
-fn endpoint_of<A: Allocator>(
+fn endpoint_of<A: Allocator + Copy>(
     said: &Result<Command<Argument<A>>, CommandFault>,
 ) -> Option<Endpoint> {
     match said {
@@ -29,7 +29,7 @@ fn endpoint_of<A: Allocator>(
 
 /// Writes the line of what is said and is needed no longer, and gives the endpoint of PORT or EPRT. A command is let go here
 /// and nowhere else, since that is dear to prove.
-fn written<A: Allocator, B: Allocator>(
+fn written<A: Allocator + Copy, B: Allocator + Copy>(
     said: Result<Command<Argument<A>>, CommandFault>,
     out: &mut Vec<u8, B>,
 ) -> (Result<(), CommandFault>, Option<Endpoint>) {
@@ -103,13 +103,13 @@ fn have_no_line(alloc: Global) -> bool {
 }
 
 /// Writes PWD.
-fn add_pwd<A: Allocator>(out: &mut Vec<u8, A>) -> Result<(), CommandFault> {
+fn add_pwd<A: Allocator + Copy>(out: &mut Vec<u8, A>) -> Result<(), CommandFault> {
     let pwd: Command<Argument<Global>> = Command::Pwd;
     written(Ok(pwd), out).0
 }
 
 /// Whether PWD wants memory and leaves the vector, and then is written behind it.
-fn is_left<A: Allocator>(out: &mut Vec<u8, A>) -> bool {
+fn is_left<A: Allocator + Copy>(out: &mut Vec<u8, A>) -> bool {
     add_pwd(out) == Err(CommandFault::Memory)
         && out.as_slice() == b"x".as_slice()
         && add_pwd(out) == Ok(())

@@ -58,7 +58,7 @@ pub(crate) fn show_pieces(alloc: Global, row: &Row<'_>, paper: &mut Paper) {
     tell_pieces(alloc, &mut decoder, pieces, number(room), paper);
 }
 
-fn tell_pieces<A: Allocator>(
+fn tell_pieces<A: Allocator + Copy>(
     alloc: Global,
     decoder: &mut Decoder<Vec<u8, A>>,
     pieces: &[u8],
@@ -80,7 +80,7 @@ fn tell_pieces<A: Allocator>(
 }
 
 /// Octets between double quotes are heard, and else it is said how many of the file are settled, and whether they may be all.
-fn tell<A: Allocator>(
+fn tell<A: Allocator + Copy>(
     alloc: Global,
     decoder: &mut Decoder<Vec<u8, A>>,
     (text, piece): (&[u8], &[u8]),
@@ -100,7 +100,7 @@ fn tell<A: Allocator>(
     }
 }
 
-fn tell_piece<A: Allocator>(
+fn tell_piece<A: Allocator + Copy>(
     alloc: Global,
     decoder: &mut Decoder<Vec<u8, A>>,
     piece: &[u8],
@@ -113,7 +113,7 @@ fn tell_piece<A: Allocator>(
     }
 }
 
-fn tell_octets<A: Allocator>(
+fn tell_octets<A: Allocator + Copy>(
     alloc: Global,
     decoder: &mut Decoder<Vec<u8, A>>,
     octets: &[u8],

@@ -74,7 +74,7 @@ fn measures(alloc: Global) -> bool {
 }
 
 /// How many events an ear for eight octets gives, or that it wants memory.
-fn events_with<A: Allocator>(alloc: A) -> Result<usize, NvtFault> {
+fn events_with<A: Allocator + Copy>(alloc: A) -> Result<usize, NvtFault> {
     match Ear::new(alloc, 8) {
         Ok(mut ear) => Ok(events_in(&mut ear, b"1234567\n12345678\n\n")),
         Err(fault) => Err(fault),

@@ -7,13 +7,17 @@ use rows_base::{Paper, Refusing};
 use std::alloc::{Allocator, Global};
 
 /// Puts the line of an entry, behind two octets.
-fn put_entry<A: Allocator, B: Allocator>(heap: B, entry: &Entry<A>, paper: &mut Paper) {
+fn put_entry<A: Allocator + Copy, B: Allocator + Copy>(
+    heap: B,
+    entry: &Entry<A>,
+    paper: &mut Paper,
+) {
     let mut out = Vec::new(heap);
     let goes = out.extend_from_slice(b"ab").is_ok() && write_entry(entry, &mut out).is_ok();
     put_behind(b"ab", out.as_slice(), goes, paper);
 }
 
-fn put_answer<A: Allocator, B: Allocator>(
+fn put_answer<A: Allocator + Copy, B: Allocator + Copy>(
     heap: B,
     read: &Result<Entry<A>, FactFault>,
     paper: &mut Paper,
@@ -77,7 +81,7 @@ fn are_printed(alloc: Global) -> bool {
 }
 
 /// Whether these octets are kept; nothing where memory is refused.
-fn is_kept<A: Allocator>(alloc: A) -> Option<bool> {
+fn is_kept<A: Allocator + Copy>(alloc: A) -> Option<bool> {
     match &Text::copy_of(alloc, b"kept") {
         Ok(text) => Some(text.as_slice() == b"kept".as_slice()),
         Err(_) => None,

@@ -12,7 +12,7 @@ const GROWING: &[Item<'static>] = &[
 ];
 
 /// Receives all items, each again where it was refused; how many were, and whether none was twice.
-fn refusals<A: Allocator>(file: &mut Vec<u8, A>) -> (u64, bool) {
+fn refusals<A: Allocator + Copy>(file: &mut Vec<u8, A>) -> (u64, bool) {
     let mut receiver = Receiver::new(Kind::Ascii, Structure::Record);
     let mut refusals = 0u64;
     let mut all = true;
@@ -26,7 +26,7 @@ fn refusals<A: Allocator>(file: &mut Vec<u8, A>) -> (u64, bool) {
 }
 
 /// Puts the file that comes of all items; how many were refused, and whether none was twice.
-fn put_file<A: Allocator>(alloc: A, copy: &mut Paper) -> (u64, bool) {
+fn put_file<A: Allocator + Copy>(alloc: A, copy: &mut Paper) -> (u64, bool) {
     let mut file = Vec::new(alloc);
     let refused = refusals(&mut file);
     copy.put(file.as_slice());
@@ -59,7 +59,7 @@ fn each_is_whole(alloc: Global) -> bool {
 }
 
 /// Whether a held CR is kept where its growth is refused at the end, and comes then.
-fn keeps_return<A: Allocator>(receiver: &mut Receiver, file: &mut Vec<u8, A>) -> bool {
+fn keeps_return<A: Allocator + Copy>(receiver: &mut Receiver, file: &mut Vec<u8, A>) -> bool {
     receiver.take(Item::Octets(&[0x0D]), file).is_ok()
         && receiver.end(file) == Err(ReprFault::Memory)
         && file.is_empty()
@@ -67,7 +67,7 @@ fn keeps_return<A: Allocator>(receiver: &mut Receiver, file: &mut Vec<u8, A>) ->
         && file.as_slice() == [0x0D].as_slice()
 }
 
-fn keeps_return_in<A: Allocator>(alloc: A, structure: Structure) -> bool {
+fn keeps_return_in<A: Allocator + Copy>(alloc: A, structure: Structure) -> bool {
     let mut receiver = Receiver::new(Kind::Ascii, structure);
     let mut file = Vec::new(alloc);
     keeps_return(&mut receiver, &mut file)

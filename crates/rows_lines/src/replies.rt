@@ -35,12 +35,12 @@ fn growth(alloc: Global, lines: &[u8], refused: u64, said: &mut Paper) -> (u64, 
     (wanted, heap.left())
 }
 
-fn hear<A: Allocator + Clone>(heap: A, alloc: Global, lines: &[u8], said: &mut Paper) -> u64 {
+fn hear<A: Allocator + Copy>(heap: A, alloc: Global, lines: &[u8], said: &mut Paper) -> u64 {
     let mut reader = Reader::new(heap);
     hear_each(alloc, &mut reader, lines, said)
 }
 
-fn hear_each<A: Allocator + Clone>(
+fn hear_each<A: Allocator + Copy>(
     alloc: Global,
     reader: &mut Reader<A>,
     lines: &[u8],
@@ -63,7 +63,7 @@ fn hear_each<A: Allocator + Clone>(
 }
 
 /// Hears a line, once more where memory is wanted, and gives how often it was.
-fn hear_line<A: Allocator + Clone>(
+fn hear_line<A: Allocator + Copy>(
     alloc: Global,
     reader: &mut Reader<A>,
     line: &[u8],
@@ -80,7 +80,7 @@ fn hear_line<A: Allocator + Clone>(
 }
 
 /// Puts what a reader answers, unless memory is wanted. Says whether it is put.
-fn put_heard<A: Allocator>(
+fn put_heard<A: Allocator + Copy>(
     alloc: Global,
     heard: &Result<Option<Reply<A>>, ReplyFault>,
     said: &mut Paper,
@@ -94,7 +94,7 @@ fn put_heard<A: Allocator>(
     true
 }
 
-fn put_reply<A: Allocator>(reply: &Reply<A>, said: &mut Paper) {
+fn put_reply<A: Allocator + Copy>(reply: &Reply<A>, said: &mut Paper) {
     said.number(u64::from(reply.code));
     for at in 0..reply.lines.len() {
         if let Some(text) = reply.lines.get(at) {

@@ -58,7 +58,7 @@ fn put_passive(alloc: Global, reply: &Reply<Global>, paper: &mut Paper) {
 }
 
 /// Puts the path that a reply quotes, or why there is none.
-pub(crate) fn put_path<A: Allocator>(
+pub(crate) fn put_path<A: Allocator + Copy>(
     heap: A,
     alloc: Global,
     reply: &Reply<Global>,
@@ -71,7 +71,7 @@ pub(crate) fn put_path<A: Allocator>(
 }
 
 /// Puts the octets of a reply.
-pub(crate) fn put_written<A: Allocator>(heap: A, reply: &Reply<Global>, paper: &mut Paper) {
+pub(crate) fn put_written<A: Allocator + Copy>(heap: A, reply: &Reply<Global>, paper: &mut Paper) {
     let mut out = Vec::new(heap);
     let goes = write(reply, &mut out).is_ok();
     put_behind(b"", out.as_slice(), goes, paper);

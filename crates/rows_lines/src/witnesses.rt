@@ -26,7 +26,7 @@ pub fn nothing_settled_needs_no_room(alloc: Global) -> bool
 }
 
 /// A file keeps the room that it has (`Receiver::take` and `end`: `capacity`).
-pub fn an_item_keeps_the_room<A: Allocator>(
+pub fn an_item_keeps_the_room<A: Allocator + Copy>(
     receiver: &mut Receiver,
     item: Item<'_>,
     file: &mut Vec<u8, A>,

@@ -76,7 +76,7 @@ impl<A: Allocator + Copy> Folder for FailingFolder<A> {
         self.failures
     }
 
-    fn make_dir<B: Allocator, C: Allocator>(
+    fn make_dir<B: Allocator + Copy, C: Allocator + Copy>(
         &mut self,
         root: &Path<B>,
         path: &Path<C>,
@@ -90,7 +90,7 @@ impl<A: Allocator + Copy> Folder for FailingFolder<A> {
         }
     }
 
-    fn remove_dir<B: Allocator, C: Allocator>(
+    fn remove_dir<B: Allocator + Copy, C: Allocator + Copy>(
         &mut self,
         root: &Path<B>,
         path: &Path<C>,
@@ -104,7 +104,7 @@ impl<A: Allocator + Copy> Folder for FailingFolder<A> {
         }
     }
 
-    fn delete<B: Allocator, C: Allocator>(
+    fn delete<B: Allocator + Copy, C: Allocator + Copy>(
         &mut self,
         root: &Path<B>,
         path: &Path<C>,
@@ -118,7 +118,7 @@ impl<A: Allocator + Copy> Folder for FailingFolder<A> {
         }
     }
 
-    fn rename<B: Allocator, C: Allocator, D: Allocator>(
+    fn rename<B: Allocator + Copy, C: Allocator + Copy, D: Allocator + Copy>(
         &mut self,
         root: &Path<B>,
         from: &Path<C>,
@@ -133,7 +133,7 @@ impl<A: Allocator + Copy> Folder for FailingFolder<A> {
         }
     }
 
-    fn write<E: Allocator, B: Allocator, C: Allocator>(
+    fn write<E: Allocator + Copy, B: Allocator + Copy, C: Allocator + Copy>(
         &mut self,
         root: &Path<B>,
         path: &Path<C>,
@@ -154,7 +154,7 @@ impl<A: Allocator + Copy> Folder for FailingFolder<A> {
 }
 
 /// The octets of a content once more.
-fn copy_of<A: Allocator + Copy, B: Allocator>(
+fn copy_of<A: Allocator + Copy, B: Allocator + Copy>(
     alloc: A,
     content: &Content<B>,
 ) -> Result<Content<A>, AllocError>

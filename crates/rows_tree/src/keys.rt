@@ -7,14 +7,14 @@ use std::alloc::Allocator;
 use std::cmp::Ordering;
 
 /// The key of a path and that of its parent.
-pub fn show_keys<A: Allocator>(path: &Path<A>, paper: &mut Paper) {
+pub fn show_keys<A: Allocator + Copy>(path: &Path<A>, paper: &mut Paper) {
     paper.quote(path.key());
     paper.put(b" ");
     paper.quote(path.parent_key());
 }
 
 /// How a path compares with another.
-pub fn show_order<A: Allocator>(path: &Path<A>, other: &Path<A>, paper: &mut Paper) {
+pub fn show_order<A: Allocator + Copy>(path: &Path<A>, other: &Path<A>, paper: &mut Paper) {
     paper.put(match order(path.key(), other.key()) {
         Ordering::Less => b"before".as_slice(),
         Ordering::Equal => b"equal",
@@ -23,13 +23,13 @@ pub fn show_order<A: Allocator>(path: &Path<A>, other: &Path<A>, paper: &mut Pap
 }
 
 /// Whether the second path is the first or below it, and what the first calls it.
-pub fn show_below<A: Allocator>(above: &Path<A>, path: &Path<A>, paper: &mut Paper) {
+pub fn show_below<A: Allocator + Copy>(above: &Path<A>, path: &Path<A>, paper: &mut Paper) {
     let is_below = is_within(above.key(), path.key());
     paper.put(if is_below { b"yes ".as_slice() } else { b"no " });
     put_called(above, path, paper);
 }
 
-fn put_called<A: Allocator>(above: &Path<A>, path: &Path<A>, paper: &mut Paper) {
+fn put_called<A: Allocator + Copy>(above: &Path<A>, path: &Path<A>, paper: &mut Paper) {
     match name_in(above.key(), path.key()) {
         Some(name) => paper.quote(name.octets()),
         None => paper.put(b"no name"),

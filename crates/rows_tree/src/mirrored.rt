@@ -14,7 +14,7 @@ use std::alloc::{Allocator, Global};
 type Mirrored<A> = Mirror<A, FailingFolder<Global>>;
 
 /// Says where a tree and its folder are not the same.
-fn compare<A: Allocator, T: Tree<A>, B: Allocator, U: Tree<B>>(
+fn compare<A: Allocator + Copy, T: Tree<A>, B: Allocator + Copy, U: Tree<B>>(
     alloc: Global,
     tree: &T,
     folder: &U,
@@ -28,7 +28,7 @@ fn compare<A: Allocator, T: Tree<A>, B: Allocator, U: Tree<B>>(
 }
 
 /// What stands at the places behind a line.
-fn show_after<A: Allocator, T: Tree<A>>(
+fn show_after<A: Allocator + Copy, T: Tree<A>>(
     alloc: Global,
     tree: &T,
     places: &[u8],

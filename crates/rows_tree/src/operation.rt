@@ -103,7 +103,7 @@ pub fn play_user<A: Allocator + Copy, T: Tree<A>>(
     }
 }
 
-fn show_answers<A: Allocator>(
+fn show_answers<A: Allocator + Copy>(
     alloc: Global,
     answers: &[Answer<A>],
     lines: &[u8],

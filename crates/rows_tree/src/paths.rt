@@ -9,7 +9,11 @@ use rows_base::Paper;
 use std::alloc::Allocator;
 
 /// A path from another by a text, which has to be a path text.
-pub fn from<A: Allocator>(here: &Path<A>, alloc: A, text: &[u8]) -> Result<Path<A>, TreeFault> {
+pub fn from<A: Allocator + Copy>(
+    here: &Path<A>,
+    alloc: A,
+    text: &[u8],
+) -> Result<Path<A>, TreeFault> {
     if !is_path_text(text) {
         return Err(TreeFault::WrongKind);
     }
@@ -63,7 +67,7 @@ fn show_of<A: Allocator + Copy>(
     Ok(())
 }
 
-fn show_led<A: Allocator>(
+fn show_led<A: Allocator + Copy>(
     alloc: A,
     here: &Path<A>,
     text: &[u8],

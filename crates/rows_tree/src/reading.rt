@@ -11,7 +11,7 @@ use std::alloc::{Allocator, Global};
 const SHOWN: usize = 100;
 
 /// Writes what a line asks for.
-pub fn show_reading<A: Allocator, T: Tree<A>>(
+pub fn show_reading<A: Allocator + Copy, T: Tree<A>>(
     alloc: Global,
     tree: &T,
     line: &Line<'_>,
@@ -22,7 +22,7 @@ pub fn show_reading<A: Allocator, T: Tree<A>>(
     read(alloc, tree, &root, &path, line, paper)
 }
 
-fn read<A: Allocator, T: Tree<A>>(
+fn read<A: Allocator + Copy, T: Tree<A>>(
     alloc: Global,
     tree: &T,
     root: &Path<Global>,
@@ -48,7 +48,7 @@ fn read<A: Allocator, T: Tree<A>>(
     Ok(())
 }
 
-fn show_kind<A: Allocator, T: Tree<A>>(
+fn show_kind<A: Allocator + Copy, T: Tree<A>>(
     tree: &T,
     root: &Path<Global>,
     path: &Path<Global>,
@@ -68,7 +68,7 @@ fn show_number(number: Option<u64>, paper: &mut Paper) {
     }
 }
 
-fn show_second<A: Allocator, T: Tree<A>>(
+fn show_second<A: Allocator + Copy, T: Tree<A>>(
     tree: &T,
     root: &Path<Global>,
     path: &Path<Global>,
@@ -81,7 +81,7 @@ fn show_second<A: Allocator, T: Tree<A>>(
 }
 
 /// Whether the octets of all files below a root are within the limit.
-fn show_fits<A: Allocator, T: Tree<A>>(tree: &T, root: &Path<Global>, paper: &mut Paper) {
+fn show_fits<A: Allocator + Copy, T: Tree<A>>(tree: &T, root: &Path<Global>, paper: &mut Paper) {
     paper.put(if tree.fits(root) {
         b"yes".as_slice()
     } else {
@@ -90,7 +90,7 @@ fn show_fits<A: Allocator, T: Tree<A>>(tree: &T, root: &Path<Global>, paper: &mu
 }
 
 /// The names in a directory, each with a `,` behind it.
-fn show_names<A: Allocator, T: Tree<A>>(
+fn show_names<A: Allocator + Copy, T: Tree<A>>(
     tree: &T,
     root: &Path<Global>,
     path: &Path<Global>,
@@ -106,7 +106,7 @@ fn show_names<A: Allocator, T: Tree<A>>(
 }
 
 /// The octets of a file, so many asked for at a time.
-fn show_file<A: Allocator, T: Tree<A>>(
+fn show_file<A: Allocator + Copy, T: Tree<A>>(
     alloc: Global,
     tree: &T,
     root: &Path<Global>,
@@ -126,7 +126,7 @@ fn show_file<A: Allocator, T: Tree<A>>(
 }
 
 /// What stands at some places, on one line: a directory, or a file with its second and its first octets.
-pub fn show_places<A: Allocator, T: Tree<A>>(
+pub fn show_places<A: Allocator + Copy, T: Tree<A>>(
     alloc: Global,
     tree: &T,
     places: &[u8],
@@ -145,7 +145,7 @@ pub fn show_places<A: Allocator, T: Tree<A>>(
     }
 }
 
-fn show_place<A: Allocator, T: Tree<A>>(
+fn show_place<A: Allocator + Copy, T: Tree<A>>(
     tree: &T,
     root: &Path<Global>,
     path: &Path<Global>,

@@ -35,7 +35,7 @@ fn tell(answer: Result<(), TreeFault>, paper: &mut Paper) {
 }
 
 /// What stands at some places.
-pub fn places_of<A: Allocator, T: Tree<A>>(alloc: Global, tree: &T, places: &[u8]) -> Paper {
+pub fn places_of<A: Allocator + Copy, T: Tree<A>>(alloc: Global, tree: &T, places: &[u8]) -> Paper {
     let mut paper = Paper::new(alloc);
     show_places(alloc, tree, places, &mut paper);
     paper
@@ -83,7 +83,7 @@ fn play_call<A: Allocator + Copy, T: Tree<A>>(
 }
 
 /// Whether this stands at some places.
-pub fn is_so<A: Allocator, T: Tree<A>>(
+pub fn is_so<A: Allocator + Copy, T: Tree<A>>(
     alloc: Global,
     tree: &T,
     places: &[u8],

@@ -5,7 +5,7 @@ use rows_base::Paper;
 use std::alloc::{Allocator, Global};
 
 /// Writes an answer: octets between double quotes, a number, the code of a refusal, entries and names line by line.
-pub fn show_answer<A: Allocator>(alloc: Global, answer: &Answer<A>, paper: &mut Paper) {
+pub fn show_answer<A: Allocator + Copy>(alloc: Global, answer: &Answer<A>, paper: &mut Paper) {
     match answer {
         Answer::Done => paper.put(b"done"),
         Answer::BadOperation => paper.put(b"bad"),
@@ -23,14 +23,14 @@ pub fn show_answer<A: Allocator>(alloc: Global, answer: &Answer<A>, paper: &mut 
     }
 }
 
-fn show_entries<A: Allocator>(alloc: Global, entries: &[Entry<A>], paper: &mut Paper) {
+fn show_entries<A: Allocator + Copy>(alloc: Global, entries: &[Entry<A>], paper: &mut Paper) {
     for entry in entries {
         show_entry(alloc, entry, paper);
         paper.put(b"\\n");
     }
 }
 
-fn show_entry<A: Allocator>(alloc: Global, entry: &Entry<A>, paper: &mut Paper) {
+fn show_entry<A: Allocator + Copy>(alloc: Global, entry: &Entry<A>, paper: &mut Paper) {
     let mut line = Vec::new(alloc);
     let _ = write_entry(entry, &mut line);
     paper.octets(line.as_slice());

@@ -167,7 +167,7 @@ fn put_due<A: Allocator + Copy>(
     }
 }
 
-fn put_op<A: Allocator>(
+fn put_op<A: Allocator + Copy>(
     order: Order<Text<A>>,
     moment: Moment,
     dues: &mut Dues<A>,

@@ -9,7 +9,7 @@ use std::alloc::{Allocator, Global};
 const MANY: usize = 200;
 
 /// The reports from that one on.
-pub fn put_reports<A: Allocator>(
+pub fn put_reports<A: Allocator + Copy>(
     alloc: Global,
     reports: &[Answer<A>],
     from: usize,
@@ -20,7 +20,7 @@ pub fn put_reports<A: Allocator>(
     }
 }
 
-fn put_report<A: Allocator>(alloc: Global, answer: &Answer<A>, paper: &mut Paper) {
+fn put_report<A: Allocator + Copy>(alloc: Global, answer: &Answer<A>, paper: &mut Paper) {
     paper.put(b"= ");
     match answer {
         Answer::Octets(octets) => put_octets(alloc, answer, octets.as_slice(), paper),
@@ -29,7 +29,12 @@ fn put_report<A: Allocator>(alloc: Global, answer: &Answer<A>, paper: &mut Paper
 }
 
 /// Octets, or how many they are.
-fn put_octets<A: Allocator>(alloc: Global, answer: &Answer<A>, octets: &[u8], paper: &mut Paper) {
+fn put_octets<A: Allocator + Copy>(
+    alloc: Global,
+    answer: &Answer<A>,
+    octets: &[u8],
+    paper: &mut Paper,
+) {
     if octets.len() <= MANY {
         put_text(alloc, answer, paper);
         return;
@@ -40,7 +45,7 @@ fn put_octets<A: Allocator>(alloc: Global, answer: &Answer<A>, octets: &[u8], pa
     paper.line(b"");
 }
 
-fn put_text<A: Allocator>(alloc: Global, answer: &Answer<A>, paper: &mut Paper) {
+fn put_text<A: Allocator + Copy>(alloc: Global, answer: &Answer<A>, paper: &mut Paper) {
     match report_of(alloc, answer) {
         Ok(text) => paper.put(text.as_slice()),
         Err(_) => paper.fill(),

@@ -45,7 +45,7 @@ const IMAGE: How = How {
 };
 
 /// The event in which an order begins.
-fn order_event<A: Allocator>(order: Order<Text<A>>, moment: Moment) -> Event<A> {
+fn order_event<A: Allocator + Copy>(order: Order<Text<A>>, moment: Moment) -> Event<A> {
     match order.into_parts() {
         Ok(op) => Event::Next(op, moment),
         Err((path, octets, how)) => Event::Upload(path, octets, how, moment),
@@ -63,7 +63,7 @@ fn upload_event<A: Allocator + Copy>(
     Ok(Event::Next(Op::Put(path, octets, IMAGE), moment))
 }
 
-fn happening_event<A: Allocator>(happening: Happening) -> Event<A> {
+fn happening_event<A: Allocator + Copy>(happening: Happening) -> Event<A> {
     match happening {
         Happening::Deliver(queue, count) => Event::Deliver(queue, count),
         Happening::Open => Event::Open,
@@ -74,7 +74,7 @@ fn happening_event<A: Allocator>(happening: Happening) -> Event<A> {
     }
 }
 
-fn events_of<A: Allocator>(
+fn events_of<A: Allocator + Copy>(
     alloc: Global,
     happenings: &[Happening],
 ) -> Result<Vec<Event<A>>, AllocError> {

@@ -5,14 +5,14 @@ use rows_base::Paper;
 use std::alloc::{Allocator, Global};
 
 /// A report, on a line behind `= `.
-pub fn show_answer<A: Allocator>(alloc: Global, answer: &Answer<A>, paper: &mut Paper) {
+pub fn show_answer<A: Allocator + Copy>(alloc: Global, answer: &Answer<A>, paper: &mut Paper) {
     paper.put(b"= ");
     paper.put(name_of(answer));
     show_value(alloc, answer, paper);
     paper.put(b"\n");
 }
 
-fn name_of<A: Allocator>(answer: &Answer<A>) -> &'static [u8] {
+fn name_of<A: Allocator + Copy>(answer: &Answer<A>) -> &'static [u8] {
     match answer {
         Answer::Done => b"done",
         Answer::Path(_) => b"path ",
@@ -33,7 +33,7 @@ fn name_of<A: Allocator>(answer: &Answer<A>) -> &'static [u8] {
     }
 }
 
-fn show_value<A: Allocator>(alloc: Global, answer: &Answer<A>, paper: &mut Paper) {
+fn show_value<A: Allocator + Copy>(alloc: Global, answer: &Answer<A>, paper: &mut Paper) {
     match answer {
         Answer::Path(text) | Answer::Octets(text) => paper.quote(text.as_slice()),
         Answer::Number(number) => paper.number(*number),
@@ -60,14 +60,14 @@ fn show_mark(mark: Option<u64>, paper: &mut Paper) {
     }
 }
 
-fn show_entries<A: Allocator>(alloc: Global, entries: &[Entry<A>], paper: &mut Paper) {
+fn show_entries<A: Allocator + Copy>(alloc: Global, entries: &[Entry<A>], paper: &mut Paper) {
     for entry in entries {
         paper.put(b"\n=   ");
         show_entry(alloc, entry, paper);
     }
 }
 
-fn show_entry<A: Allocator>(alloc: Global, entry: &Entry<A>, paper: &mut Paper) {
+fn show_entry<A: Allocator + Copy>(alloc: Global, entry: &Entry<A>, paper: &mut Paper) {
     let mut line = Vec::new(alloc);
     let _ = write_entry(entry, &mut line);
     paper.octets(line.as_slice());

@@ -55,7 +55,7 @@ impl<A: Allocator + Copy, C: Near<A> + Holds> Played<A, C> {
 }
 
 /// The same from the place behind: no line can say 10^18.
-fn count_up<A: Allocator>(op: &mut Op<Text<A>>) {
+fn count_up<A: Allocator + Copy>(op: &mut Op<Text<A>>) {
     match op {
         Op::GetFrom(_, place, _) | Op::Peek(_, place, _) | Op::PutFrom(_, place, _, _) => {
             *place = place.saturating_add(1);
@@ -174,7 +174,7 @@ impl<A: Allocator + Copy, C: Near<A> + Holds> Plays for Played<A, C> {
 }
 
 /// What a client that was driven reports; nothing where it was broken off.
-fn tell<A: Allocator>(alloc: Global, answer: &Option<Answer<A>>, paper: &mut Paper) {
+fn tell<A: Allocator + Copy>(alloc: Global, answer: &Option<Answer<A>>, paper: &mut Paper) {
     match answer {
         None | Some(Answer::Lost) => {}
         Some(answer) => show_answer(alloc, answer, paper),

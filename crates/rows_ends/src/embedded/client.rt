@@ -8,7 +8,7 @@ use ftp_operation::{Answer, Op};
 use std::alloc::Allocator;
 use std::io::{Read, Write};
 
-pub fn perform<A: Allocator, N: Near<A>, R: Read, W: Write, S: Sockets>(
+pub fn perform<A: Allocator + Copy, N: Near<A>, R: Read, W: Write, S: Sockets>(
     client: &mut N,
     op: Op<Text<A>>,
     (reader, writer): (&mut R, &mut W),
@@ -29,7 +29,7 @@ pub fn perform<A: Allocator, N: Near<A>, R: Read, W: Write, S: Sockets>(
     Err(Failed)
 }
 
-fn owes<A: Allocator, N: Near<A>, W: Write>(
+fn owes<A: Allocator + Copy, N: Near<A>, W: Write>(
     client: &mut N,
     writer: &mut W,
 ) -> Result<bool, Failed> {
@@ -39,7 +39,7 @@ fn owes<A: Allocator, N: Near<A>, W: Write>(
     Ok(owed > 0)
 }
 
-fn turn<A: Allocator, N: Near<A>, R: Read, S: Sockets>(
+fn turn<A: Allocator + Copy, N: Near<A>, R: Read, S: Sockets>(
     client: &mut N,
     reader: &mut R,
     sockets: &mut S,
@@ -69,7 +69,10 @@ fn turn<A: Allocator, N: Near<A>, R: Read, S: Sockets>(
     Ok(())
 }
 
-fn hear<A: Allocator, N: Near<A>, R: Read>(client: &mut N, reader: &mut R) -> Result<(), Failed> {
+fn hear<A: Allocator + Copy, N: Near<A>, R: Read>(
+    client: &mut N,
+    reader: &mut R,
+) -> Result<(), Failed> {
     let mut room = [0; 1];
     match get(reader, &mut room)? {
         0 => client.control_end(),
@@ -78,7 +81,7 @@ fn hear<A: Allocator, N: Near<A>, R: Read>(client: &mut N, reader: &mut R) -> Re
     Ok(())
 }
 
-fn receive<A: Allocator, N: Near<A>, L: Read>(client: &mut N, link: &mut L) {
+fn receive<A: Allocator + Copy, N: Near<A>, L: Read>(client: &mut N, link: &mut L) {
     let mut room = [0; 1];
     match link.read(&mut room) {
         Ok(0) => client.data_end(),
@@ -87,7 +90,7 @@ fn receive<A: Allocator, N: Near<A>, L: Read>(client: &mut N, link: &mut L) {
     }
 }
 
-fn send<A: Allocator, N: Near<A>, L: Write>(client: &mut N, link: &mut L) {
+fn send<A: Allocator + Copy, N: Near<A>, L: Write>(client: &mut N, link: &mut L) {
     let mut room = [0; 4096];
     let count = client.data_out(&mut room);
     if put(link, &room[..count]).is_err() {

@@ -7,7 +7,7 @@ use ftp_tree::Tree;
 use std::alloc::Allocator;
 use std::io::{Read, Write};
 
-pub fn serve<A: Allocator, T: Tree<A>, F: Far<A, T>, R: Read, W: Write, S: Sockets>(
+pub fn serve<A: Allocator + Copy, T: Tree<A>, F: Far<A, T>, R: Read, W: Write, S: Sockets>(
     server: &mut F,
     (reader, writer): (&mut R, &mut W),
     sockets: &mut S,
@@ -26,7 +26,7 @@ pub fn serve<A: Allocator, T: Tree<A>, F: Far<A, T>, R: Read, W: Write, S: Socke
     Err(Failed)
 }
 
-fn owes<A: Allocator, T: Tree<A>, F: Far<A, T>, W: Write>(
+fn owes<A: Allocator + Copy, T: Tree<A>, F: Far<A, T>, W: Write>(
     server: &mut F,
     writer: &mut W,
 ) -> Result<bool, Failed> {
@@ -36,7 +36,7 @@ fn owes<A: Allocator, T: Tree<A>, F: Far<A, T>, W: Write>(
     Ok(owed > 0)
 }
 
-fn turn<A: Allocator, T: Tree<A>, F: Far<A, T>, R: Read, S: Sockets>(
+fn turn<A: Allocator + Copy, T: Tree<A>, F: Far<A, T>, R: Read, S: Sockets>(
     server: &mut F,
     reader: &mut R,
     sockets: &mut S,
@@ -65,7 +65,7 @@ fn turn<A: Allocator, T: Tree<A>, F: Far<A, T>, R: Read, S: Sockets>(
     Ok(())
 }
 
-fn hear<A: Allocator, T: Tree<A>, F: Far<A, T>, R: Read>(
+fn hear<A: Allocator + Copy, T: Tree<A>, F: Far<A, T>, R: Read>(
     server: &mut F,
     reader: &mut R,
 ) -> Result<(), Failed> {
@@ -77,7 +77,7 @@ fn hear<A: Allocator, T: Tree<A>, F: Far<A, T>, R: Read>(
     Ok(())
 }
 
-fn receive<A: Allocator, T: Tree<A>, F: Far<A, T>, L: Read>(server: &mut F, link: &mut L) {
+fn receive<A: Allocator + Copy, T: Tree<A>, F: Far<A, T>, L: Read>(server: &mut F, link: &mut L) {
     let mut room = [0; 1];
     match link.read(&mut room) {
         Ok(0) => server.data_end(),
@@ -86,7 +86,7 @@ fn receive<A: Allocator, T: Tree<A>, F: Far<A, T>, L: Read>(server: &mut F, link
     }
 }
 
-fn send<A: Allocator, T: Tree<A>, F: Far<A, T>, L: Write>(server: &mut F, link: &mut L) {
+fn send<A: Allocator + Copy, T: Tree<A>, F: Far<A, T>, L: Write>(server: &mut F, link: &mut L) {
     let mut room = [0; 4096];
     let count = server.data_out(&mut room);
     if put(link, &room[..count]).is_err() {

@@ -59,7 +59,7 @@ fn copied<A: Allocator + Copy>(
     Ok(octets)
 }
 
-fn happening<A: Allocator>(event: Event, told: Told) -> Cue<A> {
+fn happening<A: Allocator + Copy>(event: Event, told: Told) -> Cue<A> {
     match event {
         Event::Listening => Cue::Listening(told.port),
         Event::Portless => Cue::ListenRefused,
@@ -74,7 +74,7 @@ fn happening<A: Allocator>(event: Event, told: Told) -> Cue<A> {
 }
 
 /// Writes a row as far as its calls, each with what it gave, and says what stands behind them.
-pub fn tell<'a, A: Allocator>(
+pub fn tell<'a, A: Allocator + Copy>(
     row: &'a [u8],
     gifts: &Result<Vec<Gift<A>, A>, AllocError>,
     desk: &mut Desk,
@@ -104,7 +104,7 @@ fn is_in_front(line: &[u8]) -> bool {
     call_in(line).is_some() || matches!(verb_of(split(line).0), Verb::Heading)
 }
 
-fn show_nth<A: Allocator>(
+fn show_nth<A: Allocator + Copy>(
     gifts: &Result<Vec<Gift<A>, A>, AllocError>,
     place: usize,
     paper: &mut Paper,
@@ -119,7 +119,7 @@ fn show_nth<A: Allocator>(
 }
 
 /// Writes what a call gave.
-fn show<A: Allocator>(gift: &Gift<A>, paper: &mut Paper) {
+fn show<A: Allocator + Copy>(gift: &Gift<A>, paper: &mut Paper) {
     match gift {
         Gift::Nothing => {}
         Gift::Took(count) => {

@@ -7,13 +7,6 @@ use Rattle.ftp_direct.specs.Run.{Ran, orders_of}
 use Rattle.ftp_direct.proofs.RunLemmas.{begun, runs_none, start_known, start_table, start_unknown}
 use Rattle.ftp_direct.proofs.direct_run.direct.Goals as goal
 
-pub returns-in_err-clone-clause-begun : goal.returns-in_err-clone-clause-begun
-returns-in_err-clone-clause-begun g c =
-    let table = g.T.Tree.table c.args.tree.now in
-    let found = login_root c.args.accounts.now c.args.login.now.user c.args.login.now.pass in
-    let old = start table found in
-    begun c.from_residual.result _ _ _ old old c.args.list.now 0 [] table (runs_none _ old) refl (start_table table found)
-
 pub returns-in-Some-clause-answers : goal.returns-in-Some-clause-answers
 returns-in-Some-clause-answers g c =
     let P : State → Type 0 = λ state. IfOk c.run.result (λ answers. Ran (g.T.Tree.failures c.args.tree.now) state (orders_of c.args.list.now) (map said_of answers.items) (g.T.Tree.failures c.run.new.tree) (g.T.Tree.table c.run.new.tree)) in

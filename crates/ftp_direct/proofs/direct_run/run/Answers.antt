@@ -2,21 +2,13 @@ use Rattle.std.proofs.Common.{refl, sym, arith, ◌+◌, []}
 use Rattle.ftp_direct.proofs.RunLemmas.{begun, runs_none, stepped, whole}
 use Rattle.ftp_direct.proofs.direct_run.run.Goals as goal
 
-pub returns-in_err-clone-clause-begun : goal.returns-in_err-clone-clause-begun
-returns-in_err-clone-clause-begun g c =
-    begun c.from_residual.result _ _ _ _ _ c.args.list.now 0 [] _ (runs_none _ _) refl refl
-
-pub returns-in_err-clone-2-clause-begun : goal.returns-in_err-clone-2-clause-begun
-returns-in_err-clone-2-clause-begun g c =
-    begun c.from_residual-in_err-clone-2.result _ _ _ _ _ c.args.list.now 0 [] _ (runs_none _ _) refl refl
-
 pub loop-op-init : goal.loop-op-init
 loop-op-init g c = rw (c.new-answers.ensures.items, c.root-cwd.ensures) (runs_none _ _)
 
 pub returns-in_err-answer-clause-begun : goal.returns-in_err-answer-clause-begun
 returns-in_err-answer-clause-begun g c =
     let kept = c.in_err-answer.ensures.kept in
-    begun c.from_residual-in_err-answer.result _ _ _ _ _ c.args.list.now c.loop-op.op-index _ _ c.loop-op.invariant kept.1 (sym kept.0)
+    begun c.from_residual.result _ _ _ _ _ c.args.list.now c.loop-op.op-index _ _ c.loop-op.invariant kept.1 (sym kept.0)
 
 pub returns-in_err-push-clause-begun : goal.returns-in_err-push-clause-begun
 returns-in_err-push-clause-begun g c =

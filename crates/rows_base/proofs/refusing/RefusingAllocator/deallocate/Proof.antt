@@ -1,8 +1,9 @@
 -- It counts the call, and gives the block back to the inner allocator. Assumes `Logic`.
 use Rattle.std.proofs.Common.{◌≡◌, ℕ, ◌+◌, ◌^◌, ◌<◌, List, [], ◌∷◌, refl, w64, Bor}
 use seplogic.Ra.Ura.{Ura}
-use mir.Syntax.{Ty, Args, Fn, a_type, dnil, dcons}
+use mir.Syntax.{Ty, Args, Fn, a_type, dnil, dcons, tnil, impl, Dict}
 use mir.Val.{Val, vint, vptr}
+use Rattle.std.specs.declared.clone.Clone.{Ghosts as CloneGhosts}
 use mir.MapTy.{inst_fn}
 use base.Logic.{SProp, ent, id⊢}
 use base.Fml.{Lft, Share, ftrue, flft}
@@ -47,45 +48,45 @@ use Rattle.rows_base.specs.contracts.refusing.RefusingAllocator.deallocate.Key a
 use Rattle.rows_base.proofs.refusing.RefusingAllocator.deallocate.Statement as stated
 use Rattle.rows_base.proofs.refusing.RefusingAllocator.deallocate.Code as code
 
-module _ (Z : Al) where
+module _ (Z : Al) (k : CloneGhosts Z.row.Denot) (kd : Dict) where
   abbrev args : Args
-  args = bounded (a_type ∷ []) (Z.row, tt) (dcons Z.d (dcons Z.drops dnil))
+  args = bounded (a_type ∷ []) (Z.row, tt) (dcons Z.d (dcons kd dnil))
 
   abbrev here : Fn
   here = inst_fn args code.function
 
   abbrev self : Slot 2
-  self = RefOf (0 ∷ []) tt (plain (λ _. wrapper.the_row (param 0 Z.row))) (λ _. tt)
+  self = RefOf (0 ∷ []) tt (plain (λ _. wrapper.the_row (F.B-row Z.row))) (λ _. tt)
 
   abbrev ended : Ended
-  ended = F.ended Z.row Z.g Z.d Z.drops
+  ended = F.ended Z.row Z.g Z.d k kd
 
   abbrev stayed : Stays ended.signature.params ended.kept
   stayed = (stay_dropped self yes, (stay_dropped (plain (λ _. RawPtr)) yes, (stay_dropped (plain (λ _. usize)) yes, (stay_dropped (plain (λ _. usize)) yes, tt))))
 
-module _ (Z : Al) {M : Type 1} {𝓤 : Ura M} (𝓛 : Logic 𝓤) (at_mem : Memory → SProp 𝓤) (run : Routine → Fun 𝓤) (𝓣 : Tables 𝓤 𝓛.H) (de : Triple 𝓤 (𝓣.C (gives_key Z)) (Gives Z 𝓛 at_mem run)) (kn : Triple 𝓤 (𝓣.C c_sym.name) (Pass 𝓛 at_mem run)) where
+module _ (Z : Al) (k : CloneGhosts Z.row.Denot) (kd : Dict) {M : Type 1} {𝓤 : Ura M} (𝓛 : Logic 𝓤) (at_mem : Memory → SProp 𝓤) (run : Routine → Fun 𝓤) (𝓣 : Tables 𝓤 𝓛.H) (de : Triple 𝓤 (𝓣.C (gives_key Z)) (Gives Z 𝓛 at_mem run)) (kn : Triple 𝓤 (𝓣.C c_sym.name) (Pass 𝓛 at_mem run)) where
   open 𝓛 use {H}
 
-  abbrev held : Clauses 𝓤 (ended Z)
-  held = F.clauses Z.row Z.g Z.d Z.drops 𝓛 at_mem run
+  abbrev held : Clauses 𝓤 (ended Z k kd)
+  held = F.clauses Z.row Z.g Z.d k kd 𝓛 at_mem run
 
-  module _ (κ₁ κ₂ : Lft) (q₁ q₂ : Share) (inn : κ₁ ⊑ κ₂) (r : Bor (wrapper.the_row Z.row).Denot) (n a : ℕ) (τ : Ty) where
-    abbrev bound : Ptr → (walk_of 𝓛 (ended Z) (stayed Z) held).Ghost
+  module _ (κ₁ κ₂ : Lft) (q₁ q₂ : Share) (inn : κ₁ ⊑ κ₂) (r : Bor (wrapper.the_row (F.B-row Z.row)).Denot) (n a : ℕ) (τ : Ty) where
+    abbrev bound : Ptr → (walk_of 𝓛 (ended Z k kd) (stayed Z k kd) held).Ghost
     bound x = (((κ₁, (κ₂, tt)), (q₁, (q₂, tt)), (inn, tt), (r, (x, (n, (a, tt)))), (shr_vals r, (rawptr_vals x, (vint w64 n ∷ [], (vint w64 a ∷ [], tt))))), τ)
 
     abbrev vs : Ptr → List Val
     vs x = vptr r.ref_ptr.0 r.ref_ptr.1 ∷ ptr_val x ∷ vint w64 n ∷ vint w64 a ∷ []
 
     abbrev Post : Ptr → Val → SProp 𝓤
-    Post x = (walk_of 𝓛 (ended Z) (stayed Z) held).post (bound x)
+    Post x = (walk_of 𝓛 (ended Z k kd) (stayed Z k kd) held).post (bound x)
 
     abbrev entry : Ptr → Item 𝓤
-    entry x = (‵ (flft κ₁ q₁) ⊛ ‵ (flft κ₂ q₂) ⊛ ‵ ftrue) ⊛ ‵ (owns (types_at (ended Z).signature.params (bound x).0.0) (bound x).0.3 (bound x).0.4)
+    entry x = (‵ (flft κ₁ q₁) ⊛ ‵ (flft κ₂ q₂) ⊛ ‵ ftrue) ⊛ ‵ (owns (types_at (ended Z k kd).signature.params (bound x).0.0) (bound x).0.3 (bound x).0.4)
 
     abbrev Said : Type 0
     Said = (capped (size τ) ≡ n) × (capped (align τ) ≡ a)
 
-    walk : n < 2 ^ 64 → a < 2 ^ 64 → (x : Ptr) → ent 𝓤 ((walk_of 𝓛 (ended Z) (stayed Z) held).pre (bound x)) (WpFn 𝓤 H 𝓣.C 𝓣.Λ (here Z) (vs x) (Post x))
+    walk : n < 2 ^ 64 → a < 2 ^ 64 → (x : Ptr) → ent 𝓤 ((walk_of 𝓛 (ended Z k kd) (stayed Z k kd) held).pre (bound x)) (WpFn 𝓤 H 𝓣.C 𝓣.Λ (here Z k kd) (vs x) (Post x))
     walk fn fa null_ptr =
         qed 𝓛 (entry null_ptr ∷ (raw (fact 𝓤 (κ₂ ⊑ Z.row.lives)) ⊛ raw (fact 𝓤 Said) ⊛ ‵ (fsep ffalse (token Z r.now.inner τ null_ptr))) ∷ []) ∵
         move ! (1 ∷ []) $ split3 ! $ move ! (2 ∷ []) $ fsplit ! $ keep ! (0 ∷ []) $ by ! (never_e 𝓤 _)
@@ -98,7 +99,7 @@ module _ (Z : Al) {M : Type 1} {𝓤 : Ura M} (𝓛 : Logic 𝓤) (at_mem : Memo
         qed 𝓛 (entry x ∷ (raw (fact 𝓤 (κ₂ ⊑ Z.row.lives)) ⊛ raw (fact 𝓤 Said) ⊛ ‵ (fsep (froom τ b o) (token Z h τ x))) ∷ []) ∵
         move ! (1 ∷ []) $ split3 ! $ heard ! (κ₂ ⊑ Z.row.lives) (λ le. heard ! Said (λ said. move ! (1 ∷ []) $
         split ! $ split ! $ move ! (2 ∷ []) $ fsplit ! $ fsplit ! $ move ! (1 ∷ []) $ unhide ! $ fsplit ! $ fsplit ! $ use1 𝓛 (‵ (seen Z κ₁ p h)) (id⊢ 𝓤 _) $ move ! (1 ∷ []) $ fsplit ! $ keep ! (0 ∷ 6 ∷ 2 ∷ 7 ∷ 8 ∷ []) $
-        enter ! 𝓣.C 𝓣.Λ (here Z) (vs x) _ $ alloc_all ! (λ l. pass_all ! refl ((tt, tt), ((tt, tt), ((tt, record { fits = fn }), ((tt, record { fits = fa }), tt)))) $
+        enter ! 𝓣.C 𝓣.Λ (here Z k kd) (vs x) _ $ alloc_all ! (λ l. pass_all ! refl ((tt, tt), ((tt, tt), ((tt, record { fits = fn }), ((tt, record { fits = fa }), tt)))) $
         sets ! (addr ! (through ! refl (fld ! refl (stop !)))) refl (tt, tt) $
         use2 𝓛 (raw ((Pass 𝓛 at_mem run).pre (at_pass_by 𝓛 at_mem run κ₁ q₁ c))) (Pass-goes 𝓛 at_mem run κ₁ q₁ c) $
         calls_at ! (fm_of 𝓤 H 𝓛.laws 𝓣) (Pass 𝓛 at_mem run) kn (at_pass_by 𝓛 at_mem run κ₁ q₁ c) (and_then ! (get ! refl) (no_more !)) (λ u.
@@ -109,18 +110,18 @@ module _ (Z : Al) {M : Type 1} {𝓤 : Ura M} (𝓛 : Logic 𝓤) (at_mem : Memo
         calls_at ! (fm_of 𝓤 H 𝓛.laws 𝓣) (Gives Z 𝓛 at_mem run) de y (and_then ! (get ! refl) (and_then ! (get ! refl) (and_then ! (get ! refl) (and_then ! (get ! refl) (no_more !))))) (λ v.
         use1 𝓛 (later (given (v ≡ vunit) (‵ (flft κ₁ q₁)))) (Gives-Gives Z 𝓛 at_mem run κ₁ q₁ p h b o n a τ v) $ await ! tt $ learn ! (λ e.
         lands_as ! e refl (tt, tt) $ sets ! (of_opd ! (unit_lit !)) refl (tt, tt) $ returns ! (look_at ! 0 refl) $ free_all ! refl $
-        suffices ! _ (ends_at 𝓛 (ended Z) (stayed Z) held (bound x) vunit tt (tt, (tt, (tt, (tt, tt)))) (tt, (tt, (tt, (tt, tt))))) $
+        suffices ! _ (ends_at 𝓛 (ended Z k kd) (stayed Z k kd) held (bound x) vunit tt (tt, (tt, (tt, (tt, tt)))) (tt, (tt, (tt, (tt, tt))))) $
         nothing ! $ feq_i ! (List Val) (vunit ∷ []) (vunit ∷ []) refl $ nothing ! $ nothing ! $ fjoin ! $ nothing ! $ fjoin ! $ nothing ! $ fjoin ! $ nothing ! $ fjoin ! $ join ! $
         move ! (2 ∷ 3 ∷ []) $ join ! $ join ! $ done !)))))))
 
 pub deallocate_spec : {M : Type 1} → stated.statement M
 unfolding tables_of
-deallocate_spec 𝓤 𝓛 𝓜 𝓡 wired Y L g d d' met _ =
-    let Z : Al = record { row = Y; laws = L; g = g; d = d; drops = d' } in
+deallocate_spec 𝓤 𝓛 𝓜 𝓡 wired Y L _ g d k kd met _ =
+    let Z : Al = record { row = Y; laws = L; g = g; d = d; drops = impl [] tnil dnil } in
     let A = 𝓛.A in
     let 𝓣 : Tables 𝓤 𝓛.H = tables_of 𝓤 𝓛.H 𝓜 (tables 𝓤 𝓛.H 𝓜 𝓡 𝓡.env) in
-    let c = F.clauses Y g d d' 𝓛 𝓜.mem 𝓡.returns in
-    entered 𝓤 𝓛.H (triple_of 𝓛 (F.signature Y) (F.spec Y g d d' 𝓛 𝓜.mem 𝓡.returns)) 𝓣.C 𝓣.Λ (key.name (args Z)) (here Z) (code.unfolded 𝓤 𝓛.H 𝓜 𝓡 wired (Y, tt) d d')
-    (walk_Meets 𝓛 (ended Z) (stayed Z) (Goes-dropped 𝓛 2 (self Z) yes (λ κs x f. refl), (Goes-dropped 𝓛 2 (plain (λ _. RawPtr)) yes (λ κs x f. refl), (Goes-dropped 𝓛 2 (plain (λ _. usize)) yes (λ κs x f. refl), (Goes-dropped 𝓛 2 (plain (λ _. usize)) yes (λ κs x f. refl), tt)))) c (WpFn 𝓤 𝓛.H 𝓣.C 𝓣.Λ (here Z)) (WpFn-mono 𝓤 𝓛.H 𝓛.laws 𝓣 (here Z))
-    (walked 𝓛 (ended Z) (stayed Z) c (WpFn 𝓤 𝓛.H 𝓣.C 𝓣.Λ (here Z)) (λ κs. (shr_vals, (rawptr_vals, (uint_vals w64, (uint_vals w64, tt))))) (λ κs. ((λ r vs s. s.0), (rawptr_Tells, (uint_Tells w64, (uint_Tells w64, tt)))))
-    (λ κs qs bounds a τ are. walk Z 𝓛 𝓜.mem 𝓡.returns 𝓣 (met.deallocate d') (cited 𝓤 𝓛.H _ 𝓜 𝓡 𝓡.env c_sym.name (𝓡.env c_sym.name) refl (c_met.met 𝓤 𝓛 𝓜 𝓡 (code.calls-rows_base::refusing::pass_by 𝓡.env wired))) κs.0 κs.1.0 qs.0 qs.1.0 bounds.0 a.0 a.1.1.0 a.1.1.1.0 τ are.1.1.0.1 are.1.1.1.0.1 a.1.0)))
+    let c = F.clauses Y g d k kd 𝓛 𝓜.mem 𝓡.returns in
+    entered 𝓤 𝓛.H (triple_of 𝓛 (F.signature Y) (F.spec Y g d k kd 𝓛 𝓜.mem 𝓡.returns)) 𝓣.C 𝓣.Λ (key.name (args Z k kd)) (here Z k kd) (code.unfolded 𝓤 𝓛.H 𝓜 𝓡 wired (Y, tt) d kd)
+    (walk_Meets 𝓛 (ended Z k kd) (stayed Z k kd) (Goes-dropped 𝓛 2 (self Z k kd) yes (λ κs x f. refl), (Goes-dropped 𝓛 2 (plain (λ _. RawPtr)) yes (λ κs x f. refl), (Goes-dropped 𝓛 2 (plain (λ _. usize)) yes (λ κs x f. refl), (Goes-dropped 𝓛 2 (plain (λ _. usize)) yes (λ κs x f. refl), tt)))) c (WpFn 𝓤 𝓛.H 𝓣.C 𝓣.Λ (here Z k kd)) (WpFn-mono 𝓤 𝓛.H 𝓛.laws 𝓣 (here Z k kd))
+    (walked 𝓛 (ended Z k kd) (stayed Z k kd) c (WpFn 𝓤 𝓛.H 𝓣.C 𝓣.Λ (here Z k kd)) (λ κs. (shr_vals, (rawptr_vals, (uint_vals w64, (uint_vals w64, tt))))) (λ κs. ((λ r vs s. s.0), (rawptr_Tells, (uint_Tells w64, (uint_Tells w64, tt)))))
+    (λ κs qs bounds a τ are. walk Z k kd 𝓛 𝓜.mem 𝓡.returns 𝓣 (met.deallocate (impl [] tnil dnil)) (cited 𝓤 𝓛.H _ 𝓜 𝓡 𝓡.env c_sym.name (𝓡.env c_sym.name) refl (c_met.met 𝓤 𝓛 𝓜 𝓡 (code.calls-rows_base::refusing::pass_by 𝓡.env wired))) κs.0 κs.1.0 qs.0 qs.1.0 bounds.0 a.0 a.1.1.0 a.1.1.1.0 τ are.1.1.0.1 are.1.1.1.0.1 a.1.0)))
