@@ -149,7 +149,9 @@ where
         + Files
         + AllocGlobal
         + Clock
-        + Net<Listener = TcpListener, Stream = TcpStream>,
+        + Net<Listener = TcpListener, Stream = TcpStream>
+        + Clone
+        + Drop,
 {
     match serving::serving_of(words) {
         Some(job) => Ok(ftp_tool_serve::serve(rt, job)?.number()),

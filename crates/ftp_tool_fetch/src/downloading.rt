@@ -12,6 +12,7 @@ use ftp_tool_status::{
 };
 use std::alloc::{AllocError, Global};
 use std::io::Eprint;
+use std::mem;
 
 /// What is known of the moment of the file's last change.
 #[derive(Clone, Copy)]
@@ -153,8 +154,8 @@ impl<'a, R: Eprint + AllocGlobal> Downloading<'a, R> {
 
     /// Takes in what the server tells of the size; says whether anything more is answered over this control connection.
     fn see<S: ClientSession>(&mut self, seat: &mut S) -> bool {
-        match self.size_answer(seat) {
-            Answer::Number(count) => self.size = Size::Told(count),
+        match &self.size_answer(seat) {
+            Answer::Number(count) => self.size = Size::Told(*count),
             Answer::Strange => self.size = Size::Strange,
             Answer::Lost => return false,
             _ => self.size = Size::Untold,
@@ -168,8 +169,8 @@ impl<'a, R: Eprint + AllocGlobal> Downloading<'a, R> {
             Stamp::Unasked | Stamp::Strange => return true,
             Stamp::Untold | Stamp::Told(_) => {}
         }
-        match answer_to(seat, moment_request(self.rt.alloc(), self.path)) {
-            Answer::Stamp(moment) => self.stamp = Stamp::Told(moment),
+        match &answer_to(seat, moment_request(self.rt.alloc(), self.path)) {
+            Answer::Stamp(moment) => self.stamp = Stamp::Told(*moment),
             Answer::Strange => self.stamp = Stamp::Strange,
             Answer::Lost => return false,
             _ => self.stamp = Stamp::Untold,
@@ -219,20 +220,15 @@ impl<'a, R: Eprint + AllocGlobal> Downloading<'a, R> {
     }
 
     /// Takes the octets out of an answer.
-    fn take(&mut self, answer: Answer<Global>) -> Answer<Global> {
-        match answer {
-            Answer::Octets(octets) => self.taken(octets, Answer::Done),
-            Answer::Broken { got, mark } => {
-                let none = Text::from_vec(Vec::new(self.rt.alloc()));
-                self.taken(got, Answer::Broken { got: none, mark })
-            }
-            other => other,
-        }
-    }
-
-    /// Takes octets that came, and gives the answer that is left.
-    fn taken(&mut self, octets: Text<Global>, answer: Answer<Global>) -> Answer<Global> {
+    fn take(&mut self, mut answer: Answer<Global>) -> Answer<Global> {
+        let none = Text::from_vec(Vec::new(self.rt.alloc()));
+        let octets = match &mut answer {
+            Answer::Octets(octets) => mem::replace(octets, none),
+            Answer::Broken { got, mark: _ } => mem::replace(got, none),
+            _ => return answer,
+        };
         match self.came.add(octets) {
+            Ok(()) if matches!(&answer, Answer::Octets(_)) => Answer::Done,
             Ok(()) => answer,
             Err(AllocError) => Answer::Memory,
         }

@@ -8,6 +8,7 @@ use ftp_tool_local::{Flush, Reading, read_from, write_over};
 use ftp_tool_plan::Facts;
 use std::alloc::Global;
 use std::fs::Files;
+use std::mem;
 
 /// A file at both ends.
 #[derive(Clone, Copy)]
@@ -51,16 +52,16 @@ fn download<S: ClientSession>(
     facts: Facts,
 ) -> Result<Text<Global>, Trouble> {
     let path = text_of(alloc, ends.there)?;
-    match seat.answer(Request::One(Some(Op::Get(path, ends.how)))) {
-        Answer::Octets(octets) => {
-            let count = octets.as_slice().len() as u64;
-            if facts.size != Some(count) {
-                check_size(alloc, seat, ends, count)?;
-            }
-            Ok(octets)
-        }
-        answer => Err(Trouble::Server(answer)),
+    let mut answer = seat.answer(Request::One(Some(Op::Get(path, ends.how))));
+    let Answer::Octets(octets) = &mut answer else {
+        return Err(Trouble::Server(answer));
+    };
+    let octets = mem::replace(octets, Text::from_vec(Vec::new(alloc)));
+    let count = octets.as_slice().len() as u64;
+    if facts.size != Some(count) {
+        check_size(alloc, seat, ends, count)?;
     }
+    Ok(octets)
 }
 
 /// Fails where the server tells another size of a file than so many octets (RFC 3659, section 4).
@@ -71,8 +72,8 @@ fn check_size<S: ClientSession>(
     count: u64,
 ) -> Result<(), Trouble> {
     let path = text_of(alloc, ends.there)?;
-    match seat.answer(Request::One(Some(Op::Size(path, ends.how)))) {
-        Answer::Number(total) if total != count => Err(Trouble::Size(count, total)),
+    match &seat.answer(Request::One(Some(Op::Size(path, ends.how)))) {
+        Answer::Number(total) if *total != count => Err(Trouble::Size(count, *total)),
         Answer::Lost => Err(Trouble::Server(Answer::Lost)),
         _ => Ok(()),
     }
@@ -109,11 +110,10 @@ where
     let count = content.octets.as_slice().len() as u64;
     let path = text_of(rt.alloc(), ends.there)?;
     let file = Some((path, Text::from_vec(content.octets)));
-    match seat.answer(Request::Upload(file, ends.how)) {
-        Answer::Done => {
-            check_size(rt.alloc(), seat, ends, count)?;
-            Ok(count)
-        }
-        answer => Err(Trouble::Server(answer)),
+    let answer = seat.answer(Request::Upload(file, ends.how));
+    if !matches!(&answer, Answer::Done) {
+        return Err(Trouble::Server(answer));
     }
+    check_size(rt.alloc(), seat, ends, count)?;
+    Ok(count)
 }

@@ -57,7 +57,7 @@ where
     for _ in 0..ROUNDS {
         let before = (walk.planned(), walk.left());
         let answered = ask(rt, asked.server, asked.user, noticed, walk);
-        let is_lost = matches!(answered, Ok(Answer::Lost));
+        let is_lost = matches!(&answered, Ok(Answer::Lost));
         if !is_lost || (walk.planned(), walk.left()) == before {
             return answered;
         }
@@ -73,14 +73,14 @@ fn tell_end<R: Files + Print + Eprint + AllocGlobal + Clone + Drop>(
     walk: &Walk<'_, R>,
     noticed: &LastReply,
 ) -> io::Result<Status> {
-    match answered {
+    match &answered {
         Ok(Answer::Done) if walk.tally().failed == 0 => Ok(Status::Done),
         Ok(Answer::Done) => Ok(Status::Refused),
         Ok(Answer::Refused(code)) => {
             say(
                 rt,
                 "error: the server has no machine listing, by which a mirror goes: ",
-                &noticed.refusal(code),
+                &noticed.refusal(*code),
                 "",
             )?;
             Ok(Status::Refused)

@@ -20,9 +20,10 @@ pub(crate) fn text_of(alloc: Global, path: &str) -> Result<Text<Global>, AllocEr
 
 /// Asks a server to do something that has no other answer than that it is done.
 pub(crate) fn done_by<S: ClientSession>(seat: &mut S, op: Op<Text<Global>>) -> Result<(), Trouble> {
-    match seat.answer(Request::One(Some(op))) {
+    let answer = seat.answer(Request::One(Some(op)));
+    match &answer {
         Answer::Done | Answer::Path(_) => Ok(()),
-        answer => Err(Trouble::Server(answer)),
+        _ => Err(Trouble::Server(answer)),
     }
 }
 
@@ -38,12 +39,12 @@ pub(crate) fn entries_there<S: ClientSession>(
     if seat.ending() == Ending::PastLimit {
         return Ok(Listing::CutOff);
     }
-    match answer {
+    match &answer {
         Answer::Entries(entries) => Ok(items_of(alloc, entries.as_slice(), below, excluded)?),
-        Answer::Refused(code) if code == UNKNOWN || code == NOT_IMPLEMENTED => {
-            Err(Trouble::NoListing(code))
+        Answer::Refused(code) if *code == UNKNOWN || *code == NOT_IMPLEMENTED => {
+            Err(Trouble::NoListing(*code))
         }
-        answer => Err(Trouble::Server(answer)),
+        _ => Err(Trouble::Server(answer)),
     }
 }
 

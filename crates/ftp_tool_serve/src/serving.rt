@@ -77,7 +77,9 @@ where
         + Clock
         + Print
         + Eprint
-        + AllocGlobal,
+        + AllocGlobal
+        + Clone
+        + Drop,
 {
     if !job.may_listen() {
         eprintln!(rt;
@@ -113,7 +115,9 @@ where
         + Clock
         + Print
         + Eprint
-        + AllocGlobal,
+        + AllocGlobal
+        + Clone
+        + Drop,
 {
     let roots = match roots_of(rt, job.accounts) {
         Ok(roots) => roots,
@@ -144,9 +148,9 @@ fn try_writing<R: Files + AllocGlobal>(rt: &R, job: &Serving<'_>) -> io::Result<
 }
 
 /// Listens at the port and serves a folder.
-fn serve_mirror<'b, R>(
-    rt: &'b R,
-    mirror: Mirror<Global, DiskFolder<'_, &'b R>>,
+fn serve_mirror<'a, R>(
+    rt: &'a R,
+    mirror: Mirror<Global, DiskFolder<'a, R>>,
     job: &Serving<'_>,
     reasons: &Reasons,
 ) -> io::Result<Status>
@@ -156,7 +160,9 @@ where
         + Clock
         + Print
         + Eprint
-        + AllocGlobal,
+        + AllocGlobal
+        + Clone
+        + Drop,
 {
     match listener_for(rt, job) {
         Ok(Some(listener)) => Ok(serve_by(rt, mirror, job, &listener, reasons)),
@@ -197,15 +203,21 @@ where
 }
 
 /// Serves a folder at a port that is listened at.
-fn serve_by<'b, R>(
-    rt: &'b R,
-    mirror: Mirror<Global, DiskFolder<'_, &'b R>>,
+fn serve_by<'a, R>(
+    rt: &'a R,
+    mirror: Mirror<Global, DiskFolder<'a, R>>,
     job: &Serving<'_>,
     listener: &TcpListener,
     reasons: &Reasons,
 ) -> Status
 where
-    R: Net<Listener = TcpListener, Stream = TcpStream> + Files + Clock + Eprint + AllocGlobal,
+    R: Net<Listener = TcpListener, Stream = TcpStream>
+        + Files
+        + Clock
+        + Eprint
+        + AllocGlobal
+        + Clone
+        + Drop,
 {
     let passive = PassivePorts::new(job.passive.0, job.passive.1);
     let desk = Desk {
@@ -218,13 +230,15 @@ where
 }
 
 /// Serves control connections one after another; a session that failed counts, and makes the status a failure.
-fn serve_at<'b, R>(
-    rt: &'b R,
-    mirror: Mirror<Global, DiskFolder<'_, &'b R>>,
-    desk: Desk<'_>,
-) -> Status
+fn serve_at<'a, R>(rt: &'a R, mirror: Mirror<Global, DiskFolder<'a, R>>, desk: Desk<'_>) -> Status
 where
-    R: Net<Listener = TcpListener, Stream = TcpStream> + Files + Clock + Eprint + AllocGlobal,
+    R: Net<Listener = TcpListener, Stream = TcpStream>
+        + Files
+        + Clock
+        + Eprint
+        + AllocGlobal
+        + Clone
+        + Drop,
 {
     let mut mirror = mirror;
     let mut seen = Seen::nothing(rt.alloc());
@@ -248,14 +262,20 @@ fn turns_of(sessions: Sessions) -> u64 {
 }
 
 /// Serves the next control connection; gives the folder's mirror back, and whether all went well.
-fn next_session<'a, 'b, R>(
-    rt: &'b R,
-    mirror: Mirror<Global, DiskFolder<'a, &'b R>>,
+fn next_session<'a, R>(
+    rt: &'a R,
+    mirror: Mirror<Global, DiskFolder<'a, R>>,
     seen: &mut Seen,
     desk: Desk<'_>,
-) -> (Mirror<Global, DiskFolder<'a, &'b R>>, bool)
+) -> (Mirror<Global, DiskFolder<'a, R>>, bool)
 where
-    R: Net<Listener = TcpListener, Stream = TcpStream> + Files + Clock + Eprint + AllocGlobal,
+    R: Net<Listener = TcpListener, Stream = TcpStream>
+        + Files
+        + Clock
+        + Eprint
+        + AllocGlobal
+        + Clone
+        + Drop,
 {
     let Some(stream) = next_client(rt, desk.listener) else {
         return (mirror, false);
@@ -277,14 +297,14 @@ where
 }
 
 /// The mirror of the folder as it is now, where others may change it. What of it can't be served is told.
-fn looked_at<'a, 'b, R>(
-    rt: &'b R,
-    mirror: Mirror<Global, DiskFolder<'a, &'b R>>,
+fn looked_at<'a, R>(
+    rt: &'a R,
+    mirror: Mirror<Global, DiskFolder<'a, R>>,
     seen: &mut Seen,
     job: &Serving<'_>,
-) -> Mirror<Global, DiskFolder<'a, &'b R>>
+) -> Mirror<Global, DiskFolder<'a, R>>
 where
-    R: Files + Clock + Eprint + AllocGlobal,
+    R: Files + Clock + Eprint + AllocGlobal + Clone + Drop,
 {
     if job.others == Others::Keep {
         return mirror;
@@ -293,7 +313,7 @@ where
         return mirror;
     };
     let now = SystemWatch::new(rt).moment().seconds;
-    let (mirror, left) = reloaded(&rt, job.dir, roots.as_slice(), mirror, seen, now);
+    let (mirror, left) = reloaded(rt, job.dir, roots.as_slice(), mirror, seen, now);
     tell_left(rt, &left);
     mirror
 }

@@ -19,7 +19,7 @@ use std::{fs, io};
 /// the way to what is changed is not followed: the call fails. So does a change that the rights of `reasons` do not allow, before the folder is touched.
 #[derive(Drop)]
 pub struct DiskFolder<'a, R: Files + AllocGlobal + Clone + Drop> {
-    files: R,
+    files: &'a R,
     reasons: &'a Reasons,
     dir: String<Global>,
     failures: u64,
@@ -28,7 +28,11 @@ pub struct DiskFolder<'a, R: Files + AllocGlobal + Clone + Drop> {
 impl<'a, R: Files + AllocGlobal + Clone + Drop> DiskFolder<'a, R> {
     /// The folder below a directory, which is the current one for an empty text. Nothing is looked at. What may be changed is asked of
     /// `reasons`, and why a change fails goes there.
-    pub fn new(files: R, dir: &str, reasons: &'a Reasons) -> Result<DiskFolder<'a, R>, AllocError>
+    pub fn new(
+        files: &'a R,
+        dir: &str,
+        reasons: &'a Reasons,
+    ) -> Result<DiskFolder<'a, R>, AllocError>
         ensures dir { IfOk result (λ folder. string_bytes folder.dir ≡ folder_text dir.now) }
         ensures failures { IfOk result (λ folder. folder.failures ≡ 0) }
     {
@@ -48,7 +52,7 @@ impl<'a, R: Files + AllocGlobal + Clone + Drop> DiskFolder<'a, R> {
         path: &Path<C>,
     ) -> io::Result<String<Global>> {
         let place = place_of(self.files.alloc(), self.dir.as_str(), root, path)?;
-        check_way(&self.files, place.as_str(), self.dir.len())?;
+        check_way(self.files, place.as_str(), self.dir.len())?;
         Ok(place)
     }
 
@@ -59,10 +63,10 @@ impl<'a, R: Files + AllocGlobal + Clone + Drop> DiskFolder<'a, R> {
     ) -> io::Result<()> {
         self.reasons.check(Deed::Make, Touches::Names)?;
         let place = self.place(root, path)?;
-        fs::create_dir(&self.files, place.as_str())?;
-        let synced = sync_above(&self.files, place.as_str());
+        fs::create_dir(self.files, place.as_str())?;
+        let synced = sync_above(self.files, place.as_str());
         if synced.is_err() {
-            let _gone = fs::remove_dir(&self.files, place.as_str());
+            let _gone = fs::remove_dir(self.files, place.as_str());
         }
         synced
     }
@@ -74,8 +78,8 @@ impl<'a, R: Files + AllocGlobal + Clone + Drop> DiskFolder<'a, R> {
     ) -> io::Result<()> {
         self.reasons.check(Deed::Change, Touches::Names)?;
         let place = self.place(root, path)?;
-        fs::remove_dir(&self.files, place.as_str())?;
-        sync_above(&self.files, place.as_str())
+        fs::remove_dir(self.files, place.as_str())?;
+        sync_above(self.files, place.as_str())
     }
 
     fn deleted<B: Allocator + Copy, C: Allocator + Copy>(
@@ -85,8 +89,8 @@ impl<'a, R: Files + AllocGlobal + Clone + Drop> DiskFolder<'a, R> {
     ) -> io::Result<()> {
         self.reasons.check(Deed::Change, Touches::Names)?;
         let place = self.place(root, path)?;
-        fs::remove_file(&self.files, place.as_str())?;
-        sync_above(&self.files, place.as_str())
+        fs::remove_file(self.files, place.as_str())?;
+        sync_above(self.files, place.as_str())
     }
 
     fn renamed<B: Allocator + Copy, C: Allocator + Copy, D: Allocator + Copy>(
@@ -98,19 +102,19 @@ impl<'a, R: Files + AllocGlobal + Clone + Drop> DiskFolder<'a, R> {
         self.reasons.check(Deed::Change, Touches::Names)?;
         let from = self.place(root, from)?;
         let to = self.place(root, to)?;
-        check_free(&self.files, to.as_str())?;
-        fs::rename(&self.files, from.as_str(), to.as_str())?;
+        check_free(self.files, to.as_str())?;
+        fs::rename(self.files, from.as_str(), to.as_str())?;
         let synced = self.synced(from.as_str(), to.as_str());
         if synced.is_err() {
-            let _back = fs::rename(&self.files, to.as_str(), from.as_str());
+            let _back = fs::rename(self.files, to.as_str(), from.as_str());
         }
         synced
     }
 
     /// Both names of a move are on the disk: the new one first, so that the file never has none there.
     fn synced(&self, from: &str, to: &str) -> io::Result<()> {
-        sync_above(&self.files, to)?;
-        sync_above(&self.files, from)
+        sync_above(self.files, to)?;
+        sync_above(self.files, from)
     }
 
     fn written<A: Allocator + Copy, B: Allocator + Copy, C: Allocator + Copy>(
@@ -122,7 +126,7 @@ impl<'a, R: Files + AllocGlobal + Clone + Drop> DiskFolder<'a, R> {
     ) -> io::Result<()> {
         let place = self.place(root, path)?;
         self.check_writing(place.as_str())?;
-        write_over(&self.files, place.as_str(), content, moment)
+        write_over(self.files, place.as_str(), content, moment)
     }
 
     /// Fails where the rights do not allow to write a file at a place: where something stands there, that is a change of it.
@@ -130,7 +134,7 @@ impl<'a, R: Files + AllocGlobal + Clone + Drop> DiskFolder<'a, R> {
         if self.reasons.rights() == Rights::All {
             return Ok(());
         }
-        match check_free(&self.files, place) {
+        match check_free(self.files, place) {
             Ok(()) => self.reasons.check(Deed::Make, Touches::Content),
             Err(_) => self.reasons.check(Deed::Change, Touches::Content),
         }

@@ -25,7 +25,7 @@ const PIECE: usize = 65_536;
 /// Loads the folder below a directory, and mirrors it: the changes of the tree that it gives go there. What fails of them is told by `reasons`.
 /// Limits are counted as `load` says.
 pub fn open<'a, R: Files + AllocGlobal + Clone + Drop>(
-    files: R,
+    files: &'a R,
     dir: &str,
     roots: &[Path<Global>],
     reasons: &'a Reasons,
@@ -33,7 +33,7 @@ pub fn open<'a, R: Files + AllocGlobal + Clone + Drop>(
     ensures dir { IfOk result (λ mirror. string_bytes mirror.folder.dir ≡ folder_text dir.now) }
     ensures failures { IfOk result (λ mirror. mirror.folder.failures ≡ 0) }
 {
-    let tree = load(&files, dir, roots)?;
+    let tree = load(files, dir, roots)?;
     match DiskFolder::new(files, dir, reasons) {
         Ok(folder) => Ok(Mirror::new(tree, folder)),
         Err(_) => Err(LoadFault::Memory),

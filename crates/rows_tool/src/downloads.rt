@@ -51,7 +51,7 @@ fn put_of<R: Eprint + AllocGlobal>(
 ) {
     let answer = played(rt.alloc(), paper, row, downloading);
     paper.put(b"; ");
-    match answer {
+    match &answer {
         Ok(Answer::Done) => put_arrival(paper, downloading.arrived()),
         Ok(Answer::Refused(_)) => paper.put(b"refused"),
         Ok(Answer::Broken { got: _, mark: _ }) => paper.put(b"broken"),

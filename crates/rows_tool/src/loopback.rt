@@ -97,13 +97,13 @@ fn served(rt: &HostRuntime, stream: &TcpStream, over: Over<'_>) -> io::Result<bo
 }
 
 /// Serves a control connection over the mirror of a folder; gives that back, and whether all went well.
-pub(crate) fn served_over<'a, 'b>(
-    rt: &'b HostRuntime,
+pub(crate) fn served_over<'a>(
+    rt: &'a HostRuntime,
     stream: &TcpStream,
-    mirror: Mirror<Global, DiskFolder<'a, &'b HostRuntime>>,
+    mirror: Mirror<Global, DiskFolder<'a, HostRuntime>>,
     accounts: Option<&str>,
     reasons: &Reasons,
-) -> io::Result<(Mirror<Global, DiskFolder<'a, &'b HostRuntime>>, bool)> {
+) -> io::Result<(Mirror<Global, DiskFolder<'a, HostRuntime>>, bool)> {
     match users_of(rt, accounts) {
         Ok(users) => Ok(served_users(rt, stream, mirror, users, reasons)),
         Err(_) => Err(io::Error::from(ErrorKind::InvalidData)),

@@ -63,14 +63,14 @@ fn said(rt: &HostRuntime, lines: &[u8], ends: Ends) -> io::Result<(TcpStream, Tc
 }
 
 /// Serves a client over what the folder has by now, and gives its mirror back.
-fn served_anew<'a, 'b>(
-    rt: &'b HostRuntime,
+fn served_anew<'a>(
+    rt: &'a HostRuntime,
     stream: &TcpStream,
-    mirror: Mirror<Global, DiskFolder<'a, &'b HostRuntime>>,
+    mirror: Mirror<Global, DiskFolder<'a, HostRuntime>>,
     seen: &mut Seen,
-    reasons: &Reasons,
-) -> io::Result<Mirror<Global, DiskFolder<'a, &'b HostRuntime>>> {
-    let (mirror, _left) = reloaded(&rt, DIR, &[], mirror, seen, 0);
+    reasons: &'a Reasons,
+) -> io::Result<Mirror<Global, DiskFolder<'a, HostRuntime>>> {
+    let (mirror, _left) = reloaded(rt, DIR, &[], mirror, seen, 0);
     match served_over(rt, stream, mirror, None, reasons) {
         Ok((mirror, _ended)) => Ok(mirror),
         Err(fault) => Err(fault),
@@ -78,13 +78,13 @@ fn served_anew<'a, 'b>(
 }
 
 /// Serves a client that says these lines, which stays until it is served.
-fn visited<'a, 'b>(
-    rt: &'b HostRuntime,
+fn visited<'a>(
+    rt: &'a HostRuntime,
     (lines, ends): (&[u8], Ends),
-    mirror: Mirror<Global, DiskFolder<'a, &'b HostRuntime>>,
+    mirror: Mirror<Global, DiskFolder<'a, HostRuntime>>,
     seen: &mut Seen,
-    reasons: &Reasons,
-) -> io::Result<Mirror<Global, DiskFolder<'a, &'b HostRuntime>>> {
+    reasons: &'a Reasons,
+) -> io::Result<Mirror<Global, DiskFolder<'a, HostRuntime>>> {
     match said(rt, lines, ends) {
         Ok((_client, stream)) => served_anew(rt, &stream, mirror, seen, reasons),
         Err(fault) => Err(fault),
@@ -92,10 +92,10 @@ fn visited<'a, 'b>(
 }
 
 /// Puts what is there behind each client.
-fn put_clients<'a, 'b>(
-    rt: &'b HostRuntime,
+fn put_clients<'a>(
+    rt: &'a HostRuntime,
     paper: &mut Paper,
-    mirror: Mirror<Global, DiskFolder<'a, &'b HostRuntime>>,
+    mirror: Mirror<Global, DiskFolder<'a, HostRuntime>>,
     reasons: &Reasons,
 ) -> io::Result<()> {
     let mut mirror = mirror;
