@@ -17,12 +17,18 @@ use std::{fs, io};
 
 /// The files and directories below a directory of the system. No clause says what files keep: what it keeps is not known. A link on
 /// the way to what is changed is not followed: the call fails. So does a change that the rights of `reasons` do not allow, before the folder is touched.
-#[derive(Drop)]
 pub struct DiskFolder<'a, R: Files + AllocGlobal + Clone + Drop> {
     files: &'a R,
     reasons: &'a Reasons,
     dir: String<Global>,
     failures: u64,
+}
+
+/// By hand, as that of a mirror.
+impl<'a, R: Files + AllocGlobal + Clone + Drop> Drop for DiskFolder<'a, R> {
+    fn drop(self) {
+        let Self { files: _, reasons: _, dir: _, failures: _ } = self;
+    }
 }
 
 impl<'a, R: Files + AllocGlobal + Clone + Drop> DiskFolder<'a, R> {

@@ -12,11 +12,17 @@ use std::alloc::Allocator;
 
 /// A tree in memory, and a folder that keeps the same outside memory. All that a change needs of memory is had first, then the
 /// folder makes the change, and then the tree does, which can't fail: so where the folder fails the tree is as it was.
-#[derive(Drop)]
 pub struct Mirror<A: Allocator + Copy, D: Folder> {
     tree: MemTree<A>,
     folder: D,
     ghost mirrors: { Mirrors (D.kept folder) tree },
+}
+
+/// By hand: a derived drop is proved again wherever a mirror is let go, and what is generic over it is compiled again.
+impl<A: Allocator + Copy, D: Folder> Drop for Mirror<A, D> {
+    fn drop(self) {
+        let Self { tree: _, folder: _ } = self;
+    }
 }
 
 impl<A: Allocator + Copy, D: Folder> Mirror<A, D> {
@@ -33,7 +39,8 @@ impl<A: Allocator + Copy, D: Folder> Mirror<A, D> {
     pub fn into_parts(self) -> (MemTree<A>, D)
         ensures { result ≡ (self.tree, self.folder) }
     {
-        (self.tree, self.folder)
+        let Self { tree, folder } = self;
+        (tree, folder)
     }
 
     /// The folder.
