@@ -8,10 +8,10 @@ use Rattle.ftp_operation.specs.declared.op.Op.{Op}
 use Rattle.ftp_endpoint.specs.Written.{IsTypedHost}
 use Rattle.ftp_endpoint.specs.declared.host.Host.{Host}
 use Rattle.ftp_ends.specs.Limits.{block_limit, held_limit}
-use Rattle.ftp_client_laws.proofs.NearLemmas.{near_stays_fit}
-use Rattle.ftp_client_laws.proofs.Theorems.{fit_holds_little, start_is_fit}
-use Rattle.ftp_client_laws.specs.Fit.{IsFit, IsCalmAt, IsTied}
-use Rattle.ftp_client_laws.specs.Losses.{NearIsFit}
+use Rattle.ftp_client_model.proofs.NearLemmas.{near_stays_fit}
+use Rattle.ftp_client_model.proofs.Theorems.{fit_holds_little, start_is_fit}
+use Rattle.ftp_client_model.specs.Fit.{IsFit, IsCalmAt, IsTied}
+use Rattle.ftp_client_model.specs.Losses.{NearIsFit}
 use Rattle.ftp_client_model.specs.Calls.{is_busy, starts, uploads}
 use Rattle.ftp_client_model.specs.Failing.{Client, Holds, HoldsIfRoom, starts_short, uploads_short}
 use Rattle.ftp_client_model.specs.Held.{held}

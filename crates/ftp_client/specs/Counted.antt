@@ -1,7 +1,7 @@
 -- How a dialogue with its count of refused growths is seen, and what it keeps so that it holds little.
 use Rattle.std.specs.Prelude.{ℕ, List, [], None}
 use Rattle.ftp_operation.specs.declared.op.Op.{Op}
-use Rattle.ftp_client_laws.specs.Fit.{IsFit}
+use Rattle.ftp_client_model.specs.Fit.{IsFit}
 use Rattle.ftp_client_model.specs.Failing.{Client as Seen}
 use Rattle.ftp_client_model.specs.View.{Flow, Sending}
 use Rattle.ftp_client_session.specs.Client.{view_of}

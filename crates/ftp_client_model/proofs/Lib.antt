@@ -8,3 +8,9 @@ pub mod LeavesCalls
 pub mod RepliesInFlight
 pub mod RestLemmas
 pub mod SentLemmas
+pub mod CommandLemmas
+pub mod AnswerLemmas
+pub mod DialogueLemmas
+pub mod CallLemmas
+pub mod Theorems
+pub mod NearLemmas

@@ -14,3 +14,6 @@ pub mod Bounds
 pub mod Busy
 pub mod Held
 pub mod Rows
+pub mod Fit
+pub mod Laws
+pub mod Losses

@@ -3,6 +3,7 @@
 #![tactic(auto)]
 
 pub mod client;
+pub mod holding;
 pub mod laws;
 mod near;
 pub mod rows;

@@ -6,3 +6,9 @@ pub mod Theorems
 pub mod LossLemmas
 pub mod FarLemmas
 pub mod SenderLemmas
+pub mod SeenLemmas
+pub mod TurnLemmas
+pub mod PartLemmas
+pub mod HeardLemmas
+pub mod RootTheorems
+pub mod CopyLemmas

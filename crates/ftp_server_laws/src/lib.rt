@@ -1,4 +1,6 @@
-//! That a server holds little, whatever is called and whatever fails: laws of its definitions, and no code (own choice of the limits).
+//! That a server holds little, whatever is called and whatever fails, and that an account's root keeps the rest of its map apart: laws of its
+//! definitions, and no code (own choice of the limits and of roots).
 #![tactic(auto)]
 
 pub mod laws;
+pub mod roots;

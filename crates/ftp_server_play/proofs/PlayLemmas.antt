@@ -9,7 +9,7 @@ use Rattle.ftp_server_model.specs.declared.counts.Counts.{Counts as Told}
 use Rattle.ftp_server_model.specs.Machine.{Reading}
 use Rattle.ftp_server_model.specs.Play.{Cue, Gift, IsApart, LogsInAt, call, left_by, played}
 use Rattle.ftp_server_model.specs.View.{View}
-use Rattle.ftp_server_roots.proofs.Theorems.{roots_are_apart}
+use Rattle.ftp_server_laws.proofs.RootTheorems.{roots_are_apart}
 use Rattle.ftp_server_play.specs.Cues.{cue_of, cues_of, gift_of, gifts_of}
 use Rattle.ftp_server_play.specs.declared.cue.Cue.{Cue as Held}
 use Rattle.ftp_server_play.specs.declared.cue.Gift.{Gift as Given}

@@ -2,8 +2,7 @@
 use crate::netrc::{no_password, suited};
 use ftp_facts::Text;
 use ftp_operation::Login;
-use ftp_tool_place::NetrcEntry;
-use ftp_tool_words::{NotPrivate, read_private};
+use ftp_tool_words::{NetrcEntry, NotPrivate, read_private};
 use std::alloc::Global;
 use std::env::{Env, VarError};
 use std::fs::Files;

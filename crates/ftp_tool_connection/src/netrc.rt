@@ -1,7 +1,6 @@
 // The file `.netrc`, which has who logs in at which host, and the password.
 use ftp_facts::Text;
-use ftp_tool_place::{NetrcEntry, NetrcFault, netrc_entry};
-use ftp_tool_words::{NotPrivate, read_private};
+use ftp_tool_words::{NetrcEntry, NetrcFault, NotPrivate, netrc_entry, read_private};
 use std::alloc::Global;
 use std::env::{Env, VarError};
 use std::fs::Files;

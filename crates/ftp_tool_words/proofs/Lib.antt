@@ -1,3 +1,5 @@
 mod CutLemmas
 mod LocationLemmas
 mod WordLemmas
+mod NetrcLemmas
+mod UrlLemmas

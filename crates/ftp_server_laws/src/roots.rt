@@ -1,0 +1,17 @@
+//! What an account's root keeps apart: functions that do nothing, whose contracts are laws.
+ghost use Rattle.ftp_server_model.specs.Play.{RootsAreApart};
+ghost use Rattle.ftp_server_laws.specs.Apart.{CallsStayApart, CopiesLookAlike, StartsAreCopies};
+
+/// Whatever is called, hostile octets too: where each login that succeeds is to one root, nothing outside of it changes, and what the calls
+/// give is what they give of the part of the map at and below it.
+pub fn roots_are_apart()
+    ensures { RootsAreApart }
+{}
+
+/// Of two that keep the clauses of `Far`, one of which has only what stands at and below the root, each call leaves two such, whichever octets
+/// are taken and given, where neither is refused memory and no device fails; they look alike to others, and nothing outside of the root changes.
+pub fn calls_stay_apart()
+    ensures start { StartsAreCopies }
+    ensures calls { CallsStayApart }
+    ensures alike { CopiesLookAlike }
+{}

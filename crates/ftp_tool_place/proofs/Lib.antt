@@ -1,2 +1,0 @@
-mod NetrcLemmas
-mod UrlLemmas
