@@ -42,7 +42,7 @@ pub enum Ready {
 }
 
 /// What the control connection has, told without waiting.
-#[derive(Clone, Copy, Debug, PartialEq, Eq)]
+#[derive(Clone, Copy, PartialEq, Eq)]
 pub enum Spoken {
     /// No octets, and no end.
     Nothing,

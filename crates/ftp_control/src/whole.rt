@@ -3,7 +3,7 @@ ghost use Rattle.std.specs.Prelude.{◌≡◌, ◌≤◌, IfErr, IfOk};
 ghost use Rattle.ftp_control.specs.Whole.{IsCut, IsWhole};
 
 /// Whether octets are still to be taken from the end that sends over a data connection.
-#[derive(Clone, Copy, Debug, PartialEq, Eq)]
+#[derive(Clone, Copy, PartialEq, Eq)]
 pub enum Rest {
     /// None: all were taken, or this end sends none.
     Nothing,

@@ -10,7 +10,7 @@ use crate::{Moment, Text};
 use std::alloc::Allocator;
 
 /// The type of an entry (RFC 3659, section 7.5.1).
-#[derive(Debug, Drop)]
+#[derive(Drop)]
 pub enum EntryKind<A: Allocator + Copy> {
     /// A file.
     File,
@@ -25,7 +25,7 @@ pub enum EntryKind<A: Allocator + Copy> {
 }
 
 /// An entry of a machine listing: a pathname and the facts that are given (RFC 3659, section 7.2).
-#[derive(Debug, Drop)]
+#[derive(Drop)]
 pub struct Entry<A: Allocator + Copy> {
     /// A path text.
     pub name: Text<A>,

@@ -5,7 +5,6 @@ use std::alloc::{AllocError, Allocator};
 use std::marker::Model;
 
 /// Octets that an entry owns: a pathname, or the value of a fact.
-#[derive(Debug)]
 pub struct Text<A: Allocator + Copy> {
     octets: Vec<u8, A>,
 }

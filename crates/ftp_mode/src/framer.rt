@@ -14,7 +14,7 @@ use ftp_settings::{Mode, Structure};
 use itoa::Buffer;
 
 /// How much of an item was taken, and how many octets of the room were made.
-#[derive(Clone, Copy, Debug, PartialEq, Eq)]
+#[derive(Clone, Copy, PartialEq, Eq)]
 pub struct Written {
     pub taken: usize,
     pub made: usize,
@@ -80,7 +80,7 @@ pub(crate) enum Marks {
 }
 
 /// How a framer writes octets.
-#[derive(Clone, Copy, Debug, PartialEq, Eq)]
+#[derive(Clone, Copy, PartialEq, Eq)]
 pub enum Manner {
     /// As they are, and nothing for an end: stream mode with file structure.
     Copies,

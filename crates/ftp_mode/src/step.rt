@@ -1,7 +1,7 @@
 use crate::fault::FrameFault;
 
 /// What the next octets of a wire gave.
-#[derive(Clone, Copy, Debug, PartialEq, Eq)]
+#[derive(Clone, Copy, PartialEq, Eq)]
 pub enum Part<'a> {
     /// Nothing: the whole piece was taken.
     Need,
@@ -16,7 +16,7 @@ pub enum Part<'a> {
 }
 
 /// How many octets of a piece were taken, and what they gave.
-#[derive(Clone, Copy, Debug, PartialEq, Eq)]
+#[derive(Clone, Copy, PartialEq, Eq)]
 pub struct Step<'a> {
     pub taken: usize,
     pub part: Part<'a>,
@@ -25,7 +25,7 @@ pub struct Step<'a> {
 /// A fault, and how many octets of a piece were taken with it: the last of them is the wrong one.
 ///
 /// Of a fault that was met before, none.
-#[derive(Clone, Copy, Debug, PartialEq, Eq)]
+#[derive(Clone, Copy, PartialEq, Eq)]
 pub struct FaultAt {
     pub taken: usize,
     pub fault: FrameFault,

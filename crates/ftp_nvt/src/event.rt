@@ -1,5 +1,5 @@
 /// What the octets taken by a call settled.
-#[derive(Clone, Copy, Debug, PartialEq, Eq)]
+#[derive(Clone, Copy, PartialEq, Eq)]
 pub enum Event {
     /// Nothing yet: the whole piece was taken.
     More,
@@ -12,7 +12,7 @@ pub enum Event {
 }
 
 /// How many octets of a piece were taken, and what they settled.
-#[derive(Clone, Copy, Debug, PartialEq, Eq)]
+#[derive(Clone, Copy, PartialEq, Eq)]
 pub struct Fed {
     pub taken: usize,
     pub event: Event,

@@ -13,7 +13,7 @@ pub const LF: u8 = 10;
 pub const CR: u8 = 13;
 
 /// Where in a line a buffer stands.
-#[derive(Clone, Copy, Debug, PartialEq, Eq)]
+#[derive(Clone, Copy, PartialEq, Eq)]
 pub enum Stage {
     /// At its start; the text is still that of the line before.
     Start,

@@ -20,7 +20,7 @@ pub const DONT: u8 = 254;
 pub const IAC: u8 = 255;
 
 /// Where in a unit of Telnet octets an ear stands (RFC 854).
-#[derive(Clone, Copy, Debug, PartialEq, Eq)]
+#[derive(Clone, Copy, PartialEq, Eq)]
 pub enum TelnetState {
     /// At the start of a unit.
     Between,

@@ -21,7 +21,7 @@ pub struct Account<P, R> {
 }
 
 /// A user name of 1 to 255 octets and a password of at most 255, without CR, LF and NUL.
-#[derive(Debug, Drop)]
+#[derive(Drop)]
 pub struct Login<A: Allocator + Copy> {
     user: Text<A>,
     pass: Text<A>,

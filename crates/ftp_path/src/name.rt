@@ -27,7 +27,7 @@ pub fn is_listed_text(text: &[u8]) -> bool
 
 /// What one directory calls one of its nodes: 1 to 255 octets of such a text, no `/`, and neither `.` nor `..`. Names are
 /// equal, and in order, by their octets. They are lent.
-#[derive(Clone, Copy, Debug)]
+#[derive(Clone, Copy)]
 pub struct Name<'a> {
     octets: &'a [u8],
     ghost named: { IsTrue (is_name octets.now) },

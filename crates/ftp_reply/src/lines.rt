@@ -17,7 +17,7 @@ pub const MAX_OCTETS: usize = 8192;
 pub const LF: u8 = 10;
 
 /// The texts of up to 64 lines, of up to 8,192 octets together. Contracts see them as a list of texts.
-#[derive(Debug, Drop)]
+#[derive(Drop)]
 pub struct Lines<A: Allocator + Copy> {
     /// The lines, an LF between two.
     buffer: Vec<u8, A>,

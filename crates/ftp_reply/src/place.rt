@@ -6,7 +6,7 @@ ghost use Rattle.ftp_reply.specs.Reader.{AreKept, Begun, Between, Faulty, first_
 use crate::fault::ReplyFault;
 
 /// How far a reader has come.
-#[derive(Clone, Copy, Debug, PartialEq, Eq)]
+#[derive(Clone, Copy, PartialEq, Eq)]
 pub enum Stage {
     Between,
     /// The code of the opening line.

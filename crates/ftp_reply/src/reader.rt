@@ -10,7 +10,7 @@ use std::marker::Model;
 
 /// Reads replies line by line. Contracts see it as between replies, as the code and the texts of the reply that has begun
 /// and not ended, or as stopped.
-#[derive(Debug, Drop)]
+#[derive(Drop)]
 pub struct Reader<A: Allocator + Copy> {
     stage: Stage,
     lines: Lines<A>,

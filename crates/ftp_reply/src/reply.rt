@@ -7,7 +7,7 @@ use crate::lines::{Lines, MAX_OCTETS};
 use std::alloc::{AllocError, Allocator};
 
 /// A reply of one line or of several (RFC 959, section 4.2).
-#[derive(Debug, Drop)]
+#[derive(Drop)]
 pub struct Reply<A: Allocator + Copy> {
     /// From 100 to 599.
     pub code: u16,

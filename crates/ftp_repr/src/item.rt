@@ -4,7 +4,7 @@ ghost use Rattle.ftp_repr.specs.Items.{signs};
 /// What a file is made of between its octets and its wire (RFC 959, section 3.4).
 ///
 /// Octets are lent, some of a file's or of its wire's: how a row of them is cut into items says nothing.
-#[derive(Clone, Copy, Debug, PartialEq, Eq)]
+#[derive(Clone, Copy, PartialEq, Eq)]
 pub enum Item<'a> {
     /// Octets of data, as they go over the wire in this type.
     Octets(&'a [u8]),
@@ -37,7 +37,7 @@ impl<'a> Item<'a> {
 }
 
 /// What octets or an end in front of an item settle, lent, and what of the item is still to be taken.
-#[derive(Clone, Copy, Debug, PartialEq, Eq)]
+#[derive(Clone, Copy, PartialEq, Eq)]
 pub struct Lent<'a> {
     /// Whether a CR comes before the octets.
     pub with_return: bool,

@@ -14,7 +14,7 @@ use std::alloc::{AllocError, Allocator};
 const FEED: [u8; 1] = [10];
 
 /// Where in a file a receiver stands.
-#[derive(Clone, Copy, Debug, PartialEq, Eq)]
+#[derive(Clone, Copy, PartialEq, Eq)]
 enum Stage {
     /// All that came is settled.
     Settled,
@@ -25,7 +25,7 @@ enum Stage {
 }
 
 /// Puts a file together from items. The file grows at the end of a vector of the caller's.
-#[derive(Clone, Copy, Debug, PartialEq, Eq)]
+#[derive(Clone, Copy, PartialEq, Eq)]
 pub struct Receiver {
     kind: Kind,
     structure: Structure,

@@ -12,7 +12,7 @@ const LINE_END: [u8; 2] = [13, 10];
 const RETURN: [u8; 2] = [13, 0];
 
 /// Cuts a file into items, lent from the pieces that it comes in. It takes no memory.
-#[derive(Clone, Copy, Debug, PartialEq, Eq)]
+#[derive(Clone, Copy, PartialEq, Eq)]
 pub struct Sender {
     kind: Kind,
     structure: Structure,

@@ -10,7 +10,6 @@ use std::alloc::{AllocError, Allocator};
 use std::marker::Model;
 
 /// The octets of a file, as they are gathered before it is installed.
-#[derive(Debug)]
 pub struct Content<A: Allocator + Copy> {
     octets: Pages<A>,
 }

@@ -27,7 +27,12 @@ pub struct DiskFolder<'a, R: Files + AllocGlobal + Clone + Drop> {
 /// By hand, as that of a mirror.
 impl<'a, R: Files + AllocGlobal + Clone + Drop> Drop for DiskFolder<'a, R> {
     fn drop(self) {
-        let Self { files: _, reasons: _, dir: _, failures: _ } = self;
+        let Self {
+            files: _,
+            reasons: _,
+            dir: _,
+            failures: _,
+        } = self;
     }
 }
 

@@ -5,7 +5,7 @@ use std::io;
 use std::io::{Error, ErrorKind};
 
 /// What a change touches.
-#[derive(Clone, Copy, Debug, PartialEq, Eq)]
+#[derive(Clone, Copy, PartialEq, Eq)]
 pub enum Touches {
     /// The octets of a file.
     Content,

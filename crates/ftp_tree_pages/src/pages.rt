@@ -7,7 +7,6 @@ use std::marker::Model;
 use std::mem;
 
 /// A list of octets, kept in pages of 4,096: a push moves no octet but its own.
-#[derive(Debug)]
 pub struct Pages<A: Allocator + Copy> {
     pages: Vec<Page<A>, A>,
     len: u64,

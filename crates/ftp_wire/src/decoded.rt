@@ -4,7 +4,7 @@ ghost use Rattle.ftp_wire.specs.Hearing.{TellsNothing};
 use ftp_mode::FrameFault;
 
 /// How the last of the octets that were taken ended.
-#[derive(Clone, Copy, Debug, PartialEq, Eq)]
+#[derive(Clone, Copy, PartialEq, Eq)]
 pub enum Decoded {
     /// More may follow.
     More,
@@ -17,7 +17,7 @@ pub enum Decoded {
 }
 
 /// How many octets of a piece were taken, and what the last of them told.
-#[derive(Clone, Copy, Debug, PartialEq, Eq)]
+#[derive(Clone, Copy, PartialEq, Eq)]
 pub struct Taken {
     pub count: usize,
     /// It ended a restart marker, when so many octets of the file were settled. `Decoder::marker` lends the marker.

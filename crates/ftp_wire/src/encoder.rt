@@ -15,7 +15,7 @@ use ftp_repr::{Item, Sender};
 use ftp_settings::Representation;
 
 /// How many octets of the file were taken, and how many octets of the room were made.
-#[derive(Clone, Copy, Debug, PartialEq, Eq)]
+#[derive(Clone, Copy, PartialEq, Eq)]
 pub struct Encoded {
     pub taken: usize,
     pub made: usize,
