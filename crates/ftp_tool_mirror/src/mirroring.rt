@@ -29,8 +29,8 @@ where
         + Drop,
 {
     let mut noticed = LastReply::new();
-    let mut walk = Walk::new(rt, asked)?;
-    let answered = walked(rt, asked, &mut walk, &mut noticed);
+    let mut walk = Walk::new(rt, &asked)?;
+    let answered = walked(rt, &asked, &mut walk, &mut noticed);
     let told = tell_end(rt, answered, &walk, &noticed);
     say(rt, "", &walk.tally(), "")?;
     told
@@ -39,7 +39,7 @@ where
 /// Goes on as long as each round of control connections gets further.
 fn walked<R>(
     rt: &R,
-    asked: Mirror<'_>,
+    asked: &Mirror<'_>,
     walk: &mut Walk<'_, R>,
     noticed: &mut LastReply,
 ) -> Result<Answer<Global>, SessionFault>

@@ -70,7 +70,7 @@ enum Chore {
 /// A mirror on its way.
 pub struct Walk<'a, R> {
     rt: &'a R,
-    mirror: Mirror<'a>,
+    mirror: &'a Mirror<'a>,
     /// What is still to be done; the last comes next.
     waiting: Vec<Work, Global>,
     /// How many things were planned.
@@ -93,7 +93,7 @@ impl<'a, R> Drop for Walk<'a, R> {
 
 impl<'a, R: Files + Print + Eprint + AllocGlobal + Clone + Drop> Walk<'a, R> {
     /// At the roots, of which nothing is known yet.
-    pub fn new(rt: &'a R, mirror: Mirror<'a>) -> Result<Walk<'a, R>, AllocError> {
+    pub fn new(rt: &'a R, mirror: &'a Mirror<'a>) -> Result<Walk<'a, R>, AllocError> {
         let mut walk = Walk {
             rt,
             mirror,
