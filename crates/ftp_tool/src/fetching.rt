@@ -1,14 +1,15 @@
 // The subcommands of a client that ask at one place: their words.
 use crate::help;
+use crate::place::{location_in, user_in};
 use crate::words::{
-    BadValue, Form, MODE, STRU, Subcommand, TIMEOUT, TYPE, Value, Word, number_in,
+    BadValue, Form, MODE, STRU, Subcommand, TIMEOUT, TYPE, USER, Value, Word, number_in,
     representation_in,
 };
 use clap::ArgMatches;
 use ftp_operation::How;
 use ftp_tool_fetch::{Download, Parts, Simple, Target, Task};
 use ftp_tool_files::number_of;
-use ftp_tool_words::{Location, place_of};
+use ftp_tool_words::UrlPlace;
 
 /// The most octets that a file may be said to have.
 const MOST_OCTETS: u64 = 999_999_999_999_999_999;
@@ -124,16 +125,15 @@ const MV: Subcommand<'static> = Subcommand {
 const PLACE: Word<'static> = Word {
     name: "place",
     form: Form::NeededPlace(Value::Text("HOST:PORT/PATH")),
-    help: "the server, its port (21 where none is written), and the path there",
+    help: "the server, its port (21 where none is written), and the path there; or ftp://USER@HOST:PORT/PATH",
 };
+
+/// The place, as the help has it.
+pub const PLACE_OPTION: &str = "<HOST:PORT/PATH>";
 
 /// The options that all of them have.
 pub const OPTIONS: &[Word<'static>] = &[
-    Word {
-        name: "user",
-        form: Form::Else(Value::Text("U"), "anonymous"),
-        help: "",
-    },
+    USER,
     Word {
         name: "password-file",
         form: Form::Given(Value::Text("F")),
@@ -178,11 +178,11 @@ pub const OPTIONS: &[Word<'static>] = &[
 ];
 
 /// The value that is none: the place, the seconds, or the file that has no name where both are.
-pub fn bad_value<'a>(words: &'a ArgMatches<'_>) -> Option<BadValue<'a>> {
+pub fn bad_value<'a>(words: &'a ArgMatches<'_>, url: Option<&'a UrlPlace>) -> Option<BadValue<'a>> {
     let place = words.get_str("place")?;
-    if place_of(place).is_none() {
+    if location_in(place, url).is_none() {
         return Some(BadValue {
-            option: "<HOST:PORT/PATH>",
+            option: PLACE_OPTION,
             value: place,
             wanted: "an address or a name, a port from 1 to 65535 and a path are wanted",
         });
@@ -203,20 +203,19 @@ pub fn bad_value<'a>(words: &'a ArgMatches<'_>) -> Option<BadValue<'a>> {
 }
 
 /// What is asked of which server; none where a value is none of its option. At a terminal progress is told.
-pub fn asked_of<'a>(words: &'a ArgMatches<'_>, is_terminal: bool) -> Option<Target<'a>> {
+pub fn asked_of<'a>(
+    words: &'a ArgMatches<'_>,
+    url: Option<&'a UrlPlace>,
+    is_terminal: bool,
+) -> Option<Target<'a>> {
     Some(Target {
-        place: location_of(words)?,
-        user: words.get_str("user")?,
-        password_file: words.get_str("password-file"),
+        place: location_in(words.get_str("place")?, url)?,
+        user: user_in(words, url),
         how: how_of(words)?,
         timeout: number_in(words, "timeout")?,
         progress: is_terminal || words.get_flag("progress"),
         limit: limit_of(words)?,
     })
-}
-
-fn location_of<'a>(words: &'a ArgMatches<'_>) -> Option<Location<'a>> {
-    place_of(words.get_str("place")?)
 }
 
 fn limit_of(words: &ArgMatches<'_>) -> Option<u64> {

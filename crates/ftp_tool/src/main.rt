@@ -7,6 +7,7 @@ mod help;
 mod looping;
 mod mirroring;
 mod pairing;
+mod place;
 mod running;
 mod serving;
 mod task;
@@ -16,7 +17,9 @@ use anyhow::Result;
 use clap::{ArgMatches, Error};
 use command_line::{Program, command, program_of};
 use ftp_tool_status::Status;
-use std::alloc::Global;
+use ftp_tool_words::UrlFault;
+use place::url_in;
+use std::alloc::{AllocError, Global};
 use std::env;
 use std::env::Env;
 use std::fs::Files;
@@ -188,7 +191,17 @@ where
         + Clone
         + Drop,
 {
-    match mirroring::mirror_of(words) {
+    let source = words.get_str("source").unwrap_or("");
+    let target = words.get_str("target").unwrap_or("");
+    let from = match url_in(rt.alloc(), source) {
+        Ok(url) => url,
+        Err(fault) => return refuse_url(rt, "<SOURCE>", source, fault),
+    };
+    let to = match url_in(rt.alloc(), target) {
+        Ok(url) => url,
+        Err(fault) => return refuse_url(rt, "<TARGET>", target, fault),
+    };
+    match mirroring::mirror_of(words, from.as_ref(), to.as_ref()) {
         Some(asked) => Ok(ftp_tool_mirror::mirror(rt, asked)?.number()),
         None => bad_words(rt, mirroring::bad_value(words)),
     }
@@ -206,12 +219,32 @@ where
         + Clock
         + Net<Listener = TcpListener, Stream = TcpStream>,
 {
-    let Some(asked) = fetching::asked_of(words, is_terminal) else {
-        return bad_words(rt, fetching::bad_value(words));
+    let place = words.get_str("place").unwrap_or("");
+    let url = match url_in(rt.alloc(), place) {
+        Ok(url) => url,
+        Err(fault) => return refuse_url(rt, fetching::PLACE_OPTION, place, fault),
+    };
+    let Some(asked) = fetching::asked_of(words, url.as_ref(), is_terminal) else {
+        return bad_words(rt, fetching::bad_value(words, url.as_ref()));
     };
     match fetching::fetch_task_of(name, words, &asked) {
         Some(task) => Ok(ftp_tool_fetch::fetch(rt, &asked, task)?.number()),
-        None => bad_words(rt, fetching::bad_value(words)),
+        None => bad_words(rt, fetching::bad_value(words, url.as_ref())),
+    }
+}
+
+/// Tells why a word that is a URL names no place.
+fn refuse_url<R: Eprint>(rt: &R, option: &str, word: &str, fault: UrlFault) -> Result<u8> {
+    match fault {
+        UrlFault::Memory => Err(AllocError.into()),
+        fault => bad_words(
+            rt,
+            Some(BadValue {
+                option,
+                value: word,
+                wanted: fault.wanted(),
+            }),
+        ),
     }
 }
 

@@ -1,15 +1,16 @@
 // The subcommand `mirror`: its words.
-use crate::words::{BadValue, Form, Subcommand, Value, Word, number_in};
+use crate::place::{location_in, user_in};
+use crate::words::{BadValue, Form, Subcommand, USER, Value, Word, number_in};
 use clap::ArgMatches;
 use ftp_operation::How;
 use ftp_tool_connection::{ServerAddress, User};
 use ftp_tool_files::{number_of, representation_of};
 use ftp_tool_local::Flush;
 use ftp_tool_mirror::{Check, Doing, Extra, Mirror, Rules, Way};
-use ftp_tool_words::{Location, place_of};
+use ftp_tool_words::{Location, UrlPlace};
 
 const HELP: &str = "\
-Copies what is missing in TARGET or differs there, with all directories below SOURCE. One of both is HOST:PORT/PATH, as with get; the other
+Copies what is missing in TARGET or differs there, with all directories below SOURCE. One of both is HOST:PORT/PATH or a URL, as with get; the other
 is a folder of this machine, and begins with / or with a point where it would be read as HOST/PATH.
 From a server a file is copied where its size or its moment differs, and the copy has the server's moment then. To a server one is copied
 where its size differs or it was changed after the server's. With --checksum sizes and octets are compared, for which each file is fetched.
@@ -64,11 +65,7 @@ pub const MIRROR: Subcommand<'static> = Subcommand {
             form: Form::Many(Value::Name("GLOB")),
             help: "leaves alone what meets it; may be given several times",
         },
-        Word {
-            name: "user",
-            form: Form::Else(Value::Text("U"), "anonymous"),
-            help: "",
-        },
+        USER,
         Word {
             name: "password-file",
             form: Form::Given(Value::Text("F")),
@@ -97,28 +94,33 @@ pub const MIRROR: Subcommand<'static> = Subcommand {
     ],
 };
 
-/// What is mirrored; none where not exactly one of both places is a server's.
-pub fn mirror_of<'a>(words: &'a ArgMatches<'_>) -> Option<Mirror<'a>> {
+/// What is mirrored, where these are the URLs that both places are; none where not exactly one is a server's.
+pub fn mirror_of<'a>(
+    words: &'a ArgMatches<'_>,
+    from: Option<&'a UrlPlace>,
+    to: Option<&'a UrlPlace>,
+) -> Option<Mirror<'a>> {
     let source = words.get_str("source")?;
     let target = words.get_str("target")?;
-    match (server_of(source), server_of(target)) {
-        (Some(place), None) => asked_of(words, place, target, Way::Down),
-        (None, Some(place)) => asked_of(words, place, source, Way::Up),
+    match (server_of(source, from), server_of(target, to)) {
+        (Some(place), None) => asked_of(words, place, user_in(words, from), target, Way::Down),
+        (None, Some(place)) => asked_of(words, place, user_in(words, to), source, Way::Up),
         _ => None,
     }
 }
 
 /// The place of a server that a word names: one that can't be a folder.
-fn server_of(word: &str) -> Option<Location<'_>> {
+fn server_of<'a>(word: &'a str, url: Option<&'a UrlPlace>) -> Option<Location<'a>> {
     if word.starts_with('.') || word.starts_with('/') {
         return None;
     }
-    place_of(word)
+    location_in(word, url)
 }
 
 fn asked_of<'a>(
     words: &'a ArgMatches<'_>,
     place: Location<'a>,
+    user: User<'a>,
     folder: &'a str,
     way: Way,
 ) -> Option<Mirror<'a>> {
@@ -129,11 +131,7 @@ fn asked_of<'a>(
             timeout: number_in(words, "timeout")?,
             progress: words.get_flag("progress"),
         },
-        user: User {
-            name: words.get_str("user"),
-            password_file: words.get_str("password-file"),
-            password: None,
-        },
+        user,
         path: place.path,
         folder,
         how: How {

@@ -20,6 +20,13 @@ pub const TIMEOUT: Word<'static> = Word {
     help: "ends a control connection whose server says, takes and sends nothing for so long; 0: never",
 };
 
+/// Who logs in, for all programs of a client that ask at a place.
+pub const USER: Word<'static> = Word {
+    name: "user",
+    form: Form::Given(Value::Text("U")),
+    help: "who logs in; else whom a URL or .netrc names, and else anonymous",
+};
+
 /// The name of a value, and what it has to be.
 #[derive(Clone, Copy)]
 pub enum Value<'a> {

@@ -39,7 +39,7 @@ where
         how: asked.how,
         wish: Wish::Simple(simple),
     };
-    converse_as(rt, asked.server(), asked.by(), noticed, &mut single)
+    converse_as(rt, asked.server(), asked.user, noticed, &mut single)
 }
 
 /// Asks for one thing. Where its control connection ends, it is asked anew over another one.
@@ -72,7 +72,7 @@ where
     R: Net<Listener = TcpListener, Stream = TcpStream> + Files + Env + Eprint + Clock + AllocGlobal,
     P: SessionTask<Result<Answer<Global>, SessionFault>>,
 {
-    ask(rt, asked.server(), asked.by(), noticed, task)
+    ask(rt, asked.server(), asked.user, noticed, task)
 }
 
 /// A wish at a path, whose request is made anew for each control connection.

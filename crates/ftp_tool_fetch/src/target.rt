@@ -7,9 +7,7 @@ use ftp_tool_words::Location;
 #[derive(Clone, Copy)]
 pub struct Target<'a> {
     pub place: Location<'a>,
-    pub user: &'a str,
-    /// The file that has the password; its owner alone may use it.
-    pub password_file: Option<&'a str>,
+    pub user: User<'a>,
     pub how: How,
     /// For how many seconds the server may be silent; 0: without a limit.
     pub timeout: u32,
@@ -27,15 +25,6 @@ impl<'a> Target<'a> {
             port: self.place.port,
             timeout: self.timeout,
             progress: self.progress,
-        }
-    }
-
-    /// Who asks.
-    pub(crate) fn by(&self) -> User<'a> {
-        User {
-            name: Some(self.user),
-            password_file: self.password_file,
-            password: None,
         }
     }
 }

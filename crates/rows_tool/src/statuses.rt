@@ -2,6 +2,7 @@
 use crate::typing::Typing;
 use ftp_operation::How;
 use ftp_settings::{Kind, Mode, Representation, Structure};
+use ftp_tool_connection::User;
 use ftp_tool_fetch::{Download, Parts, ServerAddress, Target, Task, fetch, run};
 use ftp_tool_status::Status;
 use ftp_tool_words::Location;
@@ -43,8 +44,11 @@ fn asked(has_password: bool) -> Target<'static> {
             port: NOBODY,
             path: "a",
         },
-        user: if has_password { "anonymous" } else { "guest" },
-        password_file: if has_password { None } else { Some(NONE) },
+        user: User {
+            name: Some(if has_password { "anonymous" } else { "guest" }),
+            password_file: if has_password { None } else { Some(NONE) },
+            password: None,
+        },
         how: HOW,
         timeout: 60,
         progress: false,
