@@ -92,8 +92,30 @@ def try_one(rows, way, number, place, how):
     server.close()
 
 
+def try_delete(rows):
+    """A listing that is cut before its first octet takes nothing away here, though it looks empty; what the server has no more goes."""
+    served, local = rows.folder / "served", rows.folder / "local"
+    for folder in (served, local):
+        shutil.rmtree(folder, ignore_errors=True)
+        folder.mkdir()
+    fill(served, FILES)
+    server = OwnServer(served)
+    rows.tool("mirror", f"127.0.0.1:{server.port}/", "./local")
+    relay = Cutter(server.port, 0, 0, "FIN")
+    status, _, told = rows.tool("mirror", f"127.0.0.1:{relay.port}/", "./local", "--delete", "--timeout", "5")
+    rows.row("--delete, an empty listing: all stays", tree_at(local) == tree_at(served) and status in (0, 1), (status, told))
+    rows.row("--delete, an empty listing: it is told", status == 1 and b"its listing lacked it" in told, (status, told))
+    (served / "b").unlink()
+    shutil.rmtree(served / "d")
+    status, _, told = rows.tool("mirror", f"127.0.0.1:{server.port}/", "./local", "--delete")
+    rows.row("--delete, what is gone there goes", status == 0 and tree_at(local) == tree_at(served), (status, told))
+    relay.close()
+    server.close()
+
+
 def main():
     rows = Rows()
+    try_delete(rows)
     for way in ("down", "up"):
         for how in ("FIN", "RST"):
             for number in NUMBERS:

@@ -13,6 +13,9 @@ const UNKNOWN: u16 = 500;
 
 const NOT_IMPLEMENTED: u16 = 502;
 
+/// The code of a server that has nothing there (RFC 959, section 4.2.2).
+pub(crate) const MISSING: u16 = 550;
+
 /// A path, as it goes into an operation.
 pub(crate) fn text_of(alloc: Global, path: &str) -> Result<Text<Global>, AllocError> {
     Text::copy_of(alloc, path.as_bytes())
@@ -23,6 +26,19 @@ pub(crate) fn done_by<S: ClientSession>(seat: &mut S, op: Op<Text<Global>>) -> R
     let answer = seat.answer(Request::One(Some(op)));
     match &answer {
         Answer::Done | Answer::Path(_) => Ok(()),
+        _ => Err(Trouble::Server(answer)),
+    }
+}
+
+/// Whether a server has something at a path, as it says of that alone (MLST, RFC 3659, section 7).
+pub(crate) fn stands_there<S: ClientSession>(
+    seat: &mut S,
+    path: Text<Global>,
+) -> Result<bool, Trouble> {
+    let answer = seat.answer(Request::One(Some(Op::Facts(path))));
+    match &answer {
+        Answer::Entry(_) => Ok(true),
+        Answer::Refused(MISSING) => Ok(false),
         _ => Err(Trouble::Server(answer)),
     }
 }

@@ -67,6 +67,12 @@ pub(crate) fn tell_trouble<R: Eprint + AllocGlobal>(
             let why = sentence(answer);
             eprintln!(rt; "error: {name}: {why}")
         }
+        Trouble::Stands => say(
+            rt,
+            "error: ",
+            &name,
+            ": the server has it, though its listing lacked it; it is not removed",
+        ),
         Trouble::TooMuch => say(
             rt,
             "error: ",

@@ -11,6 +11,8 @@ pub(crate) enum Trouble {
     NoListing(u16),
     /// So many octets went one way or the other of a file that has so many, as the server says.
     Size(u64, u64),
+    /// The server has it, though its listing lacked it.
+    Stands,
     /// This machine refused it.
     Here(io::Error),
     /// More is to be done than a mirror takes on.
@@ -23,7 +25,7 @@ impl Drop for Trouble {
         match self {
             Trouble::Server(_) | Trouble::Here(_) => {}
             Trouble::NoListing(_) | Trouble::Size(_, _) => {}
-            Trouble::TooMuch => {}
+            Trouble::Stands | Trouble::TooMuch => {}
         }
     }
 }

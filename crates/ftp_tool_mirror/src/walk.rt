@@ -2,7 +2,7 @@
 use crate::copying::{Ends, copy_down, copy_up, is_same};
 use crate::folder::entries_here;
 use crate::paths::joined;
-use crate::server::{done_by, entries_there, text_of};
+use crate::server::{MISSING, done_by, entries_there, stands_there, text_of};
 use crate::tally::Tally;
 use crate::telling::{refusal, shown, tell, tell_trouble, tell_would};
 use crate::trouble::{Reach, Trouble};
@@ -63,6 +63,9 @@ impl Drop for Work {
 #[derive(Clone, Copy)]
 enum Chore {
     Deed(Deed),
+    /// This removes here what the server's listing lacked, once the server says of it alone that it has none: a listing that was cut at the end of a line
+    /// looks whole.
+    RemoveLacking(Deed),
     /// The directory is removed, from which all was removed.
     RemoveEmptied,
 }
@@ -164,14 +167,31 @@ impl<'a, R: Files + Print + Eprint + AllocGlobal + Clone + Drop> Walk<'a, R> {
         below: &str,
     ) -> Result<(), Trouble> {
         match chore {
-            Chore::Deed(Deed::Copy(facts)) => self.copy(seat, below, facts),
-            Chore::Deed(Deed::Compare(facts)) => self.compare(seat, below, facts),
-            Chore::Deed(Deed::MakeDir) => self.make_and_enter(seat, below),
-            Chore::Deed(Deed::Enter) => self.enter(seat, below),
-            Chore::Deed(Deed::RemoveFile) => self.remove_file(seat, below),
-            Chore::Deed(Deed::RemoveDir) => self.empty_dir(seat, below),
+            Chore::Deed(deed) => self.do_deed(seat, deed, below),
+            Chore::RemoveLacking(deed) => {
+                if stands_there(seat, self.path(below)?)? {
+                    return Err(Trouble::Stands);
+                }
+                self.do_deed(seat, deed, below)
+            }
             Chore::RemoveEmptied => self.remove_dir(seat, below),
-            Chore::Deed(Deed::PassOver) => {
+        }
+    }
+
+    fn do_deed<S: ClientSession>(
+        &mut self,
+        seat: &mut S,
+        deed: Deed,
+        below: &str,
+    ) -> Result<(), Trouble> {
+        match deed {
+            Deed::Copy(facts) => self.copy(seat, below, facts),
+            Deed::Compare(facts) => self.compare(seat, below, facts),
+            Deed::MakeDir => self.make_and_enter(seat, below),
+            Deed::Enter => self.enter(seat, below),
+            Deed::RemoveFile => self.remove_file(seat, below),
+            Deed::RemoveDir => self.empty_dir(seat, below),
+            Deed::PassOver => {
                 let _told = tell(
                     self.rt,
                     "note: ",
@@ -180,7 +200,7 @@ impl<'a, R: Files + Print + Eprint + AllocGlobal + Clone + Drop> Walk<'a, R> {
                 );
                 Ok(())
             }
-            Chore::Deed(Deed::Refuse(reason)) => {
+            Deed::Refuse(reason) => {
                 self.tally.add_failed();
                 let _told = tell(self.rt, "error: ", below, refusal(reason));
                 Ok(())
@@ -354,19 +374,23 @@ impl<'a, R: Files + Print + Eprint + AllocGlobal + Clone + Drop> Walk<'a, R> {
         if self.planned > MOST_STEPS {
             return Err(Trouble::TooMuch);
         }
+        let mut next = None;
         for step in steps.iter().rev() {
-            self.wait_below(below, step)?;
+            self.wait_below(below, step, chore_of(self.mirror.rules.way, step, next))?;
+            next = Some(step);
         }
         Ok(())
     }
 
-    fn wait_below(&mut self, below: &str, step: &Step<Global>) -> Result<(), AllocError> {
+    fn wait_below(
+        &mut self,
+        below: &str,
+        step: &Step<Global>,
+        chore: Chore,
+    ) -> Result<(), AllocError> {
         let name = std::str::from_utf8(step.name.as_slice()).unwrap_or("?");
         let path = joined(self.rt.alloc(), below, name)?;
-        self.waiting.push(Work {
-            chore: Chore::Deed(step.deed),
-            below: path,
-        })?;
+        self.waiting.push(Work { chore, below: path })?;
         Ok(())
     }
 
@@ -424,10 +448,24 @@ impl<'a, R: Files + Print + Eprint + AllocGlobal + Clone + Drop> Walk<'a, R> {
     }
 }
 
+/// What a step of a plan is, before the next one: what is removed here and not replaced is what the server's listing lacked.
+fn chore_of(way: Way, step: &Step<Global>, next: Option<&Step<Global>>) -> Chore {
+    let is_replaced = match next {
+        Some(next) => next.name.as_slice() == step.name.as_slice(),
+        None => false,
+    };
+    match (way, step.deed) {
+        (Way::Down, Deed::RemoveFile | Deed::RemoveDir) if !is_replaced => {
+            Chore::RemoveLacking(step.deed)
+        }
+        (_, deed) => Chore::Deed(deed),
+    }
+}
+
 /// Whether a directory is not there: of a server 550 says so (RFC 959, section 4.2.2).
 fn is_missing(trouble: &Trouble) -> bool {
     match trouble {
-        Trouble::Server(Answer::Refused(550)) => true,
+        Trouble::Server(Answer::Refused(MISSING)) => true,
         Trouble::Here(error) => error.kind() == ErrorKind::NotFound,
         _ => false,
     }
