@@ -12,12 +12,8 @@ use Rattle.ftp_operation.specs.Answer.{Said, Lost, said_of}
 use Rattle.ftp_operation.specs.declared.answer.Answer.{Answer}
 use Rattle.ftp_client_model.specs.Calls.{is_sound}
 use Rattle.ftp_client_model.specs.Failing.{Client}
-use Rattle.ftp_client_drive.specs.Beside.{held}
-use Rattle.ftp_client_drive.specs.Side.{Closed, Left, Report, Called, Held, IsCut, client_side, is_under_way, move_of}
-
--- the data connection alone moves, whatever the client holds
-abbrev pub Idles : (old new : Lane) → Type 0
-Idles old new = (client : Client) → Quietly client_side (held client old) (held client new)
+use Rattle.ftp_control.specs.Machine.{Called, Closed, Held, IsCut, Left, held, move_of}
+use Rattle.ftp_client_drive.specs.Side.{Report, client_machine, client_side, is_under_way}
 
 -- octets that were read are told or let go; where that fails, some of them still are in hand
 abbrev pub Hands : {T : Type 0} → (octets : List ℕ) → (old new : Client) → Lane → Result T Failed → Type 0
@@ -55,26 +51,26 @@ pub record Drove (start now : Stand client_side) (said : Option Said) : Type 0 w
 
 -- the client is told that the control connection ended, its data connection is reset and then the port closed, it is told that the data
 -- connection is closed, and gives its report: an operation under way is lost
-pub record GivesUp (said : Option Said) (old new : Held) : Type 0 where
-  pub cut : Held
-  pub is_cut : IsCut old cut
+pub record GivesUp (said : Option Said) (old new : Held Client) : Type 0 where
+  pub cut : Held Client
+  pub is_cut : IsCut client_machine old cut
   pub asked : Asked
-  pub mid : Held
-  pub leaves : Called (Left asked) cut mid
+  pub mid : Held Client
+  pub leaves : Called client_machine (Left asked) cut mid
   pub dropped : IsDropped cut.lane.stands cut.lane.left cut.lane.written asked
-  pub shut : Held
-  pub shuts : Called (Left Shut) mid shut
-  pub closed : Held
-  pub closes : Called Closed shut closed
-  pub reports : Called (Report said) closed new
-  pub lost : IsTrue (is_sound old.client.view.standing) → IsTrue (is_under_way old.client.view.job) → said ≡ Some Lost
+  pub shut : Held Client
+  pub shuts : Called client_machine (Left Shut) mid shut
+  pub closed : Held Client
+  pub closes : Called client_machine Closed shut closed
+  pub reports : Called client_machine (Report said) closed new
+  pub lost : IsTrue (is_sound old.end.view.standing) → IsTrue (is_under_way old.end.view.job) → said ≡ Some Lost
 
 -- the same deeds where a read or a write failed: a beginning of what the client said was written, what of a download it was not told is let go,
 -- and it gave up
 pub record BrokeOff (start now : Stand client_side) (said : Option Said) : Type 0 where
   pub deeds : List (Deed client_side)
   pub last : List ℕ
-  pub off : Held
+  pub off : Held Client
   pub cuts : Cuts deeds last start (with_owner off now)
   pub stood : Lane
   pub carries : Carries {side = client_side} move_of deeds start.owner.lane stood

@@ -3,7 +3,8 @@ ghost use Rattle.std.specs.Prelude.{◌≡◌, []};
 ghost use Rattle.ftp_control.specs.Driving.{Flushes, Goes, GoesSettled};
 ghost use Rattle.ftp_control.specs.Lane.{Lane};
 ghost use Rattle.ftp_control.specs.Unheard.{unheard_of};
-ghost use Rattle.ftp_client_drive.specs.Beside.{beside, held};
+ghost use Rattle.ftp_control.specs.Machine.{held};
+ghost use Rattle.ftp_client_drive.specs.Beside.{beside};
 
 use ftp_client_model::Near;
 use ftp_control::{Control, Failed, TURNS};

@@ -7,9 +7,10 @@ ghost use Rattle.ftp_control.specs.Asking.{Asked};
 ghost use Rattle.ftp_control.specs.Carrying.{left_of};
 ghost use Rattle.ftp_control.specs.Driving.{Quietly};
 ghost use Rattle.ftp_control.specs.Lane.{IsLeft, no_lane};
-ghost use Rattle.ftp_client_drive.specs.Beside.{held, in_hand, lane_at};
-ghost use Rattle.ftp_client_drive.specs.Driving.{Idles, IsReset};
-ghost use Rattle.ftp_client_drive.specs.Side.{client_side};
+ghost use Rattle.ftp_control.specs.Machine.{Idles, held};
+ghost use Rattle.ftp_client_drive.specs.Beside.{in_hand, lane_at};
+ghost use Rattle.ftp_client_drive.specs.Driving.{IsReset};
+ghost use Rattle.ftp_client_drive.specs.Side.{client_machine, client_side};
 
 use ftp_client_model::Near;
 use ftp_control::{DATA_PIECE, DataConnection, For, Halt, Ports, Ready, Rest};
@@ -48,7 +49,7 @@ impl<S: Read + Write> Data<S> {
 
     /// Writes octets that were not written yet, as many as one call takes.
     pub(crate) fn write(&mut self) -> Result<(), Halt>
-        ensures { (asked : Option (List Asked)) → Idles (lane_at S.remaining S.contents asked self.old []) (lane_at S.remaining S.contents asked self.new []) }
+        ensures { (asked : Option (List Asked)) → Idles client_machine (lane_at S.remaining S.contents asked self.old []) (lane_at S.remaining S.contents asked self.new []) }
     {
         self.connection.write(&self.room)
     }
@@ -56,7 +57,7 @@ impl<S: Read + Write> Data<S> {
     /// Reads once, where all octets of the room were written, and gives how many octets came: none only at the end of the data connection.
     pub(crate) fn come(&mut self) -> Result<usize, Halt>
         requires { self.old.connection.at ≡ self.old.connection.end }
-        ensures moved { (asked : Option (List Asked)) → Idles (lane_at S.remaining S.contents asked self.old []) (lane_at S.remaining S.contents asked self.new (in_hand result self.new.room)) }
+        ensures moved { (asked : Option (List Asked)) → Idles client_machine (lane_at S.remaining S.contents asked self.old []) (lane_at S.remaining S.contents asked self.new (in_hand result self.new.room)) }
         ensures end { IfOk result (λ count. count ≡ 0 → IsAtEnd (left_of S.remaining self.new.connection)) }
         ensures open { IfOk result (λ count. is_some self.new.connection.stream ≡ true) }
     {
@@ -110,7 +111,7 @@ fn rest_of<A: Allocator + Copy, N: Near<A>>(client: &N) -> Rest
 
 /// Whether the control connection has octets, which go before those of a download: behind a Peek that has all its octets ABOR is to go at once.
 pub(crate) fn is_spoken_first<P: Ports>(ports: &mut P, data: &mut Data<P::Stream>) -> bool
-    ensures idles { Idles (lane_at P.Stream.remaining P.Stream.contents (P.history ports.old) «data».old []) (lane_at P.Stream.remaining P.Stream.contents (P.history ports.new) «data».new []) }
+    ensures idles { Idles client_machine (lane_at P.Stream.remaining P.Stream.contents (P.history ports.old) «data».old []) (lane_at P.Stream.remaining P.Stream.contents (P.history ports.new) «data».new []) }
     ensures at { «data».new.connection.at ≡ «data».old.connection.at }
     ensures end { «data».new.connection.end ≡ «data».old.connection.end }
 {

@@ -8,9 +8,10 @@ ghost use Rattle.ftp_control.specs.Driving.{Goes, GoesSettled, Quietly};
 ghost use Rattle.ftp_control.specs.Lane.{IsHad, Lane, no_lane, with_asked};
 ghost use Rattle.ftp_control.specs.Unheard.{unheard_of};
 ghost use Rattle.ftp_operation.specs.Answer.{said_of};
-ghost use Rattle.ftp_client_drive.specs.Beside.{beside, held, lane_at};
+ghost use Rattle.ftp_control.specs.Machine.{IsWanted, held};
+ghost use Rattle.ftp_client_drive.specs.Beside.{beside, lane_at};
 ghost use Rattle.ftp_client_drive.specs.Driving.{Answers, Drives, Hands};
-ghost use Rattle.ftp_client_drive.specs.Side.{IsWanted, client_side};
+ghost use Rattle.ftp_client_drive.specs.Side.{client_side};
 ghost use Rattle.ftp_client_model.specs.Calls.{wants};
 
 use crate::control::{flush, hear, read};

@@ -5,3 +5,4 @@ pub mod Leading
 pub mod Totals
 pub mod Going
 pub mod Courses
+pub mod Idling

@@ -8,3 +8,4 @@ pub mod Side
 pub mod Deeds
 pub mod Driving
 pub mod Courses
+pub mod Machine

@@ -8,23 +8,19 @@ use Rattle.ftp_control.specs.Asking.{Asked}
 use Rattle.ftp_control.specs.Carrying.{told_by}
 use Rattle.ftp_control.specs.Deeds.{Stand}
 use Rattle.ftp_control.specs.Lane.{Lane, lane_of, with_untold}
-use Rattle.ftp_control.specs.Unheard.{left_of, unheard_of, written_of}
+use Rattle.ftp_control.specs.Machine.{Held, held, stand_of}
 use Rattle.ftp_control.specs.declared.control.Control.{Control}
 use Rattle.ftp_control.specs.declared.data.DataConnection.{DataConnection}
 use Rattle.ftp_control.specs.declared.pieces.Failed.{Failed}
 use Rattle.ftp_server_model.specs.Far.{Server}
-use Rattle.ftp_server_drive.specs.Side.{Held, server_side}
+use Rattle.ftp_server_drive.specs.Side.{server_machine, server_side}
 use Rattle.ftp_server_drive.specs.declared.data.Came.{Came}
 use Rattle.ftp_server_drive.specs.declared.data.Came.TheVariants.{Octets, Room, Nothing, End, Break}
 use Rattle.ftp_server_drive.specs.declared.data.Data.{Data}
 
-abbrev pub held : Server → Lane → Held
-held server lane = record { server = server; lane = lane }
-
 -- a server and its data connection beside a control connection, by what its reader has left and what its writer holds
-abbrev pub beside : {R W : Type 0} → (R → Option (List ℕ)) → (W → Option (List ℕ)) → Held → Control R W → Stand server_side
-beside remaining contents owner control =
-    record { owner = owner; left = left_of remaining control; unheard = unheard_of control; written = written_of contents control }
+abbrev pub beside : {R W : Type 0} → (R → Option (List ℕ)) → (W → Option (List ℕ)) → Held Server → Control R W → Stand server_side
+beside remaining contents owner control = stand_of server_machine remaining contents owner control
 
 -- the same while these octets are in hand
 abbrev pub handing : {R W : Type 0} → (R → Option (List ℕ)) → (W → Option (List ℕ)) → Server → Control R W → Lane → (untold : List ℕ) → Stand server_side

@@ -6,26 +6,23 @@ use Rattle.ftp_ends.specs.declared.link.Wants.TheVariants.{CloseAll}
 use Rattle.ftp_control.specs.Asking.{Asked}
 use Rattle.ftp_control.specs.Courses.{Carries}
 use Rattle.ftp_control.specs.Deeds.{Deed, Other, Stand, with_owner}
-use Rattle.ftp_control.specs.Driving.{Cuts, Fails, Leads, Quietly, Sums}
+use Rattle.ftp_control.specs.Driving.{Cuts, Fails, Leads, Sums}
 use Rattle.ftp_control.specs.Lane.{IsLeft, Lane, with_untold}
 use Rattle.ftp_control.specs.declared.pieces.Failed.{Failed}
 use Rattle.ftp_server_model.specs.Calls.{wants}
 use Rattle.ftp_server_model.specs.Far.{Server}
-use Rattle.ftp_server_drive.specs.Side.{Call, Clock, Left, Called, Held, ended, move_of, server_side}
+use Rattle.ftp_control.specs.Machine.{Call, Called, Held, Left, move_of}
+use Rattle.ftp_server_drive.specs.Side.{Clock, ended, server_machine, server_side}
 use Rattle.ftp_server_drive.specs.declared.drive.Life.{Life}
 use Rattle.ftp_server_drive.specs.declared.drive.Life.TheVariants.{GoesOn, Over}
 
 -- it is told the moment, and right after that this
-abbrev pub Timed : Call → (old new : Held) → Type 0
-Timed call old new = (moment : ℕ) × (mid : Held) × Called (Clock moment) old mid × Called call mid new
-
--- the data connection alone moves, whatever the server holds
-abbrev pub Idles : (old new : Lane) → Type 0
-Idles old new = (server : Server) → Quietly server_side (record { server = server; lane = old }) (record { server = server; lane = new })
+abbrev pub Timed : Call ℕ → (old new : Held Server) → Type 0
+Timed call old new = (moment : ℕ) × (mid : Held Server) × Called server_machine (Clock moment) old mid × Called server_machine call mid new
 
 -- the server is done with the control connection
 abbrev pub IsOver : Stand server_side → Type 0
-IsOver stand = wants stand.owner.server.view ≡ CloseAll
+IsOver stand = wants stand.owner.end.view ≡ CloseAll
 
 -- a turn leads on, to where the server is done or not, or fails
 abbrev pub Turns : (old new : Stand server_side) → Result Life Failed → Type 0
@@ -58,7 +55,7 @@ pub record BrokeOff (start now : Stand server_side) : Type 0 where
   pub carries : Carries {side = server_side} move_of deeds start.owner.lane stood
   pub lets : off.owner.lane ≡ with_untold off.owner.lane.untold stood
   pub stays : now ≡ with_owner now.owner off
-  pub cut : now.owner.server ≡ ended off.owner.server
+  pub cut : now.owner.end ≡ ended off.owner.end
   pub asked : Asked
   pub left : IsLeft asked off.owner.lane now.owner.lane
 

@@ -4,7 +4,8 @@ use Rattle.ftp_control.specs.Asking.{Asked}
 use Rattle.ftp_control.specs.Deeds.{Stand, with_owner}
 use Rattle.ftp_control.specs.Lane.{with_asked}
 use Rattle.ftp_server_model.specs.Far.{Server}
-use Rattle.ftp_server_drive.specs.Beside.{beside, held, lane_at}
+use Rattle.ftp_control.specs.Machine.{held}
+use Rattle.ftp_server_drive.specs.Beside.{beside, lane_at}
 use Rattle.ftp_server_drive.specs.Side.{server_side}
 use Rattle.ftp_server_drive.specs.declared.drive.Drive.{Drive}
 
@@ -21,7 +22,7 @@ standing server left written history remaining contents drive = standing_with se
 
 -- the same before what was asked last
 abbrev pub asked_before : Option (List Asked) → Stand server_side → Stand server_side
-asked_before asked stand = with_owner (held stand.owner.server (with_asked asked stand.owner.lane)) stand
+asked_before asked stand = with_owner (held stand.owner.end (with_asked asked stand.owner.lane)) stand
 
 -- it is a drive of the same server, control connection and ports
 abbrev pub IsKept : {A T F R W P S C : Type 0} → (old new : Drive A T F R W P S C) → Type 0

@@ -3,7 +3,8 @@ ghost use Rattle.std.specs.Prelude.{◌≡◌, ◌<◌, ◌+◌, IsTrue, false, 
 ghost use Rattle.ftp_control.specs.Driving.{Flushes, Leads};
 ghost use Rattle.ftp_control.specs.Lane.{Lane};
 ghost use Rattle.ftp_control.specs.Unheard.{unheard_of};
-ghost use Rattle.ftp_server_drive.specs.Beside.{beside, held};
+ghost use Rattle.ftp_control.specs.Machine.{held};
+ghost use Rattle.ftp_server_drive.specs.Beside.{beside};
 
 use ftp_control::{Control, Failed, TURNS};
 use ftp_server_model::Far;

@@ -4,9 +4,10 @@ ghost use Rattle.ftp_server_model.specs.Calls.{wants};
 ghost use Rattle.ftp_control.specs.Asking.{Asked};
 ghost use Rattle.ftp_control.specs.Driving.{Goes, Quietly};
 ghost use Rattle.ftp_control.specs.Lane.{IsLeft, IsWritten, Lane, no_lane, with_given, with_untold};
-ghost use Rattle.ftp_server_drive.specs.Beside.{HasEnded, beside, held, in_hand, lane_at, untaken};
-ghost use Rattle.ftp_server_drive.specs.Driving.{Idles, Timed};
-ghost use Rattle.ftp_server_drive.specs.Side.{Break, End, server_side};
+ghost use Rattle.ftp_control.specs.Machine.{Break, End, Idles, held};
+ghost use Rattle.ftp_server_drive.specs.Beside.{HasEnded, beside, in_hand, lane_at, untaken};
+ghost use Rattle.ftp_server_drive.specs.Driving.{Timed};
+ghost use Rattle.ftp_server_drive.specs.Side.{server_machine, server_side};
 
 use crate::control::flush;
 use ftp_control::{
@@ -63,7 +64,7 @@ impl<S: Read + Write> Data<S> {
 
     /// What it has: octets that are read now, or room where the server wants to send; its end only where it stands and its stream is at its end.
     pub(crate) fn come(&mut self, wants: Wants) -> Came
-        ensures moved { (asked : Option (List Asked)) → Idles (lane_at S.remaining S.contents asked self.old []) (lane_at S.remaining S.contents asked self.new (in_hand result self.new.room)) }
+        ensures moved { (asked : Option (List Asked)) → Idles server_machine (lane_at S.remaining S.contents asked self.old []) (lane_at S.remaining S.contents asked self.new (in_hand result self.new.room)) }
         ensures ended { result ≡ Came.End → HasEnded S.remaining self.new.connection }
     {
         if wants == Wants::Send || self.connection.has_unwritten() {
@@ -145,7 +146,7 @@ where
     T: Tree<A>,
     F: Far<A, T>,
     P: Ports,
-    ensures { Idles (lane_at P.Stream.remaining P.Stream.contents (P.history ports.old) «data».old []) (lane_at P.Stream.remaining P.Stream.contents (P.history ports.new) «data».new []) }
+    ensures { Idles server_machine (lane_at P.Stream.remaining P.Stream.contents (P.history ports.old) «data».old []) (lane_at P.Stream.remaining P.Stream.contents (P.history ports.new) «data».new []) }
 {
     let what = match server.wants() {
         Wants::Send => For::Room,
@@ -161,7 +162,7 @@ pub(crate) fn come<P: Ports>(
     ports: &mut P,
     data: &mut Data<P::Stream>,
 ) -> (Came, Spoken)
-    ensures moved { Idles (lane_at P.Stream.remaining P.Stream.contents (P.history ports.old) «data».old []) (lane_at P.Stream.remaining P.Stream.contents (P.history ports.new) «data».new (in_hand result.0 «data».new.room)) }
+    ensures moved { Idles server_machine (lane_at P.Stream.remaining P.Stream.contents (P.history ports.old) «data».old []) (lane_at P.Stream.remaining P.Stream.contents (P.history ports.new) «data».new (in_hand result.0 «data».new.room)) }
     ensures ended { result.0 ≡ Came.End → HasEnded P.Stream.remaining «data».new.connection }
     ensures over { result.1 ≢ Spoken.Nothing → (room : List ℕ) → in_hand result.0 room ≡ [] }
 {

@@ -4,10 +4,10 @@ ghost use Rattle.ftp_control.specs.Asking.{Adds, Asked};
 ghost use Rattle.ftp_control.specs.Driving.{Goes, GoesSettled, Leads};
 ghost use Rattle.ftp_control.specs.Lane.{IsHad, no_lane};
 ghost use Rattle.ftp_control.specs.Unheard.{unheard_of};
-ghost use Rattle.ftp_server_drive.specs.Beside.{HasEnded, beside, held, in_hand};
+ghost use Rattle.ftp_control.specs.Machine.{IsWanted, held};
+ghost use Rattle.ftp_server_drive.specs.Beside.{HasEnded, beside, in_hand};
 ghost use Rattle.ftp_server_drive.specs.Driving.{Drives, EndsOver, Turns};
 ghost use Rattle.ftp_server_drive.specs.Standing.{IsKept, asked_before, standing, standing_with};
-ghost use Rattle.ftp_server_drive.specs.Side.{IsWanted};
 ghost use Rattle.ftp_server_model.specs.Calls.{wants};
 
 use crate::control::{flush, hear_one};

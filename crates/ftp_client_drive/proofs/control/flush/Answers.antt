@@ -1,7 +1,8 @@
 use Rattle.std.proofs.Common.{◌≡◌, ◌∙◌, refl, subst, length, rules}
 use Rattle.ftp_client_model.specs.Calls.{gives_control}
 use Rattle.ftp_client_model.specs.Failing.{Holds}
-use Rattle.ftp_client_drive.specs.Beside.{beside, held}
+use Rattle.ftp_control.specs.Machine.{held}
+use Rattle.ftp_client_drive.specs.Beside.{beside}
 use Rattle.ftp_control.specs.Deeds.{Said}
 use Rattle.ftp_control.proofs.Leading.{leads_nowhere, leads_on, fails_here, settles_here}
 use Rattle.ftp_control.proofs.Going.{flushes_err, none_owed, write_fails}

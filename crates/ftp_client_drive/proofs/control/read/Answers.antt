@@ -1,7 +1,8 @@
 use Rattle.std.proofs.Common.{◌∙◌, sym, refl, subst}
 use Rattle.std.specs.Io.KnownBytes.{Consumes}
 use Rattle.ftp_control.specs.Unheard.{left_of}
-use Rattle.ftp_client_drive.specs.Beside.{beside, held}
+use Rattle.ftp_control.specs.Machine.{held}
+use Rattle.ftp_client_drive.specs.Beside.{beside}
 use Rattle.ftp_control.proofs.Going.{ends_here, goes_err, read_fails, reads_next}
 use Rattle.ftp_client_drive.proofs.control.read.Goals as goal
 

@@ -1,9 +1,10 @@
 use Rattle.std.proofs.Common.{[], ◌∷◌, inl, refl, subst}
 use Rattle.ftp_control.specs.Asking.{Accepts, Came, NotCame}
 use Rattle.ftp_control.proofs.Leading.{call_leads, leads_then, settled_leads}
-use Rattle.ftp_client_drive.specs.Beside.{beside, held, lane_at}
-use Rattle.ftp_client_drive.specs.Side.{Refused}
-use Rattle.ftp_client_drive.proofs.Idling.{idles_asked, settles_idle}
+use Rattle.ftp_control.specs.Machine.{Refused, held}
+use Rattle.ftp_control.proofs.Idling.{idles_asked, settles_idle}
+use Rattle.ftp_client_drive.specs.Side.{client_machine}
+use Rattle.ftp_client_drive.specs.Beside.{beside, lane_at}
 use Rattle.ftp_client_drive.proofs.drive.accept.Goals as goal
 
 pub returns-in-Came : goal.returns-in-Came
@@ -25,7 +26,7 @@ returns-in-Spoken g c start settles =
     let lane = lane_at remaining contents (history c.args.ports.now) c.args.data.now [] in
     let new = lane_at remaining contents (history c.accept.new.self) c.args.data.now [] in
     let old = beside g.R.Read.remaining g.W.Write.contents (held (g.N.Near.client c.args.client.now) lane) c.args.control.now in
-    c.read.ensures new start (settles_idle start old new settles (idles_asked new (history c.args.ports.now) (history c.accept.new.self)
+    c.read.ensures new start (settles_idle client_machine start old new settles (idles_asked client_machine new (history c.args.ports.now) (history c.accept.new.self)
     (subst (λ r. Accepts remaining contents r (history c.args.ports.now) (history c.accept.new.self)) c.in-Spoken.is c.accept.ensures)))
 
 pub returns-in-Refused : goal.returns-in-Refused

@@ -1,11 +1,12 @@
 use Rattle.std.proofs.Common.{refl}
 use Rattle.ftp_control.proofs.Leading.{quiet_call, quiet_then}
-use Rattle.ftp_client_drive.specs.Side.{Closed, client_side}
-use Rattle.ftp_client_drive.proofs.Idling.{idles_left}
+use Rattle.ftp_control.specs.Machine.{Closed}
+use Rattle.ftp_control.proofs.Idling.{idles_left}
+use Rattle.ftp_client_drive.specs.Side.{client_machine, client_side}
 use Rattle.ftp_client_drive.proofs.drive.close.Goals as goal
 
 pub returns : goal.returns
 returns g c =
     let left = c.leave.ensures in
-    quiet_then client_side _ _ _ (idles_left left.0 _ _ left.1 (g.N.Near.client c.args.client.now))
+    quiet_then client_side _ _ _ (idles_left client_machine left.0 _ _ left.1 (g.N.Near.client c.args.client.now))
     (quiet_call client_side Closed _ _ (c.data_closed.ensures, (refl, left.1.stands), λ sound under. c.requires))

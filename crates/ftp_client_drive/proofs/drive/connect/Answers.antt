@@ -1,7 +1,8 @@
 use Rattle.std.proofs.Common.{[], ◌∷◌, inr, refl, subst}
 use Rattle.ftp_control.specs.Asking.{Connected, Connects, NotConnected}
 use Rattle.ftp_control.proofs.Leading.{quiet_call}
-use Rattle.ftp_client_drive.specs.Side.{Refused, client_side}
+use Rattle.ftp_control.specs.Machine.{Refused}
+use Rattle.ftp_client_drive.specs.Side.{client_side}
 use Rattle.ftp_client_drive.proofs.drive.connect.Goals as goal
 
 pub returns-in-Some : goal.returns-in-Some

@@ -4,7 +4,8 @@ use Rattle.ftp_operation.specs.Answer.{said_of}
 use Rattle.ftp_control.specs.Driving.{Fails}
 use Rattle.ftp_control.specs.Lane.{no_lane}
 use Rattle.ftp_control.proofs.Lanes.{none_had}
-use Rattle.ftp_client_drive.specs.Beside.{beside, held, lane_at}
+use Rattle.ftp_control.specs.Machine.{held}
+use Rattle.ftp_client_drive.specs.Beside.{beside, lane_at}
 use Rattle.ftp_client_drive.specs.Driving.{Tells}
 use Rattle.ftp_client_drive.proofs.Turning.{broke_off, drove, gave_up}
 use Rattle.ftp_client_drive.proofs.drive.drive_client.Goals as goal

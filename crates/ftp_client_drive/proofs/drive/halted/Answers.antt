@@ -1,6 +1,7 @@
 use Rattle.std.proofs.Common.{[]}
 use Rattle.ftp_control.proofs.Leading.{leads_then, settled_leads}
-use Rattle.ftp_client_drive.specs.Beside.{beside, held, lane_at}
+use Rattle.ftp_control.specs.Machine.{held}
+use Rattle.ftp_client_drive.specs.Beside.{beside, lane_at}
 use Rattle.ftp_client_drive.proofs.drive.halted.Goals as goal
 
 pub returns-in-Again : goal.returns-in-Again

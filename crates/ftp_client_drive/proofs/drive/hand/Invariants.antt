@@ -1,7 +1,7 @@
 use Rattle.std.proofs.Common.{length, drop, ◌-◌, ◌≤◌}
 use Rattle.ftp_control.specs.Driving.{Quietly}
 use Rattle.ftp_control.specs.Lane.{Lane, with_untold}
-use Rattle.ftp_client_drive.specs.Beside.{held}
+use Rattle.ftp_control.specs.Machine.{held}
 use Rattle.ftp_client_drive.specs.Side.{client_side}
 use Rattle.ftp_client_drive.proofs.drive.hand.Given as goal
 

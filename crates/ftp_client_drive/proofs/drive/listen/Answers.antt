@@ -1,7 +1,8 @@
 use Rattle.std.proofs.Common.{[], ◌∷◌, refl, subst}
 use Rattle.ftp_control.specs.Asking.{Adds, Listened}
 use Rattle.ftp_control.proofs.Leading.{quiet_call}
-use Rattle.ftp_client_drive.specs.Side.{Listening, NoPort, client_side}
+use Rattle.ftp_control.specs.Machine.{Listening, NoPort}
+use Rattle.ftp_client_drive.specs.Side.{client_side}
 use Rattle.ftp_client_drive.proofs.drive.listen.Goals as goal
 
 pub returns-in-Some : goal.returns-in-Some

@@ -2,8 +2,9 @@ use Rattle.std.proofs.Common.{[]}
 use Rattle.ftp_control.proofs.Lanes.{asked_for, opens}
 use Rattle.ftp_control.proofs.Leading.{quiet_call}
 use Rattle.ftp_client_model.specs.Calls.{wants}
-use Rattle.ftp_client_drive.specs.Side.{Opened, client_side}
-use Rattle.ftp_client_drive.proofs.Idling.{all_wanted}
+use Rattle.ftp_control.specs.Machine.{Opened}
+use Rattle.ftp_control.proofs.Idling.{all_wanted}
+use Rattle.ftp_client_drive.specs.Side.{client_side}
 use Rattle.ftp_client_drive.proofs.drive.opened.Goals as goal
 
 pub returns : goal.returns

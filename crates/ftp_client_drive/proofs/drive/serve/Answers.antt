@@ -1,6 +1,7 @@
 use Rattle.std.proofs.Common.{[]}
 use Rattle.ftp_control.proofs.Leading.{fails_here, leads_then, settled_leads}
-use Rattle.ftp_client_drive.specs.Beside.{beside, held, lane_at}
+use Rattle.ftp_control.specs.Machine.{held}
+use Rattle.ftp_client_drive.specs.Beside.{beside, lane_at}
 use Rattle.ftp_client_drive.proofs.drive.serve.Goals as goal
 
 pub returns-in-Nothing : goal.returns-in-Nothing

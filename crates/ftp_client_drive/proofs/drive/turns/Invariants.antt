@@ -1,6 +1,7 @@
 use Rattle.std.specs.Prelude.{[]}
 use Rattle.ftp_control.specs.Driving.{Leads}
-use Rattle.ftp_client_drive.specs.Beside.{beside, held, lane_at}
+use Rattle.ftp_control.specs.Machine.{held}
+use Rattle.ftp_client_drive.specs.Beside.{beside, lane_at}
 use Rattle.ftp_client_drive.proofs.drive.turns.Given as goal
 
 abbrev pub invariant-loop : goal.invariant-loop

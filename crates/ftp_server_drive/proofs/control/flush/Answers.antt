@@ -4,7 +4,8 @@ use Rattle.ftp_control.proofs.Leading.{leads_nowhere, leads_on, fails_here, sett
 use Rattle.ftp_control.proofs.Going.{flushes_err, none_owed, write_fails}
 use Rattle.ftp_server_model.specs.Calls.{control_step}
 use Rattle.ftp_server_model.specs.Far.{Acts}
-use Rattle.ftp_server_drive.specs.Beside.{beside, held}
+use Rattle.ftp_control.specs.Machine.{held}
+use Rattle.ftp_server_drive.specs.Beside.{beside}
 use Rattle.ftp_server_drive.proofs.control.flush.Goals as goal
 
 pub loop-init : goal.loop-init

@@ -1,12 +1,13 @@
 use Rattle.std.specs.Prelude.{List, Option}
 use Rattle.ftp_control.specs.Asking.{Asked}
+use Rattle.ftp_control.proofs.Idling.{idles_asked, idles_then}
+use Rattle.ftp_server_drive.specs.Side.{server_machine}
 use Rattle.ftp_server_drive.specs.Beside.{in_hand, lane_at}
-use Rattle.ftp_server_drive.proofs.Turning.{idles_asked, idles_then}
 use Rattle.ftp_server_drive.proofs.data.come.Goals as goal
 
 pub returns-in-End-clause-moved : goal.returns-in-End-clause-moved
 returns-in-End-clause-moved g c =
     let history = g.P.Ports.history in
     let lane = λ (asked : Option (List Asked)). lane_at g.P.Stream.Read.remaining g.P.Stream.Write.contents asked c.come-came.new.self (in_hand c.come-came.result c.come-came.new.self.room) in
-    idles_then _ (lane (history c.args.ports.now)) (lane (history c.spoken.new.self)) (c.come-came.ensures.moved (history c.args.ports.now))
-    (idles_asked (lane (history c.args.ports.now)) _ _ c.spoken.ensures)
+    idles_then server_machine _ (lane (history c.args.ports.now)) (lane (history c.spoken.new.self)) (c.come-came.ensures.moved (history c.args.ports.now))
+    (idles_asked server_machine (lane (history c.args.ports.now)) _ _ c.spoken.ensures)

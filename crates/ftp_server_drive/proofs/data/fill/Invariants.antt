@@ -1,7 +1,7 @@
 use Rattle.std.proofs.Common.{length, take, ◌-◌, ◌≤◌}
 use Rattle.ftp_control.specs.Driving.{Quietly}
 use Rattle.ftp_control.specs.Lane.{Lane, with_given}
-use Rattle.ftp_server_drive.specs.Beside.{held}
+use Rattle.ftp_control.specs.Machine.{held}
 use Rattle.ftp_server_drive.specs.Side.{server_side}
 use Rattle.ftp_server_drive.proofs.data.fill.Given as goal
 

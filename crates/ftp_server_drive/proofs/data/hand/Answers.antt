@@ -3,8 +3,9 @@ use Rattle.std.proofs.lemmas.List.{drop-drop, drop_all}
 use Rattle.ftp_control.specs.Driving.{Fails, Leads}
 use Rattle.ftp_control.proofs.Leading.{fails_then, leads_then}
 use Rattle.ftp_control.proofs.Going.{goes_err}
+use Rattle.ftp_control.proofs.Idling.{lets_go}
+use Rattle.ftp_server_drive.specs.Side.{server_machine}
 use Rattle.ftp_server_drive.specs.Beside.{handing}
-use Rattle.ftp_server_drive.proofs.Turning.{lets_go}
 use Rattle.ftp_server_drive.proofs.data.hand.Goals as goal
 
 pub returns-in_err-at : goal.returns-in_err-at
@@ -43,7 +44,7 @@ returns-then-ne g c lane =
     let rest = drop c.loop-at.at octets in
     let old = stand (server c.args.server.now) c.args.control.now lane octets in
     let mid = stand (server c.loop-at.server) c.loop-at.control lane in
-    leads_then old (mid rest) (mid []) (c.loop-at.invariant.1 lane) (lets_go (server c.loop-at.server) lane rest (search rules) _ _ _)
+    leads_then old (mid rest) (mid []) (c.loop-at.invariant.1 lane) (lets_go server_machine (server c.loop-at.server) lane rest (search rules) _ _ _)
 
 pub returns : goal.returns
 returns g c lane =

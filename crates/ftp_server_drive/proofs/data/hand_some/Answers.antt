@@ -2,8 +2,8 @@ use Rattle.std.proofs.Common.{[], refl, sym, take, drop}
 use Rattle.std.proofs.lemmas.List.{take-append-drop}
 use Rattle.ftp_control.specs.Lane.{with_untold}
 use Rattle.ftp_control.proofs.Leading.{call_leads, fails_here, fails_lets, fails_then, leads_then, settled_leads}
+use Rattle.ftp_control.specs.Machine.{Received}
 use Rattle.ftp_server_drive.specs.Beside.{handing}
-use Rattle.ftp_server_drive.specs.Side.{Received}
 use Rattle.ftp_server_drive.proofs.Turning.{hands_err}
 use Rattle.ftp_server_drive.proofs.data.hand_some.Goals as goal
 
@@ -14,7 +14,7 @@ returns-then-taken-eq0-clause-goes g c lane =
     let mid = handing g.R.Read.remaining g.W.Write.contents (g.F.Far.server c.data_hear-taken.new.self) c.args.control.now lane (drop count octets) in
     let new = handing g.R.Read.remaining g.W.Write.contents (g.F.Far.server c.data_hear-taken.new.self) c.args.control.now lane [] in
     fails_lets (handing g.R.Read.remaining g.W.Write.contents (g.F.Far.server c.args.server.now) c.args.control.now lane octets) mid new
-    (fails_here (handing g.R.Read.remaining g.W.Write.contents (g.F.Far.server c.args.server.now) c.args.control.now lane octets) mid (call_leads (handing g.R.Read.remaining g.W.Write.contents (g.F.Far.server c.args.server.now) c.args.control.now lane octets) (Received (take count octets)) mid.owner
+    (fails_here (handing g.R.Read.remaining g.W.Write.contents (g.F.Far.server c.args.server.now) c.args.control.now lane octets) mid (call_leads (handing g.R.Read.remaining g.W.Write.contents (g.F.Far.server c.args.server.now) c.args.control.now lane octets) (Received octets count) mid.owner
     (c.data_hear-taken.ensures.took, (sym (take-append-drop count octets), refl), tt)))
     (refl, refl) refl
 
@@ -29,7 +29,7 @@ returns-in_err-flush-clause-goes g c lane =
     hands_err old (handing g.R.Read.remaining g.W.Write.contents (g.F.Far.server c.flush.new.server) c.flush.new.control lane) octets c.from_residual.result c.from_residual.ensures.0
     (fails_lets old off new
     (fails_then old mid off
-    (call_leads old (Received (take count octets)) mid.owner (c.data_hear-taken.ensures.took, (sym (take-append-drop count octets), refl), tt))
+    (call_leads old (Received octets count) mid.owner (c.data_hear-taken.ensures.took, (sym (take-append-drop count octets), refl), tt))
     (c.in_err-flush.ensures (with_untold (drop count octets) lane)))
     (refl, refl) refl)
 
@@ -40,5 +40,5 @@ returns-clause-goes g c lane =
     let old = handing g.R.Read.remaining g.W.Write.contents (g.F.Far.server c.args.server.now) c.args.control.now lane octets in
     let mid = handing g.R.Read.remaining g.W.Write.contents (g.F.Far.server c.data_hear-taken.new.self) c.args.control.now lane (drop count octets) in
     leads_then old mid _
-    (call_leads old (Received (take count octets)) mid.owner (c.data_hear-taken.ensures.took, (sym (take-append-drop count octets), refl), tt))
+    (call_leads old (Received octets count) mid.owner (c.data_hear-taken.ensures.took, (sym (take-append-drop count octets), refl), tt))
     (settled_leads mid _ (c.in_ok-flush.ensures (with_untold (drop count octets) lane)))

@@ -1,10 +1,10 @@
 use Rattle.ftp_control.proofs.Leading.{quiet_then}
-use Rattle.ftp_server_drive.specs.Side.{server_side}
-use Rattle.ftp_server_drive.proofs.Turning.{idles_same, idles_then, idles_wrote}
+use Rattle.ftp_control.proofs.Idling.{idles_same, idles_then, idles_wrote}
+use Rattle.ftp_server_drive.specs.Side.{server_machine, server_side}
 use Rattle.ftp_server_drive.proofs.data.send.Goals as goal
 
 pub returns-clause-quiet : goal.returns-clause-quiet
 returns-clause-quiet g c asked =
     let wrote = c.write.ensures.written asked in
     quiet_then server_side _ _ _ (c.fill.ensures asked)
-    (idles_then _ _ _ (idles_same _ _ (c.note.ensures.same asked)) (idles_wrote wrote.0 _ _ wrote.1) (g.F.Far.server c.fill.new.server))
+    (idles_then server_machine _ _ _ (idles_same server_machine _ _ (c.note.ensures.same asked)) (idles_wrote server_machine wrote.0 _ _ wrote.1) (g.F.Far.server c.fill.new.server))

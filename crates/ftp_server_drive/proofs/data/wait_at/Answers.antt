@@ -1,12 +1,13 @@
 use Rattle.std.proofs.Common.{[]}
 use Rattle.ftp_control.proofs.Lanes.{waits}
-use Rattle.ftp_server_drive.proofs.Turning.{idles_waited}
+use Rattle.ftp_control.proofs.Idling.{idles_waited}
+use Rattle.ftp_server_drive.specs.Side.{server_machine}
 use Rattle.ftp_server_drive.proofs.data.wait_at.Goals as goal
 
 pub returns : goal.returns
 returns g c =
     let old = c.args.data.now in
     let asks = c.wait.ensures in
-    idles_waited _ _
+    idles_waited server_machine _ _
     (waits g.P.Stream.Read.remaining g.P.Stream.Write.contents old.connection c.wait.new.self (g.P.Ports.history c.args.ports.now) (g.P.Ports.history c.wait.new.ports)
     old.room [] asks.left asks.written asks.at asks.end asks.stands asks.asked)

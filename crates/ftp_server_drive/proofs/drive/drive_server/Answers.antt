@@ -6,7 +6,8 @@ use Rattle.ftp_control.specs.Driving.{Fails, Leads}
 use Rattle.ftp_control.specs.Lane.{IsLeft, no_lane}
 use Rattle.ftp_control.proofs.Lanes.{none_had}
 use Rattle.ftp_server_model.specs.Far.{Server}
-use Rattle.ftp_server_drive.specs.Beside.{beside, held}
+use Rattle.ftp_control.specs.Machine.{held}
+use Rattle.ftp_server_drive.specs.Beside.{beside}
 use Rattle.ftp_server_drive.specs.Driving.{BrokeOff, Drove}
 use Rattle.ftp_server_drive.specs.Standing.{standing}
 use Rattle.ftp_server_drive.proofs.Turning.{broke_off, drove}

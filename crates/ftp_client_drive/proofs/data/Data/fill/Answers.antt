@@ -1,8 +1,9 @@
 use Rattle.std.proofs.Common.{◌∙◌, [], take}
 use Rattle.ftp_control.proofs.Lanes.{fills}
 use Rattle.ftp_control.proofs.Leading.{quiet_call}
-use Rattle.ftp_client_drive.specs.Beside.{held, lane_at}
-use Rattle.ftp_client_drive.specs.Side.{Gave, client_side}
+use Rattle.ftp_control.specs.Machine.{Gave, held}
+use Rattle.ftp_client_drive.specs.Beside.{lane_at}
+use Rattle.ftp_client_drive.specs.Side.{client_side}
 use Rattle.ftp_client_drive.proofs.data.Data.fill.Goals as goal
 
 pub returns-clause-quiet : goal.returns-clause-quiet

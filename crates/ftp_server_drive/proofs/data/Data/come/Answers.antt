@@ -1,7 +1,9 @@
 use Rattle.std.proofs.Common.{[], take, rules}
 use Rattle.ftp_control.proofs.Lanes.{keeps_consumes, reads}
+use Rattle.ftp_control.proofs.Idling.{idles_read}
+use Rattle.ftp_server_drive.specs.Side.{server_machine}
 use Rattle.ftp_server_drive.specs.Beside.{lane_at}
-use Rattle.ftp_server_drive.proofs.Turning.{idles_read, none_came}
+use Rattle.ftp_server_drive.proofs.Turning.{none_came}
 use Rattle.ftp_server_drive.proofs.data.Data.come.Goals as goal
 
 pub returns-in-Ok-eq0-clause-moved : goal.returns-in-Ok-eq0-clause-moved
@@ -10,7 +12,7 @@ returns-in-Ok-eq0-clause-moved g c asked =
     let contents = g.S.Write.contents in
     let old = c.args.self.now in
     let new = c.read.new.self in
-    idles_read [] (lane_at remaining contents asked old []) _
+    idles_read server_machine [] (lane_at remaining contents asked old []) _
     (reads remaining contents old.connection new asked old.room c.read.new.room [] (c.has_unwritten.ensures.none c.if-has_unwritten.false)
     c.read.ensures.at c.read.ensures.length c.read.ensures.stands (none_came _ _ c.in-Ok-eq0.field-0 c.read.new.room (search rules) c.in-Ok-eq0.ensures.ok))
 
@@ -20,7 +22,7 @@ returns-in-Ok-clause-moved g c asked =
     let contents = g.S.Write.contents in
     let old = c.args.self.now in
     let new = c.read.new.self in
-    idles_read (take c.in-Ok.count c.read.new.room) (lane_at remaining contents asked old []) _
+    idles_read server_machine (take c.in-Ok.count c.read.new.room) (lane_at remaining contents asked old []) _
     (reads remaining contents old.connection new asked old.room c.read.new.room (take c.in-Ok.count c.read.new.room) (c.has_unwritten.ensures.none c.if-has_unwritten.false)
     c.read.ensures.at c.read.ensures.length c.read.ensures.stands c.in-Ok.ensures.ok)
 
@@ -31,7 +33,7 @@ returns-in-Err-Again g c =
     let old = c.args.self.now in
     let new = c.read.new.self in
     record {
-      moved = λ asked. idles_read [] (lane_at remaining contents asked old []) _
+      moved = λ asked. idles_read server_machine [] (lane_at remaining contents asked old []) _
           (reads remaining contents old.connection new asked old.room c.read.new.room [] (c.has_unwritten.ensures.none c.if-has_unwritten.false)
           c.read.ensures.at c.read.ensures.length c.read.ensures.stands (keeps_consumes _ _ c.in-Err-Again.ensures.err));
       ended = λ e. absurd (cc);
@@ -43,6 +45,6 @@ returns-in-Err-Broken-clause-moved g c asked =
     let contents = g.S.Write.contents in
     let old = c.args.self.now in
     let new = c.read.new.self in
-    idles_read [] (lane_at remaining contents asked old []) _
+    idles_read server_machine [] (lane_at remaining contents asked old []) _
     (reads remaining contents old.connection new asked old.room c.read.new.room [] (c.has_unwritten.ensures.none c.if-has_unwritten.false)
     c.read.ensures.at c.read.ensures.length c.read.ensures.stands (keeps_consumes _ _ c.in-Err-Broken.ensures.err))

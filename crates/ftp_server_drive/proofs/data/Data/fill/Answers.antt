@@ -1,7 +1,8 @@
 use Rattle.std.proofs.Common.{[], sym, subst, rules}
 use Rattle.ftp_control.specs.Driving.{Quietly}
 use Rattle.ftp_control.proofs.Lanes.{fills}
-use Rattle.ftp_server_drive.specs.Beside.{held, lane_at}
+use Rattle.ftp_control.specs.Machine.{held}
+use Rattle.ftp_server_drive.specs.Beside.{lane_at}
 use Rattle.ftp_server_drive.specs.Side.{server_side}
 use Rattle.ftp_server_drive.proofs.data.Data.fill.Goals as goal
 

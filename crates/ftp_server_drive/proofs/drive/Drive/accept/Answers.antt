@@ -1,5 +1,5 @@
 use Rattle.ftp_control.proofs.Leading.{leads_then}
-use Rattle.ftp_server_drive.proofs.Turning.{settled_then}
+use Rattle.ftp_control.proofs.Idling.{settled_then}
 use Rattle.ftp_server_drive.proofs.drive.Drive.accept.Goals as goal
 
 pub returns-then-not-hear_one-clause-goes : goal.returns-then-not-hear_one-clause-goes

@@ -1,11 +1,13 @@
 use Rattle.std.proofs.Common.{[], subst, rules}
-use Rattle.ftp_server_drive.specs.Beside.{held, in_hand, lane_at}
+use Rattle.ftp_control.specs.Machine.{held}
+use Rattle.ftp_control.proofs.Idling.{idles_then}
+use Rattle.ftp_server_drive.specs.Side.{server_machine}
+use Rattle.ftp_server_drive.specs.Beside.{in_hand, lane_at}
 use Rattle.ftp_server_drive.specs.Standing.{standing}
 use Rattle.ftp_control.specs.Deeds.{with_owner}
 use Rattle.ftp_control.specs.Driving.{Fails}
 use Rattle.ftp_control.proofs.Leading.{fails_here}
 use Rattle.ftp_control.proofs.Going.{goes_then}
-use Rattle.ftp_server_drive.proofs.Turning.{idles_then}
 use Rattle.ftp_server_drive.proofs.drive.Drive.carry_alone.Goals as goal
 
 pub returns-then-eq-clause-goes : goal.returns-then-eq-clause-goes
@@ -16,7 +18,7 @@ returns-then-eq-clause-goes g c =
     let waited = lane (history c.wait_at.new.ports) c.wait_at.new.data [] in
     let room = c.come-came.new.data.room in
     let came = lane (history c.come-came.new.ports) c.come-came.new.data in
-    let idles = idles_then _ waited (came (in_hand c.come-came.result.0 room)) c.wait_at.ensures c.come-came.ensures.moved in
+    let idles = idles_then server_machine _ waited (came (in_hand c.come-came.result.0 room)) c.wait_at.ensures c.come-came.ensures.moved in
     let old = at c.args.self.now in
     subst (λ l. Fails old (with_owner (held (g.F.Far.server c.args.self.now.server.now) (came l)) old)) (c.come-came.ensures.over (search rules) room)
     (fails_here old _ (idles (g.F.Far.server c.args.self.now.server.now) _ _ _))
@@ -29,7 +31,7 @@ returns-else-eq-clause-goes g c =
     let waited = lane (history c.wait_at.new.ports) c.wait_at.new.data [] in
     let room = c.come-came.new.data.room in
     let came = lane (history c.come-came.new.ports) c.come-came.new.data in
-    let idles = idles_then _ waited (came (in_hand c.come-came.result.0 room)) c.wait_at.ensures c.come-came.ensures.moved in
+    let idles = idles_then server_machine _ waited (came (in_hand c.come-came.result.0 room)) c.wait_at.ensures c.come-came.ensures.moved in
     goes_then (at c.args.self.now) _ _ c.carry_came.result (idles (g.F.Far.server c.args.self.now.server.now) _ _ _) c.carry_came.ensures.goes
 
 pub returns-in-Control-clause-goes : goal.returns-in-Control-clause-goes

@@ -2,7 +2,7 @@ use Rattle.std.proofs.Common.{[], ◌∷◌, inr, refl, subst}
 use Rattle.ftp_control.specs.Asking.{Connected, Connects, NotConnected}
 use Rattle.ftp_control.specs.Deeds.{Other}
 use Rattle.ftp_control.proofs.Leading.{leads_by}
-use Rattle.ftp_server_drive.specs.Side.{Refused}
+use Rattle.ftp_control.specs.Machine.{Refused}
 use Rattle.ftp_server_drive.proofs.drive.Drive.connect.Goals as goal
 
 pub returns-in-Some-clause-leads : goal.returns-in-Some-clause-leads

@@ -1,9 +1,11 @@
 use Rattle.std.proofs.Common.{refl}
-use Rattle.ftp_server_drive.specs.Side.{End}
+use Rattle.ftp_control.specs.Machine.{End}
+use Rattle.ftp_control.proofs.Idling.{leaves}
+use Rattle.ftp_server_drive.specs.Side.{server_machine}
 use Rattle.ftp_server_drive.specs.Standing.{standing}
 use Rattle.ftp_control.proofs.Going.{goes_err}
 use Rattle.ftp_control.proofs.Leading.{fails_then, leads_then, settled_leads}
-use Rattle.ftp_server_drive.proofs.Turning.{leaves, timed_quietly}
+use Rattle.ftp_server_drive.proofs.Turning.{timed_quietly}
 use Rattle.ftp_server_drive.proofs.drive.Drive.over.Goals as goal
 
 pub returns-in_err-flush-clause-goes : goal.returns-in_err-flush-clause-goes
@@ -16,4 +18,4 @@ pub returns-clause-goes : goal.returns-clause-goes
 returns-clause-goes g c =
     let at = standing g.F.Far.server g.R.Read.remaining g.W.Write.contents g.P.Ports.history g.S.Read.remaining g.S.Write.contents in
     leads_then _ _ _ (leads_then _ _ _ (timed_quietly End _ _ (c.end.ensures (g.P.Ports.history c.args.self.now.ports.now)) _ _ _)
-    (settled_leads _ _ (c.in_ok-flush.ensures (at c.args.self.now).owner.lane))) (leaves c.leave.ensures.0 _ _ c.leave.ensures.1 refl)
+    (settled_leads _ _ (c.in_ok-flush.ensures (at c.args.self.now).owner.lane))) (leaves server_machine c.leave.ensures.0 _ _ c.leave.ensures.1 refl)

@@ -2,10 +2,11 @@ use Rattle.std.proofs.Common.{[], ◌∷◌, inl, refl, subst}
 use Rattle.ftp_control.specs.Asking.{Accepts, Came, NotCame}
 use Rattle.ftp_control.specs.Deeds.{Other}
 use Rattle.ftp_control.proofs.Leading.{leads_by}
+use Rattle.ftp_control.specs.Machine.{Refused}
+use Rattle.ftp_control.proofs.Idling.{idles_asked, settled_then, settles_idle}
+use Rattle.ftp_server_drive.specs.Side.{server_machine}
 use Rattle.ftp_server_drive.specs.Beside.{lane_at}
 use Rattle.ftp_server_drive.specs.Standing.{standing}
-use Rattle.ftp_server_drive.specs.Side.{Refused}
-use Rattle.ftp_server_drive.proofs.Turning.{idles_asked, settled_then, settles_idle}
 use Rattle.ftp_server_drive.proofs.drive.Drive.wait.Goals as goal
 
 pub returns-in-Came-clause-goes : goal.returns-in-Came-clause-goes
@@ -27,7 +28,7 @@ returns-in-Spoken-clause-goes g c start settles =
     let h1 = history c.accept.new.self in
     let at = standing g.F.Far.server g.R.Read.remaining g.W.Write.contents g.P.Ports.history g.S.Read.remaining g.S.Write.contents in
     let lane = lane_at remaining contents h1 c.args.self.now.data [] in
-    c.read.ensures.goes start (settles_idle start (at c.args.self.now) lane settles (idles_asked lane h0 h1 (subst (λ r. Accepts remaining contents r h0 h1) c.in-Spoken.is c.accept.ensures)))
+    c.read.ensures.goes start (settles_idle server_machine start (at c.args.self.now) lane settles (idles_asked server_machine lane h0 h1 (subst (λ r. Accepts remaining contents r h0 h1) c.in-Spoken.is c.accept.ensures)))
 
 pub returns-in-Refused-clause-goes : goal.returns-in-Refused-clause-goes
 returns-in-Refused-clause-goes g c start settles =

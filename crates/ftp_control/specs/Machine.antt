@@ -1,0 +1,184 @@
+-- An end of a session and its data connection, whichever end it is: its calls, and what is done between them (RFC 959, section 2.3).
+use Rattle.std.proofs.Common.{◌∙◌, ap}
+use Rattle.std.specs.Prelude.{◌≡◌, ◌≢◌, ⊤, ℕ, true, List, [], ◌∷◌, take, Option, Some, None, refl}
+use Rattle.ftp_control.specs.Asking.{Asked, Listened, Came, Connected, NotCame, NotConnected}
+use Rattle.ftp_control.specs.Deeds.{Stand}
+use Rattle.ftp_control.specs.Driving.{Quietly}
+use Rattle.ftp_control.specs.Lane.{Lane, Move, Moves, Stays, Waits, Reads, Writes, Gives as GivesOctets, Takes, Ends, Stops, Asks, Opens, Leaves, with_untold}
+use Rattle.ftp_control.specs.Side.{Side}
+use Rattle.ftp_control.specs.Unheard.{left_of, unheard_of, written_of}
+use Rattle.ftp_control.specs.declared.control.Control.{Control}
+use Rattle.ftp_endpoint.specs.declared.host.Host.{Host}
+use Rattle.ftp_ends.specs.declared.link.Wants.{Wants}
+use Rattle.ftp_ends.specs.declared.link.Wants.TheVariants as Want
+
+-- an end, and what its calls do to it
+pub record Machine : Type 1 where
+  -- what it holds; what it wants, and what it owes over the control connection and over a data connection
+  pub Here : Type 0
+  pub wants : Here → Wants
+  pub owed : Here → List ℕ
+  pub to_give : Here → List ℕ
+  -- of the control octets that were read and are not heard yet, it hears the first ones; it gives so many; it is told that the connection ended
+  pub Hears : (octets unheard : List ℕ) → (old new : Here) → Type 0
+  pub Gives : (count : ℕ) → (old new : Here) → Type 0
+  pub IsCut : (old new : Here) → Type 0
+  -- its calls that the other end does not have
+  pub Own : Type 0
+  pub Owns : Own → (old new : Here) → Type 0
+  -- those that both have; of the octets of a data connection that it is handed it takes so many
+  pub Listening : (port : ℕ) → (old new : Here) → Type 0
+  pub Opened : Host → (old new : Here) → Type 0
+  pub Received : (octets : List ℕ) → (count : ℕ) → (old new : Here) → Type 0
+  pub Gave : (count : ℕ) → (old new : Here) → Type 0
+  pub NoPort : (old new : Here) → Type 0
+  pub Refused : (old new : Here) → Type 0
+  pub End : (old new : Here) → Type 0
+  pub Break : (old new : Here) → Type 0
+  pub Closed : (old new : Here) → Type 0
+  -- when it is told of a refusal though nothing was asked, and when of a close
+  pub IsGivenUp : Here → Type 0
+  pub IsCloseDue : Here → Type 0
+
+-- its calls that move no control octets, and what is done with its data connection between them
+pub data Call (Own : Type 0) : Type 0 where
+  Aside : (own : Own) → Call Own
+  Listening : (port : ℕ) → Call Own
+  Opened : (host : Host) → (asked : List Asked) → (at_first so_far : Option (List ℕ)) → Call Own
+  Refused : (asked : List Asked) → Call Own
+  Received : (octets : List ℕ) → (count : ℕ) → Call Own
+  Gave : (count : ℕ) → (octets : List ℕ) → Call Own
+  NoPort End Break Closed : Call Own
+  -- it is waited at; octets are read, written, and let go; it is closed or reset
+  Waited : Call Own
+  Got Wrote LetGo : (octets : List ℕ) → Call Own
+  Left : (asked : Asked) → Call Own
+
+-- what each of them does to the data connection
+abbrev pub move_of : {Own : Type 0} → Call Own → Move
+move_of (Aside own) = Stays
+move_of (Listening port) = Asks (Listened (Some port) ∷ [])
+move_of (Opened host asked at_first so_far) = Opens host asked at_first so_far
+move_of (Refused asked) = Asks asked
+move_of (Received octets count) = Takes (take count octets)
+move_of (Gave count octets) = GivesOctets octets
+move_of NoPort = Asks (Listened None ∷ [])
+move_of End = Ends
+move_of Break = Stays
+move_of Closed = Stops
+move_of Waited = Waits
+move_of (Got octets) = Reads octets
+move_of (Wrote octets) = Writes octets
+move_of (LetGo octets) = Takes octets
+move_of (Left asked) = Leaves asked
+
+-- what is asked, as an end wants it: that one is waited for, or that one is opened, to just that endpoint; closing is asked at any time
+abbrev pub IsWanted : Wants → Asked → Type 0
+IsWanted want (Listened port) = want ≡ Want.Listen
+IsWanted want (Came host left written) = want ≡ Want.Accept
+IsWanted want NotCame = want ≡ Want.Accept
+IsWanted want (Connected endpoint left written) = want ≡ Want.Connect endpoint
+IsWanted want (NotConnected endpoint) = want ≡ Want.Connect endpoint
+IsWanted want other = ⊤
+
+-- the same of all that is asked, one thing after another
+abbrev pub AreWanted : Wants → List Asked → Type 0
+AreWanted want [] = ⊤
+AreWanted want (asked ∷ more) = IsWanted want asked × AreWanted want more
+
+-- none is had, and one was wanted: the answer says so; or nothing was asked, where that is so
+abbrev pub IsRefused : (unasked : Type 0) → Wants → List Asked → Type 0
+IsRefused unasked want (NotCame ∷ []) = want ≡ Want.Accept
+IsRefused unasked want (NotConnected endpoint ∷ []) = want ≡ Want.Connect endpoint
+IsRefused unasked want [] = unasked
+IsRefused unasked want other = ⊥
+
+-- an end and its data connection
+pub record Held (Here : Type 0) : Type 0 where
+  pub end : Here
+  pub lane : Lane
+
+abbrev pub held : {Here : Type 0} → Here → Lane → Held Here
+held end lane = record { end = end; lane = lane }
+
+module _ (machine : Machine) where
+  -- what each call does to the end; octets that came are let go only where it wants no more of them
+  abbrev pub Does : Call machine.Own → (old new : machine.Here) → Type 0
+  Does (Aside own) old new = machine.Owns own old new
+  Does (Listening port) old new = machine.Listening port old new
+  Does (Opened host asked at_first so_far) old new = machine.Opened host old new
+  Does (Refused asked) old new = machine.Refused old new
+  Does (Received octets count) old new = machine.Received octets count old new
+  Does (Gave count octets) old new = (octets ≡ take count (machine.to_give old)) × machine.Gave count old new
+  Does NoPort old new = machine.NoPort old new
+  Does End old new = machine.End old new
+  Does Break old new = machine.Break old new
+  Does Closed old new = machine.Closed old new
+  Does Waited old new = new ≡ old
+  Does (Got octets) old new = new ≡ old
+  Does (Wrote octets) old new = new ≡ old
+  Does (LetGo octets) old new = (new ≡ old) × (machine.wants old ≢ Want.Receive)
+  Does (Left asked) old new = new ≡ old
+
+  -- when each of them may be done: as the end wants it, and an end is told only while its data connection stands
+  abbrev pub IsDue : Call machine.Own → Held machine.Here → Type 0
+  IsDue (Listening port) old = machine.wants old.end ≡ Want.Listen
+  IsDue NoPort old = machine.wants old.end ≡ Want.Listen
+  IsDue (Opened host asked at_first so_far) old = AreWanted (machine.wants old.end) asked
+  IsDue (Refused asked) old = IsRefused (machine.IsGivenUp old.end) (machine.wants old.end) asked
+  IsDue End old = old.lane.stands ≡ true
+  IsDue Closed old = machine.IsCloseDue old.end
+  IsDue other old = ⊤
+
+  abbrev pub Called : Call machine.Own → (old new : Held machine.Here) → Type 0
+  Called call old new = Does call old.end new.end × Moves (move_of call) old.lane new.lane × IsDue call old
+
+  -- control octets are heard
+  abbrev pub HearsBeside : (octets unheard : List ℕ) → (old new : Held machine.Here) → Type 0
+  HearsBeside octets unheard old new = machine.Hears octets unheard old.end new.end × (new.lane ≡ old.lane)
+
+  -- it gives octets of what it owes
+  pub record Gives (octets : List ℕ) (old new : Held machine.Here) : Type 0 where
+    pub count : ℕ
+    pub owed : octets ≡ take count (machine.owed old.end)
+    pub gave : machine.Gives count old.end new.end
+    pub lane : new.lane ≡ old.lane
+
+  -- it is asked what it owes, and that is nothing
+  pub record OwesNone (old new : Held machine.Here) : Type 0 where
+    pub owed : machine.owed old.end ≡ []
+    pub gave : machine.Gives 0 old.end new.end
+    pub lane : new.lane ≡ old.lane
+
+  -- it is told that the control connection ended: what it owes is dropped
+  abbrev pub IsCut : (old new : Held machine.Here) → Type 0
+  IsCut old new = machine.IsCut old.end new.end × (new.lane ≡ old.lane)
+
+  -- octets that were read and not told are let go
+  abbrev pub LetsGo : (old new : Held machine.Here) → Type 0
+  LetsGo old new = (new.end ≡ old.end) × (new.lane ≡ with_untold new.lane.untold old.lane)
+
+  -- it and its data connection, as one of the two sides that are driven
+  abbrev pub side_of : Side
+  side_of = record {
+    End = Held machine.Here;
+    Call = Call machine.Own;
+    Called = Called;
+    Hears = λ octets unheard old new. HearsBeside octets unheard old new;
+    Gives = Gives;
+    OwesNone = OwesNone;
+    gives_none = λ old new owes. record { count = 0; owed = refl; gave = owes.gave; lane = owes.lane };
+    IsCut = IsCut;
+    LetsGo = LetsGo;
+    lets_none = λ end. (refl, refl);
+    lets_then = λ a b c first second. (second.0 ∙ first.0, second.1 ∙ ap (with_untold c.lane.untold) first.1);
+  }
+
+  -- the data connection alone moves, whatever the end holds
+  abbrev pub Idles : (old new : Lane) → Type 0
+  Idles old new = (here : machine.Here) → Quietly side_of (held here old) (held here new)
+
+  -- it and its data connection beside a control connection, by what its reader has left and what its writer holds
+  abbrev pub stand_of : {R W : Type 0} → (R → Option (List ℕ)) → (W → Option (List ℕ)) → Held machine.Here → Control R W → Stand side_of
+  stand_of remaining contents owner control =
+      record { owner = owner; left = left_of remaining control; unheard = unheard_of control; written = written_of contents control }
