@@ -1,3 +1,4 @@
 pub mod Side
 pub mod Beside
 pub mod Driving
+pub mod Standing

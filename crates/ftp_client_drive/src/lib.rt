@@ -2,6 +2,7 @@
 //! `ftp_control` (RFC 959, section 2.3). No IO of its own.
 #![tactic(auto)]
 
+mod carry;
 mod control;
 mod data;
 mod drive;

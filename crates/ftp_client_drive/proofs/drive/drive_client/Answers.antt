@@ -1,12 +1,17 @@
-use Rattle.std.proofs.Common.{[], Some, inl, inr, refl, subst}
+use Rattle.std.proofs.Common.{◌≡◌, [], Some, inl, inr, refl, rules, subst}
+use Rattle.std.specs.Prelude.{List, Option}
 use Rattle.std.specs.Option.{option_map}
 use Rattle.ftp_operation.specs.Answer.{said_of}
+use Rattle.ftp_control.specs.Asking.{Asked}
+use Rattle.ftp_control.specs.Deeds.{with_owner}
 use Rattle.ftp_control.specs.Driving.{Fails}
 use Rattle.ftp_control.specs.Lane.{no_lane}
-use Rattle.ftp_control.proofs.Lanes.{none_had}
 use Rattle.ftp_control.specs.Machine.{held}
+use Rattle.ftp_control.proofs.Lanes.{none_had}
+use Rattle.ftp_client_model.specs.Failing.{Client}
 use Rattle.ftp_client_drive.specs.Beside.{beside, lane_at}
-use Rattle.ftp_client_drive.specs.Driving.{Tells}
+use Rattle.ftp_client_drive.specs.Driving.{Drives, Tells}
+use Rattle.ftp_client_drive.specs.Standing.{standing}
 use Rattle.ftp_client_drive.proofs.Turning.{broke_off, drove, gave_up}
 use Rattle.ftp_client_drive.proofs.drive.drive_client.Goals as goal
 
@@ -15,32 +20,47 @@ returns-in-Ok g c =
     let remaining = g.P.Stream.Read.remaining in
     let contents = g.P.Stream.Write.contents in
     let history = g.P.Ports.history in
-    let client = g.N.Near.client in
-    let stand = beside g.R.Read.remaining g.W.Write.contents in
-    let none = c.new-data in
-    let mid = stand (held (client c.turns.new.client) (lane_at remaining contents (history c.turns.new.ports) c.turns.new.data [])) c.turns.new.control in
-    inl (drove (stand (held (client c.args.client.now) (no_lane (history c.args.ports.now))) c.args.control.now) mid
-    (stand (held (client c.data_closed.new.self) (no_lane (history c.finish.new.ports))) c.turns.new.control) (said_of c.in-Ok.answer) c.finish.ensures.0 refl refl
-    (subst (λ lane. Tells (Some (said_of c.in-Ok.answer)) (stand (held (client c.args.client.now) lane) c.args.control.now) mid)
-    (none_had remaining contents none.result.connection (history c.args.ports.now) none.result.room none.ensures.none none.ensures.all) c.in-Ok.ensures)
-    c.finish.ensures.1 c.data_closed.ensures refl)
+    let client_of = g.N.Near.client in
+    let stand = λ (client : Client) (asked : Option (List Asked)). beside g.R.Read.remaining g.W.Write.contents (held client (no_lane asked)) in
+    let none = c.new in
+    let drive = c.turns-ended.new.self in
+    let start = stand (client_of c.args.client.now) (history c.args.ports.now) c.args.control.now in
+    let mid = standing client_of g.R.Read.remaining g.W.Write.contents history remaining contents drive in
+    let said = Some (said_of c.in-Ok.answer) in
+    let client : c.data_closed.new.self ≡ c.client-1.given.0 = search rules in
+    let ports : c.finish.new.ports ≡ c.ports-1.given.0 = search rules in
+    let control : drive.control.now ≡ c.control-1.given.0 = search rules in
+    subst (λ n. Drives start (stand (client_of n) (history c.ports-1.given.0) c.control-1.given.0) said) client
+    (subst (λ p. Drives start (stand (client_of c.data_closed.new.self) (history p) c.control-1.given.0) said) ports
+    (subst (λ k. Drives start (stand (client_of c.data_closed.new.self) (history c.finish.new.ports) k) said) control
+    (inl (drove start mid (stand (client_of c.data_closed.new.self) (history c.finish.new.ports) drive.control.now) (said_of c.in-Ok.answer) c.finish.ensures.0 refl refl
+    (subst (λ lane. Tells said (with_owner (held (client_of c.args.client.now) lane) start) mid)
+    (none_had remaining contents none.result.connection (history c.args.ports.now) none.result.room none.ensures.none none.ensures.all) c.in-Ok.ensures.goes)
+    c.finish.ensures.1 c.data_closed.ensures refl))))
 
 pub returns-in-Err : goal.returns-in-Err
 returns-in-Err g c =
     let remaining = g.P.Stream.Read.remaining in
     let contents = g.P.Stream.Write.contents in
     let history = g.P.Ports.history in
-    let client = g.N.Near.client in
-    let stand = beside g.R.Read.remaining g.W.Write.contents in
-    let none = c.new-data in
-    let off = held (client c.turns.new.client) (lane_at remaining contents (history c.turns.new.ports) c.turns.new.data []) in
-    let reset = c.reset.ensures in
-    let left = c.finish-in-Err.ensures in
-    inr (broke_off (stand (held (client c.args.client.now) (no_lane (history c.args.ports.now))) c.args.control.now) (stand off c.turns.new.control)
-    (stand (held (client c.report.new.self) (no_lane (history c.finish-in-Err.new.ports))) c.turns.new.control) (option_map said_of c.report.result) refl refl
-    (subst (λ lane. Fails (stand (held (client c.args.client.now) lane) c.args.control.now) (stand off c.turns.new.control))
-    (none_had remaining contents none.result.connection (history c.args.ports.now) none.result.room none.ensures.none none.ensures.all) c.in-Err.ensures)
+    let client_of = g.N.Near.client in
+    let stand = λ (client : Client) (asked : Option (List Asked)). beside g.R.Read.remaining g.W.Write.contents (held client (no_lane asked)) in
+    let none = c.new in
+    let drive = c.turns-ended.new.self in
+    let start = stand (client_of c.args.client.now) (history c.args.ports.now) c.args.control.now in
+    let off = standing client_of g.R.Read.remaining g.W.Write.contents history remaining contents drive in
+    let gone = c.finish-in-Err in
+    let said = option_map said_of c.report.result in
+    let client : c.report.new.self ≡ c.client-in-Err-1.given.0 = search rules in
+    let ports : gone.new.ports ≡ c.ports-in-Err-1.given.0 = search rules in
+    let control : drive.control.now ≡ c.control-1.given.0 = search rules in
+    subst (λ n. Drives start (stand (client_of n) (history c.ports-in-Err-1.given.0) c.control-1.given.0) said) client
+    (subst (λ p. Drives start (stand (client_of c.report.new.self) (history p) c.control-1.given.0) said) ports
+    (subst (λ k. Drives start (stand (client_of c.report.new.self) (history gone.new.ports) k) said) control
+    (inr (broke_off start off (stand (client_of c.report.new.self) (history gone.new.ports) drive.control.now) said refl refl
+    (subst (λ lane. Fails (with_owner (held (client_of c.args.client.now) lane) start) off)
+    (none_had remaining contents none.result.connection (history c.args.ports.now) none.result.room none.ensures.none none.ensures.all) c.in-Err.ensures.goes)
     refl
-    (gave_up (option_map said_of c.report.result) reset.0 left.0 off (client c.control_end.new.self) (client c.data_closed-in-Err.new.self) (client c.report.new.self)
-    (lane_at remaining contents (history c.reset.new.ports) c.reset.new.self []) (no_lane (history c.finish-in-Err.new.ports))
-    c.data_closed-in-Err.ensures (c.report.ensures.answer, c.report.ensures.taken) (c.control_end.ensures, refl) reset.1 left.1))
+    (gave_up said c.reset.ensures.0 gone.ensures.0 off.owner (client_of c.control_end.new.self) (client_of c.data_closed-in-Err.new.self) (client_of c.report.new.self)
+    (lane_at remaining contents (history c.reset.new.ports) c.reset.new.self []) (no_lane (history gone.new.ports))
+    c.data_closed-in-Err.ensures (c.report.ensures.answer, c.report.ensures.taken) (c.control_end.ensures, refl) c.reset.ensures.1 gone.ensures.1)))))
