@@ -1,5 +1,5 @@
 use Rattle.std.proofs.Common.{◌∙◌, refl, ap, take, arith, rules}
-use Rattle.ftp_server_drive.proofs.Turning.{hears_next, unheard_stays}
+use Rattle.ftp_server_drive.proofs.Words.{hears_next, unheard_stays}
 use Rattle.ftp_server_drive.proofs.control.hear_one.Goals as goal
 
 pub returns-clause-leads : goal.returns-clause-leads

@@ -1,8 +1,5 @@
 use Rattle.std.specs.Prelude.{List, Option}
-use Rattle.ftp_control.specs.Asking.{Asked}
-use Rattle.ftp_control.proofs.Idling.{idles_asked, idles_then}
-use Rattle.ftp_server_drive.specs.Side.{server_machine}
-use Rattle.ftp_server_drive.specs.Beside.{in_hand, lane_at}
+use Rattle.ftp_server_drive.proofs.Words.{Asked, idles_asked, idles_then, in_hand, lane_at, server_machine}
 use Rattle.ftp_server_drive.proofs.data.come.Goals as goal
 
 pub returns-in-End-clause-moved : goal.returns-in-End-clause-moved

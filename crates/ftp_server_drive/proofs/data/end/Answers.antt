@@ -1,6 +1,5 @@
 use Rattle.std.proofs.Common.{[], refl}
-use Rattle.ftp_control.specs.Machine.{held}
-use Rattle.ftp_server_drive.specs.Beside.{lane_at}
+use Rattle.ftp_server_drive.proofs.Words.{held, lane_at}
 use Rattle.ftp_server_drive.proofs.data.end.Goals as goal
 
 pub returns : goal.returns

@@ -1,5 +1,5 @@
 use Rattle.std.proofs.Common.{refl}
-use Rattle.ftp_control.specs.Machine.{held}
+use Rattle.ftp_server_drive.proofs.Words.{held}
 use Rattle.ftp_server_drive.proofs.data.fault.Goals as goal
 
 pub returns : goal.returns

@@ -1,9 +1,5 @@
 use Rattle.std.proofs.Common.{◌≡◌, ◌+◌, subst, take, ◌++◌, rules, arith}
-use Rattle.ftp_control.specs.Driving.{Quietly}
-use Rattle.ftp_control.specs.Lane.{with_given}
-use Rattle.ftp_control.specs.Machine.{held}
-use Rattle.ftp_server_drive.specs.Side.{server_side}
-use Rattle.ftp_server_drive.proofs.Turning.{given_more}
+use Rattle.ftp_server_drive.proofs.Words.{Quietly, given_more, held, server_side, with_given}
 use Rattle.ftp_server_drive.proofs.data.fill.Goals as goal
 
 pub returns-then-count-eq0-clause-quiet : goal.returns-then-count-eq0-clause-quiet

@@ -1,8 +1,5 @@
 use Rattle.std.proofs.Common.{length, take, ◌-◌, ◌≤◌}
-use Rattle.ftp_control.specs.Driving.{Quietly}
-use Rattle.ftp_control.specs.Lane.{Lane, with_given}
-use Rattle.ftp_control.specs.Machine.{held}
-use Rattle.ftp_server_drive.specs.Side.{server_side}
+use Rattle.ftp_server_drive.proofs.Words.{Lane, Quietly, held, server_side, with_given}
 use Rattle.ftp_server_drive.proofs.data.fill.Given as goal
 
 abbrev pub invariant-loop-at : goal.invariant-loop-at

@@ -1,9 +1,5 @@
 use Rattle.std.proofs.Common.{sym, subst}
-use Rattle.std.proofs.lemmas.List.{take-append-le}
-use Rattle.ftp_control.specs.Driving.{Quietly}
-use Rattle.ftp_control.specs.Lane.{with_given}
-use Rattle.ftp_control.specs.Machine.{held}
-use Rattle.ftp_server_drive.specs.Side.{server_side}
+use Rattle.ftp_server_drive.proofs.Words.{Quietly, held, server_side, take-append-le, with_given}
 use Rattle.ftp_server_drive.proofs.data.fill_front.Goals as goal
 
 pub returns-clause-quiet : goal.returns-clause-quiet

@@ -1,11 +1,5 @@
 use Rattle.std.proofs.Common.{[], subst, drop, rules}
-use Rattle.std.proofs.lemmas.List.{drop-drop, drop_all}
-use Rattle.ftp_control.specs.Driving.{Fails, Leads}
-use Rattle.ftp_control.proofs.Leading.{fails_then, leads_then}
-use Rattle.ftp_control.proofs.Going.{goes_err}
-use Rattle.ftp_control.proofs.Idling.{lets_go}
-use Rattle.ftp_server_drive.specs.Side.{server_machine}
-use Rattle.ftp_server_drive.specs.Beside.{handing}
+use Rattle.ftp_server_drive.proofs.Words.{Fails, Leads, drop-drop, drop_all, fails_then, goes_err, handing, leads_then, lets_go, server_machine}
 use Rattle.ftp_server_drive.proofs.data.hand.Goals as goal
 
 pub returns-in_err-at : goal.returns-in_err-at

@@ -1,7 +1,5 @@
 use Rattle.std.proofs.Common.{length, drop, ◌-◌, ◌≤◌}
-use Rattle.ftp_server_drive.specs.Beside.{handing}
-use Rattle.ftp_control.specs.Driving.{Leads}
-use Rattle.ftp_control.specs.Lane.{Lane}
+use Rattle.ftp_server_drive.proofs.Words.{Lane, Leads, handing}
 use Rattle.ftp_server_drive.proofs.data.hand.Given as goal
 
 abbrev pub invariant-loop-at : goal.invariant-loop-at

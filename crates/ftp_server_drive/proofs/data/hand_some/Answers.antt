@@ -1,10 +1,5 @@
 use Rattle.std.proofs.Common.{[], refl, sym, take, drop}
-use Rattle.std.proofs.lemmas.List.{take-append-drop}
-use Rattle.ftp_control.specs.Lane.{with_untold}
-use Rattle.ftp_control.proofs.Leading.{call_leads, fails_here, fails_lets, fails_then, leads_then, settled_leads}
-use Rattle.ftp_control.specs.Machine.{Received}
-use Rattle.ftp_server_drive.specs.Beside.{handing}
-use Rattle.ftp_server_drive.proofs.Turning.{hands_err}
+use Rattle.ftp_server_drive.proofs.Words.{Received, call_leads, fails_here, fails_lets, fails_then, handing, hands_err, leads_then, settled_leads, take-append-drop, with_untold}
 use Rattle.ftp_server_drive.proofs.data.hand_some.Goals as goal
 
 pub returns-then-taken-eq0-clause-goes : goal.returns-then-taken-eq0-clause-goes

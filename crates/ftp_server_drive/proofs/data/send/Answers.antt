@@ -1,6 +1,4 @@
-use Rattle.ftp_control.proofs.Leading.{quiet_then}
-use Rattle.ftp_control.proofs.Idling.{idles_same, idles_then, idles_wrote}
-use Rattle.ftp_server_drive.specs.Side.{server_machine, server_side}
+use Rattle.ftp_server_drive.proofs.Words.{idles_same, idles_then, idles_wrote, quiet_then, server_machine, server_side}
 use Rattle.ftp_server_drive.proofs.data.send.Goals as goal
 
 pub returns-clause-quiet : goal.returns-clause-quiet

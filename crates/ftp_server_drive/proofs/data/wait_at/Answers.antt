@@ -1,7 +1,5 @@
 use Rattle.std.proofs.Common.{[]}
-use Rattle.ftp_control.proofs.Lanes.{waits}
-use Rattle.ftp_control.proofs.Idling.{idles_waited}
-use Rattle.ftp_server_drive.specs.Side.{server_machine}
+use Rattle.ftp_server_drive.proofs.Words.{idles_waited, server_machine, waits}
 use Rattle.ftp_server_drive.proofs.data.wait_at.Goals as goal
 
 pub returns : goal.returns

@@ -1,16 +1,6 @@
 use Rattle.std.proofs.Common.{◌≡◌, refl, rules, subst}
 use Rattle.std.specs.Prelude.{List, Option}
-use Rattle.ftp_control.specs.Asking.{Asked}
-use Rattle.ftp_control.specs.Deeds.{with_owner}
-use Rattle.ftp_control.specs.Driving.{Fails, Leads}
-use Rattle.ftp_control.specs.Lane.{IsLeft, no_lane}
-use Rattle.ftp_control.proofs.Lanes.{none_had}
-use Rattle.ftp_server_model.specs.Far.{Server}
-use Rattle.ftp_control.specs.Machine.{held}
-use Rattle.ftp_server_drive.specs.Beside.{beside}
-use Rattle.ftp_server_drive.specs.Driving.{BrokeOff, Drove}
-use Rattle.ftp_server_drive.specs.Standing.{standing}
-use Rattle.ftp_server_drive.proofs.Turning.{broke_off, drove}
+use Rattle.ftp_server_drive.proofs.Words.{Asked, BrokeOff, Drove, Fails, IsLeft, Leads, Server, beside, broke_off, drove, held, no_lane, none_had, standing, with_owner}
 use Rattle.ftp_server_drive.proofs.drive.drive_server.Goals as goal
 
 pub returns-in-Ok : goal.returns-in-Ok

@@ -1,9 +1,5 @@
 use Rattle.std.proofs.Common.{[], take, rules}
-use Rattle.ftp_control.proofs.Lanes.{keeps_consumes, reads}
-use Rattle.ftp_control.proofs.Idling.{idles_read}
-use Rattle.ftp_server_drive.specs.Side.{server_machine}
-use Rattle.ftp_server_drive.specs.Beside.{lane_at}
-use Rattle.ftp_server_drive.proofs.Turning.{none_came}
+use Rattle.ftp_server_drive.proofs.Words.{idles_read, keeps_consumes, lane_at, none_came, reads, server_machine}
 use Rattle.ftp_server_drive.proofs.data.Data.come.Goals as goal
 
 pub returns-in-Ok-eq0-clause-moved : goal.returns-in-Ok-eq0-clause-moved

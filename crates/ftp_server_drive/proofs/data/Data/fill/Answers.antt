@@ -1,9 +1,5 @@
 use Rattle.std.proofs.Common.{[], sym, subst, rules}
-use Rattle.ftp_control.specs.Driving.{Quietly}
-use Rattle.ftp_control.proofs.Lanes.{fills}
-use Rattle.ftp_control.specs.Machine.{held}
-use Rattle.ftp_server_drive.specs.Beside.{lane_at}
-use Rattle.ftp_server_drive.specs.Side.{server_side}
+use Rattle.ftp_server_drive.proofs.Words.{Quietly, fills, held, lane_at, server_side}
 use Rattle.ftp_server_drive.proofs.data.Data.fill.Goals as goal
 
 pub returns-then-not-has_unwritten : goal.returns-then-not-has_unwritten

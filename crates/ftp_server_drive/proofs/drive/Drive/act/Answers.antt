@@ -1,9 +1,5 @@
 use Rattle.std.proofs.Common.{◌∙◌, refl, sym}
-use Rattle.ftp_control.specs.Deeds.{Other}
-use Rattle.ftp_control.proofs.Leading.{leads_by, leads_then, settled_leads}
-use Rattle.ftp_control.specs.Machine.{Closed}
-use Rattle.ftp_control.proofs.Idling.{leaves, settled_then}
-use Rattle.ftp_server_drive.specs.Side.{server_machine}
+use Rattle.ftp_server_drive.proofs.Words.{Closed, Other, leads_by, leads_then, leaves, server_machine, settled_leads, settled_then}
 use Rattle.ftp_server_drive.proofs.drive.Drive.act.Goals as goal
 
 pub returns-in-Listen-clause-goes : goal.returns-in-Listen-clause-goes

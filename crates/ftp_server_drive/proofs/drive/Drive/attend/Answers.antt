@@ -1,5 +1,4 @@
-use Rattle.ftp_control.proofs.Leading.{fails_here}
-use Rattle.ftp_control.proofs.Idling.{settled_then}
+use Rattle.ftp_server_drive.proofs.Words.{fails_here, settled_then}
 use Rattle.ftp_server_drive.proofs.drive.Drive.attend.Goals as goal
 
 pub returns-then-not-hear_one-clause-goes : goal.returns-then-not-hear_one-clause-goes

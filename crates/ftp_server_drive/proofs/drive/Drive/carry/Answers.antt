@@ -1,7 +1,4 @@
-use Rattle.ftp_server_drive.specs.Standing.{standing}
-use Rattle.ftp_control.proofs.Going.{goes_then}
-use Rattle.ftp_control.proofs.Idling.{settled_then, settles_same}
-use Rattle.ftp_server_drive.specs.Side.{server_machine}
+use Rattle.ftp_server_drive.proofs.Words.{goes_then, server_machine, settled_then, settles_same, standing}
 use Rattle.ftp_server_drive.proofs.drive.Drive.carry.Goals as goal
 
 pub returns-then-not-has_unheard-clause-goes : goal.returns-then-not-has_unheard-clause-goes

@@ -1,13 +1,5 @@
 use Rattle.std.proofs.Common.{[], subst, rules}
-use Rattle.ftp_control.specs.Machine.{held}
-use Rattle.ftp_control.proofs.Idling.{idles_then}
-use Rattle.ftp_server_drive.specs.Side.{server_machine}
-use Rattle.ftp_server_drive.specs.Beside.{in_hand, lane_at}
-use Rattle.ftp_server_drive.specs.Standing.{standing}
-use Rattle.ftp_control.specs.Deeds.{with_owner}
-use Rattle.ftp_control.specs.Driving.{Fails}
-use Rattle.ftp_control.proofs.Leading.{fails_here}
-use Rattle.ftp_control.proofs.Going.{goes_then}
+use Rattle.ftp_server_drive.proofs.Words.{Fails, fails_here, goes_then, held, idles_then, in_hand, lane_at, server_machine, standing, with_owner}
 use Rattle.ftp_server_drive.proofs.drive.Drive.carry_alone.Goals as goal
 
 pub returns-then-eq-clause-goes : goal.returns-then-eq-clause-goes

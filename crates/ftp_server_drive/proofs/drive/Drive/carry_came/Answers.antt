@@ -1,10 +1,5 @@
 use Rattle.std.proofs.Common.{◌∙◌, [], ap, refl, subst, sym}
-use Rattle.ftp_control.specs.Driving.{Goes}
-use Rattle.ftp_control.proofs.Leading.{leads_nowhere}
-use Rattle.ftp_control.specs.Machine.{held}
-use Rattle.ftp_server_drive.specs.Beside.{beside, in_hand}
-use Rattle.ftp_server_drive.specs.Standing.{standing, standing_with}
-use Rattle.ftp_server_drive.proofs.Turning.{none_in_hand}
+use Rattle.ftp_server_drive.proofs.Words.{Goes, beside, held, in_hand, leads_nowhere, none_in_hand, standing, standing_with}
 use Rattle.ftp_server_drive.proofs.drive.Drive.carry_came.Goals as goal
 
 pub returns-in-Octets-clause-goes : goal.returns-in-Octets-clause-goes

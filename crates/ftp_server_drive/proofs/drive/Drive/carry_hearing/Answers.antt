@@ -1,13 +1,5 @@
 use Rattle.std.proofs.Common.{[], subst, rules}
-use Rattle.ftp_control.specs.Machine.{held}
-use Rattle.ftp_control.proofs.Idling.{idles_then, settles_idle}
-use Rattle.ftp_server_drive.specs.Side.{server_machine}
-use Rattle.ftp_server_drive.specs.Beside.{in_hand, lane_at}
-use Rattle.ftp_server_drive.specs.Standing.{standing}
-use Rattle.ftp_control.specs.Deeds.{with_owner}
-use Rattle.ftp_control.specs.Driving.{Settles}
-use Rattle.ftp_control.proofs.Leading.{fails_here, settled_leads}
-use Rattle.ftp_control.proofs.Going.{goes_settled}
+use Rattle.ftp_server_drive.proofs.Words.{Settles, fails_here, goes_settled, held, idles_then, in_hand, lane_at, server_machine, settled_leads, settles_idle, standing, with_owner}
 use Rattle.ftp_server_drive.proofs.drive.Drive.carry_hearing.Goals as goal
 
 pub returns-in-Control-clause-goes : goal.returns-in-Control-clause-goes

@@ -1,8 +1,5 @@
 use Rattle.std.proofs.Common.{[], ◌∷◌, inr, refl, subst}
-use Rattle.ftp_control.specs.Asking.{Connected, Connects, NotConnected}
-use Rattle.ftp_control.specs.Deeds.{Other}
-use Rattle.ftp_control.proofs.Leading.{leads_by}
-use Rattle.ftp_control.specs.Machine.{Refused}
+use Rattle.ftp_server_drive.proofs.Words.{Connected, Connects, NotConnected, Other, Refused, leads_by}
 use Rattle.ftp_server_drive.proofs.drive.Drive.connect.Goals as goal
 
 pub returns-in-Some-clause-leads : goal.returns-in-Some-clause-leads

@@ -1,8 +1,5 @@
 use Rattle.std.proofs.Common.{[], ◌∷◌, refl, subst}
-use Rattle.ftp_control.specs.Asking.{Adds, Listened}
-use Rattle.ftp_control.specs.Deeds.{Other}
-use Rattle.ftp_control.proofs.Leading.{leads_by}
-use Rattle.ftp_control.specs.Machine.{Listening, NoPort}
+use Rattle.ftp_server_drive.proofs.Words.{Adds, Listened, Listening, NoPort, Other, leads_by}
 use Rattle.ftp_server_drive.proofs.drive.Drive.listen.Goals as goal
 
 pub returns-in-Some-clause-leads : goal.returns-in-Some-clause-leads

@@ -1,9 +1,5 @@
 use Rattle.std.proofs.Common.{refl}
-use Rattle.ftp_control.proofs.Leading.{leads_then}
-use Rattle.ftp_control.specs.Machine.{Break}
-use Rattle.ftp_control.proofs.Idling.{leaves}
-use Rattle.ftp_server_drive.specs.Side.{server_machine}
-use Rattle.ftp_server_drive.proofs.Turning.{timed_quietly}
+use Rattle.ftp_server_drive.proofs.Words.{Break, leads_then, leaves, server_machine, timed_quietly}
 use Rattle.ftp_server_drive.proofs.drive.Drive.lose.Goals as goal
 
 pub returns-clause-leads : goal.returns-clause-leads

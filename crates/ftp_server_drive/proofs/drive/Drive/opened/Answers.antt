@@ -1,10 +1,5 @@
 use Rattle.std.proofs.Common.{[], refl}
-use Rattle.ftp_control.specs.Deeds.{Other}
-use Rattle.ftp_control.proofs.Lanes.{asked_for, opens}
-use Rattle.ftp_control.proofs.Leading.{leads_by}
-use Rattle.ftp_server_model.specs.Calls.{wants}
-use Rattle.ftp_control.specs.Machine.{Opened}
-use Rattle.ftp_control.proofs.Idling.{all_wanted}
+use Rattle.ftp_server_drive.proofs.Words.{Opened, Other, all_wanted, asked_for, leads_by, opens, wants}
 use Rattle.ftp_server_drive.proofs.drive.Drive.opened.Goals as goal
 
 pub returns-clause-leads : goal.returns-clause-leads

@@ -1,11 +1,5 @@
 use Rattle.std.proofs.Common.{refl}
-use Rattle.ftp_control.specs.Machine.{End}
-use Rattle.ftp_control.proofs.Idling.{leaves}
-use Rattle.ftp_server_drive.specs.Side.{server_machine}
-use Rattle.ftp_server_drive.specs.Standing.{standing}
-use Rattle.ftp_control.proofs.Going.{goes_err}
-use Rattle.ftp_control.proofs.Leading.{fails_then, leads_then, settled_leads}
-use Rattle.ftp_server_drive.proofs.Turning.{timed_quietly}
+use Rattle.ftp_server_drive.proofs.Words.{End, fails_then, goes_err, leads_then, leaves, server_machine, settled_leads, standing, timed_quietly}
 use Rattle.ftp_server_drive.proofs.drive.Drive.over.Goals as goal
 
 pub returns-in_err-flush-clause-goes : goal.returns-in_err-flush-clause-goes

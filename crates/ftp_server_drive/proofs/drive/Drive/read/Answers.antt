@@ -1,10 +1,7 @@
 use Rattle.std.proofs.Common.{◌∙◌, sym, refl, subst}
 use Rattle.std.specs.Io.KnownBytes.{Consumes}
-use Rattle.ftp_control.specs.Deeds.{Other}
+use Rattle.ftp_server_drive.proofs.Words.{Clock, Other, ends_here, goes_err, leads_by, leads_then, read_fails, reads_next}
 use Rattle.ftp_control.specs.Unheard.{left_of}
-use Rattle.ftp_control.proofs.Leading.{leads_by, leads_then}
-use Rattle.ftp_control.proofs.Going.{ends_here, goes_err, read_fails, reads_next}
-use Rattle.ftp_server_drive.specs.Side.{Clock}
 use Rattle.ftp_server_drive.proofs.drive.Drive.read.Goals as goal
 
 pub returns-in_err-count-clause-goes : goal.returns-in_err-count-clause-goes

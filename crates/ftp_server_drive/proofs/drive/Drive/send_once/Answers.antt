@@ -1,4 +1,4 @@
-use Rattle.ftp_control.proofs.Leading.{leads_then}
+use Rattle.ftp_server_drive.proofs.Words.{leads_then}
 use Rattle.ftp_server_drive.proofs.drive.Drive.send_once.Goals as goal
 
 pub returns-in-Ok-clause-leads : goal.returns-in-Ok-clause-leads

@@ -1,7 +1,5 @@
 use Rattle.std.proofs.Common.{◌∙◌, sym}
-use Rattle.ftp_control.proofs.Leading.{settled_leads}
-use Rattle.ftp_server_drive.specs.Standing.{standing}
-use Rattle.ftp_server_drive.proofs.Turning.{turns_err}
+use Rattle.ftp_server_drive.proofs.Words.{settled_leads, standing, turns_err}
 use Rattle.ftp_server_drive.proofs.drive.Drive.turn.Goals as goal
 
 pub returns-in_err-flush-clause-goes : goal.returns-in_err-flush-clause-goes

@@ -1,10 +1,5 @@
 use Rattle.std.proofs.Common.{Ok, refl, rules, subst}
-use Rattle.ftp_server_drive.specs.Standing.{standing}
-use Rattle.ftp_server_drive.specs.Side.{Clock}
-use Rattle.ftp_server_drive.specs.Driving.{Turns}
-use Rattle.ftp_control.specs.Deeds.{Other}
-use Rattle.ftp_control.proofs.Leading.{fails_here, fails_then, leads_by, leads_then}
-use Rattle.ftp_server_drive.proofs.Turning.{ends_err}
+use Rattle.ftp_server_drive.proofs.Words.{Clock, Other, Turns, ends_err, fails_here, fails_then, leads_by, leads_then, standing}
 use Rattle.ftp_server_drive.proofs.drive.Drive.turns.Goals as goal
 
 pub loop-init : goal.loop-init

@@ -1,12 +1,5 @@
 use Rattle.std.proofs.Common.{[], ◌∷◌, inl, refl, subst}
-use Rattle.ftp_control.specs.Asking.{Accepts, Came, NotCame}
-use Rattle.ftp_control.specs.Deeds.{Other}
-use Rattle.ftp_control.proofs.Leading.{leads_by}
-use Rattle.ftp_control.specs.Machine.{Refused}
-use Rattle.ftp_control.proofs.Idling.{idles_asked, settled_then, settles_idle}
-use Rattle.ftp_server_drive.specs.Side.{server_machine}
-use Rattle.ftp_server_drive.specs.Beside.{lane_at}
-use Rattle.ftp_server_drive.specs.Standing.{standing}
+use Rattle.ftp_server_drive.proofs.Words.{Accepts, Came, NotCame, Other, Refused, idles_asked, lane_at, leads_by, server_machine, settled_then, settles_idle, standing}
 use Rattle.ftp_server_drive.proofs.drive.Drive.wait.Goals as goal
 
 pub returns-in-Came-clause-goes : goal.returns-in-Came-clause-goes

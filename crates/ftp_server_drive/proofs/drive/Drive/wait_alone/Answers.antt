@@ -1,8 +1,5 @@
 use Rattle.std.proofs.Common.{[], ◌∷◌, inl, refl, subst}
-use Rattle.ftp_control.specs.Asking.{Accepts, Came, NotCame}
-use Rattle.ftp_control.specs.Deeds.{Other}
-use Rattle.ftp_control.proofs.Leading.{leads_by}
-use Rattle.ftp_control.specs.Machine.{Refused}
+use Rattle.ftp_server_drive.proofs.Words.{Accepts, Came, NotCame, Other, Refused, leads_by}
 use Rattle.ftp_server_drive.proofs.drive.Drive.wait_alone.Goals as goal
 
 pub returns-in-Came-clause-leads : goal.returns-in-Came-clause-leads
