@@ -6,3 +6,4 @@ pub mod Totals
 pub mod Going
 pub mod Courses
 pub mod Idling
+pub mod Meeting

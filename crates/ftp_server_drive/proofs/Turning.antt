@@ -52,8 +52,8 @@ timed_quietly call old new timed =
     quiet_then server_side old timed.1 new (quiet_call server_side (Clock timed.0) old timed.1 timed.2) (quiet_call server_side call timed.1 new timed.3)
 
 -- of none that came there are none
-pub none_came : (old new : Option (List ℕ)) (count : ℕ) (room : List ℕ) → count ≡ 0 → Consumes old new (take count room) → Consumes old new []
-none_came old new count room none read = subst (λ n. Consumes old new (take n room)) none read
+pub none_read : (old new : Option (List ℕ)) (count : ℕ) (room : List ℕ) → count ≡ 0 → Consumes old new (take count room) → Consumes old new []
+none_read old new count room none read = subst (λ n. Consumes old new (take n room)) none read
 
 -- of none that came there are none in hand
 pub none_in_hand : (stand : List ℕ → Stand server_side) (new : Stand server_side) (came is : Came) (room : List ℕ) → came ≡ is → in_hand is room ≡ [] → Leads (stand []) new

@@ -1,17 +1,11 @@
 use Rattle.std.proofs.Common.{◌+◌, drop, rules, subst}
 use Rattle.std.proofs.lemmas.List.{drop_all}
-use Rattle.ftp_control.proofs.Leading.{quiet_then}
-use Rattle.ftp_control.specs.Driving.{Quietly}
-use Rattle.ftp_control.specs.Lane.{with_untold}
-use Rattle.ftp_control.specs.Machine.{held}
-use Rattle.ftp_control.proofs.Idling.{lets_go, told_more}
-use Rattle.ftp_client_drive.specs.Side.{client_machine, client_side}
+use Rattle.ftp_client_drive.proofs.Words.{Quietly, client_machine, client_side, held, lets_go, quiet_then, told_more, with_untold}
 use Rattle.ftp_client_drive.proofs.carry.hand.Goals as goal
 
 pub returns-then-ne : goal.returns-then-ne
 returns-then-ne g c lane =
-    let client = g.N.Near.client in
-    quiet_then client_side _ _ _ (c.loop-at.invariant.1 lane) (lets_go client_machine (client c.loop-at.client) lane (drop c.loop-at.at c.args.octets.now) (search rules))
+    quiet_then client_side _ _ _ (c.loop-at.invariant.1 lane) (lets_go client_machine (g.N.Near.client c.loop-at.client) lane (drop c.loop-at.at c.args.octets.now) (search rules))
 
 pub returns-then-taken-eq0 : goal.returns-then-taken-eq0
 returns-then-taken-eq0 g c lane = (
@@ -30,7 +24,5 @@ loop-at-preserved g c = (
 
 pub returns : goal.returns
 returns g c lane =
-    let client = g.N.Near.client in
-    let octets = c.args.octets.now in
-    subst (λ l. Quietly client_side (held (client c.args.client.now) (with_untold octets lane)) (held (client c.loop-at.client) (with_untold l lane)))
-    (drop_all c.loop-at.at octets (search rules)) (c.loop-at.invariant.1 lane)
+    subst (λ l. Quietly client_side (held (g.N.Near.client c.args.client.now) (with_untold c.args.octets.now lane)) (held (g.N.Near.client c.loop-at.client) (with_untold l lane)))
+    (drop_all c.loop-at.at c.args.octets.now (search rules)) (c.loop-at.invariant.1 lane)

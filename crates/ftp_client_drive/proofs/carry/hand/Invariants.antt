@@ -1,8 +1,5 @@
 use Rattle.std.proofs.Common.{length, drop, ◌-◌, ◌≤◌}
-use Rattle.ftp_control.specs.Driving.{Quietly}
-use Rattle.ftp_control.specs.Lane.{Lane, with_untold}
-use Rattle.ftp_control.specs.Machine.{held}
-use Rattle.ftp_client_drive.specs.Side.{client_side}
+use Rattle.ftp_client_drive.proofs.Words.{Lane, Quietly, client_side, held, with_untold}
 use Rattle.ftp_client_drive.proofs.carry.hand.Given as goal
 
 abbrev pub invariant-loop-at : goal.invariant-loop-at

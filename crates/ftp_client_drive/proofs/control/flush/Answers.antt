@@ -1,11 +1,5 @@
 use Rattle.std.proofs.Common.{◌≡◌, ◌∙◌, refl, subst, length, rules}
-use Rattle.ftp_client_model.specs.Calls.{gives_control}
-use Rattle.ftp_client_model.specs.Failing.{Holds}
-use Rattle.ftp_control.specs.Machine.{held}
-use Rattle.ftp_client_drive.specs.Beside.{beside}
-use Rattle.ftp_control.specs.Deeds.{Said}
-use Rattle.ftp_control.proofs.Leading.{leads_nowhere, leads_on, fails_here, settles_here}
-use Rattle.ftp_control.proofs.Going.{flushes_err, none_owed, write_fails}
+use Rattle.ftp_client_drive.proofs.Words.{Holds, Said, beside, fails_here, flushes_err, gives_control, held, leads_nowhere, leads_on, none_owed, settles_here, write_fails}
 use Rattle.ftp_client_drive.proofs.control.flush.Goals as goal
 
 pub loop-init : goal.loop-init

@@ -1,7 +1,4 @@
-use Rattle.ftp_control.specs.Driving.{Leads}
-use Rattle.ftp_control.specs.Lane.{Lane}
-use Rattle.ftp_control.specs.Machine.{held}
-use Rattle.ftp_client_drive.specs.Beside.{beside}
+use Rattle.ftp_client_drive.proofs.Words.{Lane, Leads, beside, held}
 use Rattle.ftp_client_drive.proofs.control.flush.Given as goal
 
 abbrev pub invariant-loop : goal.invariant-loop

@@ -1,9 +1,7 @@
 use Rattle.std.proofs.Common.{◌∙◌, sym, refl, subst}
 use Rattle.std.specs.Io.KnownBytes.{Consumes}
 use Rattle.ftp_control.specs.Unheard.{left_of}
-use Rattle.ftp_control.specs.Machine.{held}
-use Rattle.ftp_client_drive.specs.Beside.{beside}
-use Rattle.ftp_control.proofs.Going.{ends_here, goes_err, read_fails, reads_next}
+use Rattle.ftp_client_drive.proofs.Words.{beside, ends_here, goes_err, held, read_fails, reads_next}
 use Rattle.ftp_client_drive.proofs.control.read.Goals as goal
 
 pub returns-in_err-count : goal.returns-in_err-count
@@ -15,13 +13,11 @@ returns-in_err-count g c lane start settles =
 
 pub returns-then-count-eq0 : goal.returns-then-count-eq0
 returns-then-count-eq0 g c lane start settles =
-    let old = c.args.control.now in
-    let new = c.read.new.self in
     let stand = beside g.R.Read.remaining g.W.Write.contents in
     let left = left_of g.R.Read.remaining in
     let none = c.in_ok-count.ensures.none c.if-count-eq0.true in
-    ends_here start (stand (held (g.N.Near.client c.args.client.now) lane) old) (stand (held (g.N.Near.client c.control_end.new.self) lane) new) settles c.requires
-    (subst (λ l. Consumes (left old) (left new) l) none.1 c.in_ok-count.ensures.ok)
+    ends_here start (stand (held (g.N.Near.client c.args.client.now) lane) c.args.control.now) (stand (held (g.N.Near.client c.control_end.new.self) lane) c.read.new.self) settles c.requires
+    (subst (λ l. Consumes (left c.args.control.now) (left c.read.new.self) l) none.1 c.in_ok-count.ensures.ok)
     none.0 none.1 c.in_ok-count.ensures.written (c.control_end.ensures, refl)
 
 pub returns-else-count-eq0 : goal.returns-else-count-eq0

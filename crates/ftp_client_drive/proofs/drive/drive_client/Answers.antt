@@ -1,31 +1,17 @@
 use Rattle.std.proofs.Common.{◌≡◌, [], Some, inl, inr, refl, rules, subst}
 use Rattle.std.specs.Prelude.{List, Option}
-use Rattle.std.specs.Option.{option_map}
-use Rattle.ftp_operation.specs.Answer.{said_of}
-use Rattle.ftp_control.specs.Asking.{Asked}
-use Rattle.ftp_control.specs.Deeds.{with_owner}
-use Rattle.ftp_control.specs.Driving.{Fails}
-use Rattle.ftp_control.specs.Lane.{no_lane}
-use Rattle.ftp_control.specs.Machine.{held}
-use Rattle.ftp_control.proofs.Lanes.{none_had}
-use Rattle.ftp_client_model.specs.Failing.{Client}
-use Rattle.ftp_client_drive.specs.Beside.{beside, lane_at}
-use Rattle.ftp_client_drive.specs.Driving.{Drives, Tells}
-use Rattle.ftp_client_drive.specs.Standing.{standing}
-use Rattle.ftp_client_drive.proofs.Turning.{broke_off, drove, gave_up}
+use Rattle.ftp_client_drive.proofs.Words.{Asked, Client, Drives, Fails, Tells, beside, broke_off, drove, gave_up, held, lane_at, no_lane, none_had, option_map, said_of, standing, with_owner}
 use Rattle.ftp_client_drive.proofs.drive.drive_client.Goals as goal
 
 pub returns-in-Ok : goal.returns-in-Ok
 returns-in-Ok g c =
-    let remaining = g.P.Stream.Read.remaining in
-    let contents = g.P.Stream.Write.contents in
     let history = g.P.Ports.history in
     let client_of = g.N.Near.client in
     let stand = λ (client : Client) (asked : Option (List Asked)). beside g.R.Read.remaining g.W.Write.contents (held client (no_lane asked)) in
     let none = c.new in
     let drive = c.turns-ended.new.self in
     let start = stand (client_of c.args.client.now) (history c.args.ports.now) c.args.control.now in
-    let mid = standing client_of g.R.Read.remaining g.W.Write.contents history remaining contents drive in
+    let mid = standing client_of g.R.Read.remaining g.W.Write.contents history g.P.Stream.Read.remaining g.P.Stream.Write.contents drive in
     let said = Some (said_of c.in-Ok.answer) in
     let client : c.data_closed.new.self ≡ c.client-1.given.0 = search rules in
     let ports : c.finish.new.ports ≡ c.ports-1.given.0 = search rules in
@@ -35,7 +21,7 @@ returns-in-Ok g c =
     (subst (λ k. Drives start (stand (client_of c.data_closed.new.self) (history c.finish.new.ports) k) said) control
     (inl (drove start mid (stand (client_of c.data_closed.new.self) (history c.finish.new.ports) drive.control.now) (said_of c.in-Ok.answer) c.finish.ensures.0 refl refl
     (subst (λ lane. Tells said (with_owner (held (client_of c.args.client.now) lane) start) mid)
-    (none_had remaining contents none.result.connection (history c.args.ports.now) none.result.room none.ensures.none none.ensures.all) c.in-Ok.ensures.goes)
+    (none_had g.P.Stream.Read.remaining g.P.Stream.Write.contents none.result.connection (history c.args.ports.now) none.result.room none.ensures.none none.ensures.all) c.in-Ok.ensures.goes)
     c.finish.ensures.1 c.data_closed.ensures refl))))
 
 pub returns-in-Err : goal.returns-in-Err

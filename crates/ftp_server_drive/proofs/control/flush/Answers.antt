@@ -9,10 +9,9 @@ pub returns-then-count-eq0 : goal.returns-then-count-eq0
 returns-then-count-eq0 g c lane =
     let server = g.F.Far.server in
     let mid = beside g.R.Read.remaining g.W.Write.contents (held (server c.loop.server) lane) c.loop.control in
-    let given = c.control_out-count.result in
-    let none : given ≡ 0 = c.if-count-eq0.true in
+    let none : c.control_out-count.result ≡ 0 = c.if-count-eq0.true in
     settles_here _ mid (held (server c.control_out-count.new.self) lane) (c.loop.invariant lane) (record {
-      owed = none_owed given (length c.loop.room) _ none (search rules) c.control_out-count.ensures.some;
+      owed = none_owed c.control_out-count.result (length c.loop.room) _ none (search rules) c.control_out-count.ensures.some;
       gave = subst (λ n. Acts (control_step n) (server c.loop.server) (server c.control_out-count.new.self)) none c.control_out-count.ensures.now;
       lane = refl;
     })

@@ -7,13 +7,12 @@ pub returns-in-Ok : goal.returns-in-Ok
 returns-in-Ok g c =
     let history = g.P.Ports.history in
     let server_of = g.F.Far.server in
-    let remaining = g.P.Stream.Read.remaining in
     let contents = g.P.Stream.Write.contents in
     let stand = λ (server : Server) (asked : Option (List Asked)). beside g.R.Read.remaining g.W.Write.contents (held server (no_lane asked)) in
     let none = c.new in
     let drive = c.turns-ended.new.self in
     let start = stand (server_of c.args.server.now) (history c.args.ports.now) c.args.control.now in
-    let mid = standing server_of g.R.Read.remaining g.W.Write.contents history remaining contents drive in
+    let mid = standing server_of g.R.Read.remaining g.W.Write.contents history g.P.Stream.Read.remaining contents drive in
     let server : drive.server.now ≡ c.server-1.given.0 = search rules in
     let ports : c.finish.new.ports ≡ c.ports-1.given.0 = search rules in
     let control : drive.control.now ≡ c.control-1.given.0 = search rules in
@@ -22,20 +21,19 @@ returns-in-Ok g c =
     (subst (λ k. Drove start (stand (server_of drive.server.now) (history c.finish.new.ports) k)) control
     (drove start mid (stand (server_of drive.server.now) (history c.finish.new.ports) drive.control.now) c.finish.ensures.0 refl refl
     (subst (λ lane. Leads (with_owner (held (server_of c.args.server.now) lane) start) mid)
-    (none_had remaining contents none.result.connection (history c.args.ports.now) none.result.room none.ensures.none none.ensures.all) c.in-Ok.ensures.goes.0)
+    (none_had g.P.Stream.Read.remaining contents none.result.connection (history c.args.ports.now) none.result.room none.ensures.none none.ensures.all) c.in-Ok.ensures.goes.0)
     c.in-Ok.ensures.goes.1 c.finish.ensures.1 refl)))
 
 pub returns-in-Err : goal.returns-in-Err
 returns-in-Err g c =
     let history = g.P.Ports.history in
     let server_of = g.F.Far.server in
-    let remaining = g.P.Stream.Read.remaining in
     let contents = g.P.Stream.Write.contents in
     let stand = λ (server : Server) (asked : Option (List Asked)). beside g.R.Read.remaining g.W.Write.contents (held server (no_lane asked)) in
     let none = c.new in
     let drive = c.turns-ended.new.self in
     let start = stand (server_of c.args.server.now) (history c.args.ports.now) c.args.control.now in
-    let off = standing server_of g.R.Read.remaining g.W.Write.contents history remaining contents drive in
+    let off = standing server_of g.R.Read.remaining g.W.Write.contents history g.P.Stream.Read.remaining contents drive in
     let gone = c.finish-in-Err in
     let server : c.control_end.new.self ≡ c.server-in-Err-1.given.0 = search rules in
     let ports : gone.new.ports ≡ c.ports-in-Err-1.given.0 = search rules in
@@ -45,6 +43,6 @@ returns-in-Err g c =
     (subst (λ k. BrokeOff start (stand (server_of c.control_end.new.self) (history gone.new.ports) k)) control
     (broke_off start off (stand (server_of c.control_end.new.self) (history gone.new.ports) drive.control.now) gone.ensures.0 refl refl
     (subst (λ lane. Fails (with_owner (held (server_of c.args.server.now) lane) start) off)
-    (none_had remaining contents none.result.connection (history c.args.ports.now) none.result.room none.ensures.none none.ensures.all) c.in-Err.ensures.goes)
+    (none_had g.P.Stream.Read.remaining contents none.result.connection (history c.args.ports.now) none.result.room none.ensures.none none.ensures.all) c.in-Err.ensures.goes)
     c.control_end.ensures
     (subst (λ lane. IsLeft gone.ensures.0 lane (no_lane (history gone.new.ports))) (c.note.ensures.same (history drive.ports.now)) gone.ensures.1) refl)))

@@ -1,28 +1,15 @@
 use Rattle.std.proofs.Common.{[], ◌∷◌, inr, refl, subst}
-use Rattle.ftp_control.specs.Asking.{Connected, Connects, NotConnected}
-use Rattle.ftp_control.specs.Deeds.{Other}
-use Rattle.ftp_control.proofs.Leading.{leads_by}
-use Rattle.ftp_control.specs.Machine.{Refused}
+use Rattle.ftp_client_drive.proofs.Words.{Connected, Connects, NotConnected, client_machine, has_none}
 use Rattle.ftp_client_drive.proofs.drive.Drive.connect.Goals as goal
 
 pub returns-in-Some-clause-leads : goal.returns-in-Some-clause-leads
 returns-in-Some-clause-leads g c =
-    let remaining = g.S.Read.remaining in
-    let contents = g.S.Write.contents in
-    let history = g.P.Ports.history in
-    let h0 = history c.args.self.now.ports.now in
-    let h1 = history c.connect.new.self in
-    let endpoint = c.args.endpoint in
-    c.opened.ensures.leads h0 (Connected endpoint (remaining c.in-Some.stream) (contents c.in-Some.stream))
-    (subst (λ r. Connects remaining contents endpoint r h0 h1) c.in-Some.is c.connect.ensures) (inr (endpoint, refl, refl)) c.requires
+    c.opened.ensures.leads (g.P.Ports.history c.args.self.now.ports.now) (Connected c.args.endpoint (g.S.Read.remaining c.in-Some.stream) (g.S.Write.contents c.in-Some.stream))
+    (subst (λ r. Connects g.S.Read.remaining g.S.Write.contents c.args.endpoint r (g.P.Ports.history c.args.self.now.ports.now) (g.P.Ports.history c.connect.new.self)) c.in-Some.is c.connect.ensures)
+    (inr (c.args.endpoint, refl, refl)) c.requires
 
 pub returns-in-None-clause-leads : goal.returns-in-None-clause-leads
 returns-in-None-clause-leads g c =
-    let remaining = g.S.Read.remaining in
-    let contents = g.S.Write.contents in
-    let history = g.P.Ports.history in
-    let h0 = history c.args.self.now.ports.now in
-    let h1 = history c.connect.new.self in
-    let endpoint = c.args.endpoint in
-    leads_by (Other (Refused (NotConnected endpoint ∷ []))) _ _
-    ((c.data_refused.ensures, (subst (λ r. Connects remaining contents endpoint r h0 h1) c.in-None.is c.connect.ensures, refl), c.requires), refl)
+    has_none client_machine _ _ _ (NotConnected c.args.endpoint ∷ [])
+    (subst (λ r. Connects g.S.Read.remaining g.S.Write.contents c.args.endpoint r (g.P.Ports.history c.args.self.now.ports.now) (g.P.Ports.history c.connect.new.self)) c.in-None.is c.connect.ensures)
+    c.data_refused.ensures c.requires

@@ -1,5 +1,4 @@
-use Rattle.ftp_control.proofs.Idling.{settled_then}
-use Rattle.ftp_control.proofs.Leading.{settled_leads}
+use Rattle.ftp_client_drive.proofs.Words.{settled_leads, settled_then}
 use Rattle.ftp_client_drive.proofs.drive.Drive.halted.Goals as goal
 
 pub returns-in-Again-clause-goes : goal.returns-in-Again-clause-goes

@@ -1,30 +1,8 @@
-use Rattle.std.proofs.Common.{[], ◌∷◌, refl, subst}
-use Rattle.ftp_control.specs.Asking.{Adds, Listened}
-use Rattle.ftp_control.specs.Deeds.{Other}
-use Rattle.ftp_control.proofs.Leading.{leads_by}
-use Rattle.ftp_control.specs.Machine.{Listening, NoPort}
+use Rattle.ftp_client_drive.proofs.Words.{client_machine, listens, listens_nowhere}
 use Rattle.ftp_client_drive.proofs.drive.Drive.listen.Goals as goal
 
 pub returns-in-Some-clause-leads : goal.returns-in-Some-clause-leads
-returns-in-Some-clause-leads g c =
-    let history = g.P.Ports.history in
-    leads_by (Other (Listening c.in-Some.port)) _ _ (
-      (
-        c.listening.ensures,
-        (subst (λ r. Adds (history c.args.self.now.ports.now) (history c.listen.new.self) (Listened r ∷ [])) c.in-Some.is c.listen.ensures, refl),
-        c.requires,
-      ),
-      refl,
-    )
+returns-in-Some-clause-leads g c = listens client_machine _ _ _ c.listen.result c.in-Some.port c.in-Some.is c.listen.ensures c.listening.ensures c.requires
 
 pub returns-in-None-clause-leads : goal.returns-in-None-clause-leads
-returns-in-None-clause-leads g c =
-    let history = g.P.Ports.history in
-    leads_by (Other NoPort) _ _ (
-      (
-        c.listen_refused.ensures,
-        (subst (λ r. Adds (history c.args.self.now.ports.now) (history c.listen.new.self) (Listened r ∷ [])) c.in-None.is c.listen.ensures, refl),
-        c.requires,
-      ),
-      refl,
-    )
+returns-in-None-clause-leads g c = listens_nowhere client_machine _ _ _ c.listen.result c.in-None.is c.listen.ensures c.listen_refused.ensures c.requires

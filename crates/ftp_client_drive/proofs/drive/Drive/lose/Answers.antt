@@ -1,9 +1,5 @@
 use Rattle.std.proofs.Common.{refl}
-use Rattle.ftp_control.specs.Deeds.{Other}
-use Rattle.ftp_control.specs.Machine.{Break}
-use Rattle.ftp_control.proofs.Idling.{leaves}
-use Rattle.ftp_control.proofs.Leading.{leads_by, leads_then}
-use Rattle.ftp_client_drive.specs.Side.{client_machine}
+use Rattle.ftp_client_drive.proofs.Words.{Break, Other, client_machine, leads_by, leads_then, leaves}
 use Rattle.ftp_client_drive.proofs.drive.Drive.lose.Goals as goal
 
 pub returns-clause-leads : goal.returns-clause-leads

@@ -1,13 +1,5 @@
 use Rattle.std.proofs.Common.{[], ◌∙◌, Ok, ap, subst, sym}
-use Rattle.ftp_control.specs.Deeds.{with_owner}
-use Rattle.ftp_control.specs.Driving.{Settles}
-use Rattle.ftp_control.specs.Machine.{held}
-use Rattle.ftp_control.proofs.Idling.{idles_then, settled_then, settles_idle}
-use Rattle.ftp_control.proofs.Leading.{settled_leads}
-use Rattle.ftp_client_drive.specs.Beside.{in_hand, lane_at}
-use Rattle.ftp_client_drive.specs.Side.{client_machine}
-use Rattle.ftp_client_drive.specs.Standing.{standing}
-use Rattle.ftp_client_drive.proofs.Idling.{hands}
+use Rattle.ftp_client_drive.proofs.Words.{Settles, client_machine, hands, held, idles_then, in_hand, lane_at, settled_leads, settled_then, settles_idle, standing, with_owner}
 use Rattle.ftp_client_drive.proofs.drive.Drive.receive.Goals as goal
 
 pub returns-then-is_spoken_first-clause-goes : goal.returns-then-is_spoken_first-clause-goes

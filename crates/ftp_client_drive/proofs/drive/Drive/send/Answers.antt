@@ -1,8 +1,4 @@
-use Rattle.ftp_client_drive.specs.Standing.{standing}
-use Rattle.ftp_client_drive.specs.Beside.{lane_at}
-use Rattle.ftp_client_drive.specs.Side.{client_machine}
-use Rattle.ftp_control.proofs.Idling.{settles_idle}
-use Rattle.ftp_control.proofs.Leading.{settled_leads}
+use Rattle.ftp_client_drive.proofs.Words.{client_machine, lane_at, settled_leads, settles_idle, standing}
 use Rattle.std.proofs.Common.{[]}
 use Rattle.ftp_client_drive.proofs.drive.Drive.send.Goals as goal
 

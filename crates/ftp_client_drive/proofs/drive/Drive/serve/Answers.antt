@@ -1,5 +1,4 @@
-use Rattle.ftp_control.proofs.Idling.{settled_then}
-use Rattle.ftp_control.proofs.Leading.{fails_here, settled_leads}
+use Rattle.ftp_client_drive.proofs.Words.{fails_here, settled_leads, settled_then}
 use Rattle.ftp_client_drive.proofs.drive.Drive.serve.Goals as goal
 
 pub returns-in-Nothing-clause-goes : goal.returns-in-Nothing-clause-goes

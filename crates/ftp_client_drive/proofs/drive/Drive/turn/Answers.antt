@@ -1,5 +1,4 @@
-use Rattle.ftp_control.proofs.Going.{goes_err, goes_settled}
-use Rattle.ftp_client_drive.specs.Standing.{standing}
+use Rattle.ftp_client_drive.proofs.Words.{goes_err, goes_settled, standing}
 use Rattle.ftp_client_drive.proofs.drive.Drive.turn.Goals as goal
 
 pub returns-in_err-flush-clause-goes : goal.returns-in_err-flush-clause-goes

@@ -1,10 +1,5 @@
 use Rattle.std.proofs.Common.{◌≡◌, refl, rules, subst}
-use Rattle.std.specs.Option.{option_map}
-use Rattle.ftp_operation.specs.Answer.{said_of}
-use Rattle.ftp_client_model.specs.Calls.{report_of}
-use Rattle.ftp_control.proofs.Leading.{fails_here, fails_then, leads_nowhere, leads_then}
-use Rattle.ftp_client_drive.specs.Standing.{standing}
-use Rattle.ftp_client_drive.proofs.Turning.{answers_err, asked_none, tells}
+use Rattle.ftp_client_drive.proofs.Words.{answers_err, asked_none, fails_here, fails_then, leads_nowhere, leads_then, option_map, report_of, said_of, standing, tells}
 use Rattle.ftp_client_drive.proofs.drive.Drive.turns.Goals as goal
 
 pub loop-init : goal.loop-init

@@ -1,5 +1,4 @@
-use Rattle.ftp_control.specs.Driving.{Leads}
-use Rattle.ftp_client_drive.specs.Standing.{IsKept, standing}
+use Rattle.ftp_client_drive.proofs.Words.{IsKept, Leads, standing}
 use Rattle.ftp_client_drive.proofs.drive.Drive.turns.Given as goal
 
 abbrev pub invariant-loop : goal.invariant-loop

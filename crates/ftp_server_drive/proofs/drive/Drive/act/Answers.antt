@@ -10,9 +10,8 @@ returns-in-Connect-clause-goes g c start settles = settled_then start _ _ settle
 
 pub returns-in-CloseData-clause-goes : goal.returns-in-CloseData-clause-goes
 returns-in-CloseData-clause-goes g c start settles =
-    let left = c.leave.ensures.1 in
-    settled_then start _ _ settles (leads_then _ _ _ (leaves server_machine c.leave.ensures.0 _ _ left refl)
-    (leads_by (Other Closed) _ _ ((c.data_closed.ensures, (refl, left.stands), sym c.wants.ensures ∙ c.in-CloseData.is), refl)))
+    settled_then start _ _ settles (leads_then _ _ _ (leaves server_machine c.leave.ensures.0 _ _ c.leave.ensures.1 refl)
+    (leads_by (Other Closed) _ _ ((c.data_closed.ensures, (refl, c.leave.ensures.1.stands), sym c.wants.ensures ∙ c.in-CloseData.is), refl)))
 
 pub returns-in-CloseAll-clause-goes : goal.returns-in-CloseAll-clause-goes
 returns-in-CloseAll-clause-goes g c start settles = settled_leads start _ settles

@@ -1,0 +1,63 @@
+-- How an end comes to a data connection, as it wants it: a port is listened at, one is waited for or opened; or none is had.
+use Rattle.std.proofs.Common.{◌≡◌, ℕ, inl, inr, List, [], ◌∷◌, Option, Some, None, refl, subst}
+use Rattle.ftp_control.specs.Asking.{Accepts, Adds, Asked, Came, Connected, Connects, Listened, NotCame, NotConnected, Replaces}
+use Rattle.ftp_control.specs.Deeds.{Other, Stand, with_owner}
+use Rattle.ftp_control.specs.Driving.{Leads, Quietly}
+use Rattle.ftp_control.specs.Lane.{IsHad, lane_of, with_asked}
+use Rattle.ftp_control.specs.Machine.{IsRefused, IsWanted, Listening, Machine, NoPort, Opened, Refused, held, side_of}
+use Rattle.ftp_control.specs.Whole.{IsWhole}
+use Rattle.ftp_control.specs.declared.data.DataConnection.{DataConnection}
+use Rattle.ftp_control.specs.declared.ports.Accepted.{Accepted}
+use Rattle.ftp_control.specs.declared.ports.Accepted.TheVariants as Answers
+use Rattle.ftp_control.proofs.Idling.{all_wanted}
+use Rattle.ftp_control.proofs.Lanes.{asked_for, opens}
+use Rattle.ftp_control.proofs.Leading.{leads_by, quiet_call}
+use Rattle.ftp_endpoint.specs.declared.endpoint.Endpoint.{Endpoint}
+use Rattle.ftp_endpoint.specs.declared.host.Host.{Host}
+use Rattle.ftp_ends.specs.declared.link.Wants.TheVariants as Want
+
+-- one came, or none did, or nothing was answered
+pub one_came : {S : Type 0} (remaining contents : S → Option (List ℕ)) (h0 h1 : Option (List Asked)) (answer : Accepted S) (stream : S) (host : Host)
+    → answer ≡ Answers.Came stream host → Accepts remaining contents answer h0 h1 → Adds h0 h1 (Came host (remaining stream) (contents stream) ∷ [])
+one_came remaining contents h0 h1 answer stream host is asked = subst (λ a. Accepts remaining contents a h0 h1) is asked
+
+pub none_came : {S : Type 0} (remaining contents : S → Option (List ℕ)) (h0 h1 : Option (List Asked)) (answer : Accepted S) → answer ≡ Answers.Refused
+    → Accepts remaining contents answer h0 h1 → Adds h0 h1 (NotCame ∷ [])
+none_came remaining contents h0 h1 answer is asked = subst (λ a. Accepts remaining contents a h0 h1) is asked
+
+pub none_answered : {S : Type 0} (remaining contents : S → Option (List ℕ)) (h0 h1 : Option (List Asked)) (answer : Accepted S) → answer ≡ Answers.Spoken
+    → Accepts remaining contents answer h0 h1 → Adds h0 h1 []
+none_answered remaining contents h0 h1 answer is asked = subst (λ a. Accepts remaining contents a h0 h1) is asked
+
+module _ (machine : Machine) where
+  -- a port is listened at, and the end is told which
+  pub listens : (old : Stand (side_of machine)) (there : machine.Here) (h1 : Option (List Asked)) (answer : Option ℕ) (port : ℕ) → answer ≡ Some port
+      → Adds old.owner.lane.asked h1 (Listened answer ∷ []) → machine.Listening port old.owner.end there → machine.wants old.owner.end ≡ Want.Listen
+      → Leads old (with_owner (held there (with_asked h1 old.owner.lane)) old)
+  listens old there h1 answer port is asks told wanted =
+      leads_by (Other (Listening port)) old _ ((told, (subst (λ a. Adds old.owner.lane.asked h1 (Listened a ∷ [])) is asks, refl), wanted), refl)
+
+  -- at none
+  pub listens_nowhere : (old : Stand (side_of machine)) (there : machine.Here) (h1 : Option (List Asked)) (answer : Option ℕ) → answer ≡ None
+      → Adds old.owner.lane.asked h1 (Listened answer ∷ []) → machine.NoPort old.owner.end there → machine.wants old.owner.end ≡ Want.Listen
+      → Leads old (with_owner (held there (with_asked h1 old.owner.lane)) old)
+  listens_nowhere old there h1 answer is asks told wanted =
+      leads_by (Other NoPort) old _ ((told, (subst (λ a. Adds old.owner.lane.asked h1 (Listened a ∷ [])) is asks, refl), wanted), refl)
+
+  -- none is had, and the end is told that
+  pub has_none : (old : Stand (side_of machine)) (there : machine.Here) (h1 : Option (List Asked)) (asked : List Asked) → Adds old.owner.lane.asked h1 asked
+      → machine.Refused old.owner.end there → IsRefused (machine.IsGivenUp old.owner.end) (machine.wants old.owner.end) asked
+      → Leads old (with_owner (held there (with_asked h1 old.owner.lane)) old)
+  has_none old there h1 asked asks told wanted = leads_by (Other (Refused asked)) old _ ((told, (asks, refl), wanted), refl)
+
+  -- one that was asked for is had now, in place of what stood
+  pub has_one : {S : Type 0} (remaining contents : S → Option (List ℕ)) (old new : DataConnection S) (stream : S) (h0 h1 h2 : Option (List Asked)) (host : Host) (had : Asked)
+      (room : List ℕ) (here there : machine.Here) → Adds h0 h1 (had ∷ []) → IsHad host had (remaining stream) (contents stream) → IsWanted (machine.wants here) had
+      → Replaces remaining contents old.stream h1 h2 → IsWhole new.at new.end new.rest → new.stream ≡ Some stream → machine.Opened host here there
+      → Quietly (side_of machine) (held here (lane_of remaining contents h0 old room [])) (held there (lane_of remaining contents h2 new room []))
+  has_one remaining contents old new stream h0 h1 h2 host had room here there asks is_had wanted replaced whole is told =
+      quiet_call (side_of machine) (Opened host (asked_for remaining contents old.stream had) (remaining stream) (contents stream)) _ _ (
+        told,
+        opens remaining contents old new stream h0 h1 h2 host had room room [] asks is_had replaced whole is,
+        all_wanted remaining contents old.stream had (machine.wants here) wanted,
+      )
