@@ -4,12 +4,13 @@ use Rattle.std.specs.Prelude.{IsErr, Bool, true, false}
 use Rattle.std.proofs.lemmas.List.{length-take-le}
 use Rattle.ftp_control.specs.Asking.{Asked, Shut}
 use Rattle.ftp_control.specs.Deeds.{Led, Other, Stand, with_owner}
-use Rattle.ftp_control.specs.Driving.{Cuts, Fails, Leads}
-use Rattle.ftp_control.specs.Lane.{IsEnded, IsLeft, Lane}
+use Rattle.ftp_control.specs.Driving.{Cuts, Fails, Goes, Leads}
+use Rattle.ftp_control.specs.Lane.{IsEnded, IsLeft, Lane, with_untold}
+use Rattle.ftp_control.specs.Outcome.{IsReset}
 use Rattle.ftp_control.specs.declared.pieces.Failed.{Failed}
 use Rattle.ftp_control.proofs.Courses.{carries}
 use Rattle.ftp_control.proofs.Idling.{carrier, hears_first, stood_so}
-use Rattle.ftp_control.proofs.Leading.{call_leads, leads_then}
+use Rattle.ftp_control.proofs.Leading.{call_leads, fails_here, fails_lets, leads_then}
 use Rattle.ftp_control.proofs.Totals.{cuts, sums}
 use Rattle.ftp_operation.specs.declared.answer.Answer.{Answer}
 use Rattle.ftp_operation.specs.Answer.{Said, Lost}
@@ -19,15 +20,28 @@ use Rattle.ftp_client_model.specs.View.{View, Job, Idle, Waiting, Doing, Transfe
 use Rattle.ftp_client_model.specs.declared.client.Failure.TheVariants as Failures
 use Rattle.ftp_client_model.specs.declared.client.Standing.{Standing}
 use Rattle.ftp_client_model.specs.declared.client.Standing.TheVariants as Stands
-use Rattle.ftp_control.specs.Machine.{Closed, Does, Gives, Held, IsCut, Left, held, move_of}
+use Rattle.ftp_control.specs.Machine.{Closed, Does, Held, IsCut, Left, held, move_of}
 use Rattle.ftp_client_drive.specs.Side.{Report, client_machine, client_side, is_under_way}
-use Rattle.ftp_client_drive.specs.Driving.{Answers, BrokeOff, Drove, GivesUp, IsReset, Tells}
+use Rattle.ftp_client_drive.specs.Driving.{Answers, BrokeOff, Drove, GivesUp, Hands, Tells}
 
 -- it heard the first of the octets that were read
 pub hears_next : (old new : Stand client_side) (count : ℕ) → count ≤ length old.unheard → HearsIfRoom old.owner.end new.owner.end old.unheard count
     → new.owner.lane ≡ old.owner.lane → new.unheard ≡ drop count old.unheard → new.left ≡ old.left → new.written ≡ old.written → Leads old new
 hears_next old new count le hears lane unheard left written = hears_first client_machine old new count
     (subst (λ n. HearsIfRoom old.owner.end new.owner.end old.unheard n) (sym (length-take-le count old.unheard le)) hears) lane unheard left written
+
+-- what it was handed it was told; or that fails, and what it was not told is let go
+pub hands : {T : Type 0} (start : Stand client_side) (old new : Client) (octets : List ℕ) (lane : Lane) (left : Option (List ℕ)) (unheard : List ℕ) (written : Option (List ℕ))
+    (r : Result T Failed) → Leads start (record { owner = held old (with_untold octets lane); left = left; unheard = unheard; written = written })
+    → Hands octets old new lane r → Goes start (record { owner = held new (with_untold [] lane); left = left; unheard = unheard; written = written }) r
+hands start old new octets lane left unheard written (Ok value) leads told =
+    let stand : Held Client → Stand client_side = λ owner. record { owner = owner; left = left; unheard = unheard; written = written } in
+    leads_then start (stand (held old (with_untold octets lane))) (stand (held new (with_untold [] lane))) leads (told left unheard written)
+hands start old new octets lane left unheard written (Err failed) leads told =
+    let stand : Held Client → Stand client_side = λ owner. record { owner = owner; left = left; unheard = unheard; written = written } in
+    let off = stand (held new (with_untold told.0 lane)) in
+    fails_lets start off (stand (held new (with_untold [] lane)))
+    (fails_here start off (leads_then start (stand (held old (with_untold octets lane))) off leads (told.1 left unheard written))) (refl, refl) refl
 
 -- ---- a cut connection
 

@@ -1,13 +1,10 @@
 -- A client between its connections, of values of the program.
-use Rattle.std.specs.Prelude.{ℕ, List, [], take, Option}
-use Rattle.std.specs.declared.result.Result.{Result}
-use Rattle.std.specs.declared.result.Result.TheVariants.{Ok, Err}
+use Rattle.std.specs.Prelude.{ℕ, List, Option}
 use Rattle.ftp_control.specs.Asking.{Asked}
 use Rattle.ftp_control.specs.Deeds.{Stand}
 use Rattle.ftp_control.specs.Lane.{Lane, lane_of}
 use Rattle.ftp_control.specs.Machine.{Held, stand_of}
 use Rattle.ftp_control.specs.declared.control.Control.{Control}
-use Rattle.ftp_control.specs.declared.data.Halt.{Halt}
 use Rattle.ftp_client_model.specs.Failing.{Client}
 use Rattle.ftp_client_drive.specs.Side.{client_machine, client_side}
 use Rattle.ftp_client_drive.specs.declared.data.Data.{Data}
@@ -19,8 +16,3 @@ beside remaining contents owner control = stand_of client_machine remaining cont
 -- a data connection of which these octets were read and not told
 abbrev pub lane_at : {S : Type 0} → (remaining contents : S → Option (List ℕ)) → Option (List Asked) → Data S → (untold : List ℕ) → Lane
 lane_at remaining contents asked connection untold = lane_of remaining contents asked connection.connection connection.room untold
-
--- the octets that were read and are in hand
-abbrev pub in_hand : Result ℕ Halt → (room : List ℕ) → List ℕ
-in_hand (Ok count) room = take count room
-in_hand (Err halt) room = []

@@ -1,12 +1,13 @@
 -- What a drive of a client beside its control connection did, whole or until a read or a write failed.
-use Rattle.std.specs.Prelude.{◌≡◌, ◌⊎◌, ℕ, Bool, true, false, List, [], ◌∷◌, Option, Some, IsTrue}
+use Rattle.std.specs.Prelude.{◌≡◌, ◌⊎◌, ℕ, List, [], ◌∷◌, Option, Some, IsTrue}
 use Rattle.std.specs.declared.result.Result.{Result}
 use Rattle.std.specs.declared.result.Result.TheVariants.{Ok, Err}
-use Rattle.ftp_control.specs.Asking.{Asked, Reset, Shut}
+use Rattle.ftp_control.specs.Asking.{Asked, Shut}
 use Rattle.ftp_control.specs.Courses.{Carries}
 use Rattle.ftp_control.specs.Deeds.{Calls, Deed, Other, Stand, with_owner}
 use Rattle.ftp_control.specs.Driving.{Cuts, Fails, Leads, Quietly, Sums}
-use Rattle.ftp_control.specs.Lane.{IsLeft, Lane, with_untold}
+use Rattle.ftp_control.specs.Lane.{Lane, with_untold}
+use Rattle.ftp_control.specs.Outcome.{IsDropped}
 use Rattle.ftp_control.specs.declared.pieces.Failed.{Failed}
 use Rattle.ftp_operation.specs.Answer.{Said, Lost, said_of}
 use Rattle.ftp_operation.specs.declared.answer.Answer.{Answer}
@@ -19,16 +20,6 @@ use Rattle.ftp_client_drive.specs.Side.{Report, client_machine, client_side, is_
 abbrev pub Hands : {T : Type 0} → (octets : List ℕ) → (old new : Client) → Lane → Result T Failed → Type 0
 Hands octets old new lane (Ok value) = Quietly client_side (held old (with_untold octets lane)) (held new (with_untold [] lane))
 Hands octets old new lane (Err failed) = (rest : List ℕ) × Quietly client_side (held old (with_untold octets lane)) (held new (with_untold rest lane))
-
--- a data connection that stands is reset, and where none stands the port alone is closed
-abbrev pub IsDropped : (stands : Bool) → (left written : Option (List ℕ)) → Asked → Type 0
-IsDropped true left written asked = asked ≡ Reset left written
-IsDropped false left written asked = asked ≡ Shut
-
--- it is left so, whether octets are on their way or not
-pub record IsReset (asked : Asked) (old new : Lane) : Type 0 where
-  pub dropped : IsDropped old.stands old.left old.written asked
-  pub left : IsLeft asked old new
 
 -- deeds, and then the client was asked for its report, which was this
 abbrev pub Tells : Option Said → (start now : Stand client_side) → Type 0

@@ -8,8 +8,8 @@ ghost use Rattle.ftp_control.specs.Carrying.{left_of};
 ghost use Rattle.ftp_control.specs.Driving.{Quietly};
 ghost use Rattle.ftp_control.specs.Lane.{IsLeft, no_lane};
 ghost use Rattle.ftp_control.specs.Machine.{Idles, held};
-ghost use Rattle.ftp_client_drive.specs.Beside.{in_hand, lane_at};
-ghost use Rattle.ftp_client_drive.specs.Driving.{IsReset};
+ghost use Rattle.ftp_control.specs.Outcome.{IsReset, in_hand};
+ghost use Rattle.ftp_client_drive.specs.Beside.{lane_at};
 ghost use Rattle.ftp_client_drive.specs.Side.{client_machine, client_side};
 
 use ftp_client_model::Near;
@@ -80,7 +80,7 @@ impl<S: Read + Write> Data<S> {
     }
 
     /// Resets it, if it is open, and else closes the port that is listened at.
-    #[tactic(auto, using(crate::proofs::Idling::resets))]
+    #[tactic(auto, using(ftp_control::proofs::Outcomes::resets))]
     pub(crate) fn reset<P: Ports<Stream = S>>(&mut self, ports: &mut P)
         ensures { (asked : Asked) × IsReset asked (lane_at S.remaining S.contents (P.history ports.old) self.old []) (lane_at S.remaining S.contents (P.history ports.new) self.new []) }
     {

@@ -7,3 +7,4 @@ pub mod Going
 pub mod Courses
 pub mod Idling
 pub mod Meeting
+pub mod Outcomes

@@ -9,3 +9,4 @@ pub mod Deeds
 pub mod Driving
 pub mod Courses
 pub mod Machine
+pub mod Outcome

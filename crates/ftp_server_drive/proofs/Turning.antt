@@ -1,22 +1,20 @@
 -- What turns say, put together, and how a drive ends.
-use Rattle.std.proofs.Common.{◌≡◌, ◌≢◌, ◌∙◌, ◌⊎◌, ℕ, ◌+◌, ◌≤◌, inl, inr, List, [], ◌∷◌, ◌++◌, length, take, drop, Option, refl, sym, ap, subst, Result, Ok, Err, eqb-true, eq-eqb, true≢false, arith}
+use Rattle.std.proofs.Common.{◌≡◌, ◌≢◌, ◌∙◌, ◌⊎◌, ℕ, ◌≤◌, inl, inr, List, [], ◌∷◌, ◌++◌, length, take, drop, Option, refl, sym, ap, subst, Result, Ok, Err, eqb-true, eq-eqb, true≢false, arith}
 use Rattle.std.specs.Prelude.{◌==◌, Bool, IsErr, true, false}
 use Rattle.std.specs.Io.KnownBytes.{Consumes}
-use Rattle.std.proofs.Math.Seq.{take-append-add}
-use Rattle.std.proofs.lemmas.List.{append_assoc, take-take}
+use Rattle.std.proofs.lemmas.List.{take-take}
 use Rattle.ftp_control.specs.Asking.{Asked}
 use Rattle.ftp_control.specs.Deeds.{Led, Other, Stand, with_owner}
 use Rattle.ftp_control.specs.Driving.{Fails, Goes, Leads, Quietly}
-use Rattle.ftp_control.specs.Lane.{IsLeft, Lane, with_given}
-use Rattle.ftp_control.specs.Machine.{Call, Gave, Held, Left, held, move_of}
+use Rattle.ftp_control.specs.Lane.{IsLeft}
+use Rattle.ftp_control.specs.Machine.{Call, Held, Left, held, move_of}
 use Rattle.ftp_control.specs.declared.pieces.Failed.{Failed}
 use Rattle.ftp_control.proofs.Courses.{carries}
 use Rattle.ftp_control.proofs.Idling.{carrier, hears_first, stood_so}
 use Rattle.ftp_control.proofs.Leading.{quiet_call, quiet_then}
 use Rattle.ftp_control.proofs.Totals.{cuts, sums}
-use Rattle.ftp_server_model.specs.Far.{Hears, Server, Steps}
-use Rattle.ftp_server_model.specs.Failing.{Counts, GiveFails}
-use Rattle.ftp_server_model.specs.Calls.{given_step, to_give}
+use Rattle.ftp_server_model.specs.Far.{Hears, Server}
+use Rattle.ftp_server_model.specs.Failing.{Counts}
 use Rattle.ftp_server_model.proofs.LinesDecided.{reading_exists}
 use Rattle.ftp_server_drive.specs.Beside.{in_hand, untaken}
 use Rattle.ftp_server_drive.specs.Side.{Clock, ended, server_machine, server_side}
@@ -100,23 +98,6 @@ unheard_stays count octets old new within one other hears =
   where
     none : (n m : ℕ) → n ≤ m → m ≡ 1 → n ≢ 1 → n ≡ 0
     none n m le is other = omega (arith, le, is, other)
-
--- ---- octets that the server gives
-
-more_given : (before : List ℕ) (at count : ℕ) (room front out : List ℕ) → front ≡ take at room → length front ≡ at → count ≤ length out
-    → before ++ take (at + count) (front ++ out) ≡ (before ++ take at room) ++ take count out
-more_given before at count room front out is len fits =
-    ap (λ l. before ++ l) (ap (λ n. take (n + count) (front ++ out)) (sym len) ∙ take-append-add front out count ∙ ap (λ l. l ++ take count out) is)
-    ∙ sym (append_assoc before (take at room) (take count out))
-
--- it gave more into the room behind what it gave before
-pub given_more : (old mid new : Server) (lane : Lane) (at count : ℕ) (room front out : List ℕ) → Quietly server_side (held old lane) (held mid (with_given (take at room) lane))
-    → front ≡ take at room → length front ≡ at → count ≤ length out → take count out ≡ take count (to_give mid.view) → Steps (GiveFails count) (given_step count) mid new
-    → Quietly server_side (held old lane) (held new (with_given (take (at + count) (front ++ out)) lane))
-given_more old mid new lane at count room front out before is len fits gave steps =
-    quiet_then server_side (held old lane) (held mid (with_given (take at room) lane)) (held new (with_given (take (at + count) (front ++ out)) lane)) before
-    (quiet_call server_side (Gave count (take count out)) (held mid (with_given (take at room) lane)) (held new (with_given (take (at + count) (front ++ out)) lane))
-    ((gave, steps), ap (λ l. record lane { unwritten = l }) (more_given lane.unwritten at count room front out is len fits), tt))
 
 -- ---- how a drive ends
 

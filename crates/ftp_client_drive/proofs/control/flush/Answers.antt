@@ -1,5 +1,5 @@
-use Rattle.std.proofs.Common.{◌≡◌, ◌∙◌, refl, subst, length, rules}
-use Rattle.ftp_client_drive.proofs.Words.{Holds, Said, beside, fails_here, flushes_err, gives_control, held, leads_nowhere, leads_on, none_owed, settles_here, write_fails}
+use Rattle.std.proofs.Common.{◌∙◌, length, rules}
+use Rattle.ftp_client_drive.proofs.Words.{Said, beside, client_machine, fails_here, flushes_err, gave_none, gave_some, held, leads_nowhere, leads_on, settles_here, write_fails}
 use Rattle.ftp_client_drive.proofs.control.flush.Goals as goal
 
 pub loop-init : goal.loop-init
@@ -7,27 +7,23 @@ loop-init g c lane = leads_nowhere _
 
 pub returns-then-count-eq0 : goal.returns-then-count-eq0
 returns-then-count-eq0 g c lane =
-    let client = g.N.Near.client in
-    let mid = beside g.R.Read.remaining g.W.Write.contents (held (client c.loop.client) lane) c.loop.control in
-    let given = c.control_out-count.result in
-    let none : given ≡ 0 = c.if-count-eq0.true in
-    settles_here (beside g.R.Read.remaining g.W.Write.contents (held (client c.args.client.now) lane) c.args.control.now) mid (held (client c.control_out-count.new.self) lane) (c.loop.invariant lane) (record {
-      owed = none_owed given (length c.loop.room) _ none (search rules) c.control_out-count.ensures.some;
-      gave = subst (λ n. Holds (client c.loop.client) (client c.control_out-count.new.self) (gives_control n (client c.loop.client).view)) none c.control_out-count.ensures.now;
-      lane = refl;
-    })
+    let gave = c.control_out-count in
+    settles_here _ (beside g.R.Read.remaining g.W.Write.contents (held (g.N.Near.client c.loop.client) lane) c.loop.control) (held (g.N.Near.client gave.new.self) lane) (c.loop.invariant lane)
+    (gave_none client_machine (g.N.Near.client c.loop.client) (g.N.Near.client gave.new.self) lane gave.result (length c.loop.room) c.if-count-eq0.true (search rules) gave.ensures.some gave.ensures.now)
 
 pub returns-in_err-write : goal.returns-in_err-write
 returns-in_err-write g c lane =
+    let gave = c.control_out-count in
     flushes_err _ _ c.from_residual.result c.from_residual.ensures.0
     (write_fails _ _ _ c.split_at.result.0.now (c.loop.invariant lane)
-    (record { count = c.control_out-count.result; owed = c.split_at.ensures.front ∙ c.control_out-count.ensures.gave; gave = c.control_out-count.ensures.now; lane = refl })
+    (gave_some client_machine _ _ lane gave.result _ (c.split_at.ensures.front ∙ gave.ensures.gave) gave.ensures.now)
     c.in_err-write.ensures.front c.in_err-write.ensures.left c.in_err-write.ensures.unheard)
 
 pub loop-preserved : goal.loop-preserved
 loop-preserved g c lane =
+    let gave = c.control_out-count in
     leads_on (Said c.split_at.result.0.now) _ _ _ (c.loop.invariant lane) (record {
-      gives = record { count = c.control_out-count.result; owed = c.split_at.ensures.front ∙ c.control_out-count.ensures.gave; gave = c.control_out-count.ensures.now; lane = refl };
+      gives = gave_some client_machine _ _ lane gave.result _ (c.split_at.ensures.front ∙ gave.ensures.gave) gave.ensures.now;
       wrote = c.in_ok-write.ensures.ok;
       left = c.in_ok-write.ensures.left;
       unheard = c.in_ok-write.ensures.unheard;

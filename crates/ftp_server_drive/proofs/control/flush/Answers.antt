@@ -1,5 +1,5 @@
-use Rattle.std.proofs.Common.{◌≡◌, ◌∙◌, refl, subst, length, rules}
-use Rattle.ftp_server_drive.proofs.Words.{Acts, Said, beside, control_step, fails_here, flushes_err, held, leads_nowhere, leads_on, none_owed, settles_here, write_fails}
+use Rattle.std.proofs.Common.{◌∙◌, length, rules}
+use Rattle.ftp_server_drive.proofs.Words.{Said, beside, server_machine, fails_here, flushes_err, gave_none, gave_some, held, leads_nowhere, leads_on, settles_here, write_fails}
 use Rattle.ftp_server_drive.proofs.control.flush.Goals as goal
 
 pub loop-init : goal.loop-init
@@ -7,26 +7,23 @@ loop-init g c lane = leads_nowhere _
 
 pub returns-then-count-eq0 : goal.returns-then-count-eq0
 returns-then-count-eq0 g c lane =
-    let server = g.F.Far.server in
-    let mid = beside g.R.Read.remaining g.W.Write.contents (held (server c.loop.server) lane) c.loop.control in
-    let none : c.control_out-count.result ≡ 0 = c.if-count-eq0.true in
-    settles_here _ mid (held (server c.control_out-count.new.self) lane) (c.loop.invariant lane) (record {
-      owed = none_owed c.control_out-count.result (length c.loop.room) _ none (search rules) c.control_out-count.ensures.some;
-      gave = subst (λ n. Acts (control_step n) (server c.loop.server) (server c.control_out-count.new.self)) none c.control_out-count.ensures.now;
-      lane = refl;
-    })
+    let gave = c.control_out-count in
+    settles_here _ (beside g.R.Read.remaining g.W.Write.contents (held (g.F.Far.server c.loop.server) lane) c.loop.control) (held (g.F.Far.server gave.new.self) lane) (c.loop.invariant lane)
+    (gave_none server_machine (g.F.Far.server c.loop.server) (g.F.Far.server gave.new.self) lane gave.result (length c.loop.room) c.if-count-eq0.true (search rules) gave.ensures.some gave.ensures.now)
 
 pub returns-in_err-write : goal.returns-in_err-write
 returns-in_err-write g c lane =
+    let gave = c.control_out-count in
     flushes_err _ _ c.from_residual.result c.from_residual.ensures.0
     (write_fails _ _ _ c.split_at.result.0.now (c.loop.invariant lane)
-    (record { count = c.control_out-count.result; owed = c.split_at.ensures.front ∙ c.control_out-count.ensures.gave; gave = c.control_out-count.ensures.now; lane = refl })
+    (gave_some server_machine _ _ lane gave.result _ (c.split_at.ensures.front ∙ gave.ensures.gave) gave.ensures.now)
     c.in_err-write.ensures.front c.in_err-write.ensures.left c.in_err-write.ensures.unheard)
 
 pub loop-preserved : goal.loop-preserved
 loop-preserved g c lane =
+    let gave = c.control_out-count in
     leads_on (Said c.split_at.result.0.now) _ _ _ (c.loop.invariant lane) (record {
-      gives = record { count = c.control_out-count.result; owed = c.split_at.ensures.front ∙ c.control_out-count.ensures.gave; gave = c.control_out-count.ensures.now; lane = refl };
+      gives = gave_some server_machine _ _ lane gave.result _ (c.split_at.ensures.front ∙ gave.ensures.gave) gave.ensures.now;
       wrote = c.in_ok-write.ensures.ok;
       left = c.in_ok-write.ensures.left;
       unheard = c.in_ok-write.ensures.unheard;
