@@ -7,7 +7,7 @@ pub use Rattle.ftp_client_drive.specs.Standing.{IsKept, standing}
 pub use Rattle.ftp_client_model.specs.Calls.{gives_control, report_of, wants}
 pub use Rattle.ftp_client_model.specs.Failing.{Client, HearsIfRoom, Holds}
 pub use Rattle.ftp_control.proofs.Going.{ends_here, flushes_err, goes_err, goes_settled, none_owed, read_fails, reads_next, write_fails}
-pub use Rattle.ftp_control.proofs.Idling.{all_wanted, idles_asked, idles_read, idles_then, idles_waited, idles_wrote, leaves, lets_go, settled_then, settles_idle, told_more}
+pub use Rattle.ftp_control.proofs.Idling.{all_wanted, idles_asked, idles_read, idles_then, idles_waited, idles_wrote, leaves, lets_go, settled_then, settles_came, settles_idle, told_more}
 pub use Rattle.ftp_control.proofs.Lanes.{asked_for, fills, none_had, opens, waits, writes}
 pub use Rattle.ftp_control.proofs.Leading.{fails_here, fails_then, leads_by, leads_nowhere, leads_on, leads_then, quiet_call, quiet_then, settled_leads, settles_here}
 pub use Rattle.ftp_control.proofs.Meeting.{has_none, has_one, listens, listens_nowhere, none_answered, none_came, one_came}

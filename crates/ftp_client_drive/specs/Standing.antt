@@ -9,16 +9,11 @@ use Rattle.ftp_client_drive.specs.Beside.{beside, lane_at}
 use Rattle.ftp_client_drive.specs.Side.{client_side}
 use Rattle.ftp_client_drive.specs.declared.drive.Drive.{Drive}
 
--- by what its client holds, its reader has left, its writer holds, and `Ports` and a stream tell, while these octets are in hand
-abbrev pub standing_with : {A N R W P S : Type 0} → (N → Client) → (R → Option (List ℕ)) → (W → Option (List ℕ)) → (P → Option (List Asked))
-    → (remaining contents : S → Option (List ℕ)) → Drive A N R W P S → (untold : List ℕ) → Stand client_side
-standing_with client left written history remaining contents drive untold =
-    beside left written (held (client drive.client.now) (lane_at remaining contents (history drive.ports.now) drive.data untold)) drive.control.now
-
--- while none are
+-- by what its client holds, its reader has left, its writer holds, and `Ports` and a stream tell
 abbrev pub standing : {A N R W P S : Type 0} → (N → Client) → (R → Option (List ℕ)) → (W → Option (List ℕ)) → (P → Option (List Asked))
     → (remaining contents : S → Option (List ℕ)) → Drive A N R W P S → Stand client_side
-standing client left written history remaining contents drive = standing_with client left written history remaining contents drive []
+standing client left written history remaining contents drive =
+    beside left written (held (client drive.client.now) (lane_at remaining contents (history drive.ports.now) drive.data [])) drive.control.now
 
 -- the same before what was asked last
 abbrev pub asked_before : Option (List Asked) → Stand client_side → Stand client_side

@@ -77,6 +77,13 @@ module _ (machine : Machine) where
         );
       }
 
+  -- it was waited at, and then these came and are in hand
+  pub settles_came : (start old : Stand (side_of machine)) (waited came : Lane) (hand octets : List ℕ) → Settles start old → Idles machine old.owner.lane waited
+      → Idles machine waited (with_untold hand came) → hand ≡ octets → Settles start (with_owner (held old.owner.end (with_untold octets came)) old)
+  settles_came start old waited came hand octets settles first second is =
+      settles_idle start old (with_untold octets came) settles
+      (idles_then old.owner.lane waited (with_untold octets came) first (subst (λ l. Idles machine waited (with_untold l came)) is second))
+
   pub settles_same : (start old : Stand (side_of machine)) (lane : Lane) → lane ≡ old.owner.lane → Settles start old
       → Settles start (with_owner (held old.owner.end lane) old)
   settles_same start old lane same settles = settles_idle start old lane settles (idles_same old.owner.lane lane same)

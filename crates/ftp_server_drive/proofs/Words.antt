@@ -1,6 +1,6 @@
 -- What the proofs of most functions of this drive name.
 pub use Rattle.ftp_control.proofs.Going.{ends_here, flushes_err, goes_err, goes_settled, goes_then, none_owed, read_fails, reads_next, write_fails}
-pub use Rattle.ftp_control.proofs.Idling.{all_wanted, idles_asked, idles_read, idles_same, idles_then, idles_waited, idles_wrote, leaves, lets_go, settled_then, settles_idle, settles_same}
+pub use Rattle.ftp_control.proofs.Idling.{all_wanted, idles_asked, idles_read, idles_same, idles_then, idles_waited, idles_wrote, leaves, lets_go, settled_then, settles_came, settles_idle, settles_same}
 pub use Rattle.ftp_control.proofs.Lanes.{asked_for, fills, keeps_consumes, none_had, opens, reads, waits}
 pub use Rattle.ftp_control.proofs.Leading.{call_leads, fails_here, fails_lets, fails_then, leads_by, leads_nowhere, leads_on, leads_then, quiet_then, settled_leads, settles_here}
 pub use Rattle.ftp_control.proofs.Meeting.{has_none, has_one, listens, listens_nowhere, none_answered, none_came, one_came}

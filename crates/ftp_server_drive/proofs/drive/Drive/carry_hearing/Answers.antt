@@ -1,5 +1,5 @@
-use Rattle.std.proofs.Common.{[], subst, rules}
-use Rattle.ftp_server_drive.proofs.Words.{Settles, fails_here, goes_settled, held, idles_then, in_hand, lane_at, server_machine, settled_leads, settles_idle, standing, with_owner}
+use Rattle.std.proofs.Common.{[], refl, rules}
+use Rattle.ftp_server_drive.proofs.Words.{fails_here, goes_settled, in_hand, lane_at, server_machine, settled_leads, settles_came, settles_idle, standing}
 use Rattle.ftp_server_drive.proofs.drive.Drive.carry_hearing.Goals as goal
 
 pub returns-in-Control-clause-goes : goal.returns-in-Control-clause-goes
@@ -13,23 +13,19 @@ pub returns-then-ne-clause-goes : goal.returns-then-ne-clause-goes
 returns-then-ne-clause-goes g c start settles =
     let lane = lane_at g.S.Read.remaining g.S.Write.contents in
     let at = standing g.F.Far.server g.R.Read.remaining g.W.Write.contents g.P.Ports.history g.S.Read.remaining g.S.Write.contents in
-    let waited = lane (g.P.Ports.history c.wait_at.new.ports) c.wait_at.new.data [] in
-    let room = c.come-came.new.data.room in
-    let came = lane (g.P.Ports.history c.come-came.new.ports) c.come-came.new.data in
-    let idles = idles_then server_machine _ waited (came (in_hand c.come-came.result.0 room)) c.wait_at.ensures c.come-came.ensures.moved in
+    let came = c.come-came in
     c.read-then-ne.ensures.goes start
-    (subst (λ l. Settles start (with_owner (held (g.F.Far.server c.args.self.now.server.now) (came l)) (at c.args.self.now))) (c.come-came.ensures.over (search rules) room)
-    (settles_idle server_machine start (at c.args.self.now) (came (in_hand c.come-came.result.0 room)) settles idles))
+    (settles_came server_machine start (at c.args.self.now) (lane (g.P.Ports.history c.wait_at.new.ports) c.wait_at.new.data []) (lane (g.P.Ports.history came.new.ports) came.new.data [])
+    (in_hand came.result.0 came.new.data.room) [] settles c.wait_at.ensures came.ensures.moved (came.ensures.over (search rules) came.new.data.room))
 
 pub returns-else-ne-clause-goes : goal.returns-else-ne-clause-goes
 returns-else-ne-clause-goes g c start settles =
     let lane = lane_at g.S.Read.remaining g.S.Write.contents in
     let at = standing g.F.Far.server g.R.Read.remaining g.W.Write.contents g.P.Ports.history g.S.Read.remaining g.S.Write.contents in
-    let waited = lane (g.P.Ports.history c.wait_at.new.ports) c.wait_at.new.data [] in
-    let room = c.come-came.new.data.room in
-    let came = lane (g.P.Ports.history c.come-came.new.ports) c.come-came.new.data in
-    let idles = idles_then server_machine _ waited (came (in_hand c.come-came.result.0 room)) c.wait_at.ensures c.come-came.ensures.moved in
-    goes_settled start _ _ c.carry_came.result (settles_idle server_machine start (at c.args.self.now) (came (in_hand c.come-came.result.0 room)) settles idles) c.carry_came.ensures.goes
+    let came = c.come-came in
+    goes_settled start _ _ c.carry_came.result
+    (settles_came server_machine start (at c.args.self.now) (lane (g.P.Ports.history c.wait_at.new.ports) c.wait_at.new.data []) (lane (g.P.Ports.history came.new.ports) came.new.data [])
+    (in_hand came.result.0 came.new.data.room) _ settles c.wait_at.ensures came.ensures.moved refl) c.carry_came.ensures.goes
 
 pub returns-in-Lost-clause-goes : goal.returns-in-Lost-clause-goes
 returns-in-Lost-clause-goes g c start settles =
