@@ -1,5 +1,5 @@
 use Rattle.std.proofs.Common.{[], ◌∷◌, inl, refl}
-use Rattle.ftp_client_drive.proofs.Words.{Came, NotCame, client_machine, has_none, idles_asked, lane_at, none_answered, none_came, one_came, settled_then, settles_idle, standing}
+use Rattle.ftp_client_drive.proofs.Words.{Came, NotCame, client_machine, has_none, idles_asked, lane_at, none_answered, none_came, one_came, settled_then, settles_idle}
 use Rattle.ftp_client_drive.proofs.drive.Drive.accept.Goals as goal
 
 pub returns-in-Came-clause-goes : goal.returns-in-Came-clause-goes
@@ -10,9 +10,7 @@ returns-in-Came-clause-goes g c start settles =
 
 pub returns-in-Spoken-clause-goes : goal.returns-in-Spoken-clause-goes
 returns-in-Spoken-clause-goes g c start settles =
-    let at = standing g.N.Near.client g.R.Read.remaining g.W.Write.contents g.P.Ports.history g.S.Read.remaining g.S.Write.contents in
-    let lane = lane_at g.S.Read.remaining g.S.Write.contents (g.P.Ports.history c.accept.new.self) c.args.self.now.data [] in
-    c.read.ensures _ start (settles_idle client_machine start (at c.args.self.now) lane settles (idles_asked client_machine lane (g.P.Ports.history c.args.self.now.ports.now) (g.P.Ports.history c.accept.new.self)
+    c.read.ensures _ start (settles_idle client_machine start _ _ settles (idles_asked client_machine (lane_at g.S.Read.remaining g.S.Write.contents (g.P.Ports.history c.accept.new.self) c.args.self.now.data []) _ _
     (none_answered g.S.Read.remaining g.S.Write.contents _ _ c.accept.result c.in-Spoken.is c.accept.ensures)))
 
 pub returns-in-Refused-clause-goes : goal.returns-in-Refused-clause-goes
