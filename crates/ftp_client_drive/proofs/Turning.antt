@@ -1,5 +1,5 @@
 -- What turns say, put together: octets that are heard, and how a drive ends, or gives up.
-use Rattle.std.proofs.Common.{◌≡◌, ◌∙◌, ℕ, ◌≤◌, List, [], ◌∷◌, Option, Some, length, take, drop, refl, sym, ap, subst, Result, Ok, Err}
+use Rattle.std.proofs.Common.{◌≡◌, ◌∙◌, ℕ, ◌≤◌, List, [], ◌∷◌, Option, Some, length, drop, refl, sym, ap, subst, Result, Ok, Err}
 use Rattle.std.specs.Prelude.{IsErr, Bool, true, false}
 use Rattle.std.proofs.lemmas.List.{length-take-le}
 use Rattle.ftp_control.specs.Asking.{Asked, Shut}

@@ -1,5 +1,5 @@
 -- How an end's data connection moves between its calls, whatever that end holds, and what deeds of it come to.
-use Rattle.std.proofs.Common.{◌≡◌, ◌∙◌, ◌⊎◌, ℕ, ◌+◌, ◌≤◌, inl, inr, List, [], ◌∷◌, ◌++◌, length, take, drop, Option, Some, None, refl, sym, ap, subst}
+use Rattle.std.proofs.Common.{◌≡◌, ◌∙◌, ◌⊎◌, ℕ, ◌+◌, inl, inr, List, [], ◌++◌, take, drop, Option, Some, None, refl, sym, ap, subst}
 use Rattle.std.specs.Prelude.{◌≢◌}
 use Rattle.std.proofs.KnownBytes.{Keeps-refl}
 use Rattle.std.proofs.lemmas.List.{append-nil, drop-drop, take-append-drop}
@@ -7,7 +7,7 @@ use Rattle.ftp_control.specs.Asking.{Adds, Asked}
 use Rattle.ftp_control.specs.Deeds.{Heard, Other, Stand, with_owner}
 use Rattle.ftp_control.specs.Driving.{Breaks, Leads, Quietly, Settles}
 use Rattle.ftp_control.specs.Lane.{IsLeft, IsRead, IsWaited, IsWritten, Lane, with_asked, with_untold}
-use Rattle.ftp_control.specs.Machine.{AreWanted, Call, Gives, Got, Held, Idles, IsWanted, Left, LetGo, Machine, Received, Waited, Wrote, held, move_of, side_of}
+use Rattle.ftp_control.specs.Machine.{AreWanted, Gives, Got, Held, Idles, IsWanted, Left, LetGo, Machine, Received, Waited, Wrote, held, move_of, side_of}
 use Rattle.ftp_control.specs.Side.{Side}
 use Rattle.ftp_control.proofs.Courses.{Carrier}
 use Rattle.ftp_control.proofs.Lanes.{asked_for}

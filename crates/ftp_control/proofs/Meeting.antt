@@ -1,6 +1,6 @@
 -- How an end comes to a data connection, as it wants it: a port is listened at, one is waited for or opened; or none is had.
-use Rattle.std.proofs.Common.{◌≡◌, ℕ, inl, inr, List, [], ◌∷◌, Option, Some, None, refl, subst}
-use Rattle.ftp_control.specs.Asking.{Accepts, Adds, Asked, Came, Connected, Connects, Listened, NotCame, NotConnected, Replaces}
+use Rattle.std.proofs.Common.{◌≡◌, ℕ, List, [], ◌∷◌, Option, Some, None, refl, subst}
+use Rattle.ftp_control.specs.Asking.{Accepts, Adds, Asked, Came, Listened, NotCame, Replaces}
 use Rattle.ftp_control.specs.Deeds.{Other, Stand, with_owner}
 use Rattle.ftp_control.specs.Driving.{Leads, Quietly}
 use Rattle.ftp_control.specs.Lane.{IsHad, lane_of, with_asked}
@@ -12,7 +12,6 @@ use Rattle.ftp_control.specs.declared.ports.Accepted.TheVariants as Answers
 use Rattle.ftp_control.proofs.Idling.{all_wanted}
 use Rattle.ftp_control.proofs.Lanes.{asked_for, opens}
 use Rattle.ftp_control.proofs.Leading.{leads_by, quiet_call}
-use Rattle.ftp_endpoint.specs.declared.endpoint.Endpoint.{Endpoint}
 use Rattle.ftp_endpoint.specs.declared.host.Host.{Host}
 use Rattle.ftp_ends.specs.declared.link.Wants.TheVariants as Want
 

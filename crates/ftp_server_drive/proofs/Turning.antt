@@ -1,5 +1,5 @@
 -- What turns say, put together, and how a drive ends.
-use Rattle.std.proofs.Common.{◌≡◌, ◌≢◌, ◌∙◌, ◌⊎◌, ℕ, ◌≤◌, inl, inr, List, [], ◌∷◌, ◌++◌, length, take, drop, Option, refl, sym, ap, subst, Result, Ok, Err, eqb-true, eq-eqb, true≢false, arith}
+use Rattle.std.proofs.Common.{◌≡◌, ◌≢◌, ◌∙◌, ◌⊎◌, ℕ, ◌≤◌, inl, inr, List, [], ◌∷◌, length, take, drop, Option, refl, sym, ap, subst, Result, Ok, Err, eqb-true, eq-eqb, true≢false, arith}
 use Rattle.std.specs.Prelude.{◌==◌, Bool, IsErr, true, false}
 use Rattle.std.specs.Io.KnownBytes.{Consumes}
 use Rattle.std.proofs.lemmas.List.{take-take}
