@@ -1,6 +1,7 @@
--- Worked rows: what is shown of octets, and which texts are names. Each is a theorem that computes.
-use Rattle.std.specs.Prelude.{◌≡◌, true, false, codes, [], ◌∷◌}
+-- Worked rows: what is shown of octets, which texts are names, and the columns of a listing for people. Each is a theorem that computes.
+use Rattle.std.specs.Prelude.{◌≡◌, true, false, codes, [], ◌∷◌, None}
 use Rattle.ftp_tool_shown.specs.Listing.{is_listed}
+use Rattle.ftp_tool_shown.specs.Long.{column, dated, size_text}
 use Rattle.ftp_tool_shown.specs.Shown.{is_name, shown}
 
 -- text, control characters, marks of direction, and octets of no character
@@ -34,3 +35,11 @@ NamesListed =
     × (is_listed (codes "pub") (codes "pub/..") ≡ false)
     × (is_listed (codes "pub") (codes "pub/a/b") ≡ false)
     × (is_listed [] (codes "/a") ≡ false)
+
+-- the columns of a listing for people
+abbrev pub ColumnsShown : Type 0
+ColumnsShown =
+    (column (codes "      ") (codes "1234") ≡ codes "  1234")
+    × (column (codes "      ") (codes "1234567") ≡ codes "1234567")
+    × (column (codes "   ") (size_text None) ≡ codes "  -")
+    × (dated (codes "20000229235959") ≡ codes "2000-02-29 23:59:59")

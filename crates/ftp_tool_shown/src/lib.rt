@@ -3,10 +3,12 @@
 #![tactic(auto)]
 
 mod listing;
+mod long;
 mod name;
 pub mod rows;
 mod shown;
 
 pub use listing::{put_entries, put_names, strange_entries, strange_names};
+pub use long::put_long;
 pub use name::is_name;
 pub use shown::put_shown;
