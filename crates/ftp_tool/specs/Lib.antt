@@ -1,1 +1,1 @@
-pub mod Task
+pub mod Perform

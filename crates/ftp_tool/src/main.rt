@@ -1,34 +1,27 @@
 //! The programs: FTP over standard input and output, a server and a client over real connections, and both in one.
 #![tactic(auto)]
 
-mod command_line;
-mod fetching;
-mod help;
-mod looping;
-mod mirroring;
-mod pairing;
-mod place;
-mod running;
-mod serving;
-mod task;
-mod words;
+mod perform;
 
 use anyhow::Result;
 use clap::{ArgMatches, Error};
-use command_line::{Program, command, program_of};
+use ftp_tool_command::{
+    BadValue, PLACE_OPTION, Program, Refusal, asked_of, asks_of, check_names, command, download_of,
+    fetch_task_of, goes_into, mirror_of, program_of, script_server_of, script_user_of, serving_of,
+    settings_of, sources_of, task_of, url_in, urls_in,
+};
+use ftp_tool_fetch::{Target, Task};
 use ftp_tool_status::Status;
-use ftp_tool_words::UrlFault;
-use place::url_in;
+use ftp_tool_words::{Location, place_for, says_directory};
+use perform::perform;
 use std::alloc::{AllocError, Global};
-use std::env;
 use std::env::Env;
 use std::fs::Files;
 use std::io::{Eprint, IsTerminal, Read, Write};
 use std::net::{Net, TcpListener, TcpStream};
 use std::process::ExitCode;
 use std::time::Clock;
-use task::perform;
-use words::BadValue;
+use std::{env, fs};
 
 fn main(rt: HostRuntime) -> ExitCode {
     ExitCode::from(run(&rt, &mut rt.stderr()).unwrap_or(Status::Failed.number()))
@@ -86,7 +79,7 @@ where
     F: Write + IsTerminal,
 {
     let Some((name, inner)) = words.subcommand() else {
-        return bad_words(rt, None);
+        return refuse(rt, Refusal::Number);
     };
     match program_of(name) {
         Program::Serve => serve(rt, inner),
@@ -94,7 +87,9 @@ where
         Program::Pair => play_pair(rt, inner, faults),
         Program::Run => run_script(rt, inner),
         Program::Mirror => mirror(rt, inner),
-        Program::Ask => fetch(rt, name, inner, faults.is_terminal()),
+        Program::Get => get(rt, inner, faults.is_terminal()),
+        Program::Put => put(rt, inner, faults.is_terminal()),
+        Program::Ask => ask(rt, name, inner, faults.is_terminal()),
         Program::Task => perform_task(rt, words, faults),
     }
 }
@@ -105,7 +100,7 @@ where
     R: Input + Print + Eprint + AllocGlobal,
     F: Write,
 {
-    match command_line::task_of(words) {
+    match task_of(words) {
         Some(task) => Ok(perform(
             rt.alloc(),
             task,
@@ -113,7 +108,7 @@ where
             &mut std::io::writer(rt),
             faults,
         )),
-        None => bad_words(rt, None),
+        None => refuse(rt, Refusal::Number),
     }
 }
 
@@ -131,7 +126,7 @@ where
     R: Input + Print + Eprint + AllocGlobal,
     F: Write,
 {
-    match pairing::settings_of(words) {
+    match settings_of(words) {
         Some(settings) => Ok(ftp_tool_pair::play(
             rt.alloc(),
             settings,
@@ -140,7 +135,7 @@ where
             faults,
         )
         .number()),
-        None => bad_words(rt, None),
+        None => refuse(rt, Refusal::Number),
     }
 }
 
@@ -156,9 +151,9 @@ where
         + Clone
         + Drop,
 {
-    match serving::serving_of(words) {
-        Some(job) => Ok(ftp_tool_serve::serve(rt, job)?.number()),
-        None => bad_words(rt, serving::bad_value(words)),
+    match serving_of(words) {
+        Ok(job) => Ok(ftp_tool_serve::serve(rt, job)?.number()),
+        Err(refusal) => refuse(rt, refusal),
     }
 }
 
@@ -168,14 +163,20 @@ where
     R: Input
         + Print
         + Eprint
+        + Env
+        + Files
         + AllocGlobal
         + Clock
         + Net<Listener = TcpListener, Stream = TcpStream>,
 {
-    match running::server_of(words) {
-        Some(server) => Ok(ftp_tool_fetch::run(rt, server)?.number()),
-        None => bad_words(rt, None),
-    }
+    let Some(server) = script_server_of(words) else {
+        return refuse(rt, Refusal::Number);
+    };
+    let done = match script_user_of(words) {
+        Some(user) => ftp_tool_fetch::run_as(rt, server, user)?,
+        None => ftp_tool_fetch::run(rt, server)?,
+    };
+    Ok(done.number())
 }
 
 /// Does what `mirror` asks for.
@@ -193,22 +194,158 @@ where
 {
     let source = words.get_str("source").unwrap_or("");
     let target = words.get_str("target").unwrap_or("");
-    let from = match url_in(rt.alloc(), source) {
+    let from = match url_in(rt.alloc(), "<SOURCE>", source) {
         Ok(url) => url,
-        Err(fault) => return refuse_url(rt, "<SOURCE>", source, fault),
+        Err(refusal) => return refuse(rt, refusal),
     };
-    let to = match url_in(rt.alloc(), target) {
+    let to = match url_in(rt.alloc(), "<TARGET>", target) {
         Ok(url) => url,
-        Err(fault) => return refuse_url(rt, "<TARGET>", target, fault),
+        Err(refusal) => return refuse(rt, refusal),
     };
-    match mirroring::mirror_of(words, from.as_ref(), to.as_ref()) {
-        Some(asked) => Ok(ftp_tool_mirror::mirror(rt, asked)?.number()),
-        None => bad_words(rt, mirroring::bad_value(words)),
+    match mirror_of(words, from.as_ref(), to.as_ref()) {
+        Ok(asked) => Ok(ftp_tool_mirror::mirror(rt, asked)?.number()),
+        Err(refusal) => refuse(rt, refusal),
     }
 }
 
-/// Does what `get`, `put` or `ls` asks for, where standard error may be a terminal.
-fn fetch<R>(rt: &R, name: &str, words: &ArgMatches<'_>, is_terminal: bool) -> Result<u8>
+/// Does what `get` asks for, file by file, each over a control connection of its own; the status is the worst.
+fn get<R>(rt: &R, words: &ArgMatches<'_>, is_terminal: bool) -> Result<u8>
+where
+    R: Input
+        + Print
+        + Eprint
+        + Env
+        + Files
+        + AllocGlobal
+        + Clock
+        + Net<Listener = TcpListener, Stream = TcpStream>,
+{
+    let (places, target) = sources_of(words.get_strs("places").unwrap_or(&[]));
+    let urls = match urls_in(rt.alloc(), PLACE_OPTION, places) {
+        Ok(urls) => urls,
+        Err(refusal) => return refuse(rt, refusal),
+    };
+    let asks = match asks_of(rt.alloc(), words, places, urls.as_slice(), is_terminal) {
+        Ok(asks) => asks,
+        Err(refusal) => return refuse(rt, refusal),
+    };
+    let into = places.len() > 1 || says_directory(target) || is_folder(rt, target);
+    if into {
+        if let Err(refusal) = check_names(asks.as_slice()) {
+            return refuse(rt, refusal);
+        }
+    }
+    let mut worst = Status::Done;
+    for asked in asks.as_slice() {
+        worst = worst.worse(get_one(rt, words, asked, into, target)?);
+    }
+    Ok(worst.number())
+}
+
+/// Whether a folder of this machine has this name; `-` is standard output.
+fn is_folder<R: Files>(rt: &R, name: &str) -> bool {
+    if name == "-" {
+        return false;
+    }
+    match fs::metadata(rt, name) {
+        Ok(found) => found.is_dir(),
+        Err(_) => false,
+    }
+}
+
+/// Downloads a file, into the target or to it.
+fn get_one<R>(
+    rt: &R,
+    words: &ArgMatches<'_>,
+    asked: &Target<'_>,
+    into: bool,
+    target: &str,
+) -> Result<Status>
+where
+    R: Input
+        + Print
+        + Eprint
+        + Env
+        + Files
+        + AllocGlobal
+        + Clock
+        + Net<Listener = TcpListener, Stream = TcpStream>,
+{
+    let file = place_for(rt.alloc(), into, target, asked.place.path)?;
+    let task = Task::Get(download_of(words, file.as_str()));
+    let status = ftp_tool_fetch::fetch(rt, asked, task)?;
+    tell_undone(rt, status, file.as_str())?;
+    Ok(status)
+}
+
+/// Does what `put` asks for, file by file, each over a control connection of its own; the status is the worst.
+fn put<R>(rt: &R, words: &ArgMatches<'_>, is_terminal: bool) -> Result<u8>
+where
+    R: Input
+        + Print
+        + Eprint
+        + Env
+        + Files
+        + AllocGlobal
+        + Clock
+        + Net<Listener = TcpListener, Stream = TcpStream>,
+{
+    let files = words.get_strs("files").unwrap_or(&[]);
+    let place = words.get_str("place").unwrap_or("");
+    let url = match url_in(rt.alloc(), PLACE_OPTION, place) {
+        Ok(url) => url,
+        Err(refusal) => return refuse(rt, refusal),
+    };
+    let asked = match asked_of(words, place, url.as_ref(), is_terminal) {
+        Ok(asked) => asked,
+        Err(refusal) => return refuse(rt, refusal),
+    };
+    let into = match goes_into(asked.place.path, files) {
+        Ok(into) => into,
+        Err(refusal) => return refuse(rt, refusal),
+    };
+    let mut worst = Status::Done;
+    for file in files {
+        worst = worst.worse(put_one(rt, &asked, into, *file)?);
+    }
+    Ok(worst.number())
+}
+
+/// Uploads a file, into the directory of a place or to the place.
+fn put_one<R>(rt: &R, asked: &Target<'_>, into: bool, file: &str) -> Result<Status>
+where
+    R: Input
+        + Print
+        + Eprint
+        + Env
+        + Files
+        + AllocGlobal
+        + Clock
+        + Net<Listener = TcpListener, Stream = TcpStream>,
+{
+    let path = place_for(rt.alloc(), into, asked.place.path, file)?;
+    let asked = Target {
+        place: Location {
+            path: path.as_str(),
+            ..asked.place
+        },
+        ..*asked
+    };
+    let status = ftp_tool_fetch::fetch(rt, &asked, Task::Put(file))?;
+    tell_undone(rt, status, file)?;
+    Ok(status)
+}
+
+/// Tells which file it is that was not copied, as its sentence does not say.
+fn tell_undone<R: Eprint>(rt: &R, status: Status, file: &str) -> Result<()> {
+    if status != Status::Done {
+        eprintln!(rt; "note: not copied: {file}")?;
+    }
+    Ok(())
+}
+
+/// Does what a subcommand asks for at one place, where standard error may be a terminal.
+fn ask<R>(rt: &R, name: &str, words: &ArgMatches<'_>, is_terminal: bool) -> Result<u8>
 where
     R: Input
         + Print
@@ -220,42 +357,35 @@ where
         + Net<Listener = TcpListener, Stream = TcpStream>,
 {
     let place = words.get_str("place").unwrap_or("");
-    let url = match url_in(rt.alloc(), place) {
+    let url = match url_in(rt.alloc(), PLACE_OPTION, place) {
         Ok(url) => url,
-        Err(fault) => return refuse_url(rt, fetching::PLACE_OPTION, place, fault),
+        Err(refusal) => return refuse(rt, refusal),
     };
-    let Some(asked) = fetching::asked_of(words, url.as_ref(), is_terminal) else {
-        return bad_words(rt, fetching::bad_value(words, url.as_ref()));
+    let asked = match asked_of(words, place, url.as_ref(), is_terminal) {
+        Ok(asked) => asked,
+        Err(refusal) => return refuse(rt, refusal),
     };
-    match fetching::fetch_task_of(name, words, &asked) {
+    match fetch_task_of(name, words) {
         Some(task) => Ok(ftp_tool_fetch::fetch(rt, &asked, task)?.number()),
-        None => bad_words(rt, fetching::bad_value(words, url.as_ref())),
+        None => refuse(rt, Refusal::Number),
     }
 }
 
-/// Tells why a word that is a URL names no place.
-fn refuse_url<R: Eprint>(rt: &R, option: &str, word: &str, fault: UrlFault) -> Result<u8> {
-    match fault {
-        UrlFault::Memory => Err(AllocError.into()),
-        fault => bad_words(
-            rt,
-            Some(BadValue {
-                option,
-                value: word,
-                wanted: fault.wanted(),
-            }),
-        ),
-    }
-}
-
-/// Tells which value is none of its option; where none is named, it is a number that has a sign.
-fn bad_words<R: Eprint>(rt: &R, bad: Option<BadValue<'_>>) -> Result<u8> {
-    match bad {
-        Some(bad) => eprintln!(rt;
-            "error: invalid value '{}' for '{}': {}\n\nFor more information, try '--help'.",
-            bad.value, bad.option, bad.wanted
-        )?,
-        None => eprintln!(rt; "error: a number is decimal digits alone")?,
+/// Tells why the words of a command line ask for nothing.
+fn refuse<R: Eprint>(rt: &R, refusal: Refusal<'_>) -> Result<u8> {
+    match refusal {
+        Refusal::Memory => return Err(AllocError.into()),
+        Refusal::Value(bad) => tell_value(rt, bad)?,
+        Refusal::Number => eprintln!(rt; "error: a number is decimal digits alone")?,
     }
     Ok(Status::BadWords.number())
+}
+
+/// Tells which value is none of its option.
+fn tell_value<R: Eprint>(rt: &R, bad: BadValue<'_>) -> Result<()> {
+    eprintln!(rt;
+        "error: invalid value '{}' for '{}': {}\n\nFor more information, try '--help'.",
+        bad.value, bad.option, bad.wanted
+    )?;
+    Ok(())
 }

@@ -1,3 +1,2 @@
--- What is asked of a server without a data connection, and what its answers say of a transfer.
+-- What is asked of a server without a data connection.
 pub mod Simple
-pub mod Trying

@@ -1,10 +1,6 @@
 // A download: what is asked for, and what is left of it at this end.
-use crate::came::Came;
-use crate::downloading::{Downloading, Stamp};
 use crate::single::ask_at;
 use crate::target::Target;
-use crate::telling::{Part, tell, tell_too_large};
-use crate::trying::is_counted;
 use ftp_facts::{Moment, Text};
 use ftp_operation::{Answer, How};
 use ftp_settings::{Mode, Structure};
@@ -13,6 +9,7 @@ use ftp_tool_local::{
     Beside, Flush, Kept, Note, kept_beside, note_of, remove_kept, write_over, write_part,
 };
 use ftp_tool_status::{Arrival, Size, Status};
+use ftp_tool_transfer::{Came, Downloading, Part, Stamp, is_counted, tell, tell_too_large};
 use std::alloc::Global;
 use std::env::Env;
 use std::fs::Files;
@@ -78,9 +75,7 @@ where
         + Clock
         + AllocGlobal,
 {
-    let stamp = stamp_of(asked.how, download);
-    let mut downloading = Downloading::new(rt, asked.place.path, asked.how);
-    downloading.put_terms(asked.limit, stamp);
+    let mut downloading = at(Phase::Asking, begun(rt, asked, download))?;
     let mut job = Job {
         download,
         place: at(Phase::Asking, place_text(rt.alloc(), asked))?,
@@ -93,6 +88,17 @@ where
         )?;
     }
     get_by(rt, asked, &job, &mut downloading, noticed)
+}
+
+/// A download of which nothing came yet.
+fn begun<'a, R: Eprint + AllocGlobal>(
+    rt: &'a R,
+    asked: &Target<'_>,
+    download: Download<'_>,
+) -> io::Result<Downloading<'a, R>> {
+    let mut downloading = Downloading::new(rt, asked.place.path, asked.how)?;
+    downloading.put_terms(asked.limit, stamp_of(asked.how, download));
+    Ok(downloading)
 }
 
 /// The moment is asked for where it is wanted, and where the size of the file tells whether it is the same still.

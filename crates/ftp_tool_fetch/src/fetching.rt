@@ -1,14 +1,14 @@
 // What the subcommands that ask at one place do.
 use crate::download::{Download, get};
-use crate::listing::{Listing, listing_of};
+use crate::listing::{Lines, Listing, listing_of};
 use crate::simple::{Simple, do_simple};
 use crate::single::{Wish, ask_for};
 use crate::target::Target;
-use crate::telling::tell;
-use crate::uploading::put;
+use crate::upload::put;
 use ftp_operation::Answer;
 use ftp_tool_connection::{LastReply, Phase, SessionFault, at, say};
 use ftp_tool_status::Status;
+use ftp_tool_transfer::tell;
 use std::alloc::Global;
 use std::env::Env;
 use std::fs::Files;
@@ -31,7 +31,7 @@ pub enum Task<'a> {
     /// This file of this end is uploaded; `-` is standard input.
     Put(&'a str),
     /// The entries of the directory go to standard output, or its names where the server has no machine listing.
-    List,
+    List(Lines),
     /// What needs no data connection.
     Simple(Simple<'a>),
 }
@@ -53,7 +53,7 @@ where
     let done = match task {
         Task::Get(download) => get(rt, asked, download, &mut noticed),
         Task::Put(file) => put(rt, asked, file, &mut noticed),
-        Task::List => list(rt, asked, &mut noticed),
+        Task::List(lines) => list(rt, asked, lines, &mut noticed),
         Task::Simple(simple) => do_simple(rt, asked, simple, &mut noticed),
     };
     match done {
@@ -63,7 +63,12 @@ where
 }
 
 /// Lists a directory on standard output.
-fn list<R>(rt: &R, asked: &Target<'_>, noticed: &mut LastReply) -> Result<Status, SessionFault>
+fn list<R>(
+    rt: &R,
+    asked: &Target<'_>,
+    lines: Lines,
+    noticed: &mut LastReply,
+) -> Result<Status, SessionFault>
 where
     R: Net<Listener = TcpListener, Stream = TcpStream>
         + Files
@@ -74,7 +79,10 @@ where
         + AllocGlobal,
 {
     let answer = listed(rt, asked, noticed)?;
-    at(Phase::Report, show(rt, asked.place.path, &answer, noticed))
+    at(
+        Phase::Report,
+        show(rt, asked.place.path, lines, &answer, noticed),
+    )
 }
 
 /// The entries of a directory, or its names where MLSD is not known there (RFC 959, section 4.2.2).
@@ -100,11 +108,17 @@ fn is_unknown(answered: &Result<Answer<Global>, SessionFault>) -> bool {
 }
 
 /// Writes a listing to standard output, or tells why there is none.
-fn show<R>(rt: &R, path: &str, answer: &Answer<Global>, noticed: &LastReply) -> io::Result<Status>
+fn show<R>(
+    rt: &R,
+    path: &str,
+    lines: Lines,
+    answer: &Answer<Global>,
+    noticed: &LastReply,
+) -> io::Result<Status>
 where
     R: Print + Eprint + AllocGlobal,
 {
-    match listing_of(rt.alloc(), path, answer)? {
+    match listing_of(rt.alloc(), path, lines, answer)? {
         Some(listing) => write(rt, listing),
         None => tell(rt, answer, noticed),
     }

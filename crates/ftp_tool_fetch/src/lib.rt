@@ -2,27 +2,19 @@
 //! of operations over one (RFC 959; RFC 3659).
 #![tactic(auto)]
 
-mod came;
 mod download;
-mod downloading;
 mod fetching;
 mod listing;
 mod running;
 mod simple;
 mod single;
-mod source;
 mod target;
-mod telling;
-mod trying;
-mod uploading;
+mod upload;
 
-pub use came::Came;
 pub use download::{Download, Parts};
-pub use downloading::{Downloading, Stamp};
 pub use fetching::{Task, fetch};
 pub use ftp_tool_connection::ServerAddress;
-pub use running::run;
+pub use listing::Lines;
+pub use running::{run, run_as};
 pub use simple::Simple;
-pub use source::Source;
 pub use target::Target;
-pub use uploading::Uploading;

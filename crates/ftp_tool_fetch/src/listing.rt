@@ -1,7 +1,16 @@
 // A listing, as it goes to standard output.
 use ftp_operation::Answer;
-use ftp_tool_shown::{put_entries, put_names, strange_entries, strange_names};
+use ftp_tool_shown::{put_entries, put_long, put_names, strange_entries, strange_names};
 use std::alloc::{AllocError, Global};
+
+/// What the lines of entries are.
+#[derive(Clone, Copy)]
+pub enum Lines {
+    /// Those of a machine listing.
+    Facts,
+    /// Kind, size, moment and name, in columns.
+    Long,
+}
 
 /// The lines of a listing.
 #[derive(Drop)]
@@ -15,12 +24,16 @@ pub(crate) struct Listing {
 pub(crate) fn listing_of(
     alloc: Global,
     path: &str,
+    shape: Lines,
     answer: &Answer<Global>,
 ) -> Result<Option<Listing>, AllocError> {
     let mut lines = Vec::new(alloc);
     let left_out = match answer {
         Answer::Entries(entries) => {
-            put_entries(alloc, entries.as_slice(), &mut lines)?;
+            match shape {
+                Lines::Facts => put_entries(alloc, entries.as_slice(), &mut lines)?,
+                Lines::Long => put_long(entries.as_slice(), &mut lines)?,
+            }
             strange_entries(entries.as_slice())
         }
         Answer::Names(names) => {

@@ -3,18 +3,24 @@ use ftp_facts::Text;
 use ftp_operation::Answer;
 use ftp_tool_connection::{
     ClientSession, LastReply, Phase, Request, ServerAddress, SessionFault, SessionTask, at,
-    converse, say,
+    converse, converse_as, say,
 };
 use ftp_tool_script::{NoScript, Order, Script, read_script, write_report};
 use ftp_tool_status::Status;
+use ftp_tool_words::User;
 use std::alloc::Global;
+use std::env::Env;
+use std::fs::Files;
 use std::io;
-use std::io::Eprint;
+use std::io::{Eprint, Read};
 use std::net::{Net, TcpListener, TcpStream};
 use std::time::Clock;
 
 /// The orders of a script.
 type Orders = Vec<Order<Text<Global>>, Global>;
+
+/// The line of a login that stands before a script which has none, since who asks is said elsewhere. It is not used.
+const NO_LOGIN: &[u8] = b"login nobody nothing\n";
 
 /// Does the script of standard input over one control connection to a server, and writes a report of each of its orders to standard output once it
 /// is done. Gives the exit status: 0; 1 where an order was refused or broke; 2 for a line that fits no form, and then nothing is sent; 3 where the
@@ -28,14 +34,32 @@ where
         + Clock
         + AllocGlobal,
 {
-    match read_and_do(rt, server) {
+    match do_script(rt, server) {
         Ok(status) => Ok(status),
         Err(stop) => stop.tell(rt),
     }
 }
 
-/// Reads the script, and does it.
-fn read_and_do<R>(rt: &R, server: ServerAddress<'_>) -> Result<Status, SessionFault>
+/// The same for a user, whose script has no line of a login; status 2 for a bad login too.
+pub fn run_as<R>(rt: &R, server: ServerAddress<'_>, user: User<'_>) -> io::Result<Status>
+where
+    R: Net<Listener = TcpListener, Stream = TcpStream>
+        + Files
+        + Env
+        + Input
+        + Print
+        + Eprint
+        + Clock
+        + AllocGlobal,
+{
+    match do_orders(rt, server, user) {
+        Ok(status) => Ok(status),
+        Err(stop) => stop.tell(rt),
+    }
+}
+
+/// Reads a script that says who logs in, and does it.
+fn do_script<R>(rt: &R, server: ServerAddress<'_>) -> Result<Status, SessionFault>
 where
     R: Net<Listener = TcpListener, Stream = TcpStream>
         + Input
@@ -45,9 +69,47 @@ where
         + AllocGlobal,
 {
     match read_script(rt.alloc(), &mut rt.reader()) {
-        Ok(script) => do_script(rt, server, script),
-        Err(NoScript::Line(number)) => at(Phase::Report, tell_line(rt, number)),
-        Err(NoScript::Failed(error)) => at(Phase::Script, Err(error)),
+        Ok(Script { login, orders }) => {
+            let mut all = All {
+                rt,
+                orders: Some(orders),
+            };
+            converse(rt, server, login, &mut LastReply::new(), &mut all)
+        }
+        Err(fault) => tell_fault(rt, fault),
+    }
+}
+
+/// Reads a script of orders alone, and does it for a user.
+fn do_orders<R>(rt: &R, server: ServerAddress<'_>, user: User<'_>) -> Result<Status, SessionFault>
+where
+    R: Net<Listener = TcpListener, Stream = TcpStream>
+        + Files
+        + Env
+        + Input
+        + Print
+        + Eprint
+        + Clock
+        + AllocGlobal,
+{
+    match read_script(rt.alloc(), &mut NO_LOGIN.chain(rt.reader())) {
+        Ok(Script { login: _, orders }) => {
+            let mut all = All {
+                rt,
+                orders: Some(orders),
+            };
+            converse_as(rt, server, user, &mut LastReply::new(), &mut all)
+        }
+        Err(NoScript::Line(number)) => { tell_fault(rt, NoScript::Line(number.saturating_sub(1))) }
+        Err(fault) => tell_fault(rt, fault),
+    }
+}
+
+/// Tells why there is no script.
+fn tell_fault<R: Eprint>(rt: &R, fault: NoScript) -> Result<Status, SessionFault> {
+    match fault {
+        NoScript::Line(number) => at(Phase::Report, tell_line(rt, number)),
+        NoScript::Failed(error) => at(Phase::Script, Err(error)),
     }
 }
 
@@ -55,23 +117,6 @@ where
 fn tell_line<R: Eprint>(rt: &R, number: usize) -> io::Result<Status> {
     say(rt, "error: ", &NoScript::Line(number), "")?;
     Ok(Status::BadWords)
-}
-
-/// Does a script over a control connection.
-fn do_script<R>(
-    rt: &R,
-    server: ServerAddress<'_>,
-    script: Script<Global>,
-) -> Result<Status, SessionFault>
-where
-    R: Net<Listener = TcpListener, Stream = TcpStream> + Print + Eprint + Clock + AllocGlobal,
-{
-    let Script { login, orders } = script;
-    let mut all = All {
-        rt,
-        orders: Some(orders),
-    };
-    converse(rt, server, login, &mut LastReply::new(), &mut all)
 }
 
 /// The orders of a script, until they are done.

@@ -4,11 +4,11 @@ ghost use Rattle.ftp_tool_fetch.specs.Simple.{op_of};
 
 use crate::single::ask_once;
 use crate::target::Target;
-use crate::telling::tell;
 use ftp_facts::Text;
 use ftp_operation::{Answer, How, Op};
 use ftp_tool_connection::{LastReply, Phase, SessionFault, at};
 use ftp_tool_status::Status;
+use ftp_tool_transfer::tell;
 use std::alloc::{AllocError, Global};
 use std::env::Env;
 use std::fs::Files;

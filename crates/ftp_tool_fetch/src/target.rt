@@ -1,7 +1,7 @@
 // Which file of which server is meant, and who asks.
 use ftp_operation::How;
-use ftp_tool_connection::{ServerAddress, User};
-use ftp_tool_words::Location;
+use ftp_tool_connection::ServerAddress;
+use ftp_tool_words::{Location, User};
 
 /// What is asked of which server, by whom.
 #[derive(Clone, Copy)]

@@ -5,7 +5,6 @@
 mod copying;
 mod folder;
 mod mirroring;
-mod paths;
 mod server;
 mod tally;
 mod telling;

@@ -55,10 +55,10 @@ where
         + Drop,
 {
     for _ in 0..ROUNDS {
-        let before = (walk.planned(), walk.left());
+        let before = walk.reach();
         let answered = ask(rt, asked.server, asked.user, noticed, walk);
         let is_lost = matches!(&answered, Ok(Answer::Lost));
-        if !is_lost || (walk.planned(), walk.left()) == before {
+        if !is_lost || walk.reach() == before {
             return answered;
         }
         drop(answered);

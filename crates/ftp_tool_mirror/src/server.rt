@@ -1,11 +1,11 @@
 // What stands in a directory of a server, and what is asked of it.
 use crate::folder::{MOST_ENTRIES, unless_excluded};
-use crate::paths::joined;
 use crate::trouble::Trouble;
 use ftp_facts::{Entry, EntryKind, Text};
 use ftp_operation::{Answer, Op};
 use ftp_tool_connection::{ClientSession, Ending, Request};
 use ftp_tool_plan::{Facts, Item, Kind, Listing};
+use ftp_tool_words::joined;
 use std::alloc::{AllocError, Global};
 
 /// The codes of a server that does not know a command (RFC 959, section 4.2.2).

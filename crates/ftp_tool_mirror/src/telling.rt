@@ -62,11 +62,23 @@ pub(crate) fn tell_trouble<R: Eprint + AllocGlobal>(
                 "error: {name}: {came} octets went, and the server tells a size of {total}"
             )
         }
+        Trouble::TooLarge(size, limit) => eprintln!(rt;
+            "error: {name}: {size} octets are past the limit of {limit}"
+        ),
+        Trouble::Past(limit) => eprintln!(rt;
+            "error: {name}: the file has more than {limit} octets, which is the limit"
+        ),
         Trouble::Here(error) => eprintln!(rt; "error: {name}: {error}"),
         Trouble::Server(answer) => {
             let why = sentence(answer);
             eprintln!(rt; "error: {name}: {why}")
         }
+        Trouble::Spent => say(
+            rt,
+            "error: ",
+            &name,
+            ": the control connection ended in the last of 16 tries",
+        ),
         Trouble::Stands => say(
             rt,
             "error: ",

@@ -11,6 +11,12 @@ pub(crate) enum Trouble {
     NoListing(u16),
     /// So many octets went one way or the other of a file that has so many, as the server says.
     Size(u64, u64),
+    /// The file has so many octets, which are more than these, the most.
+    TooLarge(u64, u64),
+    /// The file has more octets than these, the most.
+    Past(u64),
+    /// The control connection ended in the last try that there is of a file.
+    Spent,
     /// The server has it, though its listing lacked it.
     Stands,
     /// This machine refused it.
@@ -25,6 +31,7 @@ impl Drop for Trouble {
         match self {
             Trouble::Server(_) | Trouble::Here(_) => {}
             Trouble::NoListing(_) | Trouble::Size(_, _) => {}
+            Trouble::TooLarge(_, _) | Trouble::Past(_) | Trouble::Spent => {}
             Trouble::Stands | Trouble::TooMuch => {}
         }
     }

@@ -1,16 +1,17 @@
 // The way through a tree: what is still to be done, one thing after another.
-use crate::copying::{Ends, copy_down, copy_up, is_same};
+use crate::copying::{Ends, begun, check_whole, copy_up, is_same, leave};
 use crate::folder::entries_here;
-use crate::paths::joined;
 use crate::server::{MISSING, done_by, entries_there, stands_there, text_of};
 use crate::tally::Tally;
 use crate::telling::{refusal, shown, tell, tell_trouble, tell_would};
 use crate::trouble::{Reach, Trouble};
 use ftp_facts::Text;
 use ftp_operation::{Answer, How, Op};
-use ftp_tool_connection::{ClientSession, ServerAddress, SessionFault, SessionTask, User};
+use ftp_tool_connection::{ClientSession, ServerAddress, SessionFault, SessionTask};
 use ftp_tool_local::Flush;
 use ftp_tool_plan::{Check, Deed, Extra, Facts, Listing, Rules, Step, Way, plan};
+use ftp_tool_transfer::Downloading;
+use ftp_tool_words::{User, joined};
 use std::alloc::{AllocError, Global};
 use std::fs::Files;
 use std::io::{Eprint, ErrorKind, Print};
@@ -43,6 +44,8 @@ pub struct Mirror<'a> {
     pub excluded: &'a [&'a str],
     /// When a file of this machine is on the disk.
     pub flush: Flush,
+    /// The most octets of a file, which is held in memory.
+    pub limit: u64,
     pub doing: Doing,
 }
 
@@ -76,6 +79,8 @@ pub struct Walk<'a, R> {
     mirror: &'a Mirror<'a>,
     /// What is still to be done; the last comes next.
     waiting: Vec<Work, Global>,
+    /// The download of what comes next, where a control connection ended in its middle.
+    cut: Option<Downloading<'a, R>>,
     /// How many things were planned.
     planned: u64,
     tally: Tally,
@@ -88,6 +93,7 @@ impl<'a, R> Drop for Walk<'a, R> {
             rt: _,
             mirror: _,
             waiting: _,
+            cut: _,
             planned: _,
             tally: _,
         } = self;
@@ -101,6 +107,7 @@ impl<'a, R: Files + Print + Eprint + AllocGlobal + Clone + Drop> Walk<'a, R> {
             rt,
             mirror,
             waiting: Vec::new(rt.alloc()),
+            cut: None,
             planned: 0,
             tally: Tally::new(),
         };
@@ -113,14 +120,13 @@ impl<'a, R: Files + Print + Eprint + AllocGlobal + Clone + Drop> Walk<'a, R> {
         self.tally
     }
 
-    /// How many things are still to be done.
-    pub(crate) fn left(&self) -> usize {
-        self.waiting.len()
-    }
-
-    /// How many things were planned, or done.
-    pub(crate) fn planned(&self) -> u64 {
-        self.planned
+    /// How far it got: how many things were planned and are still to be done, and how many octets came of the file under way.
+    pub(crate) fn reach(&self) -> (u64, usize, u64) {
+        let came = match &self.cut {
+            Some(downloading) => downloading.came().count(),
+            None => 0,
+        };
+        (self.planned, self.waiting.len(), came)
     }
 
     /// This is done next.
@@ -237,18 +243,58 @@ impl<'a, R: Files + Print + Eprint + AllocGlobal + Clone + Drop> Walk<'a, R> {
         }
         let there = self.there(below)?;
         let here = self.here(below)?;
-        let ends = Ends {
-            there: there.as_str(),
-            here: here.as_str(),
-            how: self.mirror.how,
-        };
+        let ends = self.ends(there.as_str(), here.as_str());
         let count = match self.mirror.rules.way {
-            Way::Down => copy_down(self.rt, seat, ends, facts, self.mirror.flush)?,
+            Way::Down => {
+                let downloading = self.download(seat, ends, facts)?;
+                leave(self.rt, ends, facts, downloading.came(), self.mirror.flush)?
+            }
             Way::Up => copy_up(self.rt, seat, ends)?,
         };
         self.tally.add_file(count);
         self.tell_progress(below);
         Ok(())
+    }
+
+    /// A file at both ends.
+    fn ends<'b>(&self, there: &'b str, here: &'b str) -> Ends<'b> {
+        Ends {
+            there,
+            here,
+            how: self.mirror.how,
+            limit: self.mirror.limit,
+        }
+    }
+
+    /// Downloads a file, all of it: behind what came before, where a control connection ended in its middle.
+    fn download<S: ClientSession>(
+        &mut self,
+        seat: &mut S,
+        ends: Ends<'_>,
+        facts: Facts,
+    ) -> Result<Downloading<'a, R>, Trouble> {
+        let mut downloading = match self.cut.take() {
+            Some(downloading) => downloading,
+            None => begun(self.rt, ends, facts)?,
+        };
+        let answer = downloading.answer(seat);
+        if matches!(&answer, Answer::Done) {
+            check_whole(&downloading, ends.limit)?;
+            return Ok(downloading);
+        }
+        if matches!(&answer, Answer::Lost) {
+            return Err(self.cut_off(downloading));
+        }
+        Err(Trouble::Server(answer))
+    }
+
+    /// The control connection ended in the middle of a download, which goes on over another one, if a try is left.
+    fn cut_off(&mut self, downloading: Downloading<'a, R>) -> Trouble {
+        if downloading.is_spent() {
+            return Trouble::Spent;
+        }
+        self.cut = Some(downloading);
+        Trouble::Server(Answer::Lost)
     }
 
     /// Copies a file whose octets differ.
@@ -260,14 +306,12 @@ impl<'a, R: Files + Print + Eprint + AllocGlobal + Clone + Drop> Walk<'a, R> {
     ) -> Result<(), Trouble> {
         let there = self.there(below)?;
         let here = self.here(below)?;
-        let ends = Ends {
-            there: there.as_str(),
-            here: here.as_str(),
-            how: self.mirror.how,
-        };
-        if is_same(self.rt, seat, ends, facts)? {
+        let ends = self.ends(there.as_str(), here.as_str());
+        let downloading = self.download(seat, ends, facts)?;
+        if is_same(self.rt, ends, downloading.came())? {
             Ok(())
         } else {
+            drop(downloading);
             self.copy(seat, below, facts)
         }
     }
@@ -442,7 +486,8 @@ impl<'a, R: Files + Print + Eprint + AllocGlobal + Clone + Drop> Walk<'a, R> {
         if self.mirror.server.progress {
             let tally = self.tally;
             if let Ok(name) = shown(self.rt.alloc(), below) {
-                let _told = eprintln!(self.rt; "{name}: {tally}");
+                let left = self.waiting.len();
+                let _told = eprintln!(self.rt; "{name}: {tally}; {left} more to do in sight");
             }
         }
     }

@@ -3,6 +3,7 @@ pub mod Private
 pub mod Words
 pub mod Entry
 pub mod Netrc
+pub mod Placing
 pub mod Rows
 pub mod Spot
 pub mod UrlPlace

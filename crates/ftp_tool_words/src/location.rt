@@ -1,9 +1,10 @@
 // A text as a host, a port and a path.
-ghost use Rattle.std.specs.Prelude.{◌≡◌, ◌==◌, ◌<◌, ◌∷◌, ◌++◌, ℕ, List, IfSome, IfNone};
-ghost use Rattle.std.specs.List.{after_last};
+ghost use Rattle.std.specs.Prelude.{◌≡◌, ◌<◌, ◌∷◌, ◌++◌, ℕ, List, IfSome, IfNone};
 ghost use Rattle.ftp_facts.specs.Fact.{Lacks};
-ghost use Rattle.ftp_tool_words.specs.Location.{IsBare, IsBracketed, IsHostAndPort, Names, SaysPortBehind, SaysServer, left_bracket, slash};
+ghost use Rattle.ftp_tool_words.specs.Location.{IsBare, IsBracketed, IsHostAndPort, Names, SaysPortBehind, SaysServer, left_bracket};
+ghost use Rattle.ftp_tool_words.specs.Placing.{last_part};
 
+use crate::placing::last_part;
 use ftp_endpoint::port;
 
 /// The port of a control connection where none is written (RFC 959, section 8).
@@ -20,14 +21,11 @@ pub struct Location<'a> {
 }
 
 impl<'a> Location<'a> {
-    /// What the path ends in: all behind its last slash, or all where it has none.
+    /// What the path ends in.
     pub fn name(&self) -> &'a str
-        ensures { result.now ≡ after_last (λ octet. octet == slash) self.now.path.now }
+        ensures { result.now ≡ last_part self.now.path.now }
     {
-        match self.path.rsplit_once('/') {
-            Some((_, name)) => name,
-            None => self.path,
-        }
+        last_part(self.path)
     }
 }
 

@@ -3,27 +3,47 @@ use crate::seat::played;
 use crate::tries::Row;
 use ftp_facts::{Moment, Text};
 use ftp_operation::Answer;
-use ftp_tool_fetch::{Downloading, Stamp};
 use ftp_tool_status::Arrival;
+use ftp_tool_transfer::{Downloading, Stamp};
 use rows_base::Paper;
 use std::alloc::AllocError;
+use std::io;
 use std::io::Eprint;
 
 /// The most octets that the file may have.
 const LIMIT: u64 = 100;
 
+/// A download of which nothing came yet.
+fn begun<'a, R: Eprint + AllocGlobal>(
+    rt: &'a R,
+    row: Row<'_>,
+    stamp: Stamp,
+) -> Result<Downloading<'a, R>, AllocError> {
+    let mut downloading = Downloading::new(rt, "a", row.how)?;
+    downloading.put_terms(LIMIT, stamp);
+    Ok(downloading)
+}
+
 /// Puts what a download asks that doesn't ask for the moment.
-pub(crate) fn put<R: Eprint + AllocGlobal>(rt: &R, paper: &mut Paper, row: Row<'_>) {
-    let mut downloading = Downloading::new(rt, "a", row.how);
-    downloading.put_terms(LIMIT, Stamp::Unasked);
+pub(crate) fn put<R: Eprint + AllocGlobal>(
+    rt: &R,
+    paper: &mut Paper,
+    row: Row<'_>,
+) -> io::Result<()> {
+    let mut downloading = begun(rt, row, Stamp::Unasked)?;
     put_of(rt, paper, row, &mut downloading);
+    Ok(())
 }
 
 /// Puts what a download asks that asks for the moment.
-pub(crate) fn put_dated<R: Eprint + AllocGlobal>(rt: &R, paper: &mut Paper, row: Row<'_>) {
-    let mut downloading = Downloading::new(rt, "a", row.how);
-    downloading.put_terms(LIMIT, Stamp::Untold);
+pub(crate) fn put_dated<R: Eprint + AllocGlobal>(
+    rt: &R,
+    paper: &mut Paper,
+    row: Row<'_>,
+) -> io::Result<()> {
+    let mut downloading = begun(rt, row, Stamp::Untold)?;
     put_of(rt, paper, row, &mut downloading);
+    Ok(())
 }
 
 /// Puts what a download asks of which 0123 were kept, of ten octets and the fifth second of 1970.
@@ -31,13 +51,24 @@ pub(crate) fn put_kept<R: Eprint + AllocGlobal>(
     rt: &R,
     paper: &mut Paper,
     row: Row<'_>,
-) -> Result<(), AllocError> {
-    let mut downloading = Downloading::new(rt, "a", row.how);
-    downloading.put_terms(LIMIT, Stamp::Untold);
+) -> io::Result<()> {
+    let mut downloading = begun(rt, row, Stamp::Untold)?;
     let octets = Text::copy_of(rt.alloc(), b"0123")?;
     if let Some(moment) = Moment::new(5) {
         downloading.begin_with(octets, 10, moment)?;
     }
+    put_of(rt, paper, row, &mut downloading);
+    Ok(())
+}
+
+/// Puts what a download asks of a file that was listed with ten octets and the fifth second of 1970.
+pub(crate) fn put_listed<R: Eprint + AllocGlobal>(
+    rt: &R,
+    paper: &mut Paper,
+    row: Row<'_>,
+) -> io::Result<()> {
+    let mut downloading = begun(rt, row, Stamp::Unasked)?;
+    downloading.expect(10, Moment::new(5));
     put_of(rt, paper, row, &mut downloading);
     Ok(())
 }

@@ -2,10 +2,9 @@
 use crate::typing::Typing;
 use ftp_operation::How;
 use ftp_settings::{Kind, Mode, Representation, Structure};
-use ftp_tool_connection::User;
-use ftp_tool_fetch::{Download, Parts, ServerAddress, Target, Task, fetch, run};
+use ftp_tool_fetch::{Download, Lines, Parts, ServerAddress, Target, Task, fetch, run};
 use ftp_tool_status::Status;
-use ftp_tool_words::Location;
+use ftp_tool_words::{Location, User};
 use rows_base::Paper;
 use std::{fs, io};
 
@@ -76,8 +75,8 @@ const TASKS: &[(&str, bool, Task<'static>)] = &[
         }),
     ),
     ("put, no file", true, Task::Put(NONE)),
-    ("ls", true, Task::List),
-    ("ls, no password", false, Task::List),
+    ("ls", true, Task::List(Lines::Facts)),
+    ("ls, no password", false, Task::List(Lines::Facts)),
 ];
 
 /// Puts the status of each script and of each task.

@@ -53,13 +53,14 @@ fn put<R: Files + Eprint + AllocGlobal>(rt: &R, paper: &mut Paper, line: &[u8]) 
         return uploads::put(rt, paper, row);
     }
     if verb == b"kept".as_slice() {
-        downloads::put_kept(rt, paper, row)?;
+        downloads::put_kept(rt, paper, row)
     } else if verb == b"dated".as_slice() {
-        downloads::put_dated(rt, paper, row);
+        downloads::put_dated(rt, paper, row)
+    } else if verb == b"listed".as_slice() {
+        downloads::put_listed(rt, paper, row)
     } else {
-        downloads::put(rt, paper, row);
+        downloads::put(rt, paper, row)
     }
-    Ok(())
 }
 
 /// How octets go in type A, or in type I.

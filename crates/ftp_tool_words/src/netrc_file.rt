@@ -1,6 +1,9 @@
 // The file `.netrc`, which has who logs in at which host, and the password.
+use crate::entry::NetrcEntry;
+use crate::fault::NetrcFault;
+use crate::netrc::netrc_entry;
+use crate::private::{NotPrivate, read_private};
 use ftp_facts::Text;
-use ftp_tool_words::{NetrcEntry, NetrcFault, NotPrivate, netrc_entry, read_private};
 use std::alloc::Global;
 use std::env::{Env, VarError};
 use std::fs::Files;

@@ -1,6 +1,7 @@
 // The subcommand `serve`: its words.
 use crate::help;
-use crate::words::{BadValue, Form, MOST, Subcommand, Value, Word, number_in};
+use crate::refusal::{BadValue, Refusal};
+use crate::words::{Form, MOST, Subcommand, Value, Word, number_in};
 use clap::ArgMatches;
 use ftp_tool_serve::{Limits, Log, Others, Serving, Sessions};
 use ftp_tool_words::{port_of, ports_of, sessions_of};
@@ -74,7 +75,17 @@ pub const SERVE: Subcommand<'static> = Subcommand {
 };
 
 /// What is to be served; none where a value is none of its option.
-pub fn serving_of<'a>(words: &'a ArgMatches<'_>) -> Option<Serving<'a>> {
+pub fn serving_of<'a>(words: &'a ArgMatches<'_>) -> Result<Serving<'a>, Refusal<'a>> {
+    match served_by(words) {
+        Some(serving) => Ok(serving),
+        None => Err(match bad_value(words) {
+            Some(bad) => Refusal::Value(bad),
+            None => Refusal::Number,
+        }),
+    }
+}
+
+fn served_by<'a>(words: &'a ArgMatches<'_>) -> Option<Serving<'a>> {
     Some(Serving {
         host: host_of(words)?,
         port: listened_of(words)?,
@@ -129,7 +140,7 @@ fn others_of(words: &ArgMatches<'_>) -> Others {
 }
 
 /// The first value that is none of its option, of those that `clap` takes as they are.
-pub fn bad_value<'a>(words: &'a ArgMatches<'_>) -> Option<BadValue<'a>> {
+fn bad_value<'a>(words: &'a ArgMatches<'_>) -> Option<BadValue<'a>> {
     let host = words.get_str("host")?;
     let sessions = words.get_str("sessions")?;
     let ports = words.get_str("passive-ports")?;

@@ -26,10 +26,19 @@ pub enum Stamp {
     Told(Moment),
 }
 
+/// How far what is known of the file is the server's last word.
+#[derive(Clone, Copy)]
+enum Sight {
+    /// It is asked before the first try over a control connection.
+    Asked,
+    /// The server has just listed it: it is not asked before the next try.
+    Listed,
+}
+
 /// A download, until the server answers to it.
 pub struct Downloading<'a, R> {
     rt: &'a R,
-    path: &'a str,
+    path: String<Global>,
     how: How,
     /// The most octets that the file may have.
     limit: u64,
@@ -39,6 +48,7 @@ pub struct Downloading<'a, R> {
     left: u64,
     size: Size,
     stamp: Stamp,
+    sight: Sight,
 }
 
 /// By hand: a derived drop is proved again, part by part, wherever a download is let go.
@@ -53,16 +63,17 @@ impl<'a, R> Drop for Downloading<'a, R> {
             left: _,
             size: _,
             stamp: _,
+            sight: _,
         } = self;
     }
 }
 
 impl<'a, R: Eprint + AllocGlobal> Downloading<'a, R> {
     /// What is asked for: the file at a path of a server, of any size; its moment is not asked for.
-    pub fn new(rt: &'a R, path: &'a str, how: How) -> Downloading<'a, R> {
-        Downloading {
+    pub fn new(rt: &'a R, path: &str, how: How) -> Result<Downloading<'a, R>, AllocError> {
+        Ok(Downloading {
             rt,
-            path,
+            path: String::from_str(rt.alloc(), path)?,
             how,
             limit: u64::MAX,
             came: Came::new(rt.alloc()),
@@ -73,7 +84,8 @@ impl<'a, R: Eprint + AllocGlobal> Downloading<'a, R> {
                 Size::Uncounted
             },
             stamp: Stamp::Unasked,
-        }
+            sight: Sight::Asked,
+        })
     }
 
     /// The file may have `limit` octets at most, and its moment is asked for where `stamp` is `Untold`.
@@ -98,6 +110,18 @@ impl<'a, R: Eprint + AllocGlobal> Downloading<'a, R> {
         Ok(())
     }
 
+    /// The server has just listed the file with this size, and with this moment, if it tells one: the first try asks for neither.
+    pub fn expect(&mut self, total: u64, moment: Option<Moment>) {
+        if is_counted(self.how) {
+            self.size = Size::Told(total);
+            self.stamp = match moment {
+                Some(moment) => Stamp::Told(moment),
+                None => Stamp::Unasked,
+            };
+            self.sight = Sight::Listed;
+        }
+    }
+
     /// What came.
     pub fn came(&self) -> &Came {
         &self.came
@@ -116,6 +140,11 @@ impl<'a, R: Eprint + AllocGlobal> Downloading<'a, R> {
         }
     }
 
+    /// Whether no further try may begin.
+    pub fn is_spent(&self) -> bool {
+        self.left == 0
+    }
+
     /// How it stands, once the server said that it is done.
     pub fn arrived(&self) -> Arrival {
         arrived(self.limit, self.size, self.came.count())
@@ -126,6 +155,34 @@ impl<'a, R: Eprint + AllocGlobal> Downloading<'a, R> {
         Version {
             size: self.size,
             moment: self.moment().map(|moment| moment.seconds),
+        }
+    }
+
+    /// Tries until the server answers: over this control connection, behind what came over those before.
+    pub fn answer<S: ClientSession>(&mut self, seat: &mut S) -> Answer<Global> {
+        if !self.is_seen(seat) {
+            return Answer::Lost;
+        }
+        if is_too_large(self.limit, self.size) {
+            return Answer::Done;
+        }
+        for _ in 0..self.left {
+            match self.turn(seat) {
+                Turn::GoesOn => {}
+                Turn::Over(answer) => return answer,
+            }
+        }
+        Answer::Lost
+    }
+
+    /// Asks which file the server has, where it has not just said so; says whether tries may follow.
+    fn is_seen<S: ClientSession>(&mut self, seat: &mut S) -> bool {
+        match self.sight {
+            Sight::Asked => self.look(seat),
+            Sight::Listed => {
+                self.sight = Sight::Asked;
+                true
+            }
         }
     }
 
@@ -169,7 +226,7 @@ impl<'a, R: Eprint + AllocGlobal> Downloading<'a, R> {
             Stamp::Unasked | Stamp::Strange => return true,
             Stamp::Untold | Stamp::Told(_) => {}
         }
-        match &answer_to(seat, moment_request(self.rt.alloc(), self.path)) {
+        match &answer_to(seat, moment_request(self.rt.alloc(), self.path.as_str())) {
             Answer::Stamp(moment) => self.stamp = Stamp::Told(*moment),
             Answer::Strange => self.stamp = Stamp::Strange,
             Answer::Lost => return false,
@@ -180,7 +237,10 @@ impl<'a, R: Eprint + AllocGlobal> Downloading<'a, R> {
 
     /// What the server answers to the question for the size.
     fn size_answer<S: ClientSession>(&self, seat: &mut S) -> Answer<Global> {
-        answer_to(seat, size_request(self.rt.alloc(), self.path, self.how))
+        answer_to(
+            seat,
+            size_request(self.rt.alloc(), self.path.as_str(), self.how),
+        )
     }
 
     /// One try, behind what came so far.
@@ -315,19 +375,7 @@ impl<'a, R: Eprint + AllocGlobal> Downloading<'a, R> {
 impl<'a, R: Eprint + AllocGlobal> SessionTask<Result<Answer<Global>, SessionFault>>
     for Downloading<'a, R> {
     fn play<S: ClientSession>(&mut self, seat: &mut S) -> Result<Answer<Global>, SessionFault> {
-        if !self.look(seat) {
-            return Ok(Answer::Lost);
-        }
-        if is_too_large(self.limit, self.size) {
-            return Ok(Answer::Done);
-        }
-        for _ in 0..self.left {
-            match self.turn(seat) {
-                Turn::GoesOn => {}
-                Turn::Over(answer) => return Ok(answer),
-            }
-        }
-        Ok(Answer::Lost)
+        Ok(self.answer(seat))
     }
 }
 

@@ -1,18 +1,16 @@
 // The subcommands of a client that ask at one place: their words.
 use crate::help;
 use crate::place::{location_in, user_in};
+use crate::refusal::{BadValue, Refusal};
 use crate::words::{
-    BadValue, Form, MODE, STRU, Subcommand, TIMEOUT, TYPE, USER, Value, Word, number_in,
-    representation_in,
+    Form, LIMIT, MODE, PASSWORD_FILE, STRU, Subcommand, TIMEOUT, TYPE, USER, Value, Word, limit_in,
+    number_in, representation_in,
 };
 use clap::ArgMatches;
 use ftp_operation::How;
-use ftp_tool_fetch::{Download, Parts, Simple, Target, Task};
+use ftp_tool_fetch::{Download, Lines, Parts, Simple, Target, Task};
 use ftp_tool_files::number_of;
 use ftp_tool_words::UrlPlace;
-
-/// The most octets that a file may be said to have.
-const MOST_OCTETS: u64 = 999_999_999_999_999_999;
 
 /// The subcommands that ask at one place: those that copy or list.
 pub const TRANSFERS: &[Subcommand<'static>] = &[GET, PUT, LS];
@@ -25,14 +23,13 @@ pub const NAMES: &[Subcommand<'static>] = &[MKDIR, RMDIR, MV];
 
 const GET: Subcommand<'static> = Subcommand {
     name: "get",
-    about: "downloads a file from a server",
+    about: "downloads files from a server",
     help: help::GET,
     words: &[
-        PLACE,
         Word {
-            name: "file",
-            form: Form::Place(Value::Text("FILE")),
-            help: "the file to write; without it, one of the name that PATH ends in",
+            name: "places",
+            form: Form::NeededPlaces(Value::Text("HOST:PORT/PATH")),
+            help: "what is fetched, as a place or a URL; the last of several words is FILE or FOLDER/, where it goes",
         },
         Word {
             name: "keep",
@@ -54,13 +51,13 @@ const GET: Subcommand<'static> = Subcommand {
 
 const PUT: Subcommand<'static> = Subcommand {
     name: "put",
-    about: "uploads a file to a server",
+    about: "uploads files to a server",
     help: help::PUT,
     words: &[
         Word {
-            name: "file",
-            form: Form::NeededPlace(Value::Name("FILE")),
-            help: "the file to read; - is standard input",
+            name: "files",
+            form: Form::NeededPlaces(Value::Name("FILE")),
+            help: "what is read; - is standard input",
         },
         PLACE,
     ],
@@ -70,7 +67,14 @@ const LS: Subcommand<'static> = Subcommand {
     name: "ls",
     about: "lists a directory of a server",
     help: help::LS,
-    words: &[PLACE],
+    words: &[
+        PLACE,
+        Word {
+            name: "long",
+            form: Form::Flag,
+            help: "writes kind, size, moment and name in columns",
+        },
+    ],
 };
 
 const CAT: Subcommand<'static> = Subcommand {
@@ -134,11 +138,7 @@ pub const PLACE_OPTION: &str = "<HOST:PORT/PATH>";
 /// The options that all of them have.
 pub const OPTIONS: &[Word<'static>] = &[
     USER,
-    Word {
-        name: "password-file",
-        form: Form::Given(Value::Text("F")),
-        help: "a file of mode 600 with the password",
-    },
+    PASSWORD_FILE,
     Word {
         name: "active",
         form: Form::Flag,
@@ -155,11 +155,7 @@ pub const OPTIONS: &[Word<'static>] = &[
         help: "tells how far a transfer is, each second; without it where standard error is a terminal",
     },
     TIMEOUT,
-    Word {
-        name: "limit",
-        form: Form::Else(Value::Number("OCTETS", 0, MOST_OCTETS), "1073741824"),
-        help: "the most octets of a file, which is held in memory",
-    },
+    LIMIT,
     Word {
         name: "type",
         form: Form::Else(TYPE, "I"),
@@ -177,49 +173,56 @@ pub const OPTIONS: &[Word<'static>] = &[
     },
 ];
 
-/// The value that is none: the place, the seconds, or the file that has no name where both are.
-pub fn bad_value<'a>(words: &'a ArgMatches<'_>, url: Option<&'a UrlPlace>) -> Option<BadValue<'a>> {
-    let place = words.get_str("place")?;
+/// Why nothing is asked at a place: it is none, or the seconds are no number.
+fn refusal_of<'a>(
+    words: &'a ArgMatches<'_>,
+    place: &'a str,
+    url: Option<&'a UrlPlace>,
+) -> Refusal<'a> {
     if location_in(place, url).is_none() {
-        return Some(BadValue {
+        return Refusal::Value(BadValue {
             option: PLACE_OPTION,
             value: place,
             wanted: "an address or a name, a port from 1 to 65535 and a path are wanted",
         });
     }
-    let timeout = words.get_str("timeout")?;
-    if number_of(timeout).is_none() {
-        return Some(BadValue {
+    match words.get_str("timeout") {
+        Some(timeout) if number_of(timeout).is_none() => Refusal::Value(BadValue {
             option: "--timeout <SECONDS>",
             value: timeout,
             wanted: "decimal digits alone are wanted",
-        });
+        }),
+        _ => Refusal::Number,
     }
-    Some(BadValue {
-        option: "[FILE]",
-        value: words.get_str("file").unwrap_or(""),
-        wanted: "a file's name is wanted, where the path ends in none",
-    })
 }
 
-/// What is asked of which server; none where a value is none of its option. At a terminal progress is told.
+/// What is asked at a place, which is this URL, if it is one. At a terminal progress is told.
 pub fn asked_of<'a>(
     words: &'a ArgMatches<'_>,
+    place: &'a str,
+    url: Option<&'a UrlPlace>,
+    is_terminal: bool,
+) -> Result<Target<'a>, Refusal<'a>> {
+    match target_of(words, place, url, is_terminal) {
+        Some(asked) => Ok(asked),
+        None => Err(refusal_of(words, place, url)),
+    }
+}
+
+fn target_of<'a>(
+    words: &'a ArgMatches<'_>,
+    place: &'a str,
     url: Option<&'a UrlPlace>,
     is_terminal: bool,
 ) -> Option<Target<'a>> {
     Some(Target {
-        place: location_in(words.get_str("place")?, url)?,
+        place: location_in(place, url)?,
         user: user_in(words, url),
         how: how_of(words)?,
         timeout: number_in(words, "timeout")?,
         progress: is_terminal || words.get_flag("progress"),
-        limit: limit_of(words)?,
+        limit: limit_in(words)?,
     })
-}
-
-fn limit_of(words: &ArgMatches<'_>) -> Option<u64> {
-    words.get_str("limit")?.parse().ok()
 }
 
 fn how_of(words: &ArgMatches<'_>) -> Option<How> {
@@ -231,31 +234,25 @@ fn how_of(words: &ArgMatches<'_>) -> Option<How> {
     })
 }
 
-/// What is to be done; none where a file has no name.
-pub fn fetch_task_of<'a>(
-    name: &str,
-    words: &'a ArgMatches<'_>,
-    asked: &Target<'a>,
-) -> Option<Task<'a>> {
-    if name == "mv" {
-        return move_of(words);
-    }
-    let Some(task) = plain_task_of(name) else {
-        return file_task_of(name, words, asked);
-    };
-    Some(task)
-}
-
-/// What is to be done at the place alone, where the subcommand has no other word.
-fn plain_task_of<'a>(name: &str) -> Option<Task<'a>> {
+/// What is done at the one place that a subcommand of this name asks at.
+pub fn fetch_task_of<'a>(name: &str, words: &'a ArgMatches<'_>) -> Option<Task<'a>> {
     match name {
-        "ls" => Some(Task::List),
+        "ls" => Some(Task::List(lines_of(words))),
         "cat" => Some(Task::Get(SHOWN)),
         "size" => Some(Task::Simple(Simple::Size)),
         "rm" => Some(Task::Simple(Simple::Remove)),
         "mkdir" => Some(Task::Simple(Simple::MakeDirectory)),
         "rmdir" => Some(Task::Simple(Simple::RemoveDirectory)),
+        "mv" => move_of(words),
         _ => None,
+    }
+}
+
+fn lines_of(words: &ArgMatches<'_>) -> Lines {
+    if words.get_flag("long") {
+        Lines::Long
+    } else {
+        Lines::Facts
     }
 }
 
@@ -272,21 +269,13 @@ const SHOWN: Download<'static> = Download {
     moment: false,
 };
 
-/// What is to be done with a file of this end; none where it has no name.
-fn file_task_of<'a>(name: &str, words: &'a ArgMatches<'_>, asked: &Target<'a>) -> Option<Task<'a>> {
-    let file = words.get_str("file").unwrap_or(asked.place.name());
-    if file.is_empty() {
-        return None;
+/// The download of `get` into a file.
+pub fn download_of<'a>(words: &ArgMatches<'_>, file: &'a str) -> Download<'a> {
+    Download {
+        file,
+        parts: parts_of(words),
+        moment: words.get_flag("moment"),
     }
-    Some(if name == "put" {
-        Task::Put(file)
-    } else {
-        Task::Get(Download {
-            file,
-            parts: parts_of(words),
-            moment: words.get_flag("moment"),
-        })
-    })
 }
 
 /// What becomes of the octets of a download that is not whole.

@@ -8,11 +8,7 @@ use std::io::Eprint;
 use std::{fmt, io};
 
 /// Tells on standard error why an operation was not done, and gives the exit status.
-pub(crate) fn tell<R: Eprint>(
-    rt: &R,
-    answer: &Answer<Global>,
-    noticed: &LastReply,
-) -> io::Result<Status> {
+pub fn tell<R: Eprint>(rt: &R, answer: &Answer<Global>, noticed: &LastReply) -> io::Result<Status> {
     match answer {
         Answer::Refused(code) => say(
             rt,
@@ -58,7 +54,7 @@ fn status(answer: &Answer<Global>) -> Status {
 }
 
 /// Tells that a file has too many octets to be held in memory, and gives the exit status.
-pub(crate) fn tell_too_large<R: Eprint>(rt: &R, size: u64, limit: u64) -> io::Result<Status> {
+pub fn tell_too_large<R: Eprint>(rt: &R, size: u64, limit: u64) -> io::Result<Status> {
     let part = Part {
         count: size,
         between: " octets are past the limit of ",
@@ -70,10 +66,10 @@ pub(crate) fn tell_too_large<R: Eprint>(rt: &R, size: u64, limit: u64) -> io::Re
 
 /// How much of a file there is, as it is told: both numbers, and a text between them.
 #[derive(Clone, Copy)]
-pub(crate) struct Part<'a> {
-    pub(crate) count: u64,
-    pub(crate) between: &'a str,
-    pub(crate) total: u64,
+pub struct Part<'a> {
+    pub count: u64,
+    pub between: &'a str,
+    pub total: u64,
 }
 
 impl<'a> Display for Part<'a> {

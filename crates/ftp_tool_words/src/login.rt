@@ -1,8 +1,9 @@
 // Who asks: a user name and the password, each from where it is said.
-use crate::netrc::{no_password, suited};
+use crate::entry::NetrcEntry;
+use crate::netrc_file::{no_password, suited};
+use crate::private::{NotPrivate, read_private};
 use ftp_facts::Text;
 use ftp_operation::Login;
-use ftp_tool_words::{NetrcEntry, NotPrivate, read_private};
 use std::alloc::Global;
 use std::env::{Env, VarError};
 use std::fs::Files;
@@ -31,7 +32,7 @@ const FILE_LIMIT: u64 = 1024;
 
 /// The login of a user at a host. The password is the first of these: that in the file that is named, that in the environment, in FTP_PASSWORD, that
 /// of a URL, and that of the user's entry in a `.netrc`. `anonymous` needs none, and is not sent the one in the environment.
-pub(crate) fn login_of<R>(rt: &R, host: &str, user: User<'_>) -> io::Result<Login<Global>>
+pub fn login_of<R>(rt: &R, host: &str, user: User<'_>) -> io::Result<Login<Global>>
 where
     R: Files + Env + AllocGlobal,
 {

@@ -6,13 +6,8 @@ use crate::mirroring::MIRROR;
 use crate::pairing::PAIR;
 use crate::running::RUN;
 use crate::serving::SERVE;
-use crate::task::Task;
-use crate::words::{
-    Form, MODE, MOST, STRU, Subcommand, TIMEOUT, TYPE, Value, Word, number_in, representation_in,
-    subcommand_of,
-};
-use clap::{ArgMatches, Command};
-use ftp_tool_files::Direction;
+use crate::words::{Form, MODE, MOST, STRU, Subcommand, TIMEOUT, TYPE, Value, Word, subcommand_of};
+use clap::Command;
 use std::alloc::{AllocError, Global};
 
 /// The subcommands between the standard streams.
@@ -86,7 +81,9 @@ pub enum Program {
     Pair,
     Run,
     Mirror,
-    /// Something at one place of a server.
+    Get,
+    Put,
+    /// Something else at one place of a server.
     Ask,
     /// What goes between the standard streams.
     Task,
@@ -100,6 +97,8 @@ pub fn program_of(name: &str) -> Program {
         "pair" => Program::Pair,
         "run" => Program::Run,
         "mirror" => Program::Mirror,
+        "get" => Program::Get,
+        "put" => Program::Put,
         "dialogue" | "facts" | "frame" => Program::Task,
         _ => Program::Ask,
     }
@@ -167,20 +166,4 @@ fn put_all<'a>(
         known.push(subcommand_of(alloc, *subcommand, options)?)?;
     }
     Ok(())
-}
-
-/// The task of words that the program knows; none where a value is none of its option.
-pub fn task_of(matches: &ArgMatches<'_>) -> Option<Task> {
-    match matches.subcommand() {
-        Some(("dialogue", inner)) => {
-            let piece = number_in(inner, "piece")?;
-            Some(Task::Dialogue { piece })
-        }
-        Some(("facts", _)) => Some(Task::Facts),
-        Some(("frame", inner)) => Some(Task::Frame {
-            form: representation_in(inner)?,
-            direction: Direction::new(inner.get_flag("read"), inner.get_flag("marks")),
-        }),
-        _ => None,
-    }
 }

@@ -1,9 +1,9 @@
 // The subcommand `run`: its words.
 use crate::help;
-use crate::words::{Form, Subcommand, Value, Word, number_in};
+use crate::words::{Form, PASSWORD_FILE, Subcommand, Value, Word, number_in};
 use clap::ArgMatches;
 use ftp_tool_fetch::ServerAddress;
-use ftp_tool_words::server_port_of;
+use ftp_tool_words::{User, server_port_of};
 
 /// The words of `run`.
 pub const RUN: Subcommand<'static> = Subcommand {
@@ -21,11 +21,17 @@ pub const RUN: Subcommand<'static> = Subcommand {
             form: Form::Needed(Value::Number("N", 1, 65_535)),
             help: "the port that it listens at, 1 to 65535",
         },
+        Word {
+            name: "user",
+            form: Form::Given(Value::Text("U")),
+            help: "who logs in; the script then has no line of a login",
+        },
+        PASSWORD_FILE,
     ],
 };
 
 /// The server that is asked; none where a value is none of its option.
-pub fn server_of<'a>(words: &'a ArgMatches<'_>) -> Option<ServerAddress<'a>> {
+pub fn script_server_of<'a>(words: &'a ArgMatches<'_>) -> Option<ServerAddress<'a>> {
     let host = words.get_str("host")?;
     let port = server_port_of(words.get_str("port")?)?;
     if host.is_empty() {
@@ -36,5 +42,15 @@ pub fn server_of<'a>(words: &'a ArgMatches<'_>) -> Option<ServerAddress<'a>> {
         port,
         timeout: number_in(words, "timeout")?,
         progress: false,
+    })
+}
+
+/// Who logs in, where that is not said by the script.
+pub fn script_user_of<'a>(words: &'a ArgMatches<'_>) -> Option<User<'a>> {
+    let name = words.get_str("user")?;
+    Some(User {
+        name: Some(name),
+        password_file: words.get_str("password-file"),
+        password: None,
     })
 }

@@ -1,5 +1,5 @@
 // Words of a command line, as tables, and what `clap` makes of them.
-use clap::builder::ValueParser;
+use clap::builder::{ValueParser, ValueRange};
 use clap::{Arg, ArgAction, ArgMatches, Command};
 use ftp_tool_files::{Representation, number_of, representation_of};
 use std::alloc::{AllocError, Global};
@@ -26,6 +26,23 @@ pub const USER: Word<'static> = Word {
     form: Form::Given(Value::Text("U")),
     help: "who logs in; else whom a URL or .netrc names, and else anonymous",
 };
+
+/// Where its password is, for the same.
+pub const PASSWORD_FILE: Word<'static> = Word {
+    name: "password-file",
+    form: Form::Given(Value::Text("F")),
+    help: "a file of mode 600 with the password",
+};
+
+/// The most octets of a file that is held in memory.
+pub const LIMIT: Word<'static> = Word {
+    name: "limit",
+    form: Form::Else(Value::Number("OCTETS", 0, MOST_OCTETS), "1073741824"),
+    help: "the most octets of a file, which is held in memory",
+};
+
+/// The most octets that a file may be said to have.
+const MOST_OCTETS: u64 = 999_999_999_999_999_999;
 
 /// The name of a value, and what it has to be.
 #[derive(Clone, Copy)]
@@ -76,15 +93,8 @@ pub enum Form<'a> {
     Place(Value<'a>),
     /// A word that is no option and has to be there.
     NeededPlace(Value<'a>),
-}
-
-/// A value that is none of its option.
-#[derive(Clone, Copy)]
-pub struct BadValue<'a> {
-    /// The option as it stands in the help.
-    pub option: &'a str,
-    pub value: &'a str,
-    pub wanted: &'a str,
+    /// Words that are no options, of which one has to be there.
+    NeededPlaces(Value<'a>),
 }
 
 /// A word of a command line.
@@ -144,6 +154,9 @@ fn arg_of<'a>(alloc: Global, word: Word<'a>) -> Arg<'a> {
         Form::Else(value, other) => option(alloc, word, value).default_value(other),
         Form::Place(value) => place(alloc, word, value),
         Form::NeededPlace(value) => place(alloc, word, value).required(true),
+        Form::NeededPlaces(value) => place(alloc, word, value)
+            .required(true)
+            .num_args(ValueRange::from(1usize..)),
     }
 }
 
@@ -162,6 +175,11 @@ fn place<'a>(alloc: Global, word: Word<'a>, value: Value<'a>) -> Arg<'a> {
 /// The number that an option has.
 pub fn number_in(matches: &ArgMatches<'_>, option: &str) -> Option<u32> {
     number_of(matches.get_str(option)?)
+}
+
+/// The most octets that a file may have.
+pub fn limit_in(matches: &ArgMatches<'_>) -> Option<u64> {
+    matches.get_str("limit")?.parse().ok()
 }
 
 /// Type, structure and mode, each by its letter.

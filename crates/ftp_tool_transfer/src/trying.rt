@@ -1,6 +1,6 @@
 // What uploads and downloads that go on have in common.
 ghost use Rattle.std.specs.Prelude.{◌≡◌};
-ghost use Rattle.ftp_tool_fetch.specs.Trying.{ended_by, there_by};
+ghost use Rattle.ftp_tool_transfer.specs.Trying.{ended_by, there_by};
 
 use ftp_facts::Text;
 use ftp_operation::{Answer, How, Op};
@@ -16,7 +16,7 @@ pub(crate) const NO_FILE: u16 = 550;
 const GIVEN_UP: u16 = 451;
 
 /// Whether SIZE counts the octets of the transfer: in type I and file structure.
-pub(crate) fn is_counted(how: How) -> bool {
+pub fn is_counted(how: How) -> bool {
     let form = how.representation;
     form.kind == Kind::Image && form.structure == Structure::File
 }

@@ -1,27 +1,12 @@
 // What the program does for a command line, between a reader and two writers.
 ghost use Rattle.std.specs.Prelude.{◌≡◌, ◌≢◌};
-ghost use Rattle.ftp_tool.specs.Task.{Does, BreaksOff};
+ghost use Rattle.ftp_tool.specs.Perform.{Does, BreaksOff};
 
+use ftp_tool_command::Task;
 use ftp_tool_dialogue::dialogue;
-use ftp_tool_files::{Direction, Representation, facts, frame};
+use ftp_tool_files::{facts, frame};
 use std::alloc::Allocator;
 use std::io::{Read, Write};
-
-/// What a command line asks for.
-#[derive(Clone, Copy)]
-pub enum Task {
-    /// Answers the octets of a control connection, at most `piece` at a time.
-    Dialogue {
-        piece: u32,
-    },
-    /// Writes the entry of each line, or its fault.
-    Facts,
-    /// Writes a file as the octets of a data connection, or reads it from them.
-    Frame {
-        form: Representation,
-        direction: Direction,
-    },
-}
 
 /// Does a task and gives the exit status; `faults` is told the fault of a wire, and nothing else.
 pub fn perform<A, R, W, F>(

@@ -20,7 +20,7 @@ impl Drop for Came {
 
 impl Came {
     /// Nothing yet.
-    pub(crate) fn new(alloc: Global) -> Came {
+    pub fn new(alloc: Global) -> Came {
         Came {
             pieces: Vec::new(alloc),
             count: 0,

@@ -1,23 +1,27 @@
 // The subcommand `mirror`: its words.
 use crate::place::{location_in, user_in};
-use crate::words::{BadValue, Form, Subcommand, USER, Value, Word, number_in};
+use crate::refusal::{BadValue, Refusal};
+use crate::words::{
+    Form, LIMIT, PASSWORD_FILE, Subcommand, USER, Value, Word, limit_in, number_in,
+};
 use clap::ArgMatches;
 use ftp_operation::How;
-use ftp_tool_connection::{ServerAddress, User};
+use ftp_tool_connection::ServerAddress;
 use ftp_tool_files::{number_of, representation_of};
 use ftp_tool_local::Flush;
 use ftp_tool_mirror::{Check, Doing, Extra, Mirror, Rules, Way};
-use ftp_tool_words::{Location, UrlPlace};
+use ftp_tool_words::{Location, UrlPlace, User};
 
 const HELP: &str = "\
 Copies what is missing in TARGET or differs there, with all directories below SOURCE. One of both is HOST:PORT/PATH or a URL, as with get; the other
 is a folder of this machine, and begins with / or with a point where it would be read as HOST/PATH.
 From a server a file is copied where its size or its moment differs, and the copy has the server's moment then. To a server one is copied
 where its size differs or it was changed after the server's. With --checksum sizes and octets are compared, for which each file is fetched.
-With --delete what SOURCE has not is removed from TARGET, and so is what stands there as a file where SOURCE has a directory, or the other
-way round; without it that is refused. --exclude leaves alone what meets GLOB, at both ends: * is any octets but a slash, ? is one; a GLOB with
-a slash is of a path below SOURCE, and any other is of a name. Links of this machine are not followed. --dry-run changes nothing, and writes
-what would be done on standard output. A file that fails does not stop the others.
+A file that is cut on its way down goes on, as with get; one of more octets than --limit fails. With --delete what SOURCE has not is removed
+from TARGET, here once the server says of it alone that it has none (MLST), and so is what stands there as a file where SOURCE has a
+directory, or the other way round; without it that is refused. --exclude leaves alone what meets GLOB, at both ends: * is any octets but a
+slash, ? is one; a GLOB with a slash is of a path below SOURCE, and any other is of a name. Links of this machine are not followed.
+--dry-run changes nothing, and writes what would be done on standard output. A file that fails does not stop the others.
 One control connection is used; where it ends, the rest is done over another one, as with get. The server has to know MLSD.
 A file of this machine is written beside its name, and moved over it once it is whole and on the disk, as with get. With --no-flush it is moved
 before it is on the disk, which is faster: after a power cut a file may be cut, and another run mends that. Passwords and --timeout are as with
@@ -66,11 +70,8 @@ pub const MIRROR: Subcommand<'static> = Subcommand {
             help: "leaves alone what meets it; may be given several times",
         },
         USER,
-        Word {
-            name: "password-file",
-            form: Form::Given(Value::Text("F")),
-            help: "a file of mode 600 with the password",
-        },
+        PASSWORD_FILE,
+        LIMIT,
         Word {
             name: "active",
             form: Form::Flag,
@@ -94,8 +95,22 @@ pub const MIRROR: Subcommand<'static> = Subcommand {
     ],
 };
 
-/// What is mirrored, where these are the URLs that both places are; none where not exactly one is a server's.
+/// What is mirrored, where these are the URLs that both places are; exactly one is a server's.
 pub fn mirror_of<'a>(
+    words: &'a ArgMatches<'_>,
+    from: Option<&'a UrlPlace>,
+    to: Option<&'a UrlPlace>,
+) -> Result<Mirror<'a>, Refusal<'a>> {
+    match mirrored_by(words, from, to) {
+        Some(mirror) => Ok(mirror),
+        None => Err(match bad_value(words) {
+            Some(bad) => Refusal::Value(bad),
+            None => Refusal::Number,
+        }),
+    }
+}
+
+fn mirrored_by<'a>(
     words: &'a ArgMatches<'_>,
     from: Option<&'a UrlPlace>,
     to: Option<&'a UrlPlace>,
@@ -147,6 +162,7 @@ fn asked_of<'a>(
         } else {
             Flush::First
         },
+        limit: limit_in(words)?,
         doing: if words.get_flag("dry-run") {
             Doing::Nothing
         } else {
@@ -172,7 +188,7 @@ fn rules_of(words: &ArgMatches<'_>, way: Way) -> Rules {
 }
 
 /// The value that is none.
-pub fn bad_value<'a>(words: &'a ArgMatches<'_>) -> Option<BadValue<'a>> {
+fn bad_value<'a>(words: &'a ArgMatches<'_>) -> Option<BadValue<'a>> {
     let timeout = words.get_str("timeout")?;
     if number_of(timeout).is_none() {
         return Some(BadValue {

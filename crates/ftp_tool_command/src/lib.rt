@@ -1,0 +1,27 @@
+//! What a command line asks for: one level of subcommands, as tables of words, and what their values say. No IO.
+#![tactic(auto)]
+
+mod command_line;
+mod fetching;
+mod help;
+mod looping;
+mod mirroring;
+mod pairing;
+mod place;
+mod refusal;
+mod running;
+mod serving;
+mod several;
+mod task;
+mod words;
+
+pub use command_line::{Program, command, program_of};
+pub use fetching::{PLACE_OPTION, asked_of, download_of, fetch_task_of};
+pub use mirroring::mirror_of;
+pub use pairing::settings_of;
+pub use place::{url_in, urls_in};
+pub use refusal::{BadValue, Refusal};
+pub use running::{script_server_of, script_user_of};
+pub use serving::serving_of;
+pub use several::{asks_of, check_names, goes_into, sources_of};
+pub use task::{Task, task_of};

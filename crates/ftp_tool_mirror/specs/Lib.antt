@@ -1,2 +1,0 @@
--- Where what is mirrored stands.
-pub mod Paths

@@ -1,0 +1,17 @@
+//! Uploads and downloads that go on where they were cut: try after try, over data connections that break and control connections that end, until the
+//! file is whole or it is told why not (RFC 959, section 3.5; RFC 3659, sections 3 to 5).
+#![tactic(auto)]
+
+mod came;
+mod downloading;
+mod source;
+mod telling;
+mod trying;
+mod uploading;
+
+pub use came::Came;
+pub use downloading::{Downloading, Stamp};
+pub use source::Source;
+pub use telling::{Part, tell, tell_too_large};
+pub use trying::is_counted;
+pub use uploading::Uploading;
