@@ -1,6 +1,6 @@
 #!/usr/bin/env python3
 """A mirror whose data connections are cut, by FIN or by RST, ends with 0 and both trees the same, or with 1 and a sentence; each file that stands
-then is whole, and another run finishes. A listing that is cut by FIN before its first octet can't be told from an empty one, where its server has given
+then is whole, and another run finishes. A download that is cut goes on in the same run, also where the control connection ends with it. A listing that is cut by FIN before its first octet can't be told from an empty one, where its server has given
 all to the system: that run finds nothing to copy.
 """
 import random
@@ -15,6 +15,7 @@ from mirror import fill, tree_at
 RANDOM = random.Random(11)
 FILES = {"a": RANDOM.randbytes(3_000_000), "b": RANDOM.randbytes(5_000), "d/c": RANDOM.randbytes(1_000), "d/empty": b"", "z": b"last"}
 NUMBERS = (0, 1, 2, 4)
+LISTINGS = (0, 3)
 END = None
 PLACES = (0, 1, 1_000, END)
 
@@ -39,6 +40,7 @@ class Cutter(Relay):
         for end in ends:
             if self.how == "RST":
                 end.setsockopt(socket.SOL_SOCKET, socket.SO_LINGER, struct.pack("ii", 1, 0))
+                end.shutdown(socket.SHUT_RD)  # wakes who waits for octets of it: before that it is not closed
                 end.close()
             else:
                 end.shutdown(socket.SHUT_RDWR)
@@ -57,7 +59,7 @@ def passes(source, sink, left, cuts):
             return cuts((sink, source))
         if left[0] is END:
             cuts((sink, source))
-        else:
+        elif left[0] != 0:
             sink.shutdown(socket.SHUT_WR)
     except OSError:
         sink.close()
@@ -84,7 +86,8 @@ def try_one(rows, way, number, place, how):
     seen = tree_at(target)
     same = seen == tree_at(served if way == "down" else local)
     is_empty = (way, number, place, how) == ("down", 0, 0, "FIN") and seen == {}
-    is_told = status == 1 and (way == "up" or is_whole(seen)) and b"error" in told
+    may_fail = way == "up" or number in LISTINGS
+    is_told = may_fail and status == 1 and (way == "up" or is_whole(seen)) and b"error" in told
     rows.row(name, is_told or (status == 0 and (same or is_empty)), (status, told))
     status, _, told = rows.tool("mirror", *there(server.port))
     rows.row(f"{name}: the next run", status == 0 and tree_at(local) == tree_at(served), (status, told))
