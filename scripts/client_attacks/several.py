@@ -20,7 +20,7 @@ def get_rows(rows, at, local):
         ((f"ftp://{at}/a", f"ftp://{at}/d/b", "local/"), {"a": b"abc", "b": b"hello"}),
     ):
         got(rows, local, words, 0, wanted)
-    got(rows, local, (f"{at}/a", f"{at}/none", f"{at}/d/b", "local/"), 1, {"a": b"abc", "b": b"hello"}, b"note: not copied: local/none\n")
+    got(rows, local, (f"{at}/a", f"{at}/none", f"{at}/d/b", "local/"), 1, {"a": b"abc", "b": b"hello"}, b"note: not copied: none\n")
     got(rows, local, (f"{at}/a", f"{at}/d/", "local/"), 2, {})
     got(rows, local, (f"{at}/a", f"{at}:0/b", "local/"), 2, {})
     status, _, told = rows.tool("get", f"ftp://{at}/a", f"ftp://{at}/d/b")

@@ -237,7 +237,9 @@ where
     }
     let mut worst = Status::Done;
     for asked in asks.as_slice() {
-        worst = worst.worse(get_one(rt, words, asked, into, target)?);
+        let status = get_one(rt, words, asked, into, target)?;
+        tell_undone(rt, status, places.len(), asked.place.path)?;
+        worst = worst.worse(status);
     }
     Ok(worst.number())
 }
@@ -273,9 +275,7 @@ where
 {
     let file = place_for(rt.alloc(), into, target, asked.place.path)?;
     let task = Task::Get(download_of(words, file.as_str()));
-    let status = ftp_tool_fetch::fetch(rt, asked, task)?;
-    tell_undone(rt, status, file.as_str())?;
-    Ok(status)
+    Ok(ftp_tool_fetch::fetch(rt, asked, task)?)
 }
 
 /// Does what `put` asks for, file by file, each over a control connection of its own; the status is the worst.
@@ -306,7 +306,9 @@ where
     };
     let mut worst = Status::Done;
     for file in files {
-        worst = worst.worse(put_one(rt, &asked, into, *file)?);
+        let status = put_one(rt, &asked, into, *file)?;
+        tell_undone(rt, status, files.len(), *file)?;
+        worst = worst.worse(status);
     }
     Ok(worst.number())
 }
@@ -331,14 +333,12 @@ where
         },
         ..*asked
     };
-    let status = ftp_tool_fetch::fetch(rt, &asked, Task::Put(file))?;
-    tell_undone(rt, status, file)?;
-    Ok(status)
+    Ok(ftp_tool_fetch::fetch(rt, &asked, Task::Put(file))?)
 }
 
-/// Tells which file it is that was not copied, as its sentence does not say.
-fn tell_undone<R: Eprint>(rt: &R, status: Status, file: &str) -> Result<()> {
-    if status != Status::Done {
+/// Tells which of several files it is that was not copied, as its sentence does not say.
+fn tell_undone<R: Eprint>(rt: &R, status: Status, count: usize, file: &str) -> Result<()> {
+    if count > 1 && status != Status::Done {
         eprintln!(rt; "note: not copied: {file}")?;
     }
     Ok(())
