@@ -37,7 +37,11 @@ def links(rows):
     rows.row("onto a link to itself: refused, and it stays", status == 3 and (rows.folder / "circle").is_symlink(), (status, told))
     rows.row("no part is left", not [it for it in os.listdir(there) + os.listdir(rows.folder) if "ftp-part" in it])
     status, _, told = get(rows, "there")
-    rows.row("onto a directory: refused", status == 3 and there.is_dir(), (status, told))
+    rows.row("onto a directory: it goes in there by its name", status == 0 and (there / "f").read_bytes() == WHOLE, (status, told))
+    (there / "f").unlink()
+    (there / "f").mkdir()
+    status, _, told = get(rows, "there")
+    rows.row("onto a directory, where one has its name: refused", status == 3 and (there / "f").is_dir(), (status, told))
 
 
 def others(rows):
