@@ -1,5 +1,5 @@
 -- What a change of the part below a root, which nothing refuses, makes of the whole: a node that has nothing below it comes or goes.
-use Rattle.std.proofs.Common.{ℕ, ◌+◌, ◌-◌, ◌≤◌, ◌≡◌, ◌⊎◌, inl, inr, Bool, true, false, not, cond, Option, Some, None, is_some, IsSome, Contains, List, [], ◌∷◌, ◌++◌, length, drop, refl, sym, ap, ◌∙◌, subst, arith, append_assoc}
+use Rattle.std.proofs.Common.{ℕ, ◌+◌, ◌-◌, ◌≤◌, ◌≡◌, ◌⊎◌, inl, inr, Bool, true, false, not, cond, Option, Some, None, IfSome, is_some, IsSome, Contains, List, [], ◌∷◌, ◌++◌, length, drop, refl, sym, ap, ◌∙◌, subst, arith, append_assoc}
 use Rattle.std.specs.FinMap as fin
 use Rattle.std.specs.Cmp.{tied_itself}
 use Rattle.std.specs.Ordering.{eq_by_cmp, is_eq}
@@ -230,12 +230,24 @@ removed-at table new root path names tree none named is =
         let last = parent-last name rest in
         true≢false (sym some ∙ ap (λ p. is_some (node_at table p)) (last.1 ∙ ap (λ p. p ++ last.0 ∷ []) up) ∙ ap is_some (leaf last.0 []))
 
-pub empty-names : children fin.empty [] ≡ []
+pub none-named : (path : Names) → children fin.empty path ≡ []
 unfolding children
-empty-names = ap (λ (l : Rows). filter_map (name_in []) (map (λ e. e.0) l)) no-entries
+none-named path = ap (λ (l : Rows). filter_map (name_in path) (map (λ e. e.0) l)) no-entries
+
+pub empty-names : children fin.empty [] ≡ []
+empty-names = none-named []
+
+-- the names at the top of a part are those of the directory that it is a part of
+pub names-here : (part : Table) (path : Names) → children (under part path) [] ≡ children part path
+names-here part path = children-under part path [] ∙ ap (children part) (append-nil path)
 
 pub names-below : (table : Table) (root path : Names) → children (under table (root ++ path)) [] ≡ children (under table root) path
-names-below table root path = children-under table (root ++ path) [] ∙ ap (children table) (append-nil (root ++ path)) ∙ sym (children-under table root path)
+names-below table root path = names-here table (root ++ path) ∙ sym (children-under table root path)
+
+-- what is so of a value is another thing that is so of it
+pub some_as : {T : Type 0} (found : Option T) (P Q : T → Type 0) → ((x : T) → P x → Q x) → IfSome found P → IfSome found Q
+some_as None P Q then is = tt
+some_as (Some x) P Q then is = then x is
 
 -- ---- texts of what is moved
 

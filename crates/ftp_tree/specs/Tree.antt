@@ -45,6 +45,11 @@ abbrev pub moment_of : Node → Option ℕ
 moment_of Dir = None
 moment_of (File octets moment) = Some moment
 
+-- what a directory shows of what stands in it: of a file its octets counted, and its moment
+abbrev pub shown_of : Node → Option (ℕ × ℕ)
+shown_of Dir = None
+shown_of (File octets moment) = Some (length octets, moment)
+
 abbrev pub of_node : {X : Type 0} → (Node → Option X) → Option Node → Option X
 of_node f None = None
 of_node f (Some node) = f node

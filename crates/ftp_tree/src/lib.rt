@@ -15,4 +15,4 @@ pub use content::Content;
 pub use fault::TreeFault;
 pub use ftp_path::{Name, Path, PathFault, is_path_text};
 pub use memory::MemTree;
-pub use tree::{NodeKind, Tree};
+pub use tree::{DirEntry, FileFacts, NodeKind, Tree};

@@ -12,7 +12,7 @@ use crate::content::Content;
 use crate::fault::TreeFault;
 use crate::node::{Count, Node, Standing};
 use crate::place::Joined;
-use crate::tree::{NodeKind, Tree};
+use crate::tree::{DirEntry, NodeKind, Tree};
 use ftp_facts::Moment;
 use ftp_path::key::is_within;
 use ftp_path::{Name, Path};
@@ -126,6 +126,21 @@ impl<A: Allocator + Copy> Tree<A> for MemTree<A> {
             return None;
         };
         node.nth_name(place)
+    }
+
+    fn nth_entry<B: Allocator + Copy, C: Allocator + Copy>(
+        &self,
+        root: &Path<B>,
+        path: &Path<C>,
+        place: usize,
+    ) -> Option<DirEntry<'_>> {
+        let Some(part) = self.root.find(root.key()) else {
+            return None;
+        };
+        let Some(node) = part.find(path.key()) else {
+            return None;
+        };
+        node.nth_entry(place)
     }
 
     fn room<B: Allocator + Copy, C: Allocator + Copy>(

@@ -1,5 +1,5 @@
 // What stands somewhere, with all that stands below it.
-ghost use Rattle.std.specs.Prelude.{◌≡◌, ◌≤◌, ◌<◌, ◌+◌, ◌-◌, ◌^◌, ◌∷◌, [], ℕ, List, IsTrue, IsOk, IsSome, IfSome, IfOk, IfErr, OnOk, OnErr, length, map};
+ghost use Rattle.std.specs.Prelude.{◌≡◌, ◌≤◌, ◌<◌, ◌+◌, ◌-◌, ◌^◌, ◌∷◌, [], ℕ, List, Some, IsTrue, IsOk, IsSome, IfSome, IfOk, IfErr, OnOk, OnErr, length, map};
 ghost use Rattle.std.specs.FinMap as fin;
 ghost use Rattle.std.specs.FinMap.{is_sorted};
 ghost use Rattle.std.specs.FinMap.Entries.{find as looked_up, put as placed};
@@ -9,10 +9,11 @@ ghost use Rattle.ftp_path.specs.Kept.{names_of};
 ghost use Rattle.ftp_path.specs.Path.{is_name};
 ghost use Rattle.ftp_tree.specs.Branch.{HasGap, StandsAt, file_alone, found, is_within_room, name_cmp, parts};
 ghost use Rattle.ftp_tree.specs.Store.{IsPlace, standing_node};
-ghost use Rattle.ftp_tree.specs.Tree.{children, node_at, octets_in, root_alone, under, with_part};
+ghost use Rattle.ftp_tree.specs.Tree.{children, node_at, octets_in, root_alone, shown_of, under, with_part};
 
 use crate::content::Content;
 use crate::place::first_name;
+use crate::tree::{DirEntry, FileFacts};
 use ftp_facts::Moment;
 use ftp_path::Name;
 use std::alloc::Allocator;
@@ -179,6 +180,30 @@ impl<A: Allocator + Copy> Node<A> {
         match &self.kept {
             Branch::File { .. } => None,
             Branch::Dir { children, .. } => name_at(children.as_slice(), place),
+        }
+    }
+
+    /// The same name, and what stands there.
+    pub(crate) fn nth_entry(&self, place: usize) -> Option<DirEntry<'_>>
+        ensures name { option_map (λ entry. entry.name.octets.now) result ≡ slice_get (children self.now []) place }
+        ensures file { IfSome result (λ entry. option_map shown_of (node_at self.now (entry.name.octets.now ∷ [])) ≡ Some (option_map (λ file. (file.size, file.moment.seconds)) entry.file)) }
+    {
+        match &self.kept {
+            Branch::File { .. } => None,
+            Branch::Dir { children, .. } => entry_at(children.as_slice(), place),
+        }
+    }
+
+    /// What a directory shows of what stands here.
+    fn shown(&self) -> Option<FileFacts>
+        ensures { option_map shown_of (node_at self.now []) ≡ Some (option_map (λ file. (file.size, file.moment.seconds)) result) }
+    {
+        match self.standing() {
+            Standing::File(content, moment) => Some(FileFacts {
+                size: content.len(),
+                moment,
+            }),
+            Standing::Dir => None,
         }
     }
 
@@ -358,6 +383,25 @@ fn name_at<A: Allocator + Copy>(children: &[Box<Child<A>, A>], place: usize) -> 
         return None;
     }
     Name::new(children[place].name.as_slice())
+}
+
+/// The name of a child, and what stands there.
+fn entry_at<A: Allocator + Copy>(
+    children: &[Box<Child<A>, A>],
+    place: usize,
+) -> Option<DirEntry<'_>>
+    requires named { IsTrue (list_all (λ part. is_name part.0) (parts children.now)) }
+    requires sorted { IsTrue (is_sorted name_cmp (parts children.now)) }
+    ensures name { option_map (λ entry. entry.name.octets.now) result ≡ slice_get (map (λ part. part.0) (parts children.now)) place }
+    ensures file { IfSome result (λ entry. option_map shown_of (node_at (found (looked_up name_cmp entry.name.octets.now (parts children.now))) []) ≡ Some (option_map (λ file. (file.size, file.moment.seconds)) entry.file)) }
+{
+    let Some(name) = name_at(children, place) else {
+        return None;
+    };
+    Some(DirEntry {
+        name,
+        file: children[place].node.shown(),
+    })
 }
 
 /// What stands by a name among children.

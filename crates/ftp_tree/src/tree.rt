@@ -1,7 +1,7 @@
 // What a tree answers, as what its clauses say of one map, however the tree is kept.
-ghost use Rattle.std.specs.Prelude.{◌≡◌, ◌≤◌, ◌<◌, ℕ, [], None, IfOk, IfErr, OnOk, OnErr, length, nat_le, take, drop, option_map};
+ghost use Rattle.std.specs.Prelude.{◌≡◌, ◌≤◌, ◌<◌, ◌∷◌, ◌++◌, ℕ, [], Some, None, IfOk, IfErr, IfSome, OnOk, OnErr, length, nat_le, take, drop, option_map};
 ghost use Rattle.std.specs.List.{slice_get};
-ghost use Rattle.ftp_tree.specs.Tree.{Table, children, delete_refusal, install_refusal, installed, kind_at, made, make_refusal, moved, octets_in, octets_or_none, remove_refusal, removed, rename_refusal, room_at, room_refusal, size_at, stamp_at, total_limit, under, with_part};
+ghost use Rattle.ftp_tree.specs.Tree.{Table, children, delete_refusal, install_refusal, installed, kind_at, made, make_refusal, moved, node_at, octets_in, octets_or_none, remove_refusal, removed, rename_refusal, room_at, room_refusal, shown_of, size_at, stamp_at, total_limit, under, with_part};
 ghost use Rattle.ftp_tree.specs.Change.{IsDone, IsRefused};
 ghost use Rattle.ftp_tree.specs.Sound.{IsSoundTree};
 
@@ -16,6 +16,20 @@ use std::alloc::Allocator;
 pub enum NodeKind {
     Dir,
     File,
+}
+
+/// What a directory shows of a file in it: how many octets it has, and when it was installed.
+#[derive(Clone, Copy)]
+pub struct FileFacts {
+    pub size: u64,
+    pub moment: Moment,
+}
+
+/// What stands in a directory by a name, lent. A directory in it has no facts.
+#[derive(Clone, Copy)]
+pub struct DirEntry<'a> {
+    pub name: Name<'a>,
+    pub file: Option<FileFacts>,
 }
 
 /// A finite map from paths to directories and files (RFC 959, section 4.1.3). A refused call changes nothing; of several
@@ -72,6 +86,16 @@ pub trait Tree<A: Allocator + Copy>: Drop {
         place: usize,
     ) -> Option<Name<'_>>
         ensures { option_map (λ name. name.octets.now) result ≡ slice_get (children (under (table self.now) root.now) path.now) place };
+
+    /// The same name, and what stands there: a listing asks for each of its lines once.
+    fn nth_entry<B: Allocator + Copy, C: Allocator + Copy>(
+        &self,
+        root: &Path<B>,
+        path: &Path<C>,
+        place: usize,
+    ) -> Option<DirEntry<'_>>
+        ensures name { option_map (λ entry. entry.name.octets.now) result ≡ slice_get (children (under (table self.now) root.now) path.now) place }
+        ensures file { IfSome result (λ entry. option_map shown_of (node_at (under (table self.now) root.now) (path.now ++ entry.name.octets.now ∷ [])) ≡ Some (option_map (λ file. (file.size, file.moment.seconds)) entry.file)) };
 
     /// The most octets that `install` takes at a path, or why it takes none: `WrongKind` where a directory stands there or a
     /// file above, `Absent` where nothing stands above, `Full` where 16,384 nodes stand beside the root.

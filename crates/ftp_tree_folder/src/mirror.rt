@@ -7,7 +7,7 @@ ghost use Rattle.ftp_tree_folder.specs.Folder.{IsKept, Mirrors, changed_below};
 use crate::device::Folder;
 use ftp_facts::Moment;
 use ftp_path::{Name, Path};
-use ftp_tree::{Content, MemTree, NodeKind, Tree, TreeFault};
+use ftp_tree::{Content, DirEntry, MemTree, NodeKind, Tree, TreeFault};
 use std::alloc::Allocator;
 
 /// A tree in memory, and a folder that keeps the same outside memory. All that a change needs of memory is had first, then the
@@ -98,6 +98,15 @@ impl<A: Allocator + Copy, D: Folder> Tree<A> for Mirror<A, D> {
         place: usize,
     ) -> Option<Name<'_>> {
         self.tree.nth_name(root, path, place)
+    }
+
+    fn nth_entry<B: Allocator + Copy, C: Allocator + Copy>(
+        &self,
+        root: &Path<B>,
+        path: &Path<C>,
+        place: usize,
+    ) -> Option<DirEntry<'_>> {
+        self.tree.nth_entry(root, path, place)
     }
 
     fn room<B: Allocator + Copy, C: Allocator + Copy>(
