@@ -18,9 +18,8 @@ pub use ftp_operation::{
     Account, Accounts, AccountsFault, Answer, How, Login, Op, RefusedAccounts,
 };
 pub use laws::{direct_in_memory, failures_are_told, offsets_lead, parts_are_apart, steady_run};
-pub use listings::{entry_in, file_in};
 pub use nodes::{absent_fault, directory_fault, file_fault, is_dir, is_file, len_at};
 pub use offsets::{place_at, takes_offset};
 pub use places::{is_busy, is_held};
-pub use refusal::{Refusal, find};
+pub use refusal::Refusal;
 pub use sizes::wire_len;

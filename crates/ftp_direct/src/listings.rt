@@ -182,7 +182,7 @@ fn entries<A: Allocator + Copy, T: Tree<A>>(
 }
 
 /// The entry of a name in a directory, where its path is within the limits of paths.
-pub fn entry_in<A: Allocator + Copy, T: Tree<A>>(
+fn entry_in<A: Allocator + Copy, T: Tree<A>>(
     alloc: &A,
     tree: &T,
     root: &Path<A>,
@@ -235,7 +235,7 @@ fn files<A: Allocator + Copy, T: Tree<A>>(
 }
 
 /// The pathname of a name in a directory, where it is a file's. `text` names the directory.
-pub fn file_in<A: Allocator + Copy, T: Tree<A>>(
+fn file_in<A: Allocator + Copy, T: Tree<A>>(
     alloc: &A,
     tree: &T,
     root: &Path<A>,

@@ -73,7 +73,7 @@ pub(crate) fn refused<A: Allocator + Copy>(
 }
 
 /// The path that a text names, read from the current directory, or `None` where it is past the limits of paths.
-pub fn find<A: Allocator + Copy>(
+pub(crate) fn find<A: Allocator + Copy>(
     alloc: &A,
     cwd: &Path<A>,
     text: &Text<A>,

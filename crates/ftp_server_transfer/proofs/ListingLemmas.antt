@@ -1,20 +1,24 @@
 -- The lines of a listing, name by name.
-use Rattle.std.proofs.Common.{◌≡◌, ℕ, zero, suc, ◌+◌, ◌-◌, ◌<◌, ◌≤◌, min, List, [], ◌∷◌, ◌++◌, length, take, drop, Bool, true, false, Option, Some, None, refl, ap, sym, subst, ◌∙◌, arith, append_assoc, append-nil, length-append, length-drop, get_or}
+use Rattle.std.proofs.Common.{◌≡◌, ℕ, suc, ◌+◌, ◌-◌, ◌<◌, ◌≤◌, min, List, [], ◌∷◌, ◌++◌, length, take, drop, Bool, true, false, ◌&&◌, nat_le, nat_lt, Option, Some, None, refl, ap, sym, subst, ◌∙◌, arith, append_assoc, append-nil, length-append, length-drop}
 use Rattle.std.specs.Prelude.{codes, decimal, map, is_some, if◌then◌else◌}
 use Rattle.std.specs.List.{filter_map, cons_option, slice_get}
 use Rattle.std.specs.Option.{option_map, option_to_list, unwrap_or}
-use Rattle.std.proofs.lemmas.Bool.{false≢true}
+use Rattle.std.proofs.lemmas.Bool.{and_parts, false≢true}
+use Rattle.std.proofs.lemmas.Bool.Decides.{nat_tests}
 use Rattle.std.proofs.lemmas.List.{drop_more, drop_all}
 use Rattle.std.proofs.lemmas.Option.{get_or_from_slice_get}
-use Rattle.std.proofs.Math.Seq.{drop-append_seam}
-use Rattle.ftp_path.specs.Path.{Names, fits, is_name, joined, parent, resolved}
-use Rattle.ftp_tree.specs.Tree.{Node, Dir, File, Table, node_at, children, octets_of, moment_of, of_node, kind_of, kind_at}
+use Rattle.ftp_path.specs.Kept.{IsKept, names_of}
+use Rattle.ftp_path.specs.Path.{Names, fits, is_component, is_name, joined, parent}
+use Rattle.ftp_path.proofs.PathLemmas.{kept-le}
+use Rattle.ftp_tree.specs.Tree.{Node, Dir, File, Table, node_at, children, octets_of, moment_of, of_node, kind_of, kind_at, shown_of}
+use Rattle.ftp_tree.proofs.LeafLemmas.{fits-room}
+use Rattle.ftp_tree.proofs.PlaceLemmas.{kept-place}
 use Rattle.ftp_tree.specs.declared.tree.NodeKind.TheVariants as Kinds
 use Rattle.ftp_wire.specs.Encoding.{still_to_give}
 use Rattle.ftp_wire.specs.declared.encoder.Encoder.{Encoder}
 use Rattle.ftp_wire.proofs.EncodingLemmas.{behind_front}
-use Rattle.ftp_direct.specs.Direct.{child, is_file, file_in, entry_in, entries_in, names_for}
-use Rattle.ftp_direct.proofs.ListingLemmas.{child_is, names_within, names_end}
+use Rattle.ftp_direct.specs.Direct.{behind, child, entry_at, is_file, file_in, entry_in, entries_in, listed, names_for, perm_of, size_fact}
+use Rattle.ftp_direct.proofs.ListingLemmas.{names_within, names_end}
 use Rattle.ftp_server_model.specs.Listing.{child_line, node_line, list_line, list_lines, list_lines_at, entry_lines, last_name, lines_file, text_line}
 use Rattle.ftp_server_model.specs.Entries.{listed_line, if_chosen}
 use Rattle.ftp_server_model.specs.declared.session.Facts.{Facts}
@@ -49,33 +53,96 @@ no_moment name None s = refl
 no_moment name (Some Dir) s = refl
 no_moment name (Some (File octets at)) s = absurd (cc)
 
--- ---- a name in a directory
-
-pub child_past : (table : Table) (path : Names) (name old : List ℕ) → is_name name ≡ true → fits (resolved path name) ≡ false → PutsSome false (child_line table path name) old old
-child_past table path name old named past =
-    let X : Option (List ℕ) = Some (node_line name (unwrap_or (node_at table (child path name)) Dir)) in
-    let P : Bool → Type 0 = λ b. PutsSome false (if b then X else None) old old in
-    subst P (sym past ∙ ap fits (child_is path name named)) (refl, refl)
-
-pub child_put : (table : Table) (path found : Names) (name old new : List ℕ) → is_name name ≡ true → found ≡ resolved path name → fits found ≡ true
-    → new ≡ old ++ text_line (node_line name (unwrap_or (node_at table found) Dir)) → PutsSome true (child_line table path name) old new
-child_put table path found name old new named is within put =
-    let same : found ≡ child path name = is ∙ child_is path name named in
-    let X : Option (List ℕ) = Some (node_line name (unwrap_or (node_at table (child path name)) Dir)) in
-    let P : Bool → Type 0 = λ b. PutsSome true (if b then X else None) old new in
-    subst P (sym within ∙ ap fits same) (refl, put ∙ ap (λ p. old ++ text_line (node_line name (unwrap_or (node_at table p) Dir))) same)
-
 -- ---- a line and its end
 
 -- a line that was put in two steps
 pub ended : (old mid new line : List ℕ) → mid ≡ old ++ line → new ≡ mid ++ 10 ∷ [] → new ≡ old ++ text_line line
 ended old mid new line put end = end ∙ ap (λ l. l ++ 10 ∷ []) put ∙ append_assoc old line (10 ∷ [])
 
+-- a line that there is, or none
+pub put_some : (o : Option (List ℕ)) (old mid new line : List ℕ) → o ≡ Some line → mid ≡ old ++ line → new ≡ mid ++ 10 ∷ [] → PutsSome true o old new
+put_some o old mid new line is put end = subst (λ o. PutsSome true o old new) (sym is) (refl, ended old mid new line put end)
+
+pub put_none : (o : Option (List ℕ)) (old : List ℕ) → o ≡ None → PutsSome false o old old
+put_none o old is = subst (λ o. PutsSome false o old old) (sym is) (refl, refl)
+
 -- what was put behind nothing
 pub put_is : (some : Bool) (o : Option (List ℕ)) (old new : List ℕ) → PutsSome some o old new → old ≡ []
     → (some ≡ is_some o) × (new ≡ lines_file (option_to_list o))
 put_is some None old new put none = (put.0, put.1 ∙ none)
 put_is some (Some line) old new put none = (put.0, put.1 ∙ ap (λ l. l ++ text_line line) none ∙ sym (append-nil (text_line line)))
+
+-- ---- what an entry of a directory says
+
+-- the path of a name in a directory is within the limits where the name is short enough for what the path leaves
+pub fits_child : (key : List ℕ) (path : Names) (name : List ℕ) → IsKept key → names_of key ≡ path → is_name name ≡ true → fits (child path name) ≡ nat_lt (length name) (900 - length key)
+fits_child key path name kept is named =
+    ap (λ p. fits (p ++ name ∷ [])) (sym is) ∙ fits-room key (name ∷ []) (kept-place key kept) (kept-le key kept)
+    ∙ ap (λ b. (b && true) && nat_le (length (joined (name ∷ []))) (900 - length key)) (and_parts (is_component name) (nat_le (length name) 255) named).1
+    ∙ ap (λ l. nat_le (suc (length l)) (900 - length key)) (append-nil name) ∙ less (length name) (900 - length key)
+  where
+    less : (a b : ℕ) → nat_le (suc a) b ≡ nat_lt a b
+    less a b = grind (arith, nat_tests)
+
+pub file_shown : (name : List ℕ) (node : Option Node) (size moment : ℕ) → option_map shown_of node ≡ Some (Some (size, moment)) → list_line (codes "-rw-r--r--") size moment name ≡ node_line name (unwrap_or node Dir)
+file_shown name None size moment is = absurd (cc)
+file_shown name (Some Dir) size moment is = absurd (cc)
+file_shown name (Some (File octets at)) size moment is =
+    let same = ap (λ o. unwrap_or (unwrap_or o None) (0, 0)) is in
+    ap (λ s. list_line (codes "-rw-r--r--") s moment name) (ap (λ p. p.0) (sym same)) ∙ ap (λ m. list_line (codes "-rw-r--r--") (length octets) m name) (ap (λ p. p.1) (sym same))
+
+pub dir_shown : (node : Option Node) → option_map shown_of node ≡ Some None → node ≡ Some Dir
+dir_shown None is = absurd (cc)
+dir_shown (Some Dir) is = refl
+dir_shown (Some (File octets at)) is = absurd (cc)
+
+-- a file stands there just where the entry has its facts
+pub is_shown : {X : Type 0} (f : X → ℕ × ℕ) (node : Option Node) (file : Option X) → option_map shown_of node ≡ Some (option_map f file) → is_file node ≡ is_some file
+is_shown f None file is = absurd (cc)
+is_shown f (Some Dir) None is = refl
+is_shown f (Some Dir) (Some x) is = absurd (cc)
+is_shown f (Some (File octets at)) None is = absurd (cc)
+is_shown f (Some (File octets at)) (Some x) is = refl
+
+module _ (table : Table) (path : Names) (name : List ℕ) where
+  pub child_long : fits (child path name) ≡ false → child_line table path name ≡ None
+  child_long long = ap (λ b. if b then Some (node_line name (unwrap_or (node_at table (child path name)) Dir)) else None) long
+
+  pub child_fits : fits (child path name) ≡ true → child_line table path name ≡ Some (node_line name (unwrap_or (node_at table (child path name)) Dir))
+  child_fits fit = ap (λ b. if b then Some (node_line name (unwrap_or (node_at table (child path name)) Dir)) else None) fit
+
+  pub file_long : (text : List ℕ) → fits (child path name) ≡ false → file_in table path text name ≡ None
+  file_long text long = ap (λ b. if b && is_file (node_at table (child path name)) then Some (behind text name) else None) long
+
+  pub file_fits : (text : List ℕ) → fits (child path name) ≡ true → (file : Bool) → is_file (node_at table (child path name)) ≡ file → file_in table path text name ≡ (if file then Some (behind text name) else None)
+  file_fits text fit file is =
+      ap (λ b. if b && is_file (node_at table (child path name)) then Some (behind text name) else None) fit ∙ ap (λ b. if b then Some (behind text name) else None) is
+
+  pub entry_long : (facts : Facts) → fits (child path name) ≡ false → option_map (listed_line facts) (entry_in table path name) ≡ None
+  entry_long facts long = ap (λ b. option_map (listed_line facts) (if b then Some (entry_at table (child path name) name) else None)) long
+
+  pub entry_fits : (facts : Facts) → fits (child path name) ≡ true → option_map (listed_line facts) (entry_in table path name) ≡ Some (listed_line facts (entry_at table (child path name) name))
+  entry_fits facts fit = ap (λ b. option_map (listed_line facts) (if b then Some (entry_at table (child path name) name) else None)) fit
+
+pub listed_dir : (name perm : List ℕ) (path : Names) (node : Option Node) → option_map shown_of node ≡ Some None → perm ≡ codes "cdeflmp"
+    → record { name = name; kind = Some (codes "dir"); size = None; modify = None; perm = Some perm } ≡ listed name (child path name) (unwrap_or node Dir)
+listed_dir name perm path node is same =
+    ap (λ p. record { name = name; kind = Some (codes "dir"); size = None; modify = None; perm = Some p }) (same ∙ sym (below path))
+    ∙ ap (λ n. listed name (child path name) (unwrap_or n Dir)) (sym (dir_shown node is))
+  where
+    below : (path : Names) → perm_of (child path name) Dir ≡ codes "cdeflmp"
+    below [] = refl
+    below (first ∷ path) = refl
+
+pub listed_file : (name perm : List ℕ) (path : Names) (node : Option Node) (size moment : ℕ) (said : Option ℕ) → option_map shown_of node ≡ Some (Some (size, moment)) → said ≡ size_fact size → perm ≡ codes "adfrw"
+    → record { name = name; kind = Some (codes "file"); size = said; modify = Some moment; perm = Some perm } ≡ listed name (child path name) (unwrap_or node Dir)
+listed_file name perm path None size moment said is fact same = absurd (cc)
+listed_file name perm path (Some Dir) size moment said is fact same = absurd (cc)
+listed_file name perm path (Some (File octets at)) size moment said is fact same =
+    let shown = ap (λ o. unwrap_or (unwrap_or o None) (0, 0)) is in
+    ap (λ s. record { name = name; kind = Some (codes "file"); size = s; modify = Some moment; perm = Some perm }) (fact ∙ ap (λ (p : ℕ × ℕ). size_fact p.0) (sym shown))
+    ∙ ap (λ m. record { name = name; kind = Some (codes "file"); size = size_fact (length octets); modify = Some m; perm = Some perm }) (ap (λ (p : ℕ × ℕ). p.1) (sym shown))
+    ∙ ap (λ p. record { name = name; kind = Some (codes "file"); size = size_fact (length octets); modify = Some at; perm = Some p }) same
 
 -- ---- names one after another
 

@@ -2,7 +2,8 @@
 use Rattle.std.specs.Prelude.{◌≡◌, ℕ, Bool, true, false, List, [], ◌++◌, drop, Option, Some, None, option_map}
 use Rattle.std.specs.List.{filter_map}
 use Rattle.ftp_path.specs.Path.{Names}
-use Rattle.ftp_tree.specs.Tree.{Table, children}
+use Rattle.ftp_tree.specs.Tree.{Node, Table, children, shown_of}
+use Rattle.ftp_tree.specs.declared.tree.FileFacts.{FileFacts}
 use Rattle.ftp_direct.specs.Direct.{entry_in, file_in}
 use Rattle.ftp_server_model.specs.Entries.{listed_line}
 use Rattle.ftp_server_model.specs.Listing.{text_line, child_line, list_lines, name_lines, entry_lines}
@@ -25,6 +26,10 @@ line_of (Whats.Entries facts) table path name = option_map (listed_line facts) (
 abbrev pub lines_from : {A : Type 0} → What A → Table → Names → Option ℕ → List (List ℕ)
 lines_from what table path None = []
 lines_from what table path (Some place) = filter_map (line_of what table path) (drop place (children table path))
+
+-- something stands there, and these are its facts
+abbrev pub IsOf : Option FileFacts → Option Node → Type 0
+IsOf file node = option_map shown_of node ≡ Some (option_map (λ file. (file.size, file.moment.seconds)) file)
 
 -- the line was put behind the octets, with LF behind it, or there is none
 abbrev pub PutsSome : Bool → Option (List ℕ) → List ℕ → List ℕ → Type 0

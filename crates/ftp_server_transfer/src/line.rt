@@ -1,24 +1,27 @@
 // One line of a listing.
-ghost use Rattle.std.specs.Prelude.{◌≡◌, ◌<◌, ◌++◌, [], IfOk, OnOk, IsTrue, true, length, Some, None, is_some, option_map, if◌then◌else◌, List, ℕ};
+ghost use Rattle.std.specs.Prelude.{◌≡◌, ◌<◌, ◌++◌, [], IfOk, OnOk, true, length, Some, None, Option, is_some, option_map, if◌then◌else◌, List, ℕ};
 ghost use Rattle.std.specs.Option.{ForSome, unwrap_or};
 ghost use Rattle.ftp_endpoint.specs.Number.{IsShort};
 ghost use Rattle.ftp_facts.specs.Fact.{IsOtherWord, IsValue};
 ghost use Rattle.ftp_facts.specs.declared.entry.EntryKind.TheVariants.{Other};
-ghost use Rattle.ftp_path.specs.Path.{is_name};
-ghost use Rattle.ftp_tree.specs.Tree.{Dir, node_at, under};
+ghost use Rattle.ftp_path.specs.Path.{IsPathText, Names, fits};
+ghost use Rattle.ftp_tree.specs.Tree.{Dir, Node, Table, node_at, under};
 ghost use Rattle.ftp_operation.specs.Answer.{listed_of};
-ghost use Rattle.ftp_direct.specs.Direct.{entry_in, file_in};
+ghost use Rattle.ftp_direct.specs.Direct.{behind, child, entry_in, file_in, listed, size_fact};
 ghost use Rattle.ftp_server_model.specs.Entries.{listed_line};
 ghost use Rattle.ftp_server_model.specs.Listing.{child_line, last_name, lines_file, node_line};
-ghost use Rattle.ftp_server_transfer.specs.Lines.{PutsSome, line_of, lines_from};
+ghost use Rattle.ftp_server_transfer.specs.Lines.{IsOf, PutsSome, line_of, lines_from};
 
 use crate::list_line::{put_dir_line, put_file_line};
-use ftp_direct::{entry_in, file_in, find};
 use ftp_facts::{Entry, EntryKind, Moment, Text, write_entry};
-use ftp_path::Path;
+use ftp_operation::is_number;
+use ftp_path::{Name, Path};
 use ftp_server_model::Facts;
-use ftp_tree::Tree;
+use ftp_tree::{DirEntry, FileFacts, Tree};
 use std::alloc::{AllocError, Allocator};
+
+/// The most octets of a canonical text of a path (own choice).
+const TEXT_LIMIT: usize = 900;
 
 /// What a listing says of each name.
 pub enum What<A: Allocator + Copy> {
@@ -55,11 +58,11 @@ pub(crate) fn put_next<A: Allocator + Copy, T: Tree<A>>(
     ensures some { IfOk result (λ next. is_some next ≡ true → 0 < length line.new.items) }
 {
     let mut place = from;
-    while let Some(name) = tree.nth_name(root, path, place) {
+    while let Some(entry) = tree.nth_entry(root, path, place) {
         let Some(next) = place.checked_add(1) else {
             return Err(AllocError);
         };
-        if put_line(alloc, tree, root, path, what, name.octets(), line)? {
+        if put_line(alloc, path, what, entry, line)? {
             return Ok(Some(next));
         }
         place = next;
@@ -67,54 +70,150 @@ pub(crate) fn put_next<A: Allocator + Copy, T: Tree<A>>(
     Ok(None)
 }
 
-/// Puts the line of a name in a directory, with LF behind it, where it has one.
-fn put_line<A: Allocator + Copy, T: Tree<A>>(
+/// Puts the line of an entry of a directory, with LF behind it, where it has one: nothing is said of a path past the limits of paths.
+fn put_line<A: Allocator + Copy>(
     alloc: A,
-    tree: &T,
-    root: &Path<A>,
     path: &Path<A>,
     what: &What<A>,
-    name: &[u8],
+    found: DirEntry<'_>,
     line: &mut Vec<u8, A>,
 ) -> Result<bool, AllocError>
-    requires { IsTrue (is_name name.now) }
-    ensures { IfOk result (λ some. PutsSome some (line_of what.now (under (T.table tree.now) root.now) path.now name.now) line.old.items line.new.items) }
+    ensures { (table : Table) → IsOf found.entry.file (node_at table (child path.now found.entry.name.octets.now)) → IfOk result (λ some. PutsSome some (line_of what.now table path.now found.entry.name.octets.now) line.old.items line.new.items) }
 {
-    let name = Text::copy_of(alloc, name)?;
     match what {
-        What::Lines => {
-            let some = put_child(alloc, tree, root, path, &name, line)?;
-            Ok(some)
-        }
-        What::Names(text) => {
-            let some = put_file(alloc, tree, root, path, text, &name, line)?;
-            Ok(some)
-        }
-        What::Entries(facts) => {
-            let some = put_entry(alloc, tree, root, path, *facts, &name, line)?;
-            Ok(some)
-        }
+        What::Lines => put_child(path, found, line),
+        What::Names(text) => put_file(path, text.as_slice(), found, line),
+        What::Entries(facts) => put_entry(alloc, path, *facts, found, line),
     }
 }
 
-/// Puts the line of LIST for a name in a directory, where its path is within the limits of paths.
-fn put_child<A: Allocator + Copy, T: Tree<A>>(
-    alloc: A,
-    tree: &T,
-    root: &Path<A>,
+/// Whether the path of a name in a directory is within the limits of paths.
+fn fits_below<A: Allocator + Copy>(path: &Path<A>, name: Name<'_>) -> bool
+    ensures { result ≡ fits (child path.now name.entry.octets.now) }
+{
+    name.octets().len() < TEXT_LIMIT.saturating_sub(path.key().len())
+}
+
+/// Puts the line of LIST for an entry.
+fn put_child<A: Allocator + Copy>(
     path: &Path<A>,
-    name: &Text<A>,
+    found: DirEntry<'_>,
     line: &mut Vec<u8, A>,
 ) -> Result<bool, AllocError>
-    requires { IsTrue (is_name name.now) }
-    ensures { IfOk result (λ some. PutsSome some (child_line (under (T.table tree.now) root.now) path.now name.now) line.old.items line.new.items) }
+    ensures { (table : Table) → IsOf found.entry.file (node_at table (child path.now found.entry.name.octets.now)) → IfOk result (λ some. PutsSome some (child_line table path.now found.entry.name.octets.now) line.old.items line.new.items) }
 {
-    let Some(child) = find(&alloc, path, name)? else {
+    if !fits_below(path, found.name) {
         return Ok(false);
-    };
-    put_node(tree, root, &child, name.as_slice(), line)?;
+    }
+    put_shown(found, line)?;
     line.push(b'\n')?;
     Ok(true)
+}
+
+/// Puts the columns of LIST for an entry.
+fn put_shown<A: Allocator + Copy>(
+    found: DirEntry<'_>,
+    line: &mut Vec<u8, A>,
+) -> Result<(), AllocError>
+    ensures { (node : Option Node) → IsOf found.entry.file node → OnOk result (line.new.items ≡ line.old.items ++ node_line found.entry.name.octets.now (unwrap_or node Dir)) }
+{
+    match found.file {
+        Some(file) => put_file_line(found.name.octets(), file.size, file.moment, line),
+        None => put_dir_line(found.name.octets(), line),
+    }
+}
+
+/// Puts the pathname of an entry, where it is a file's.
+fn put_file<A: Allocator + Copy>(
+    path: &Path<A>,
+    text: &[u8],
+    found: DirEntry<'_>,
+    line: &mut Vec<u8, A>,
+) -> Result<bool, AllocError>
+    ensures { (table : Table) → IsOf found.entry.file (node_at table (child path.now found.entry.name.octets.now)) → IfOk result (λ some. PutsSome some (file_in table path.now text.now found.entry.name.octets.now) line.old.items line.new.items) }
+{
+    if !fits_below(path, found.name) {
+        return Ok(false);
+    }
+    if found.file.is_none() {
+        return Ok(false);
+    }
+    put_behind(text, found.name.octets(), line)?;
+    line.push(b'\n')?;
+    Ok(true)
+}
+
+/// Puts the facts in force of an entry, a space and the name.
+fn put_entry<A: Allocator + Copy>(
+    alloc: A,
+    path: &Path<A>,
+    facts: Facts,
+    found: DirEntry<'_>,
+    line: &mut Vec<u8, A>,
+) -> Result<bool, AllocError>
+    ensures { (table : Table) → IsOf found.entry.file (node_at table (child path.now found.entry.name.octets.now)) → IfOk result (λ some. PutsSome some (option_map (listed_line facts) (entry_in table path.now found.entry.name.octets.now)) line.old.items line.new.items) }
+{
+    if !fits_below(path, found.name) {
+        return Ok(false);
+    }
+    let entry = listed(alloc, found.name.octets(), found.file)?;
+    put_chosen(entry, facts, line)?;
+    line.push(b'\n')?;
+    Ok(true)
+}
+
+/// Puts a name behind the text that names its directory, with a `/` between them.
+fn put_behind<A: Allocator + Copy>(
+    text: &[u8],
+    name: &[u8],
+    line: &mut Vec<u8, A>,
+) -> Result<(), AllocError>
+    ensures { OnOk result (line.new.items ≡ line.old.items ++ behind text.now name.now) }
+{
+    line.extend_from_slice(text)?;
+    if !text.is_empty() && !text.ends_with(b"/") {
+        line.push(b'/')?;
+    }
+    line.extend_from_slice(name)?;
+    Ok(())
+}
+
+/// All that MLSD may say of an entry of a directory.
+fn listed<A: Allocator + Copy>(
+    alloc: A,
+    name: &[u8],
+    file: Option<FileFacts>,
+) -> Result<Entry<A>, AllocError>
+    requires { IsPathText name.now }
+    ensures { (path : Names) (node : Option Node) → IsOf file node → IfOk result (λ said. listed_of said ≡ listed name.now (child path name.now) (unwrap_or node Dir)) }
+{
+    let name = Text::copy_of(alloc, name)?;
+    let Some(file) = file else {
+        let perm = Text::copy_of(alloc, b"cdeflmp")?;
+        return Ok(Entry {
+            name,
+            kind: Some(EntryKind::Dir),
+            size: None,
+            modify: None,
+            perm: Some(perm),
+        });
+    };
+    let perm = Text::copy_of(alloc, b"adfrw")?;
+    Ok(Entry {
+        name,
+        kind: Some(EntryKind::File),
+        size: size_fact(file.size),
+        modify: Some(file.moment),
+        perm: Some(perm),
+    })
+}
+
+/// A size, where it can be said.
+fn size_fact(size: u64) -> Option<u64>
+    ensures value { result ≡ size_fact size }
+    ensures fits { ForSome result IsShort }
+{
+    if is_number(size) { Some(size) } else { None }
 }
 
 /// Puts the line of LIST for what stands at a path.
@@ -137,52 +236,6 @@ pub(crate) fn put_node<A: Allocator + Copy, T: Tree<A>>(
     };
     put_file_line(name, size, moment, line)?;
     Ok(())
-}
-
-/// Puts the pathname of a name in a directory, where it is a file's.
-fn put_file<A: Allocator + Copy, T: Tree<A>>(
-    alloc: A,
-    tree: &T,
-    root: &Path<A>,
-    path: &Path<A>,
-    text: &Text<A>,
-    name: &Text<A>,
-    line: &mut Vec<u8, A>,
-) -> Result<bool, AllocError>
-    requires { IsTrue (is_name name.now) }
-    ensures { IfOk result (λ some. PutsSome some (file_in (under (T.table tree.now) root.now) path.now text.now name.now) line.old.items line.new.items) }
-{
-    match file_in(&alloc, tree, root, path, text, name)? {
-        Some(file) => {
-            line.extend_from_slice(file.as_slice())?;
-            line.push(b'\n')?;
-            Ok(true)
-        }
-        None => Ok(false),
-    }
-}
-
-/// Puts the facts in force of a name in a directory, a space and the name, where its path is within the limits of paths.
-fn put_entry<A: Allocator + Copy, T: Tree<A>>(
-    alloc: A,
-    tree: &T,
-    root: &Path<A>,
-    path: &Path<A>,
-    facts: Facts,
-    name: &Text<A>,
-    line: &mut Vec<u8, A>,
-) -> Result<bool, AllocError>
-    requires { IsTrue (is_name name.now) }
-    ensures { IfOk result (λ some. PutsSome some (option_map (listed_line facts) (entry_in (under (T.table tree.now) root.now) path.now name.now)) line.old.items line.new.items) }
-{
-    match entry_in(&alloc, tree, root, path, name)? {
-        Some(entry) => {
-            put_chosen(entry, facts, line)?;
-            line.push(b'\n')?;
-            Ok(true)
-        }
-        None => Ok(false),
-    }
 }
 
 /// Puts the line of an entry with the facts in force.

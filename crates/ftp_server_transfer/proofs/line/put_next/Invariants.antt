@@ -4,13 +4,13 @@ use Rattle.ftp_server_model.specs.Listing.{lines_file}
 use Rattle.ftp_server_transfer.specs.Lines.{lines_from}
 use Rattle.ftp_server_transfer.proofs.line.put_next.Given as goal
 
-abbrev pub invariant-loop-name : goal.invariant-loop-name
-invariant-loop-name g l =
+abbrev pub invariant-loop-entry : goal.invariant-loop-entry
+invariant-loop-entry g l =
     let part = under (g.T.Tree.table l.tree) l.root in
     record {
       empty : l.line.items ≡ [];
       left : lines_file (lines_from l.what part l.path (Some l.from)) ≡ lines_file (lines_from l.what part l.path (Some l.place));
     }
 
-abbrev pub decreases-loop-name : goal.decreases-loop-name
-decreases-loop-name g l = length (children (under (g.T.Tree.table l.tree) l.root) l.path) - l.place
+abbrev pub decreases-loop-entry : goal.decreases-loop-entry
+decreases-loop-entry g l = length (children (under (g.T.Tree.table l.tree) l.root) l.path) - l.place

@@ -1,4 +1,4 @@
-use Rattle.std.proofs.Common.{◌∙◌, ap, sym, ◌++◌}
+use Rattle.std.proofs.Common.{◌∙◌, ap, ◌++◌}
 use Rattle.ftp_tree.specs.Tree.{node_at, under, size_at, octets_at, stamp_at}
 use Rattle.ftp_server_transfer.proofs.ListingLemmas.{file_lined, no_size, no_moment}
 use Rattle.ftp_server_transfer.proofs.line.put_node.Goals as goal

@@ -1,4 +1,4 @@
-use Rattle.std.proofs.Common.{◌≡◌, ◌∙◌, ap, sym, length, rules}
+use Rattle.std.proofs.Common.{◌∙◌, sym, rules}
 use Rattle.ftp_tree.specs.Tree.{under}
 use Rattle.ftp_server_transfer.specs.Rest.{rest_of, text_left}
 use Rattle.ftp_server_transfer.proofs.ListingLemmas.{rest_same, gives_on}
