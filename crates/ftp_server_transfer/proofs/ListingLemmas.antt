@@ -3,7 +3,7 @@ use Rattle.std.proofs.Common.{◌≡◌, ℕ, suc, ◌+◌, ◌-◌, ◌<◌, �
 use Rattle.std.specs.Prelude.{codes, decimal, map, is_some, if◌then◌else◌}
 use Rattle.std.specs.List.{filter_map, cons_option, slice_get}
 use Rattle.std.specs.Option.{option_map, option_to_list, unwrap_or}
-use Rattle.std.proofs.lemmas.Bool.{and_parts, false≢true}
+use Rattle.std.proofs.lemmas.Bool.{and_parts}
 use Rattle.std.proofs.lemmas.Bool.Decides.{nat_tests}
 use Rattle.std.proofs.lemmas.List.{drop_more, drop_all}
 use Rattle.std.proofs.lemmas.Option.{get_or_from_slice_get}
@@ -30,7 +30,7 @@ use Rattle.ftp_facts.specs.declared.entry.EntryKind.{EntryKind}
 use Rattle.ftp_server_transfer.specs.Rest.{text_left}
 use Rattle.ftp_server_transfer.specs.declared.line.What.{What}
 use Rattle.ftp_server_transfer.specs.declared.listing.Listing.{Listing}
-use Rattle.ftp_server_transfer.specs.Lines.{PutsSome, lines_from, lines_of}
+use Rattle.ftp_server_transfer.specs.Lines.{Puts, lines_from, lines_of}
 use Rattle.ftp_server_transfer.specs.declared.line.What.TheVariants as Whats
 
 -- ---- what stands at a path
@@ -60,17 +60,16 @@ pub ended : (old mid new line : List ℕ) → mid ≡ old ++ line → new ≡ mi
 ended old mid new line put end = end ∙ ap (λ l. l ++ 10 ∷ []) put ∙ append_assoc old line (10 ∷ [])
 
 -- a line that there is, or none
-pub put_some : (o : Option (List ℕ)) (old mid new line : List ℕ) → o ≡ Some line → mid ≡ old ++ line → new ≡ mid ++ 10 ∷ [] → PutsSome true o old new
-put_some o old mid new line is put end = subst (λ o. PutsSome true o old new) (sym is) (refl, ended old mid new line put end)
+pub put_some : (o : Option (List ℕ)) (old mid new line : List ℕ) → o ≡ Some line → mid ≡ old ++ line → new ≡ mid ++ 10 ∷ [] → Puts o old new
+put_some o old mid new line is put end = subst (λ o. Puts o old new) (sym is) (ended old mid new line put end)
 
-pub put_none : (o : Option (List ℕ)) (old : List ℕ) → o ≡ None → PutsSome false o old old
-put_none o old is = subst (λ o. PutsSome false o old old) (sym is) (refl, refl)
+pub put_none : (o : Option (List ℕ)) (old : List ℕ) → o ≡ None → Puts o old old
+put_none o old is = subst (λ o. Puts o old old) (sym is) refl
 
--- what was put behind nothing
-pub put_is : (some : Bool) (o : Option (List ℕ)) (old new : List ℕ) → PutsSome some o old new → old ≡ []
-    → (some ≡ is_some o) × (new ≡ lines_file (option_to_list o))
-put_is some None old new put none = (put.0, put.1 ∙ none)
-put_is some (Some line) old new put none = (put.0, put.1 ∙ ap (λ l. l ++ text_line line) none ∙ sym (append-nil (text_line line)))
+-- what was put, as lines
+pub put_is : (o : Option (List ℕ)) (old new : List ℕ) → Puts o old new → new ≡ old ++ lines_file (option_to_list o)
+put_is None old new put = put ∙ sym (append-nil old)
+put_is (Some line) old new put = put ∙ ap (λ l. old ++ l) (sym (append-nil (text_line line)))
 
 -- ---- what an entry of a directory says
 
@@ -157,14 +156,12 @@ one_more f all n name is =
     ∙ ap (λ x. lines_file (filter_map f (x ∷ drop (n + 1) all))) (get_or_from_slice_get all n name [] (sym is))
     ∙ lines_cons (f name) (filter_map f (drop (n + 1) all))
 
-pub skipped : (o : Option (List ℕ)) → false ≡ is_some o → lines_file (option_to_list o) ≡ []
-skipped None is = refl
-skipped (Some line) is = absurd (false≢true is)
-
-pub some_octets : (o : Option (List ℕ)) → true ≡ is_some o → 0 < length (lines_file (option_to_list o))
-some_octets None is = absurd (false≢true (sym is))
-some_octets (Some line) is =
-    omega (arith, ap length (append-nil (line ++ 10 ∷ [])), length-append line (10 ∷ []))
+-- with the line of one more name
+pub with_line : (f : List ℕ → Option (List ℕ)) (all : List (List ℕ)) (n m : ℕ) (name whole old new : List ℕ) → Some name ≡ slice_get all n → n + 1 ≡ m → Puts (f name) old new
+    → whole ≡ old ++ lines_file (filter_map f (drop n all)) → whole ≡ new ++ lines_file (filter_map f (drop m all))
+with_line f all n m name whole old new is next put left =
+    left ∙ ap (λ l. old ++ l) (one_more f all n name is) ∙ sym (append_assoc old (lines_file (option_to_list (f name))) (lines_file (filter_map f (drop (n + 1) all))))
+    ∙ ap (λ l. l ++ lines_file (filter_map f (drop (n + 1) all))) (sym (put_is (f name) old new put)) ∙ ap (λ k. new ++ lines_file (filter_map f (drop k all))) next
 
 pub no_more : (f : List ℕ → Option (List ℕ)) (all : List (List ℕ)) (n : ℕ) → None ≡ slice_get all n → lines_file (filter_map f (drop n all)) ≡ []
 no_more f all n none = ap (λ l. lines_file (filter_map f l)) (drop_all n all (names_end all n none))

@@ -1,5 +1,5 @@
 -- Which lines a listing has, name by name (RFC 959, section 4.1.3; RFC 3659, section 7).
-use Rattle.std.specs.Prelude.{◌≡◌, ℕ, Bool, true, false, List, [], ◌++◌, drop, Option, Some, None, option_map}
+use Rattle.std.specs.Prelude.{◌≡◌, ℕ, List, [], ◌++◌, drop, Option, Some, None, option_map}
 use Rattle.std.specs.List.{filter_map}
 use Rattle.ftp_path.specs.Path.{Names}
 use Rattle.ftp_tree.specs.Tree.{Node, Table, children, shown_of}
@@ -32,6 +32,6 @@ abbrev pub IsOf : Option FileFacts → Option Node → Type 0
 IsOf file node = option_map shown_of node ≡ Some (option_map (λ file. (file.size, file.moment.seconds)) file)
 
 -- the line was put behind the octets, with LF behind it, or there is none
-abbrev pub PutsSome : Bool → Option (List ℕ) → List ℕ → List ℕ → Type 0
-PutsSome some None old new = (some ≡ false) × (new ≡ old)
-PutsSome some (Some line) old new = (some ≡ true) × (new ≡ old ++ text_line line)
+abbrev pub Puts : Option (List ℕ) → List ℕ → List ℕ → Type 0
+Puts None old new = new ≡ old
+Puts (Some line) old new = new ≡ old ++ text_line line

@@ -10,7 +10,7 @@ ghost use Rattle.ftp_operation.specs.Answer.{listed_of};
 ghost use Rattle.ftp_direct.specs.Direct.{behind, child, entry_in, file_in, listed, size_fact};
 ghost use Rattle.ftp_server_model.specs.Entries.{listed_line};
 ghost use Rattle.ftp_server_model.specs.Listing.{child_line, last_name, lines_file, node_line};
-ghost use Rattle.ftp_server_transfer.specs.Lines.{IsOf, PutsSome, line_of, lines_from};
+ghost use Rattle.ftp_server_transfer.specs.Lines.{IsOf, Puts, line_of, lines_from};
 
 use crate::list_line::{put_dir_line, put_file_line};
 use ftp_facts::{Entry, EntryKind, Moment, Text, write_entry};
@@ -22,6 +22,9 @@ use std::alloc::{AllocError, Allocator};
 
 /// The most octets of a canonical text of a path (own choice).
 const TEXT_LIMIT: usize = 900;
+
+/// With so many octets no further line is put.
+const ENOUGH: usize = 512;
 
 /// What a listing says of each name.
 pub enum What<A: Allocator + Copy> {
@@ -42,7 +45,8 @@ impl<A: Allocator + Copy> Drop for What<A> {
     }
 }
 
-/// Puts the next line from a place on, with LF behind it, and says where to go on; none where no line is left.
+/// Puts the next lines from a place on, with LF behind each, and says where to go on; none where no line is left. These are as
+/// many as it takes to have some octets: what follows each line is done once for all of them.
 pub(crate) fn put_next<A: Allocator + Copy, T: Tree<A>>(
     alloc: A,
     tree: &T,
@@ -58,11 +62,12 @@ pub(crate) fn put_next<A: Allocator + Copy, T: Tree<A>>(
     ensures some { IfOk result (λ next. is_some next ≡ true → 0 < length line.new.items) }
 {
     let mut place = from;
-    while let Some(entry) = tree.nth_entry(root, path, place) {
+    while let Some(found) = tree.nth_entry(root, path, place) {
         let Some(next) = place.checked_add(1) else {
             return Err(AllocError);
         };
-        if put_line(alloc, path, what, entry, line)? {
+        put_line(alloc, path, what, found, line)?;
+        if line.len() >= ENOUGH {
             return Ok(Some(next));
         }
         place = next;
@@ -77,8 +82,8 @@ fn put_line<A: Allocator + Copy>(
     what: &What<A>,
     found: DirEntry<'_>,
     line: &mut Vec<u8, A>,
-) -> Result<bool, AllocError>
-    ensures { (table : Table) → IsOf found.entry.file (node_at table (child path.now found.entry.name.octets.now)) → IfOk result (λ some. PutsSome some (line_of what.now table path.now found.entry.name.octets.now) line.old.items line.new.items) }
+) -> Result<(), AllocError>
+    ensures { (table : Table) → IsOf found.entry.file (node_at table (child path.now found.entry.name.octets.now)) → OnOk result (Puts (line_of what.now table path.now found.entry.name.octets.now) line.old.items line.new.items) }
 {
     match what {
         What::Lines => put_child(path, found, line),
@@ -99,15 +104,15 @@ fn put_child<A: Allocator + Copy>(
     path: &Path<A>,
     found: DirEntry<'_>,
     line: &mut Vec<u8, A>,
-) -> Result<bool, AllocError>
-    ensures { (table : Table) → IsOf found.entry.file (node_at table (child path.now found.entry.name.octets.now)) → IfOk result (λ some. PutsSome some (child_line table path.now found.entry.name.octets.now) line.old.items line.new.items) }
+) -> Result<(), AllocError>
+    ensures { (table : Table) → IsOf found.entry.file (node_at table (child path.now found.entry.name.octets.now)) → OnOk result (Puts (child_line table path.now found.entry.name.octets.now) line.old.items line.new.items) }
 {
     if !fits_below(path, found.name) {
-        return Ok(false);
+        return Ok(());
     }
     put_shown(found, line)?;
     line.push(b'\n')?;
-    Ok(true)
+    Ok(())
 }
 
 /// Puts the columns of LIST for an entry.
@@ -129,18 +134,18 @@ fn put_file<A: Allocator + Copy>(
     text: &[u8],
     found: DirEntry<'_>,
     line: &mut Vec<u8, A>,
-) -> Result<bool, AllocError>
-    ensures { (table : Table) → IsOf found.entry.file (node_at table (child path.now found.entry.name.octets.now)) → IfOk result (λ some. PutsSome some (file_in table path.now text.now found.entry.name.octets.now) line.old.items line.new.items) }
+) -> Result<(), AllocError>
+    ensures { (table : Table) → IsOf found.entry.file (node_at table (child path.now found.entry.name.octets.now)) → OnOk result (Puts (file_in table path.now text.now found.entry.name.octets.now) line.old.items line.new.items) }
 {
     if !fits_below(path, found.name) {
-        return Ok(false);
+        return Ok(());
     }
     if found.file.is_none() {
-        return Ok(false);
+        return Ok(());
     }
     put_behind(text, found.name.octets(), line)?;
     line.push(b'\n')?;
-    Ok(true)
+    Ok(())
 }
 
 /// Puts the facts in force of an entry, a space and the name.
@@ -150,16 +155,16 @@ fn put_entry<A: Allocator + Copy>(
     facts: Facts,
     found: DirEntry<'_>,
     line: &mut Vec<u8, A>,
-) -> Result<bool, AllocError>
-    ensures { (table : Table) → IsOf found.entry.file (node_at table (child path.now found.entry.name.octets.now)) → IfOk result (λ some. PutsSome some (option_map (listed_line facts) (entry_in table path.now found.entry.name.octets.now)) line.old.items line.new.items) }
+) -> Result<(), AllocError>
+    ensures { (table : Table) → IsOf found.entry.file (node_at table (child path.now found.entry.name.octets.now)) → OnOk result (Puts (option_map (listed_line facts) (entry_in table path.now found.entry.name.octets.now)) line.old.items line.new.items) }
 {
     if !fits_below(path, found.name) {
-        return Ok(false);
+        return Ok(());
     }
     let entry = listed(alloc, found.name.octets(), found.file)?;
     put_chosen(entry, facts, line)?;
     line.push(b'\n')?;
-    Ok(true)
+    Ok(())
 }
 
 /// Puts a name behind the text that names its directory, with a `/` between them.
