@@ -290,19 +290,19 @@ over_from : {A : Type 0} (what : What A) (table : Table) (path : Names) (place :
 over_from what table path None n known none = refl
 over_from what table path (Some place) n known none = absurd (omega (arith, known refl, none))
 
-pub text_none : {A : Type 0} (l : Listing A) (table : Table) → l.given ≡ length l.line.items → length l.ahead.items ≡ 0 → text_left table l ≡ []
+pub text_none : {A : Type 0} (l : Listing A) (table : Table) → l.given ≡ length l.lines.items → length l.ahead.items ≡ 0 → text_left table l ≡ []
 text_none l table used none =
     let nothing : l.ahead.items ≡ [] = empty_of l.ahead.items none in
-    ap (λ k. k ++ (l.ahead.items ++ lines_file (lines_from l.what table l.path l.place))) (drop_all l.given l.line.items (omega (arith, used)))
+    ap (λ k. k ++ (l.ahead.items ++ lines_file (lines_from l.what table l.path l.place))) (drop_all l.given l.lines.items (omega (arith, used)))
     ∙ ap (λ k. k ++ lines_file (lines_from l.what table l.path l.place)) nothing
     ∙ ap lines_file (over_from l.what table l.path l.place (length l.ahead.items) l.known none)
 
-pub text_used : {A : Type 0} (l : Listing A) (table : Table) → text_left table l ≡ [] → (l.given ≡ length l.line.items) × (length l.ahead.items ≡ 0)
+pub text_used : {A : Type 0} (l : Listing A) (table : Table) → text_left table l ≡ [] → (l.given ≡ length l.lines.items) × (length l.ahead.items ≡ 0)
 text_used l table none =
     let behind = l.ahead.items ++ lines_file (lines_from l.what table l.path l.place) in
-    let whole = length-append (drop l.given l.line.items) behind in
+    let whole = length-append (drop l.given l.lines.items) behind in
     let parts = length-append l.ahead.items (lines_file (lines_from l.what table l.path l.place)) in
-    let left = length-drop l.given l.line.items in
+    let left = length-drop l.given l.lines.items in
     let nothing = ap length none in
     (omega (arith, whole, left, nothing, l.within), omega (arith, whole, parts, nothing))
 

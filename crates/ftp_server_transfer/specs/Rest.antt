@@ -8,7 +8,7 @@ use Rattle.ftp_server_transfer.specs.declared.listing.Listing.{Listing}
 
 -- the octets of its text, as a file: those of the line that is being given, of the line behind it, and of the lines that are not made yet
 abbrev pub text_left : {A : Type 0} → Table → Listing A → List ℕ
-text_left table l = drop l.given l.line.items ++ (l.ahead.items ++ lines_file (lines_from l.what table l.path l.place))
+text_left table l = drop l.given l.lines.items ++ (l.ahead.items ++ lines_file (lines_from l.what table l.path l.place))
 
 -- the octets of the data connection still to come, where this is the part of the map that the account sees
 abbrev pub rest_of : {A : Type 0} → Table → Listing A → List ℕ

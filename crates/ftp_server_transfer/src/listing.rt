@@ -20,24 +20,24 @@ use std::mem;
 pub struct Made {
     /// So many octets of the room were made.
     pub made: usize,
-    /// The next line had no memory.
+    /// The next lines had no memory.
     pub refused: bool,
 }
 
-/// The octets of a listing that are still to be given. It holds two lines, and makes the others from the tree.
+/// The octets of a listing that are still to be given. It holds some lines, and some behind them, and makes the others from the tree.
 pub struct Listing<A: Allocator + Copy> {
     alloc: A,
     what: What<A>,
     path: Path<A>,
     encoder: Encoder,
-    /// The line that is being given, and how many of its octets were taken.
-    line: Vec<u8, A>,
+    /// The lines that are being given, and how many of their octets were taken.
+    lines: Vec<u8, A>,
     given: usize,
-    /// The line behind it; no octets where there is none.
+    /// Those behind them; no octets where there are none.
     ahead: Vec<u8, A>,
     /// The place of the first name that was not looked at; none where no further line is to be made.
     place: Option<usize>,
-    ghost within: { given ≤ length line.items },
+    ghost within: { given ≤ length lines.items },
     ghost known: { is_some place ≡ true → 0 < length ahead.items },
 }
 
@@ -49,7 +49,7 @@ impl<A: Allocator + Copy> Drop for Listing<A> {
             what: _,
             path: _,
             encoder: _,
-            line: _,
+            lines: _,
             given: _,
             ahead: _,
             place: _,
@@ -84,14 +84,14 @@ impl<A: Allocator + Copy> Listing<A> {
             what,
             path,
             encoder: Encoder::new(settings),
-            line: Vec::new(alloc),
+            lines: Vec::new(alloc),
             given: 0,
             ahead,
             place,
         })
     }
 
-    /// Gives octets until the room is full or all is out. Where the next line had no memory all that was still to be given stays
+    /// Gives octets until the room is full or all is out. Where the next lines had no memory all that was still to be given stays
     /// so, and something is.
     pub fn give<T: Tree<A>>(&mut self, tree: &T, root: &Path<A>, room: &mut [u8]) -> Made
         ensures within { result.made ≤ length room.old }
@@ -109,7 +109,7 @@ impl<A: Allocator + Copy> Listing<A> {
                 };
             }
             let (_, free) = room.split_at_mut(made);
-            made += self.give_line(free);
+            made += self.give_lines(free);
         }
         Made {
             made,
@@ -131,26 +131,26 @@ impl<A: Allocator + Copy> Listing<A> {
         self.is_used_up() && self.ahead.is_empty()
     }
 
-    /// Whether all octets of the line were taken.
+    /// Whether all octets of the lines were taken.
     fn is_used_up(&self) -> bool
-        ensures { IsTrue result ↔ (self.now.given ≡ length self.now.line.items) }
+        ensures { IsTrue result ↔ (self.now.given ≡ length self.now.lines.items) }
     {
-        self.given == self.line.len()
+        self.given == self.lines.len()
     }
 
-    /// Where the line is used up the one behind it becomes the line, and a next one is made.
+    /// Where the lines are used up those behind them take their place, and next ones are made.
     fn advance<T: Tree<A>>(&mut self, tree: &T, root: &Path<A>) -> Result<(), AllocError>
         ensures rest { let part = under (T.table tree.now) root.now in (text_left part self.new ≡ text_left part self.old) × (self.new.encoder ≡ self.old.encoder) }
-        ensures ready { OnOk result ((self.new.given < length self.new.line.items) ⊎ (length self.new.ahead.items ≡ 0)) }
+        ensures ready { OnOk result ((self.new.given < length self.new.lines.items) ⊎ (length self.new.ahead.items ≡ 0)) }
         ensures left { OnErr result (0 < length self.new.ahead.items) }
     {
         if !self.is_used_up() || self.ahead.is_empty() {
             return Ok(());
         }
-        self.line.clear();
+        self.lines.clear();
         self.given = 0;
         let Some(place) = self.place else {
-            mem::swap(&mut self.line, &mut self.ahead);
+            mem::swap(&mut self.lines, &mut self.ahead);
             return Ok(());
         };
         match put_next(
@@ -160,29 +160,29 @@ impl<A: Allocator + Copy> Listing<A> {
             &self.path,
             &self.what,
             place,
-            &mut self.line,
+            &mut self.lines,
         ) {
             Ok(next) => {
-                mem::swap(&mut self.line, &mut self.ahead);
+                mem::swap(&mut self.lines, &mut self.ahead);
                 self.place = next;
                 Ok(())
             }
             Err(fault) => {
-                self.line.clear();
+                self.lines.clear();
                 Err(fault)
             }
         }
     }
 
-    /// Gives octets of the line, and of the end where no line is behind it.
-    fn give_line(&mut self, room: &mut [u8]) -> usize
-        requires ready { (self.old.given < length self.old.line.items) ⊎ (length self.old.ahead.items ≡ 0) }
+    /// Gives octets of the lines, and of the end where none are behind them.
+    fn give_lines(&mut self, room: &mut [u8]) -> usize
+        requires ready { (self.old.given < length self.old.lines.items) ⊎ (length self.old.ahead.items ≡ 0) }
         ensures within { result ≤ length room.old }
         ensures gives { (table : Table) → rest_of table self.old ≡ take result room.new ++ rest_of table self.new }
         ensures some { (table : Table) → 0 < length room.old → 0 < length (rest_of table self.old) →
             length (text_left table self.new) < length (text_left table self.old) + result }
     {
-        let (_, rest) = self.line.as_slice().split_at(self.given);
+        let (_, rest) = self.lines.as_slice().split_at(self.given);
         let encoded = self.encoder.put(rest, self.ahead.is_empty(), room);
         self.given += encoded.taken;
         encoded.made

@@ -12,7 +12,7 @@ loop-made-preserved g c =
     record {
       made = search rules;
       room = search rules;
-      gives = gives_on (rest_of part c.args.self.now) (rest_of part mid) (rest_of part c.give_line-made.new.self) c.loop-made.room c.split_at_mut-free.result.0.now c.give_line-made.new.room
-          c.loop-made.made c.give_line-made.result c.loop-made.invariant.made c.split_at_mut-free.ensures.front c.loop-made.invariant.gives
-          (rest_same mid.encoder ready.encoder (text_left part mid) (text_left part ready) (sym c.advance.ensures.rest.1) (sym c.advance.ensures.rest.0) ∙ c.give_line-made.ensures.gives part);
+      gives = gives_on (rest_of part c.args.self.now) (rest_of part mid) (rest_of part c.give_lines-made.new.self) c.loop-made.room c.split_at_mut-free.result.0.now c.give_lines-made.new.room
+          c.loop-made.made c.give_lines-made.result c.loop-made.invariant.made c.split_at_mut-free.ensures.front c.loop-made.invariant.gives
+          (rest_same mid.encoder ready.encoder (text_left part mid) (text_left part ready) (sym c.advance.ensures.rest.1) (sym c.advance.ensures.rest.0) ∙ c.give_lines-made.ensures.gives part);
     }
