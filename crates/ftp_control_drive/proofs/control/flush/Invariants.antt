@@ -1,0 +1,7 @@
+use Rattle.ftp_control_drive.proofs.Words.{Lane, Leads, held, stand_of}
+use Rattle.ftp_control_drive.proofs.control.flush.Given as goal
+
+abbrev pub invariant-loop : goal.invariant-loop
+invariant-loop g l =
+    let stand = stand_of g.K.EndCalls.machine g.R.Read.remaining g.W.Write.contents in
+    (lane : Lane) → Leads (stand (held (g.K.EndCalls.here l.fn.end) lane) l.fn.control) (stand (held (g.K.EndCalls.here l.end) lane) l.control)

@@ -1,0 +1,51 @@
+-- Where a drive of the program stands.
+use Rattle.std.specs.Prelude.{◌≡◌, ℕ, true, List, [], Option}
+use Rattle.std.specs.Option.{is_some}
+use Rattle.std.specs.Io.KnownBytes.{IsAtEnd}
+use Rattle.std.specs.declared.result.Result.{Result}
+use Rattle.ftp_control.specs.Asking.{Asked}
+use Rattle.ftp_control.specs.Carrying.{left_of}
+use Rattle.ftp_control.specs.Deeds.{Stand, with_owner}
+use Rattle.ftp_control.specs.Driving.{Leads}
+use Rattle.ftp_control.specs.Lane.{Lane, lane_of, with_asked}
+use Rattle.ftp_control.specs.Machine.{Machine, held, side_of, stand_of}
+use Rattle.ftp_control.specs.declared.pieces.Failed.{Failed}
+use Rattle.ftp_control_drive.specs.Reaching.{GoesOn}
+use Rattle.ftp_control_drive.specs.declared.data.Data.{Data}
+use Rattle.ftp_control_drive.specs.declared.drive.Drive.{Drive}
+
+-- a data connection of which these octets were read and not told
+abbrev pub lane_at : {S : Type 0} → (remaining contents : S → Option (List ℕ)) → Option (List Asked) → Data S → (untold : List ℕ) → Lane
+lane_at remaining contents asked data_connection untold = lane_of remaining contents asked data_connection.connection data_connection.room untold
+
+-- one stands, and its stream is at its end
+abbrev pub HasEnded : {S : Type 0} → (remaining : S → Option (List ℕ)) → Data S → Type 0
+HasEnded remaining data_connection = (is_some data_connection.connection.stream ≡ true) × IsAtEnd (left_of remaining data_connection.connection)
+
+-- it is a drive of the same end, control connection and ports
+abbrev pub IsKept : {K E C R W P S : Type 0} → (old new : Drive K E C R W P S) → Type 0
+IsKept old new = (new.end.ghost_name ≡ old.end.ghost_name) × (new.control.ghost_name ≡ old.control.ghost_name) × (new.ports.ghost_name ≡ old.ports.ghost_name)
+
+-- by what its end holds, its reader has left, its writer holds, and `Ports` and a stream tell
+module _ (machine : Machine) {K E C R W P S : Type 0} (here : E → machine.Here) (left : R → Option (List ℕ)) (written : W → Option (List ℕ))
+    (history : P → Option (List Asked)) (remaining contents : S → Option (List ℕ)) where
+  -- while these octets are in hand
+  abbrev pub standing_with : Drive K E C R W P S → (untold : List ℕ) → Stand (side_of machine)
+  standing_with drive untold =
+      stand_of machine left written (held (here drive.end.now) (lane_at remaining contents (history drive.ports.now) drive.data untold)) drive.control.now
+
+  -- while none are
+  abbrev pub standing : Drive K E C R W P S → Stand (side_of machine)
+  standing drive = standing_with drive []
+
+  -- it leads on
+  abbrev pub LeadsOn : (old new : Drive K E C R W P S) → Type 0
+  LeadsOn old new = Leads (standing old) (standing new)
+
+  -- it leads on, or fails
+  abbrev pub Follows : {T : Type 0} → (old new : Drive K E C R W P S) → Result T Failed → Type 0
+  Follows old new result = GoesOn (standing old) (standing new) result
+
+-- the same before what was asked last
+abbrev pub asked_before : {machine : Machine} → Option (List Asked) → Stand (side_of machine) → Stand (side_of machine)
+asked_before asked stand = with_owner (held stand.owner.end (with_asked asked stand.owner.lane)) stand

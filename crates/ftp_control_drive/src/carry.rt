@@ -1,0 +1,189 @@
+// A transfer under way: octets go over the data connection, and control octets that come first are read.
+ghost use Rattle.std.specs.Prelude.{◌≡◌, ◌≢◌, [], false};
+ghost use Rattle.ftp_control.specs.Asking.{Adds};
+ghost use Rattle.ftp_control_drive.specs.Standing.{Follows, HasEnded, IsKept, LeadsOn};
+
+use crate::calls::EndCalls;
+use crate::control::flush;
+use crate::drive::Drive;
+use crate::hand::hand;
+use ftp_control::{Failed, For, Halt, Ports, Ready, Spoken};
+use std::io::{Read, Write};
+
+impl<'e, 'k, 'p, 'w, K, E, C, R, W, P, S> Drive<'e, 'k, 'p, 'w, K, E, C, R, W, P, S>
+where
+    K: EndCalls<E, C>,
+    R: Read + Drop,
+    W: Write + Drop,
+    P: Ports<Stream = S>,
+    S: Read + Write,
+{
+    /// Takes octets from an end that asks, which the turns behind it write; of one that serves sends them where there is room for them.
+    pub(crate) fn carry(&mut self) -> Result<(), Failed>
+        ensures goes { Follows K.machine K.here R.remaining W.contents P.history S.remaining S.contents self.old self.new result }
+        ensures kept { IsKept self.old self.new }
+    {
+        if !K::serves() {
+            self.data.fill::<K, E, C>(self.end);
+            return Ok(());
+        }
+        self.data.note::<K, E, C>(self.end);
+        let hears = !self.control.has_unheard();
+        match self.data.wait(self.ports, For::Room, hears) {
+            Ready::Control => return self.read(),
+            Ready::Data => self.send_more(),
+            Ready::Lost => return Err(Failed),
+        }
+        Ok(())
+    }
+
+    /// Receives octets where there are any, and reads the control connection where it has some first.
+    pub(crate) fn receive(&mut self) -> Result<(), Failed>
+        ensures goes { Follows K.machine K.here R.remaining W.contents P.history S.remaining S.contents self.old self.new result }
+        ensures kept { IsKept self.old self.new }
+    {
+        self.data.note::<K, E, C>(self.end);
+        let hears = !self.control.has_unheard();
+        match self.data.wait(self.ports, For::Octets, hears) {
+            Ready::Control => self.read(),
+            Ready::Data => self.take(),
+            Ready::Lost => self.lost(),
+        }
+    }
+
+    /// The waiting failed: an end that serves gives up, one that asks may still receive what came before.
+    fn lost(&mut self) -> Result<(), Failed>
+        ensures goes { Follows K.machine K.here R.remaining W.contents P.history S.remaining S.contents self.old self.new result }
+        ensures kept { IsKept self.old self.new }
+    {
+        if K::serves() {
+            return Err(Failed);
+        }
+        self.take()
+    }
+
+    /// Takes what a data connection has: octets are handed on; or it ended or broke, and the end is told that.
+    fn take(&mut self) -> Result<(), Failed>
+        ensures goes { Follows K.machine K.here R.remaining W.contents P.history S.remaining S.contents self.old self.new result }
+        ensures kept { IsKept self.old self.new }
+    {
+        match self.data.come() {
+            Ok(0) => self.ended(),
+            Ok(count) => hand::<K, E, C, R, W>(self.end, self.control, self.data.front(count)),
+            Err(Halt::Broken) => self.broke(),
+            Err(halt) => self.halted(halt),
+        }
+    }
+
+    /// Takes octets from the end, where all before were written, and writes them; where that fails, the data connection is lost.
+    fn send_more(&mut self)
+        ensures leads { LeadsOn K.machine K.here R.remaining W.contents P.history S.remaining S.contents self.old self.new }
+        ensures kept { IsKept self.old self.new }
+    {
+        self.data.fill::<K, E, C>(self.end);
+        match self.data.write::<K, E, C>() {
+            Err(Halt::Broken) => self.lose(),
+            _ => {}
+        }
+    }
+
+    /// Writes octets that are on their way, as many as one write takes.
+    pub(crate) fn send(&mut self) -> Result<(), Failed>
+        ensures goes { Follows K.machine K.here R.remaining W.contents P.history S.remaining S.contents self.old self.new result }
+        ensures kept { IsKept self.old self.new }
+    {
+        match self.data.write::<K, E, C>() {
+            Ok(()) => Ok(()),
+            Err(halt) => self.halted(halt),
+        }
+    }
+
+    /// Follows a read or a write of the data connection that moved no octet: one that asks reads what goes first, and where it broke, the end is told.
+    fn halted(&mut self, halt: Halt) -> Result<(), Failed>
+        ensures goes { Follows K.machine K.here R.remaining W.contents P.history S.remaining S.contents self.old self.new result }
+        ensures kept { IsKept self.old self.new }
+    {
+        match halt {
+            Halt::Again => {}
+            Halt::Spoken => {
+                if !K::serves() {
+                    return self.read();
+                }
+            }
+            Halt::Broken => self.lose(),
+        }
+        Ok(())
+    }
+
+    /// The data connection ended: that is told, unless the control connection goes first.
+    fn ended(&mut self) -> Result<(), Failed>
+        requires { HasEnded S.remaining self.old.data }
+        ensures goes { Follows K.machine K.here R.remaining W.contents P.history S.remaining S.contents self.old self.new result }
+        ensures kept { IsKept self.old self.new }
+    {
+        let spoken = look::<K, E, C, P>(self.ports);
+        if self.goes_first(spoken) {
+            return self.read();
+        }
+        self.over(spoken)
+    }
+
+    /// The data connection broke: that is told, unless the control connection goes first.
+    fn broke(&mut self) -> Result<(), Failed>
+        ensures goes { Follows K.machine K.here R.remaining W.contents P.history S.remaining S.contents self.old self.new result }
+        ensures kept { IsKept self.old self.new }
+    {
+        let spoken = look::<K, E, C, P>(self.ports);
+        if self.goes_first(spoken) {
+            return self.read();
+        }
+        self.lose();
+        Ok(())
+    }
+
+    /// Whether what the control connection has goes before the end of a data connection: octets, where all before were heard, and its own end.
+    fn goes_first(&self, spoken: Spoken) -> bool
+        ensures { result ≡ false → spoken ≢ Spoken.Ended }
+    {
+        match spoken {
+            Spoken::Nothing => false,
+            Spoken::Octets => !self.control.has_unheard(),
+            Spoken::Ended => true,
+        }
+    }
+
+    /// The data connection ended, and the control connection, as far as it was looked at, has not: the end is told the moment and that, what it owes
+    /// then is written, and only then is it closed: its peer, which ended it, waits for the reply alone.
+    fn over(&mut self, _spoken: Spoken) -> Result<(), Failed>
+        requires before { _spoken ≢ Spoken.Ended }
+        requires ended { HasEnded S.remaining self.old.data }
+        ensures goes { Follows K.machine K.here R.remaining W.contents P.history S.remaining S.contents self.old self.new result }
+        ensures kept { IsKept self.old self.new }
+    {
+        K::tell_time(self.end, self.watch);
+        K::data_end(self.end);
+        flush::<K, E, C, R, W>(self.end, self.control)?;
+        self.data.leave(self.ports);
+        Ok(())
+    }
+
+    /// The data connection is lost: the end is told the moment and that, and it is reset.
+    fn lose(&mut self)
+        ensures leads { LeadsOn K.machine K.here R.remaining W.contents P.history S.remaining S.contents self.old self.new }
+        ensures kept { IsKept self.old self.new }
+    {
+        K::tell_time(self.end, self.watch);
+        K::data_fault(self.end);
+        self.data.reset(self.ports);
+    }
+}
+
+/// What the control connection has, where an end that serves looks at it before its data connection is over; one that asks has looked already.
+fn look<K: EndCalls<E, C>, E, C, P: Ports>(ports: &mut P) -> Spoken
+    ensures { Adds (P.history ports.old) (P.history ports.new) [] }
+{
+    if K::serves() {
+        return ports.spoken();
+    }
+    Spoken::Nothing
+}

@@ -1,0 +1,69 @@
+// The octets of a control connection: those that the end owes are written, those that were read are heard.
+ghost use Rattle.std.specs.Prelude.{◌≡◌, ◌<◌, false, length};
+ghost use Rattle.ftp_control.specs.Driving.{Flushes};
+ghost use Rattle.ftp_control.specs.Lane.{Lane};
+ghost use Rattle.ftp_control.specs.Machine.{held, stand_of};
+ghost use Rattle.ftp_control.specs.Unheard.{unheard_of};
+ghost use Rattle.ftp_control_drive.specs.Standing.{Follows, IsKept, LeadsOn};
+
+use crate::calls::EndCalls;
+use crate::drive::Drive;
+use ftp_control::{Control, Failed, Ports, TURNS};
+use std::io::{Read, Write};
+
+/// Writes all control octets that the end owes.
+pub(crate) fn flush<K, E, C, R, W>(end: &mut E, control: &mut Control<R, W>) -> Result<(), Failed>
+where
+    K: EndCalls<E, C>,
+    R: Read + Drop,
+    W: Write + Drop,
+    ensures { (lane : Lane) → Flushes (stand_of K.machine R.remaining W.contents (held (K.here end.old) lane) control.old) (stand_of K.machine R.remaining W.contents (held (K.here end.new) lane) control.new) result }
+{
+    let mut room = [0u8; 1024];
+    for _ in 0..TURNS {
+        let count = K::control_out(end, &mut room);
+        if count == 0 {
+            return Ok(());
+        }
+        let (octets, _) = room.split_at(count);
+        control.write(octets)?;
+    }
+    Err(Failed)
+}
+
+impl<'e, 'k, 'p, 'w, K, E, C, R, W, P, S> Drive<'e, 'k, 'p, 'w, K, E, C, R, W, P, S>
+where
+    K: EndCalls<E, C>,
+    R: Read + Drop,
+    W: Write + Drop,
+    P: Ports<Stream = S>,
+    S: Read + Write,
+{
+    /// Hears the first octets that were read, and gives whether the end took any.
+    pub(crate) fn hear(&mut self) -> bool
+        ensures leads { LeadsOn K.machine K.here R.remaining W.contents P.history S.remaining S.contents self.old self.new }
+        ensures none { result ≡ false → unheard_of self.new.control.now ≡ unheard_of self.old.control.now }
+        ensures kept { IsKept self.old self.new }
+    {
+        let taken = K::hear(self.end, self.control.unheard());
+        self.control.heard(taken);
+        taken != 0
+    }
+
+    /// Reads from the control connection, and tells the end the moment, or that the connection ended; fails where octets stand unheard before it.
+    pub(crate) fn read(&mut self) -> Result<(), Failed>
+        ensures goes { Follows K.machine K.here R.remaining W.contents P.history S.remaining S.contents self.old self.new result }
+        ensures kept { IsKept self.old self.new }
+    {
+        if self.control.has_unheard() {
+            return Err(Failed);
+        }
+        let count = self.control.read()?;
+        if count == 0 {
+            K::control_end(self.end);
+            return Ok(());
+        }
+        K::tell_time(self.end, self.watch);
+        Ok(())
+    }
+}

@@ -1,0 +1,146 @@
+// A data connection, and room for its octets.
+ghost use Rattle.std.specs.Prelude.{◌≡◌, ◌≢◌, ℕ, List, [], IfOk, OnOk, Option, None, take, true};
+ghost use Rattle.ftp_control.specs.Asking.{Asked};
+ghost use Rattle.ftp_control.specs.Driving.{Quietly};
+ghost use Rattle.ftp_control.specs.Lane.{IsLeft, IsRead, IsWaited, IsWritten, no_lane};
+ghost use Rattle.ftp_control.specs.Machine.{held, side_of};
+ghost use Rattle.ftp_control.specs.Outcome.{IsReset, in_hand};
+ghost use Rattle.ftp_control_drive.specs.Standing.{HasEnded, lane_at};
+
+use crate::calls::EndCalls;
+use crate::hand::fill_front;
+use ftp_control::{DATA_PIECE, DataConnection, Failed, For, Halt, Ports, Ready, Rest};
+use ftp_ends::Wants;
+use std::io::{Read, Write};
+
+/// A data connection, if there is one, and room for its octets.
+pub struct Data<S> {
+    pub(crate) connection: DataConnection<S>,
+    room: [u8; DATA_PIECE],
+}
+
+impl<S: Read + Write> Data<S> {
+    /// No data connection.
+    pub(crate) fn new() -> Data<S>
+        ensures none { result.connection.stream ≡ None }
+        ensures all { result.connection.at ≡ result.connection.end }
+    {
+        Data {
+            connection: DataConnection::new(),
+            room: [0; DATA_PIECE],
+        }
+    }
+
+    /// Notes whether the end has more octets for it.
+    pub fn note<K: EndCalls<E, C>, E, C>(&mut self, end: &E)
+        ensures none { (self.new.connection.rest ≡ Rest.Nothing) → K.machine.wants (K.here end.now) ≢ Wants.Send }
+        ensures same { (asked : Option (List Asked)) → lane_at S.remaining S.contents asked self.new [] ≡ lane_at S.remaining S.contents asked self.old [] }
+    {
+        self.connection.note(rest_of::<K, E, C>(end));
+    }
+
+    /// Takes octets from the end, where all before were written, and notes whether it has more.
+    pub(crate) fn fill<K: EndCalls<E, C>, E, C>(&mut self, end: &mut E)
+        ensures quiet { (asked : Option (List Asked)) → Quietly (side_of K.machine) (held (K.here end.old) (lane_at S.remaining S.contents asked self.old [])) (held (K.here end.new) (lane_at S.remaining S.contents asked self.new [])) }
+        ensures rest { (self.new.connection.rest ≡ Rest.Nothing) → K.machine.wants (K.here end.new) ≢ Wants.Send }
+    {
+        if self.connection.has_unwritten() {
+            self.note::<K, E, C>(end);
+            return;
+        }
+        let count = fill_front::<K, E, C>(end, &mut self.room, self.connection.piece());
+        self.connection.took(count);
+        self.note::<K, E, C>(end);
+    }
+
+    /// Writes octets that are not written yet: as many as one write takes, or, of an end that serves and has no others, all.
+    pub(crate) fn write<K: EndCalls<E, C>, E, C>(&mut self) -> Result<(), Halt>
+        ensures written { (asked : Option (List Asked)) → (octets : List ℕ) × IsWritten octets (lane_at S.remaining S.contents asked self.old []) (lane_at S.remaining S.contents asked self.new []) }
+        ensures all { OnOk result (K.serves ≡ true → self.new.connection.rest ≡ Rest.Nothing → self.new.connection.at ≡ self.new.connection.end) }
+    {
+        if K::serves() {
+            if self.connection.rest() == Rest::Nothing {
+                return self.write_all();
+            }
+        }
+        self.connection.write(&self.room)
+    }
+
+    /// Writes all octets that are not written yet.
+    fn write_all(&mut self) -> Result<(), Halt>
+        ensures written { (asked : Option (List Asked)) → (octets : List ℕ) × IsWritten octets (lane_at S.remaining S.contents asked self.old []) (lane_at S.remaining S.contents asked self.new []) }
+        ensures all { OnOk result (self.new.connection.at ≡ self.new.connection.end) }
+    {
+        match self.connection.write_all(&self.room) {
+            Ok(()) => Ok(()),
+            Err(Failed) => Err(Halt::Broken),
+        }
+    }
+
+    /// Waits until octets can go over it, or where `hears` until the control connection is to be served.
+    pub(crate) fn wait<P: Ports<Stream = S>>(
+        &mut self,
+        ports: &mut P,
+        what: For,
+        hears: bool,
+    ) -> Ready
+        ensures { IsWaited (lane_at S.remaining S.contents (P.history ports.old) self.old []) (lane_at S.remaining S.contents (P.history ports.new) self.new []) }
+    {
+        self.connection.wait(ports, what, hears)
+    }
+
+    /// Reads once, where all octets of the room were written, and gives how many octets came: none only at the end of the data connection.
+    pub(crate) fn come(&mut self) -> Result<usize, Halt>
+        ensures moved { (asked : Option (List Asked)) → IsRead (in_hand result self.new.room) (lane_at S.remaining S.contents asked self.old []) (lane_at S.remaining S.contents asked self.new (in_hand result self.new.room)) }
+        ensures ended { IfOk result (λ count. count ≡ 0 → HasEnded S.remaining self.new) }
+    {
+        if self.connection.has_unwritten() {
+            return Err(Halt::Again);
+        }
+        self.connection.read(&mut self.room)
+    }
+
+    /// The front of the room, so many octets.
+    pub(crate) fn front(&self, count: usize) -> &[u8]
+        ensures { result.now ≡ take count self.now.room }
+    {
+        let (front, _) = self.room.split_at(count.min(self.room.len()));
+        front
+    }
+
+    /// Closes it, if it is open, and the port that is listened at.
+    pub(crate) fn leave<P: Ports<Stream = S>>(&mut self, ports: &mut P)
+        ensures { (asked : Asked) × IsLeft asked (lane_at S.remaining S.contents (P.history ports.old) self.old []) (lane_at S.remaining S.contents (P.history ports.new) self.new []) }
+    {
+        self.connection.close(ports);
+    }
+
+    /// Resets it, if it is open, and else closes the port that is listened at.
+    #[tactic(auto, using(ftp_control::proofs::Outcomes::resets))]
+    pub fn reset<P: Ports<Stream = S>>(&mut self, ports: &mut P)
+        ensures { (asked : Asked) × IsReset asked (lane_at S.remaining S.contents (P.history ports.old) self.old []) (lane_at S.remaining S.contents (P.history ports.new) self.new []) }
+    {
+        self.connection.reset(ports);
+    }
+
+    /// Closes it for good.
+    pub fn finish<P: Ports<Stream = S>>(self, ports: &mut P)
+        ensures { (asked : Asked) × IsLeft asked (lane_at S.remaining S.contents (P.history ports.old) self []) (no_lane (P.history ports.new)) }
+    {
+        let Data {
+            connection,
+            room: _,
+        } = self;
+        connection.finish(ports);
+    }
+}
+
+/// Whether the end has more octets for its data connection.
+fn rest_of<K: EndCalls<E, C>, E, C>(end: &E) -> Rest
+    ensures { (result ≡ Rest.Nothing) → K.machine.wants (K.here end.now) ≢ Wants.Send }
+{
+    match K::wants(end) {
+        Wants::Send => Rest::More,
+        _ => Rest::Nothing,
+    }
+}

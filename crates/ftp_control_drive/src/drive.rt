@@ -1,0 +1,153 @@
+// The drive: what an end wants is done, turn by turn, until that is over.
+ghost use Rattle.std.specs.Prelude.{[]};
+ghost use Rattle.ftp_control.specs.Driving.{Goes};
+ghost use Rattle.ftp_control.specs.Lane.{no_lane};
+ghost use Rattle.ftp_control.specs.Machine.{held, stand_of};
+ghost use Rattle.ftp_control_drive.specs.Reaching.{Ends};
+ghost use Rattle.ftp_control_drive.specs.Standing.{Follows, IsKept, lane_at, standing};
+
+use crate::calls::EndCalls;
+use crate::control::flush;
+use crate::data::Data;
+use ftp_control::{Control, Failed, Ports, TURNS};
+use ftp_ends::Wants;
+use std::io::{Read, Write};
+use std::marker::PhantomData;
+
+/// An end, its control connection, what opens its data connections and tells the time, and the data connection that stands.
+pub(crate) struct Drive<'e, 'k, 'p, 'w, K, E, C, R, W, P, S> {
+    pub(crate) end: &'e mut E,
+    pub(crate) control: &'k mut Control<R, W>,
+    pub(crate) ports: &'p mut P,
+    pub(crate) watch: &'w mut C,
+    pub(crate) data: Data<S>,
+    /// How the end is called.
+    calls: PhantomData<K>,
+}
+
+/// Drives an end until its drive is over, from where no data connection stands; gives the data connection that is left, and what the end gave.
+/// After a read or a write of the control connection that failed, or 1,099,511,627,776 turns, it breaks off.
+pub fn drive_end<K, E, C, R, W, P>(
+    end: &mut E,
+    control: &mut Control<R, W>,
+    ports: &mut P,
+    watch: &mut C,
+) -> (Data<P::Stream>, Result<K::Over, Failed>)
+where
+    K: EndCalls<E, C>,
+    R: Read + Drop,
+    W: Write + Drop,
+    P: Ports,
+    ensures { Ends K.machine K.last (stand_of K.machine R.remaining W.contents (held (K.here end.old) (no_lane (P.history ports.old))) control.old) (stand_of K.machine R.remaining W.contents (held (K.here end.new) (lane_at P.Stream.remaining P.Stream.contents (P.history ports.new) result.0 [])) control.new) result.1 }
+{
+    let mut drive = Drive {
+        end,
+        control,
+        ports,
+        watch,
+        data: Data::new(),
+        calls: PhantomData::<K>,
+    };
+    let over = drive.turns();
+    let Drive {
+        end,
+        control,
+        ports,
+        watch: _,
+        data,
+        calls: _,
+    } = drive;
+    // A move ends what is lent here: these are as the drive left them.
+    let (_end, _control, _ports) = (end, control, ports);
+    (data, over)
+}
+
+impl<'e, 'k, 'p, 'w, K, E, C, R, W, P, S> Drive<'e, 'k, 'p, 'w, K, E, C, R, W, P, S>
+where
+    K: EndCalls<E, C>,
+    R: Read + Drop,
+    W: Write + Drop,
+    P: Ports<Stream = S>,
+    S: Read + Write,
+{
+    /// The turns of a drive.
+    fn turns(&mut self) -> Result<K::Over, Failed>
+        ensures ends { Ends K.machine K.last (standing K.machine K.here R.remaining W.contents P.history S.remaining S.contents self.old) (standing K.machine K.here R.remaining W.contents P.history S.remaining S.contents self.new) result }
+        ensures kept { IsKept self.old self.new }
+    {
+        K::tell_time(self.end, self.watch);
+        for _ in 0..TURNS {
+            match K::over(self.end) {
+                Some(over) => return Ok(over),
+                None => self.turn()?,
+            }
+        }
+        Err(Failed)
+    }
+
+    /// One turn: what the end owes is written; then of one that asks what was read is heard, or octets that are on their way are written; or what
+    /// the end wants is done.
+    fn turn(&mut self) -> Result<(), Failed>
+        ensures goes { Goes (standing K.machine K.here R.remaining W.contents P.history S.remaining S.contents self.old) (standing K.machine K.here R.remaining W.contents P.history S.remaining S.contents self.new) result }
+        ensures kept { IsKept self.old self.new }
+    {
+        flush::<K, E, C, R, W>(self.end, self.control)?;
+        if K::serves() {
+            return self.act();
+        }
+        if self.control.has_unheard() {
+            return self.attend();
+        }
+        if self.data.connection.has_unwritten() {
+            return self.send();
+        }
+        self.act()
+    }
+
+    /// Does what the end wants.
+    fn act(&mut self) -> Result<(), Failed>
+        ensures goes { Follows K.machine K.here R.remaining W.contents P.history S.remaining S.contents self.old self.new result }
+        ensures kept { IsKept self.old self.new }
+    {
+        match K::wants(self.end) {
+            Wants::Nothing | Wants::Accept | Wants::Receive | Wants::Send => return self.attend(),
+            Wants::CloseAll => {
+                if !K::serves() {
+                    return Err(Failed);
+                }
+            }
+            Wants::Listen => self.listen(),
+            Wants::Connect(endpoint) => self.connect(endpoint),
+            Wants::CloseData => self.close(),
+        }
+        Ok(())
+    }
+
+    /// Hears octets that were read, where the end takes any, and else does what it wants with its data connection.
+    fn attend(&mut self) -> Result<(), Failed>
+        ensures goes { Follows K.machine K.here R.remaining W.contents P.history S.remaining S.contents self.old self.new result }
+        ensures kept { IsKept self.old self.new }
+    {
+        if !self.control.has_unheard() {
+            return self.serve();
+        }
+        if self.hear() {
+            return Ok(());
+        }
+        self.serve()
+    }
+
+    /// Waits for the data connection, moves octets over it, or reads the control connection, where none are to be heard first.
+    fn serve(&mut self) -> Result<(), Failed>
+        ensures goes { Follows K.machine K.here R.remaining W.contents P.history S.remaining S.contents self.old self.new result }
+        ensures kept { IsKept self.old self.new }
+    {
+        match K::wants(self.end) {
+            Wants::Nothing => self.read(),
+            Wants::Accept => self.accept(),
+            Wants::Receive => self.receive(),
+            Wants::Send => self.carry(),
+            _ => Err(Failed),
+        }
+    }
+}

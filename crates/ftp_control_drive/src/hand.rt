@@ -1,0 +1,89 @@
+// Octets that go from the end into a room, and those that come and are handed to it.
+ghost use Rattle.std.specs.Prelude.{◌<◌, ◌≤◌, [], IfOk, length, take};
+ghost use Rattle.ftp_control.specs.Driving.{Goes, Quietly};
+ghost use Rattle.ftp_control.specs.Lane.{Lane, with_given, with_untold};
+ghost use Rattle.ftp_control.specs.Machine.{held, side_of, stand_of};
+ghost use Rattle.ftp_control_drive.specs.Calling.{untaken};
+
+use crate::calls::EndCalls;
+use crate::control::flush;
+use ftp_control::{Control, Failed};
+use ftp_ends::Wants;
+use std::io::{Read, Write};
+
+/// Fills the front of the room, so many octets at most, with the octets that the end gives; gives how many they are.
+pub(crate) fn fill_front<K, E, C>(end: &mut E, room: &mut [u8], most: usize) -> usize
+where
+    K: EndCalls<E, C>,
+    requires { most ≤ length room.old }
+    ensures within { result ≤ most }
+    ensures quiet { (lane : Lane) → Quietly (side_of K.machine) (held (K.here end.old) lane) (held (K.here end.new) (with_given (take result room.new) lane)) }
+{
+    let (front, _) = room.split_at_mut(most);
+    fill::<K, E, C>(end, front)
+}
+
+/// Fills the room with the octets that the end gives, as far as they go; gives how many they are.
+fn fill<K: EndCalls<E, C>, E, C>(end: &mut E, room: &mut [u8]) -> usize
+    ensures within { result ≤ length room.new }
+    ensures quiet { (lane : Lane) → Quietly (side_of K.machine) (held (K.here end.old) lane) (held (K.here end.new) (with_given (take result room.new) lane)) }
+{
+    let mut at = 0;
+    while at < room.len() {
+        if K::wants(end) != Wants::Send {
+            return at;
+        }
+        let (_, rest) = room.split_at_mut(at);
+        let count = K::data_out(end, rest);
+        if count == 0 {
+            return at;
+        }
+        at += count;
+    }
+    at
+}
+
+/// Hands octets that came to the end until it has taken them all or wants no more, which drops the rest.
+pub(crate) fn hand<K, E, C, R, W>(
+    end: &mut E,
+    control: &mut Control<R, W>,
+    octets: &[u8],
+) -> Result<(), Failed>
+where
+    K: EndCalls<E, C>,
+    R: Read + Drop,
+    W: Write + Drop,
+    ensures { (lane : Lane) → Goes (stand_of K.machine R.remaining W.contents (held (K.here end.old) (with_untold octets.now lane)) control.old) (stand_of K.machine R.remaining W.contents (held (K.here end.new) (with_untold [] lane)) control.new) result }
+{
+    let mut at = 0;
+    while at < octets.len() {
+        if K::wants(end) != Wants::Receive {
+            return Ok(());
+        }
+        let (_, rest) = octets.split_at(at);
+        at += hand_some::<K, E, C, R, W>(end, control, rest)?;
+    }
+    Ok(())
+}
+
+/// Hands octets to the end once, and writes what it owes then; gives how many it took, one at least.
+fn hand_some<K, E, C, R, W>(
+    end: &mut E,
+    control: &mut Control<R, W>,
+    octets: &[u8],
+) -> Result<usize, Failed>
+where
+    K: EndCalls<E, C>,
+    R: Read + Drop,
+    W: Write + Drop,
+    ensures some { IfOk result (λ taken. 0 < taken) }
+    ensures within { IfOk result (λ taken. taken ≤ length octets.now) }
+    ensures goes { (lane : Lane) → Goes (stand_of K.machine R.remaining W.contents (held (K.here end.old) (with_untold octets.now lane)) control.old) (stand_of K.machine R.remaining W.contents (held (K.here end.new) (with_untold (untaken octets.now result) lane)) control.new) result }
+{
+    let taken = K::data_hear(end, octets);
+    if taken == 0 {
+        return Err(Failed);
+    }
+    flush::<K, E, C, R, W>(end, control)?;
+    Ok(taken)
+}

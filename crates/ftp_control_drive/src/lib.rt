@@ -1,0 +1,15 @@
+//! A drive: what stands between either end of a session and its control connection, data connections and clock (RFC 959, section 2.3). It
+//! knows the end by its calls alone. No IO of its own.
+#![tactic(auto)]
+
+mod calls;
+mod carry;
+mod control;
+mod data;
+mod drive;
+mod hand;
+mod meet;
+
+pub use calls::EndCalls;
+pub use data::Data;
+pub use drive::drive_end;

@@ -1,0 +1,82 @@
+// How an end comes to a data connection: ports are listened at, data connections are waited for, opened and closed.
+ghost use Rattle.std.specs.Prelude.{◌≡◌, [], ◌∷◌, List, Option};
+ghost use Rattle.ftp_control.specs.Asking.{Adds, Asked};
+ghost use Rattle.ftp_control.specs.Driving.{Leads};
+ghost use Rattle.ftp_control.specs.Lane.{IsHad};
+ghost use Rattle.ftp_control.specs.Machine.{IsWanted};
+ghost use Rattle.ftp_control_drive.specs.Standing.{Follows, IsKept, LeadsOn, asked_before, standing};
+
+use crate::calls::EndCalls;
+use crate::drive::Drive;
+use ftp_control::{Accepted, Failed, Ports};
+use ftp_endpoint::{Endpoint, Host};
+use ftp_ends::Wants;
+use std::io::{Read, Write};
+
+impl<'e, 'k, 'p, 'w, K, E, C, R, W, P, S> Drive<'e, 'k, 'p, 'w, K, E, C, R, W, P, S>
+where
+    K: EndCalls<E, C>,
+    R: Read + Drop,
+    W: Write + Drop,
+    P: Ports<Stream = S>,
+    S: Read + Write,
+{
+    /// Waits for the data connection that the other end opens. Where all that was read was heard, octets of the control connection that come first
+    /// are read; else the drive breaks off where the waiting ends so.
+    pub(crate) fn accept(&mut self) -> Result<(), Failed>
+        requires { K.machine.wants (K.here self.old.end.now) ≡ Wants.Accept }
+        ensures goes { Follows K.machine K.here R.remaining W.contents P.history S.remaining S.contents self.old self.new result }
+        ensures kept { IsKept self.old self.new }
+    {
+        let hears = !self.control.has_unheard();
+        match self.ports.accept(hears) {
+            Accepted::Came(stream, host) => self.opened(stream, host),
+            Accepted::Spoken => return self.read(),
+            Accepted::Refused => K::data_refused(self.end),
+        }
+        Ok(())
+    }
+
+    /// Listens at a port, and tells the end which.
+    pub(crate) fn listen(&mut self)
+        requires { K.machine.wants (K.here self.old.end.now) ≡ Wants.Listen }
+        ensures leads { LeadsOn K.machine K.here R.remaining W.contents P.history S.remaining S.contents self.old self.new }
+        ensures kept { IsKept self.old self.new }
+    {
+        match self.ports.listen() {
+            Some(port) => K::listening(self.end, port),
+            None => K::listen_refused(self.end),
+        }
+    }
+
+    /// Opens the data connection to an endpoint, and tells the end.
+    pub(crate) fn connect(&mut self, endpoint: Endpoint)
+        requires { K.machine.wants (K.here self.old.end.now) ≡ Wants.Connect endpoint }
+        ensures leads { LeadsOn K.machine K.here R.remaining W.contents P.history S.remaining S.contents self.old self.new }
+        ensures kept { IsKept self.old self.new }
+    {
+        match self.ports.connect(endpoint) {
+            Some(stream) => self.opened(stream, endpoint.host),
+            None => K::data_refused(self.end),
+        }
+    }
+
+    /// The data connection that was had last is open now, and this host is at its other end.
+    fn opened(&mut self, stream: S, host: Host)
+        ensures leads { (before : Option (List Asked)) (had : Asked) → Adds before (P.history self.old.ports.now) (had ∷ []) → IsHad host had (S.remaining stream) (S.contents stream) → IsWanted (K.machine.wants (K.here self.old.end.now)) had → Leads (asked_before before (standing K.machine K.here R.remaining W.contents P.history S.remaining S.contents self.old)) (standing K.machine K.here R.remaining W.contents P.history S.remaining S.contents self.new) }
+        ensures kept { IsKept self.old self.new }
+    {
+        self.data.connection.begin(self.ports, stream);
+        K::data_opened(self.end, host);
+    }
+
+    /// Closes what stands of the data connection, and tells the end.
+    pub(crate) fn close(&mut self)
+        requires { K.machine.wants (K.here self.old.end.now) ≡ Wants.CloseData }
+        ensures leads { LeadsOn K.machine K.here R.remaining W.contents P.history S.remaining S.contents self.old self.new }
+        ensures kept { IsKept self.old self.new }
+    {
+        self.data.leave(self.ports);
+        K::data_closed(self.end);
+    }
+}
