@@ -1,47 +1,27 @@
--- What turns say, put together: octets that are heard, and how a drive ends, or gives up.
-use Rattle.std.proofs.Common.{◌≡◌, ◌∙◌, ℕ, ◌≤◌, List, [], ◌∷◌, Option, Some, length, drop, refl, sym, ap, subst, Result, Ok, Err}
-use Rattle.std.specs.Prelude.{IsErr, Bool, true, false}
-use Rattle.std.proofs.lemmas.List.{length-take-le}
+-- How a drive ends, or gives up.
+use Rattle.std.proofs.Common.{◌≡◌, ◌∙◌, ℕ, List, [], ◌∷◌, Option, Some, refl, sym, ap, subst, Result, Ok, Err}
+use Rattle.std.specs.Prelude.{Bool, true, false}
 use Rattle.ftp_control.specs.Asking.{Asked, Shut}
-use Rattle.ftp_control.specs.Deeds.{Led, Other, Stand, with_owner}
-use Rattle.ftp_control.specs.Driving.{Cuts, Fails, Goes, Leads}
-use Rattle.ftp_control.specs.Lane.{IsEnded, IsLeft, Lane, with_untold}
+use Rattle.ftp_control.specs.Deeds.{Deed, Done, Led, Other, Stand, with_owner}
+use Rattle.ftp_control.specs.Driving.{Cuts, Fails}
+use Rattle.ftp_control.specs.Lane.{IsEnded, IsLeft, Lane}
 use Rattle.ftp_control.specs.Outcome.{IsReset}
 use Rattle.ftp_control.specs.declared.pieces.Failed.{Failed}
 use Rattle.ftp_control.proofs.Courses.{carries}
-use Rattle.ftp_control.proofs.Idling.{carrier, hears_first, stood_so}
-use Rattle.ftp_control.proofs.Leading.{call_leads, fails_here, fails_lets, leads_then}
+use Rattle.ftp_control.proofs.Idling.{carrier, stood_so}
 use Rattle.ftp_control.proofs.Totals.{cuts, sums}
 use Rattle.ftp_operation.specs.declared.answer.Answer.{Answer}
-use Rattle.ftp_operation.specs.Answer.{Said, Lost}
+use Rattle.ftp_operation.specs.Answer.{Said, Lost, said_of}
 use Rattle.ftp_client_model.specs.Calls.{control_end, data_closed, is_sound, report_of, report_of_job, reported_by, reports}
-use Rattle.ftp_client_model.specs.Failing.{Client, HearsIfRoom}
+use Rattle.ftp_client_model.specs.Failing.{Client}
 use Rattle.ftp_client_model.specs.View.{View, Job, Idle, Waiting, Doing, Transferring, Told, failed_job, fails_by}
 use Rattle.ftp_client_model.specs.declared.client.Failure.TheVariants as Failures
 use Rattle.ftp_client_model.specs.declared.client.Standing.{Standing}
 use Rattle.ftp_client_model.specs.declared.client.Standing.TheVariants as Stands
 use Rattle.ftp_control.specs.Machine.{Closed, Does, Held, IsCut, Left, held, move_of}
 use Rattle.ftp_client_drive.specs.Side.{Report, client_machine, client_side, is_under_way}
-use Rattle.ftp_client_drive.specs.Driving.{Answers, BrokeOff, Drove, GivesUp, Hands, Tells}
-
--- it heard the first of the octets that were read
-pub hears_next : (old new : Stand client_side) (count : ℕ) → count ≤ length old.unheard → HearsIfRoom old.owner.end new.owner.end old.unheard count
-    → new.owner.lane ≡ old.owner.lane → new.unheard ≡ drop count old.unheard → new.left ≡ old.left → new.written ≡ old.written → Leads old new
-hears_next old new count le hears lane unheard left written = hears_first client_machine old new count
-    (subst (λ n. HearsIfRoom old.owner.end new.owner.end old.unheard n) (sym (length-take-le count old.unheard le)) hears) lane unheard left written
-
--- what it was handed it was told; or that fails, and what it was not told is let go
-pub hands : {T : Type 0} (start : Stand client_side) (old new : Client) (octets : List ℕ) (lane : Lane) (left : Option (List ℕ)) (unheard : List ℕ) (written : Option (List ℕ))
-    (r : Result T Failed) → Leads start (record { owner = held old (with_untold octets lane); left = left; unheard = unheard; written = written })
-    → Hands octets old new lane r → Goes start (record { owner = held new (with_untold [] lane); left = left; unheard = unheard; written = written }) r
-hands start old new octets lane left unheard written (Ok value) leads told =
-    let stand : Held Client → Stand client_side = λ owner. record { owner = owner; left = left; unheard = unheard; written = written } in
-    leads_then start (stand (held old (with_untold octets lane))) (stand (held new (with_untold [] lane))) leads (told left unheard written)
-hands start old new octets lane left unheard written (Err failed) leads told =
-    let stand : Held Client → Stand client_side = λ owner. record { owner = owner; left = left; unheard = unheard; written = written } in
-    let off = stand (held new (with_untold told.0 lane)) in
-    fails_lets start off (stand (held new (with_untold [] lane)))
-    (fails_here start off (leads_then start (stand (held old (with_untold octets lane))) off leads (told.1 left unheard written))) (refl, refl) refl
+use Rattle.ftp_client_drive.specs.Driving.{BrokeOff, Drove, GivesUp, Reports}
+use Rattle.ftp_control_drive.specs.Reaching.{Ends}
 
 -- ---- a cut connection
 
@@ -113,51 +93,47 @@ gave_up said asked last old cut closed new mid lane closes reports is_cut reset 
   lost = λ sound under. reports.0 ∙ ap report_of (closes.0 ∙ ap data_closed (is_cut.0).0) ∙ cut_loses old.end.view sound under;
 }
 
--- ---- turns
-
--- no report is there yet
-pub asked_none : (start mid : Stand client_side) (client : Client) (said : Option Said) → Leads start mid → Does client_machine (Report said) mid.owner.end client
-    → Leads start (with_owner (held client mid.owner.lane) mid)
-asked_none start mid client said leads reports =
-    leads_then start mid (with_owner (held client mid.owner.lane) mid) leads (call_leads mid (Report said) (held client mid.owner.lane) (reports, refl, tt))
-
--- it was asked for its report
-pub tells : (start mid : Stand client_side) (client : Client) (said : Option Said) → Leads start mid → Does client_machine (Report said) mid.owner.end client
-    → Tells said start (with_owner (held client mid.owner.lane) mid)
-tells start mid client said leads reports = (mid, leads, ((reports, refl, tt), refl))
-
-pub answers_err : {A : Type 0} (a b : Stand client_side) (r : Result (Answer A) Failed) → IsErr r → Fails a b → Answers a b r
-answers_err a b (Ok answer) failed fails = absurd (let e : false ≡ true = failed in cc)
-answers_err a b (Err e) failed fails = fails
-
 -- ---- a drive
 
 -- one that came to its end: it gave its report, its data connection was left, and it was told that it is closed
-pub drove : (start mid now : Stand client_side) (answer : Said) (asked : Asked) → start.owner.lane.unwritten ≡ [] → start.owner.lane.untold ≡ [] → Tells (Some answer) start mid
-    → IsLeft asked mid.owner.lane now.owner.lane → Does client_machine Closed mid.owner.end now.owner.end → now ≡ with_owner now.owner mid → Drove start now (Some answer)
-drove start mid now answer asked unwritten untold tells left closed same =
-    let gone = with_owner (held mid.owner.end now.owner.lane) mid in
-    let led : Led {side = client_side} (Other Closed ∷ Other (Left asked) ∷ Other (Report (Some answer)) ∷ tells.1.deeds) start now =
-    (gone, (mid, (tells.0, tells.1.led, tells.2), ((refl, left, tt), refl)), ((closed, (refl, left.stands), λ sound under. absurd (let e : is_under_way mid.owner.end.view.job ≡ false = ap (λ v. is_under_way v.job) ((tells.2).0.0.1).0 ∙ told_is_idle answer tells.0.owner.end.view ((tells.2).0.0.0) in let t : is_under_way mid.owner.end.view.job ≡ true = under in cc)), same)) in
+pub drove : {A : Type 0} (start off now : Stand client_side) (r : Result (Answer A) Failed) (answer : Answer A) (asked : Asked) → start.owner.lane.unwritten ≡ []
+    → start.owner.lane.untold ≡ [] → r ≡ Ok answer → Ends client_machine Reports start off r → IsLeft asked off.owner.lane now.owner.lane
+    → Does client_machine Closed off.owner.end now.owner.end → now ≡ with_owner now.owner off → Drove start now (Some (said_of answer))
+drove start off now r answer asked unwritten untold gave ends left closed same =
+    let over : Ends client_machine Reports start off (Ok answer) = subst (λ r. Ends client_machine Reports start off r) gave ends in
+    let mid = over.0 in
+    let told = over.2 in
+    let is = over.3 in
+    let deeds : List (Deed client_side) = Other Closed ∷ Other (Left asked) ∷ Other (Report (Some (said_of answer))) ∷ over.1.deeds in
+    let idle : is_under_way off.owner.end.view.job ≡ false = ap (λ v. is_under_way v.job) (told.1).0 ∙ told_is_idle (said_of answer) mid.owner.end.view told.0 in
+    let report : Done {side = client_side} (Other (Report (Some (said_of answer)))) mid off = ((told, ap (λ s. s.owner.lane) is, tt), subst (λ s. off ≡ with_owner s mid) (sym (ap (λ s. s.owner) is)) is) in
+    let led : Led {side = client_side} deeds start now = (
+      with_owner (held off.owner.end now.owner.lane) off,
+      (off, (mid, over.1.led, report), ((refl, left, tt), refl)),
+      ((closed, (refl, left.stands), λ sound under. absurd (let t : is_under_way off.owner.end.view.job ≡ true = under in cc)), same),
+    ) in
     record {
-      answer = answer;
+      answer = said_of answer;
       answered = refl;
-      deeds = tells.1.deeds;
+      deeds = over.1.deeds;
       asked = asked;
-      sums = sums {side = client_side} (Other Closed ∷ Other (Left asked) ∷ Other (Report (Some answer)) ∷ tells.1.deeds) start now led;
-      carries = carries move_of (carrier client_machine) (Other Closed ∷ Other (Left asked) ∷ Other (Report (Some answer)) ∷ tells.1.deeds) start now led unwritten untold;
+      sums = sums {side = client_side} deeds start now led;
+      carries = carries move_of (carrier client_machine) deeds start now led unwritten untold;
     }
 
 -- one that broke off, and the client gave up
-pub broke_off : (start off now : Stand client_side) (said : Option Said) → start.owner.lane.unwritten ≡ [] → start.owner.lane.untold ≡ [] → Fails start off
-    → off ≡ with_owner off.owner now → GivesUp said off.owner now.owner → BrokeOff start now said
-broke_off start off now said unwritten untold fails same gave_up = record {
-  deeds = fails.leads.deeds;
-  last = fails.octets;
-  off = off.owner;
-  cuts = subst (λ s. Cuts fails.leads.deeds fails.octets start s) same (cuts start off fails);
-  stood = fails.mid.owner.lane;
-  carries = carries move_of (carrier client_machine) fails.leads.deeds start fails.mid fails.leads.led unwritten untold;
-  lets = stood_so client_machine fails.octets fails.mid off fails.breaks;
-  gave_up = gave_up;
-}
+pub broke_off : {A : Type 0} (start off now : Stand client_side) (r : Result (Answer A) Failed) (failed : Failed) (said : Option Said) → start.owner.lane.unwritten ≡ []
+    → start.owner.lane.untold ≡ [] → r ≡ Err failed → Ends client_machine Reports start off r → off ≡ with_owner off.owner now → GivesUp said off.owner now.owner
+    → BrokeOff start now said
+broke_off start off now r failed said unwritten untold gave ends same gave_up =
+    let fails : Fails start off = subst (λ r. Ends client_machine Reports start off r) gave ends in
+    record {
+      deeds = fails.leads.deeds;
+      last = fails.octets;
+      off = off.owner;
+      cuts = subst (λ s. Cuts fails.leads.deeds fails.octets start s) same (cuts start off fails);
+      stood = fails.mid.owner.lane;
+      carries = carries move_of (carrier client_machine) fails.leads.deeds start fails.mid fails.leads.led unwritten untold;
+      lets = stood_so client_machine fails.octets fails.mid off fails.breaks;
+      gave_up = gave_up;
+    }

@@ -16,19 +16,9 @@ use Rattle.ftp_client_model.specs.Failing.{Client}
 use Rattle.ftp_control.specs.Machine.{Called, Closed, Held, IsCut, Left, held, move_of}
 use Rattle.ftp_client_drive.specs.Side.{Report, client_machine, client_side, is_under_way}
 
--- octets that were read are told or let go; where that fails, some of them still are in hand
-abbrev pub Hands : {T : Type 0} → (octets : List ℕ) → (old new : Client) → Lane → Result T Failed → Type 0
-Hands octets old new lane (Ok value) = Quietly client_side (held old (with_untold octets lane)) (held new (with_untold [] lane))
-Hands octets old new lane (Err failed) = (rest : List ℕ) × Quietly client_side (held old (with_untold octets lane)) (held new (with_untold rest lane))
-
--- deeds, and then the client was asked for its report, which was this
-abbrev pub Tells : Option Said → (start now : Stand client_side) → Type 0
-Tells said start now = (mid : Stand client_side) × Leads start mid × Calls {side = client_side} (Report said) mid now
-
--- turns lead to a report, or fail
-abbrev pub Answers : {A : Type 0} → (old new : Stand client_side) → Result (Answer A) Failed → Type 0
-Answers old new (Ok answer) = Tells (Some (said_of answer)) old new
-Answers old new (Err failed) = Fails old new
+-- the client is asked for its report, which is this answer
+abbrev pub Reports : {A : Type 0} → Answer A → (old new : Client) → Type 0
+Reports answer old new = client_machine.Owns (Some (said_of answer)) old new
 
 -- the client gave this answer, its data connection was left, and it was told that it is closed; before that all that it said was written, and it
 -- heard all that was read but for what is not heard yet

@@ -1,4 +1,3 @@
 pub mod Side
 pub mod Beside
 pub mod Driving
-pub mod Standing

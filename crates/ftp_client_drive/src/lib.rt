@@ -2,9 +2,7 @@
 //! `ftp_control` (RFC 959, section 2.3). No IO of its own.
 #![tactic(auto)]
 
-mod carry;
-mod control;
-mod data;
+mod asks;
 mod drive;
 
 pub use drive::drive_client;
