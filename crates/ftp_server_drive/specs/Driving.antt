@@ -6,34 +6,21 @@ use Rattle.ftp_ends.specs.declared.link.Wants.TheVariants.{CloseAll}
 use Rattle.ftp_control.specs.Asking.{Asked}
 use Rattle.ftp_control.specs.Courses.{Carries}
 use Rattle.ftp_control.specs.Deeds.{Deed, Other, Stand, with_owner}
-use Rattle.ftp_control.specs.Driving.{Cuts, Fails, Leads, Sums}
+use Rattle.ftp_control.specs.Driving.{Cuts, Sums}
 use Rattle.ftp_control.specs.Lane.{IsLeft, Lane, with_untold}
 use Rattle.ftp_control.specs.declared.pieces.Failed.{Failed}
 use Rattle.ftp_server_model.specs.Calls.{wants}
 use Rattle.ftp_server_model.specs.Far.{Server}
-use Rattle.ftp_control.specs.Machine.{Call, Called, Held, Left, move_of}
-use Rattle.ftp_server_drive.specs.Side.{Clock, ended, server_machine, server_side}
-use Rattle.ftp_server_drive.specs.declared.drive.Life.{Life}
-use Rattle.ftp_server_drive.specs.declared.drive.Life.TheVariants.{GoesOn, Over}
-
--- it is told the moment, and right after that this
-abbrev pub Timed : Call ℕ → (old new : Held Server) → Type 0
-Timed call old new = (moment : ℕ) × (mid : Held Server) × Called server_machine (Clock moment) old mid × Called server_machine call mid new
+use Rattle.ftp_control.specs.Machine.{Left, move_of}
+use Rattle.ftp_server_drive.specs.Side.{ended, server_side}
 
 -- the server is done with the control connection
 abbrev pub IsOver : Stand server_side → Type 0
 IsOver stand = wants stand.owner.end.view ≡ CloseAll
 
--- a turn leads on, to where the server is done or not, or fails
-abbrev pub Turns : (old new : Stand server_side) → Result Life Failed → Type 0
-Turns old new (Ok GoesOn) = Leads old new
-Turns old new (Ok Over) = Leads old new × IsOver new
-Turns old new (Err failed) = Fails old new
-
--- turns lead to where the server is done, or fail
-abbrev pub EndsOver : {T : Type 0} → (old new : Stand server_side) → Result T Failed → Type 0
-EndsOver old new (Ok value) = Leads old new × IsOver new
-EndsOver old new (Err failed) = Fails old new
+-- it is found to be so
+abbrev pub IsDone : (old new : Server) → Type 0
+IsDone old new = (new ≡ old) × (wants old.view ≡ CloseAll)
 
 -- all that the server said was written, and it heard all that was read but for what is not heard yet; it is done with the control
 -- connection, and its data connection was left last

@@ -1,4 +1,3 @@
 pub mod Side
-pub mod Driving
 pub mod Beside
-pub mod Standing
+pub mod Driving

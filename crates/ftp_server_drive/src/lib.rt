@@ -2,11 +2,8 @@
 //! `Watch` of `ftp_control` (RFC 959, section 2.3). No IO of its own.
 #![tactic(auto)]
 
-mod carry;
-mod control;
-mod data;
 mod drive;
-mod wait;
+mod serves;
 
 pub use drive::drive_server;
 pub use ftp_control::Control;

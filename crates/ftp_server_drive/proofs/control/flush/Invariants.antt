@@ -1,7 +1,0 @@
-use Rattle.ftp_server_drive.proofs.Words.{Lane, Leads, beside, held}
-use Rattle.ftp_server_drive.proofs.control.flush.Given as goal
-
-abbrev pub invariant-loop : goal.invariant-loop
-invariant-loop g l =
-    let stand = beside g.R.Read.remaining g.W.Write.contents in
-    (lane : Lane) → Leads (stand (held (g.F.Far.server l.fn.server) lane) l.fn.control) (stand (held (g.F.Far.server l.server) lane) l.control)

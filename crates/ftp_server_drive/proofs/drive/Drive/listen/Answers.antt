@@ -1,8 +1,0 @@
-use Rattle.ftp_server_drive.proofs.Words.{listens, listens_nowhere, server_machine}
-use Rattle.ftp_server_drive.proofs.drive.Drive.listen.Goals as goal
-
-pub returns-in-Some-clause-leads : goal.returns-in-Some-clause-leads
-returns-in-Some-clause-leads g c = listens server_machine _ _ _ c.listen.result c.in-Some.port c.in-Some.is c.listen.ensures c.listening.ensures c.requires
-
-pub returns-in-None-clause-leads : goal.returns-in-None-clause-leads
-returns-in-None-clause-leads g c = listens_nowhere server_machine _ _ _ c.listen.result c.in-None.is c.listen.ensures c.listen_refused.ensures c.requires

@@ -1,7 +1,0 @@
-use Rattle.ftp_server_drive.proofs.Words.{IsKept, Leads, standing}
-use Rattle.ftp_server_drive.proofs.drive.Drive.turns.Given as goal
-
-abbrev pub invariant-loop : goal.invariant-loop
-invariant-loop g l =
-    let at = standing g.F.Far.server g.R.Read.remaining g.W.Write.contents g.P.Ports.history g.S.Read.remaining g.S.Write.contents in
-    Leads (at l.fn.self) (at l.self) × IsKept l.fn.self l.self
