@@ -7,14 +7,14 @@ use Rattle.ftp_control.specs.Asking.{Adds, Asked}
 use Rattle.ftp_control.specs.Deeds.{Stand, with_owner}
 use Rattle.ftp_control.specs.Driving.{Fails, Goes, Leads, Quietly, Settles}
 use Rattle.ftp_control.specs.Lane.{IsRead, IsWaited, IsWritten, Lane, with_asked, with_untold}
-use Rattle.ftp_control.specs.Machine.{Aside, End, Held, Idles, Machine, Received, held, side_of, stand_of}
+use Rattle.ftp_control.specs.Machine.{Aside, Break, End, Held, Idles, Machine, Received, held, side_of, stand_of}
 use Rattle.ftp_control.specs.Side.{Side}
 use Rattle.ftp_control.specs.declared.control.Control.{Control}
 use Rattle.ftp_control.specs.declared.pieces.Failed.{Failed}
 use Rattle.ftp_control.proofs.Going.{goes_then}
 use Rattle.ftp_control.proofs.Idling.{idles_asked, idles_read, idles_waited, idles_wrote, settles_idle}
 use Rattle.ftp_control.proofs.Leading.{fails_here, leads_then, quiet_call, quiet_nothing, quiet_then, settled_leads}
-use Rattle.ftp_control_drive.specs.Calling.{Asides, untaken}
+use Rattle.ftp_control_drive.specs.Calling.{Asides, IsTold, untaken}
 use Rattle.ftp_control_drive.specs.Reaching.{Ends, Reaches}
 use Rattle.ftp_control_drive.specs.Standing.{asked_before}
 
@@ -59,11 +59,17 @@ module _ (machine : Machine) where
   aside_quietly old new lane (inr same) = subst (λ n. Quietly (side_of machine) (held old lane) (held n lane)) (sym same) (quiet_nothing (side_of machine) (held old lane))
 
   -- it is told the moment, and that its data connection, which stands and is at its end, ended
-  pub ends_told : (old mid new : machine.Here) (lane : Lane) → Asides machine old mid → machine.End mid new → lane.stands ≡ true → IsAtEnd lane.left → lane.untold ≡ []
+  pub ends_told : (old new : machine.Here) (lane : Lane) → IsTold machine machine.End old new → lane.stands ≡ true → IsAtEnd lane.left → lane.untold ≡ []
       → Quietly (side_of machine) (held old lane) (held new lane)
-  ends_told old mid new lane aside told stands ended none =
-      quiet_then (side_of machine) (held old lane) (held mid lane) (held new lane) (aside_quietly old mid lane aside)
-      (quiet_call (side_of machine) End (held mid lane) (held new lane) (told, (refl, ended, none), stands))
+  ends_told old new lane told stands ended none =
+      quiet_then (side_of machine) (held old lane) (held told.0 lane) (held new lane) (aside_quietly old told.0 lane told.1)
+      (quiet_call (side_of machine) End (held told.0 lane) (held new lane) (told.2, (refl, ended, none), stands))
+
+  -- or that it broke
+  pub breaks_told : (old new : machine.Here) (lane : Lane) → IsTold machine machine.Break old new → Quietly (side_of machine) (held old lane) (held new lane)
+  breaks_told old new lane told =
+      quiet_then (side_of machine) (held old lane) (held told.0 lane) (held new lane) (aside_quietly old told.0 lane told.1)
+      (quiet_call (side_of machine) Break (held told.0 lane) (held new lane) (told.2, refl, tt))
 
   -- it took so many of the octets in hand
   pub receives : (old new : machine.Here) (lane : Lane) (count : ℕ) (octets : List ℕ) → machine.Received octets count old new

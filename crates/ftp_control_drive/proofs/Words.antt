@@ -11,7 +11,7 @@ pub use Rattle.ftp_control.specs.Driving.{Fails, Goes, Leads, Quietly}
 pub use Rattle.ftp_control.specs.Lane.{Lane, no_lane, with_given, with_untold}
 pub use Rattle.ftp_control.specs.Machine.{Break, Closed, End, Received, held, side_of, stand_of}
 pub use Rattle.ftp_control.specs.Outcome.{in_hand}
-pub use Rattle.ftp_control_drive.proofs.Reaching.{aside_quietly, ends_err, ends_told, handing, hands_err, reached_fails, reached_goes, reached_then, reaches_asked, reaches_came, reaches_idle, reaches_settled, reaches_unheard, reaches_waited, receives, sends}
+pub use Rattle.ftp_control_drive.proofs.Reaching.{aside_quietly, breaks_told, ends_err, ends_told, handing, hands_err, reached_fails, reached_goes, reached_then, reaches_asked, reaches_came, reaches_idle, reaches_settled, reaches_unheard, reaches_waited, receives, sends}
 pub use Rattle.ftp_control_drive.specs.Calling.{IsAsked}
 pub use Rattle.ftp_control_drive.specs.Reaching.{Ends, Reaches}
 pub use Rattle.ftp_control_drive.specs.Standing.{HasEnded, IsKept, lane_at, standing, standing_with}

@@ -10,6 +10,10 @@ use Rattle.ftp_ends.specs.declared.link.Wants.TheVariants as Want
 abbrev pub Asides : (machine : Machine) → (old new : machine.Here) → Type 0
 Asides machine old new = ((own : machine.Own) × machine.Owns own old new) ⊎ (new ≡ old)
 
+-- it is told the moment, where it wants to know, and right after that this
+abbrev pub IsTold : (machine : Machine) → (told : (old new : machine.Here) → Type 0) → (old new : machine.Here) → Type 0
+IsTold machine told old new = (mid : machine.Here) × Asides machine old mid × told mid new
+
 -- it is asked whether its drive is over, and then that is its last call
 abbrev pub IsAsked : {Over : Type 0} → (machine : Machine) → (last : Over → (old new : machine.Here) → Type 0) → Option Over → (old new : machine.Here) → Type 0
 IsAsked machine last (Some over) old new = last over old new

@@ -1,10 +1,12 @@
 // A transfer under way: octets go over the data connection, and control octets that come first are read.
 ghost use Rattle.std.specs.Prelude.{◌≡◌, ◌≢◌, [], false};
 ghost use Rattle.ftp_control.specs.Asking.{Adds};
+ghost use Rattle.ftp_control_drive.specs.Calling.{IsTold};
 ghost use Rattle.ftp_control_drive.specs.Standing.{Follows, HasEnded, IsKept, LeadsOn};
 
 use crate::calls::EndCalls;
 use crate::control::flush;
+use crate::data::Data;
 use crate::drive::Drive;
 use crate::hand::hand;
 use ftp_control::{Failed, For, Halt, Ports, Ready, Spoken};
@@ -152,30 +154,49 @@ where
         }
     }
 
-    /// The data connection ended, and the control connection, as far as it was looked at, has not: the end is told the moment and that, what it owes
-    /// then is written, and only then is it closed: its peer, which ended it, waits for the reply alone.
-    fn over(&mut self, _spoken: Spoken) -> Result<(), Failed>
-        requires before { _spoken ≢ Spoken.Ended }
+    /// The data connection ended: the end is told, what it owes then is written, and only then is it closed: its peer, which ended it, waits for
+    /// the reply alone.
+    fn over(&mut self, spoken: Spoken) -> Result<(), Failed>
+        requires before { spoken ≢ Spoken.Ended }
         requires ended { HasEnded S.remaining self.old.data }
         ensures goes { Follows K.machine K.here R.remaining W.contents P.history S.remaining S.contents self.old self.new result }
         ensures kept { IsKept self.old self.new }
     {
-        K::tell_time(self.end, self.watch);
-        K::data_end(self.end);
+        end::<K, E, C, S>(self.end, self.watch, &self.data, spoken);
         flush::<K, E, C, R, W>(self.end, self.control)?;
         self.data.leave(self.ports);
         Ok(())
     }
 
-    /// The data connection is lost: the end is told the moment and that, and it is reset.
+    /// The data connection is lost: the end is told, and it is reset.
     fn lose(&mut self)
         ensures leads { LeadsOn K.machine K.here R.remaining W.contents P.history S.remaining S.contents self.old self.new }
         ensures kept { IsKept self.old self.new }
     {
-        K::tell_time(self.end, self.watch);
-        K::data_fault(self.end);
+        fault::<K, E, C>(self.end, self.watch);
         self.data.reset(self.ports);
     }
+}
+
+/// The data connection ended now, and the control connection, as far as it was looked at, has not.
+fn end<K, E, C, S>(end: &mut E, watch: &mut C, _ended: &Data<S>, _spoken: Spoken)
+where
+    K: EndCalls<E, C>,
+    S: Read + Write,
+    requires ended { HasEnded S.remaining _ended.now }
+    requires before { _spoken ≢ Spoken.Ended }
+    ensures { IsTold K.machine K.machine.End (K.here end.old) (K.here end.new) }
+{
+    K::tell_time(end, watch);
+    K::data_end(end);
+}
+
+/// The data connection broke now.
+fn fault<K: EndCalls<E, C>, E, C>(end: &mut E, watch: &mut C)
+    ensures { IsTold K.machine K.machine.Break (K.here end.old) (K.here end.new) }
+{
+    K::tell_time(end, watch);
+    K::data_fault(end);
 }
 
 /// What the control connection has, where an end that serves looks at it before its data connection is over; one that asks has looked already.

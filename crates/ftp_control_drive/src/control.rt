@@ -1,5 +1,5 @@
 // The octets of a control connection: those that the end owes are written, those that were read are heard.
-ghost use Rattle.std.specs.Prelude.{◌≡◌, ◌<◌, false, length};
+ghost use Rattle.std.specs.Prelude.{◌≡◌, ◌<◌, IsTrue, false, length};
 ghost use Rattle.ftp_control.specs.Driving.{Flushes};
 ghost use Rattle.ftp_control.specs.Lane.{Lane};
 ghost use Rattle.ftp_control.specs.Machine.{held, stand_of};
@@ -42,6 +42,7 @@ where
     /// Hears the first octets that were read, and gives whether the end took any.
     pub(crate) fn hear(&mut self) -> bool
         ensures leads { LeadsOn K.machine K.here R.remaining W.contents P.history S.remaining S.contents self.old self.new }
+        ensures took { IsTrue result → length (unheard_of self.new.control.now) < length (unheard_of self.old.control.now) }
         ensures none { result ≡ false → unheard_of self.new.control.now ≡ unheard_of self.old.control.now }
         ensures kept { IsKept self.old self.new }
     {

@@ -94,10 +94,10 @@ impl<S: Read + Write> Data<S> {
         ensures moved { (asked : Option (List Asked)) → IsRead (in_hand result self.new.room) (lane_at S.remaining S.contents asked self.old []) (lane_at S.remaining S.contents asked self.new (in_hand result self.new.room)) }
         ensures ended { IfOk result (λ count. count ≡ 0 → HasEnded S.remaining self.new) }
     {
-        if self.connection.has_unwritten() {
-            return Err(Halt::Again);
+        if !self.connection.has_unwritten() {
+            return self.connection.read(&mut self.room);
         }
-        self.connection.read(&mut self.room)
+        Err(Halt::Again)
     }
 
     /// The front of the room, so many octets.
