@@ -1,5 +1,5 @@
 // A data connection, and room for its octets.
-ghost use Rattle.std.specs.Prelude.{◌≡◌, ◌≢◌, ℕ, List, [], IfOk, OnOk, Option, None, take, true};
+ghost use Rattle.std.specs.Prelude.{◌≡◌, ◌≢◌, ◌≤◌, ℕ, List, [], IfOk, OnOk, Option, None, take, true};
 ghost use Rattle.ftp_control.specs.Asking.{Asked};
 ghost use Rattle.ftp_control.specs.Driving.{Quietly};
 ghost use Rattle.ftp_control.specs.Lane.{IsLeft, IsRead, IsWaited, IsWritten, no_lane};
@@ -48,9 +48,20 @@ impl<S: Read + Write> Data<S> {
             self.note::<K, E, C>(end);
             return;
         }
-        let count = fill_front::<K, E, C>(end, &mut self.room, self.connection.piece());
+        let most = self.piece::<K, E, C>();
+        let count = fill_front::<K, E, C>(end, &mut self.room, most);
         self.connection.took(count);
         self.note::<K, E, C>(end);
+    }
+
+    /// How many octets are taken at once: of an end that serves by what went so far, of one that asks as many as there is room for.
+    fn piece<K: EndCalls<E, C>, E, C>(&self) -> usize
+        ensures { result ≤ 262144 }
+    {
+        if K::serves() {
+            return self.connection.piece();
+        }
+        DATA_PIECE
     }
 
     /// Writes octets that are not written yet: as many as one write takes, or, of an end that serves and has no others, all.
