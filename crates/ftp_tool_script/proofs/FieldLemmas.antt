@@ -17,9 +17,10 @@ pub alone : (rest : Option (List ℕ)) → with_front [] rest ≡ rest
 alone None = refl
 alone (Some octets) = refl
 
-one_said : (front : List ℕ) (octet : ℕ) (rest : Option (List ℕ)) → with_front front (option_map (said_before (Some octet)) rest) ≡ with_front (front ++ octet ∷ []) rest
-one_said front octet None = refl
-one_said front octet (Some octets) = ap Some (sym (append_assoc front (octet ∷ []) octets))
+-- a row that is said behind another
+rows_said : (old front : List ℕ) (rest : Option (List ℕ)) → with_front old (with_front front rest) ≡ with_front (old ++ front) rest
+rows_said old front None = refl
+rows_said old front (Some octets) = ap Some (sym (append_assoc old front octets))
 
 -- ---- where an octet leads
 
@@ -73,21 +74,15 @@ too_few (high ∷ low ∷ text) less = absurd (omega (arith, less))
 
 -- ---- what is said then
 
--- a text says what another does
-pub as_other : {Rest : Type 0} (seen : Rest → List ℕ) (text other : List ℕ) (place next : FieldState) (old new : List ℕ) (r : Result Rest LineFault)
-    → said_from text place ≡ said_from other next → SaysOn seen other next old new r → SaysOn seen text place old new r
-as_other seen text other place next old new (Ok rest) same says = ap (with_front old) same ∙ says
-as_other seen text other place next old new (Err Unfit) same says = same ∙ says
-as_other seen text other place next old new (Err Memory) same says = tt
-
--- one octet is put, and the others are left
-pub puts : {Rest : Type 0} (seen : Rest → List ℕ) (text behind : List ℕ) (place : FieldState) (octet : ℕ) (old new : List ℕ) (r : Result Rest LineFault)
-    → SaysOctet octet text behind place → IfOk r (λ left. (seen left ≡ behind) × (new ≡ old ++ octet ∷ [])) → IfErr r (λ fault. fault ≡ Memory) → SaysOn seen text place old new r
-puts seen text behind place octet old new (Ok left) says put fault =
-    ap (with_front old) says ∙ one_said old octet (said_from behind Between)
-    ∙ sym (ap (λ l. with_front l (said_from (seen left) Between)) put.1 ∙ ap (λ s. with_front (old ++ octet ∷ []) (said_from s Between)) put.0)
-puts seen text behind place octet old new (Err Unfit) says put fault = absurd (cc)
-puts seen text behind place octet old new (Err Memory) says put fault = tt
+-- a row is put, and what is behind it is left
+pub puts : {Rest : Type 0} (seen : Rest → List ℕ) (text front behind : List ℕ) (place : FieldState) (old new : List ℕ) (r : Result Rest LineFault)
+    → said_from text place ≡ with_front front (said_from behind Between) → IfOk r (λ left. (seen left ≡ behind) × (new ≡ old ++ front)) → IfErr r (λ fault. fault ≡ Memory)
+    → SaysOn seen text place old new r
+puts seen text front behind place old new (Ok left) says put fault =
+    ap (with_front old) says ∙ rows_said old front (said_from behind Between)
+    ∙ sym (ap (λ l. with_front l (said_from (seen left) Between)) put.1 ∙ ap (λ s. with_front (old ++ front) (said_from s Between)) put.0)
+puts seen text front behind place old new (Err Unfit) says put fault = absurd (cc)
+puts seen text front behind place old new (Err Memory) says put fault = tt
 
 -- why an octet is refused is why the text is
 pub refuses : {Rest Y : Type 0} (seen : Rest → List ℕ) (sees : Y → List ℕ) (fault : LineFault) (text old new : List ℕ) (whole : Option (List ℕ))

@@ -5,5 +5,7 @@ pub mod PlainLemmas
 pub mod ReadingLemmas
 pub mod ReportLemmas
 pub mod Reporting
+pub mod RoomLemmas
 pub mod ScriptLemmas
+pub mod TableLemmas
 pub mod WrittenLemmas

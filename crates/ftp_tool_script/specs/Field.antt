@@ -1,5 +1,5 @@
 -- A field of a script: octets, some of them written by an escape (own choice).
-use Rattle.std.specs.Prelude.{◌≡◌, ℕ, ◌+◌, ◌-◌, ◌*◌, ◌/◌, ◌%◌, ◌==◌, ◌&&◌, ◌++◌, Bool, not, nat_le, nat_lt, nat_eq, List, [], ◌∷◌, length, flat_map, Option, Some, None, option_map, if◌then◌else◌}
+use Rattle.std.specs.Prelude.{◌≡◌, ℕ, ◌+◌, ◌-◌, ◌*◌, ◌/◌, ◌%◌, ◌==◌, ◌&&◌, ◌++◌, Bool, not, nat_le, nat_lt, nat_eq, List, [], ◌∷◌, length, take, flat_map, Option, Some, None, option_map, if◌then◌else◌}
 use Rattle.std.specs.Cmp.Lexicographic.{pointwise}
 use Rattle.ftp_facts.specs.Value.{and_then}
 use Rattle.std.specs.declared.result.Result.{Result}
@@ -66,6 +66,16 @@ SaysOn seen text place old new (Ok rest) = with_front old (said_from text place)
 SaysOn seen text place old new (Err Unfit) = said_from text place ≡ None
 SaysOn seen text place old new (Err Memory) = Unit {0}
 
+-- a text says this octet first, and then what is left of it; or it says nothing
+abbrev pub SaysFirst : {Rest : Type 0} → (Rest → List ℕ) → (text : List ℕ) → FieldState → Option (ℕ × Rest) → Type 0
+SaysFirst seen text place (Some said) = said_from text place ≡ option_map (said_before (Some said.0)) (said_from (seen said.1) Between)
+SaysFirst seen text place None = said_from text place ≡ None
+
+-- a text says so many octets of a room first, and then what is left of it; or it says nothing
+abbrev pub SaysFront : {Rest : Type 0} → (Rest → List ℕ) → (text room : List ℕ) → Option (ℕ × Rest) → Type 0
+SaysFront seen text room (Some filled) = said_from text Between ≡ with_front (take filled.0 room) (said_from (seen filled.1) Between)
+SaysFront seen text room None = said_from text Between ≡ None
+
 -- `\e`, the field of no octets
 abbrev pub empty_field : List ℕ
 empty_field = 92 ∷ 101 ∷ []
@@ -98,7 +108,3 @@ written octet =
 -- the field that says these octets
 abbrev pub field_text : List ℕ → List ℕ
 field_text octets = if length octets == 0 then empty_field else flat_map written octets
-
--- an octet that has no letter and does not stand for itself
-abbrev pub has_digits : ℕ → Bool
-has_digits octet = not (octet == 32) && not (octet == 10) && not (octet == 13) && not (octet == backslash) && not (is_plain octet)

@@ -1,13 +1,20 @@
 // A field: octets, some of them written by an escape.
-ghost use Rattle.std.specs.Prelude.{◌≡◌, ◌≤◌, ◌<◌, ◌++◌, ◌∷◌, [], Some, true, flat_map, length, OnOk, IfOk, IfErr, IfSome};
+ghost use Rattle.std.specs.Prelude.{◌≡◌, ◌≤◌, ◌<◌, ◌+◌, ◌++◌, ◌∷◌, [], Some, true, flat_map, length, OnOk, IfOk, IfErr, IfSome, take};
 ghost use Rattle.std.specs.List.{list_all};
-ghost use Rattle.ftp_tool_script.specs.Field.{Between, Escape, High, SaysOn, backslash, digit_octet, digit_value, digits_octet, digits_written, field_text, field_value, has_digits, is_plain, letter_octet, other_written, said_from, with_front, written};
+ghost use Rattle.ftp_tool_script.specs.Field.{Between, Escape, High, SaysFirst, SaysFront, SaysOn, digits_octet, field_text, field_value, is_plain, letter_octet, said_from, with_front, written};
 ghost use Rattle.ftp_tool_script.specs.Line.{Reads};
 
 use crate::fault::LineFault;
-use crate::plain::{are_plain, is_plain};
+use crate::plain::{LANES, are_plain, are_plain_in_lanes, is_plain};
+use crate::tables::{digit_value, escape_of};
 use ftp_facts::Text;
 use std::alloc::{AllocError, Allocator};
+
+/// How many octets are read one by one before they are appended.
+const ROOM: usize = 64;
+
+/// How many octets a room of written octets has.
+const WIDE: usize = 256;
 
 /// The octets that a field says.
 pub fn octets_of<A: Allocator + Copy>(alloc: A, field: &[u8]) -> Result<Text<A>, LineFault>
@@ -43,14 +50,19 @@ fn said<A: Allocator + Copy>(alloc: A, text: &[u8]) -> Result<Text<A>, LineFault
     }
 }
 
-/// The octets that a text says, one after another.
+/// The octets that a text says, one after another. Room for all that it can say is asked for at once, and what it does not take is given back.
 #[tactic(auto, using(crate::proofs::FieldLemmas::alone))]
 fn said_each<A: Allocator + Copy>(alloc: A, text: &[u8]) -> Result<Text<A>, LineFault>
     ensures { Reads (λ octets. octets) result (said_from text.now Between) }
 {
-    let mut octets = Vec::new(alloc);
+    let Ok(mut octets) = Vec::with_capacity(alloc, text.len()) else {
+        return Err(LineFault::Memory);
+    };
     match put_said(text, &mut octets) {
-        Ok(()) => copied(alloc, octets.as_slice()),
+        Ok(()) => {
+            octets.shrink_to_fit();
+            Ok(Text::from_vec(octets))
+        }
         Err(fault) => Err(fault),
     }
 }
@@ -60,8 +72,8 @@ fn put_said<A: Allocator + Copy>(text: &[u8], out: &mut Vec<u8, A>) -> Result<()
     ensures { Reads (λ _. out.new.items) result (with_front out.old.items (said_from text.now Between)) }
 {
     let mut rest = text;
-    while let [octet, behind @ ..] = rest {
-        match put_next(*octet, behind, out) {
+    while !rest.is_empty() {
+        match put_next(rest, out) {
             Ok(left) => rest = left,
             Err(fault) => return Err(fault),
         }
@@ -69,73 +81,119 @@ fn put_said<A: Allocator + Copy>(text: &[u8], out: &mut Vec<u8, A>) -> Result<()
     Ok(())
 }
 
-/// Appends the octet that is said first, by itself or by an escape; gives what is left of the text.
+/// Appends the octets that are said first: a vector of those that stand for themselves, or a room of whichever; gives what is left of the text.
 fn put_next<'a, A: Allocator + Copy>(
-    octet: u8,
+    text: &'a [u8],
+    out: &mut Vec<u8, A>,
+) -> Result<&'a [u8], LineFault>
+    ensures says { SaysOn (λ left. left.now) text.now Between out.old.items out.new.items result }
+    ensures less { 0 < length text.now → IfOk result (λ left. length left.now < length text.now) }
+{
+    if text.len() >= LANES {
+        let (front, behind) = text.split_at(LANES);
+        if are_plain_in_lanes(front) {
+            return put_before(front, behind, out);
+        }
+    }
+    put_room(text, out)
+}
+
+/// Appends a room of the octets that are said first; gives what is left.
+fn put_room<'a, A: Allocator + Copy>(
+    text: &'a [u8],
+    out: &mut Vec<u8, A>,
+) -> Result<&'a [u8], LineFault>
+    ensures says { SaysOn (λ left. left.now) text.now Between out.old.items out.new.items result }
+    ensures less { 0 < length text.now → IfOk result (λ left. length left.now < length text.now) }
+{
+    let mut room = [0u8; ROOM];
+    let Some((count, left)) = fill(text, &mut room) else {
+        return Err(LineFault::Unfit);
+    };
+    let (said, _) = room.split_at(count);
+    put_before(said, left, out)
+}
+
+/// Appends octets, and gives what is behind them.
+fn put_before<'a, A: Allocator + Copy>(
+    octets: &[u8],
     behind: &'a [u8],
     out: &mut Vec<u8, A>,
 ) -> Result<&'a [u8], LineFault>
-    ensures says { SaysOn (λ left. left.now) (octet ∷ behind.now) Between out.old.items out.new.items result }
-    ensures less { IfOk result (λ left. length left.now ≤ length behind.now) }
+    ensures ok { IfOk result (λ left. (left.now ≡ behind.now) × (out.new.items ≡ out.old.items ++ octets.now)) }
+    ensures memory { IfErr result (λ fault. fault ≡ LineFault.Memory) }
+{
+    match out.extend_from_slice(octets) {
+        Ok(()) => Ok(behind),
+        Err(AllocError) => Err(LineFault::Memory),
+    }
+}
+
+/// Fills a room with the octets that are said first; gives how many there are, and what is left of the text.
+fn fill<'a>(text: &'a [u8], room: &mut [u8; ROOM]) -> Option<(usize, &'a [u8])>
+    ensures says { SaysFront (λ left. left.now) text.now room.new result }
+    ensures within { IfSome result (λ filled. filled.0 ≤ ROOM) }
+    ensures less { 0 < length text.now → IfSome result (λ filled. length filled.1.now < length text.now) }
+{
+    let mut count = 0;
+    let mut rest = text;
+    while count < ROOM {
+        let [octet, behind @ ..] = rest else {
+            return Some((count, rest));
+        };
+        let Some((said, left)) = first_said(*octet, behind) else {
+            return None;
+        };
+        room[count] = said;
+        count += 1;
+        rest = left;
+    }
+    Some((count, rest))
+}
+
+/// The octet that a text says first, by itself or by an escape, and what is left of the text.
+fn first_said(octet: u8, behind: &[u8]) -> Option<(u8, &[u8])>
+    ensures says { SaysFirst (λ left. left.now) (octet ∷ behind.now) Between result }
+    ensures less { IfSome result (λ said. length said.1.now ≤ length behind.now) }
 {
     if octet == b'\\' {
-        put_escaped(behind, out)
-    } else if is_plain(octet) {
-        put_before(octet, behind, out)
+        return escaped(behind);
+    }
+    if is_plain(octet) {
+        Some((octet, behind))
     } else {
-        Err(LineFault::Unfit)
+        None
     }
 }
 
 /// The same behind a backslash.
-fn put_escaped<'a, A: Allocator + Copy>(
-    text: &'a [u8],
-    out: &mut Vec<u8, A>,
-) -> Result<&'a [u8], LineFault>
-    ensures says { SaysOn (λ left. left.now) text.now Escape out.old.items out.new.items result }
-    ensures less { IfOk result (λ left. length left.now ≤ length text.now) }
+fn escaped(text: &[u8]) -> Option<(u8, &[u8])>
+    ensures says { SaysFirst (λ left. left.now) text.now Escape result }
+    ensures less { IfSome result (λ said. length said.1.now ≤ length text.now) }
 {
     let [letter, behind @ ..] = text else {
-        return Err(LineFault::Unfit);
+        return None;
     };
     if *letter == b'x' {
-        return put_by_digits(behind, out);
+        return by_digits(behind);
     }
     match letter_octet(*letter) {
-        Some(octet) => put_before(octet, behind, out),
-        None => Err(LineFault::Unfit),
+        Some(octet) => Some((octet, behind)),
+        None => None,
     }
 }
 
 /// The same behind a backslash and `x`.
-fn put_by_digits<'a, A: Allocator + Copy>(
-    text: &'a [u8],
-    out: &mut Vec<u8, A>,
-) -> Result<&'a [u8], LineFault>
-    ensures says { SaysOn (λ left. left.now) text.now High out.old.items out.new.items result }
-    ensures less { IfOk result (λ left. length left.now ≤ length text.now) }
+fn by_digits(text: &[u8]) -> Option<(u8, &[u8])>
+    ensures says { SaysFirst (λ left. left.now) text.now High result }
+    ensures less { IfSome result (λ said. length said.1.now ≤ length text.now) }
 {
     let [high, low, behind @ ..] = text else {
-        return Err(LineFault::Unfit);
+        return None;
     };
     match digits_octet(*high, *low) {
-        Some(octet) => put_before(octet, behind, out),
-        None => Err(LineFault::Unfit),
-    }
-}
-
-/// Appends an octet, and gives what is behind it.
-fn put_before<'a, A: Allocator + Copy>(
-    octet: u8,
-    behind: &'a [u8],
-    out: &mut Vec<u8, A>,
-) -> Result<&'a [u8], LineFault>
-    ensures ok { IfOk result (λ left. (left.now ≡ behind.now) × (out.new.items ≡ out.old.items ++ octet ∷ [])) }
-    ensures memory { IfErr result (λ fault. fault ≡ LineFault.Memory) }
-{
-    match out.push(octet) {
-        Ok(()) => Ok(behind),
-        Err(_) => Err(LineFault::Memory),
+        Some(octet) => Some((octet, behind)),
+        None => None,
     }
 }
 
@@ -161,19 +219,6 @@ fn digits_octet(high: u8, low: u8) -> Option<u8>
         return None;
     };
     Some(16 * high + low)
-}
-
-fn digit_value(digit: u8) -> Option<u8>
-    ensures value { result ≡ digit_value digit }
-    ensures bound { IfSome result (λ value. value ≤ 15) }
-{
-    if 48 <= digit && digit <= 57 {
-        Some(digit - 48)
-    } else if 97 <= digit && digit <= 102 {
-        Some(digit - 87)
-    } else {
-        None
-    }
 }
 
 /// Appends the field that says these octets. Refused memory, a part of it may stand there. Octets that stand for themselves go in one go.
@@ -203,8 +248,8 @@ fn put_octets<A: Allocator + Copy>(octets: &[u8], out: &mut Vec<u8, A>) -> Resul
     ensures { OnOk result (out.new.items ≡ out.old.items ++ flat_map written octets.now) }
 {
     let mut rest = octets;
-    while let [octet, behind @ ..] = rest {
-        match put_some(*octet, behind, out) {
+    while !rest.is_empty() {
+        match put_some(rest, out) {
             Ok(left) => rest = left,
             Err(AllocError) => return Err(AllocError),
         }
@@ -212,89 +257,67 @@ fn put_octets<A: Allocator + Copy>(octets: &[u8], out: &mut Vec<u8, A>) -> Resul
     Ok(())
 }
 
-/// Appends the first octet, or the first four in one go where each of them has to be written by digits; gives what is left.
-#[tactic(auto, using(crate::proofs::PlainLemmas::one_put))]
+/// Appends the first octets: a vector of those that stand for themselves, or a room of whichever; gives what is left.
 fn put_some<'a, A: Allocator + Copy>(
-    octet: u8,
-    behind: &'a [u8],
+    octets: &'a [u8],
     out: &mut Vec<u8, A>,
 ) -> Result<&'a [u8], AllocError>
-    ensures put { IfOk result (λ left. out.new.items ++ flat_map written left.now ≡ out.old.items ++ flat_map written (octet ∷ behind.now)) }
-    ensures less { IfOk result (λ left. length left.now ≤ length behind.now) }
+    ensures put { IfOk result (λ left. out.new.items ++ flat_map written left.now ≡ out.old.items ++ flat_map written octets.now) }
+    ensures less { 0 < length octets.now → IfOk result (λ left. length left.now < length octets.now) }
 {
-    if let [second, third, fourth, left @ ..] = behind {
-        if has_digits(octet) && has_digits(*second) && has_digits(*third) && has_digits(*fourth) {
-            put_four(octet, *second, *third, *fourth, out)?;
+    if octets.len() >= LANES {
+        let (front, left) = octets.split_at(LANES);
+        if are_plain_in_lanes(front) {
+            put_plain(front, out)?;
             return Ok(left);
         }
     }
-    put_octet(octet, out)?;
-    Ok(behind)
+    put_written(octets, out)
 }
 
-/// Appends four octets by digits.
-fn put_four<A: Allocator + Copy>(
-    one: u8,
-    two: u8,
-    three: u8,
-    four: u8,
+/// Appends a room of the first octets; gives what is left.
+fn put_written<'a, A: Allocator + Copy>(
+    octets: &'a [u8],
     out: &mut Vec<u8, A>,
-) -> Result<(), AllocError>
-    ensures { OnOk result (out.new.items ≡ out.old.items ++ flat_map digits_written (one ∷ two ∷ three ∷ four ∷ [])) }
+) -> Result<&'a [u8], AllocError>
+    ensures put { IfOk result (λ left. out.new.items ++ flat_map written left.now ≡ out.old.items ++ flat_map written octets.now) }
+    ensures less { 0 < length octets.now → IfOk result (λ left. length left.now < length octets.now) }
 {
-    let [a, b, c, d] = digits_of(one);
-    let [e, f, g, h] = digits_of(two);
-    let [i, j, k, l] = digits_of(three);
-    let [m, n, o, p] = digits_of(four);
-    out.extend_from_slice(&[a, b, c, d, e, f, g, h, i, j, k, l, m, n, o, p])
+    let mut room = [0u8; WIDE];
+    let (count, left) = write_front(octets, &mut room);
+    let (front, _) = room.split_at(count);
+    out.extend_from_slice(front)?;
+    Ok(left)
 }
 
-fn put_octet<A: Allocator + Copy>(octet: u8, out: &mut Vec<u8, A>) -> Result<(), AllocError>
-    ensures { OnOk result (out.new.items ≡ out.old.items ++ written octet) }
+/// Writes the first octets into a room; gives how much of it they take, and what is left of them.
+fn write_front<'a>(octets: &'a [u8], room: &mut [u8; WIDE]) -> (usize, &'a [u8])
+    ensures within { result.0 ≤ WIDE }
+    ensures front { take result.0 room.new ++ flat_map written result.1.now ≡ flat_map written octets.now }
+    ensures less { 0 < length octets.now → length result.1.now < length octets.now }
 {
-    match octet {
-        b' ' => out.extend_from_slice(b"\\s"),
-        b'\n' => out.extend_from_slice(b"\\n"),
-        b'\r' => out.extend_from_slice(b"\\r"),
-        b'\\' => out.extend_from_slice(b"\\\\"),
-        _ => put_other(octet, out),
+    let mut count = 0;
+    let mut rest = octets;
+    while count <= WIDE - 4 {
+        let [octet, behind @ ..] = rest else {
+            return (count, rest);
+        };
+        count = write_at(*octet, room, count);
+        rest = behind;
     }
+    (count, rest)
 }
 
-/// Appends an octet that has no letter.
-fn put_other<A: Allocator + Copy>(octet: u8, out: &mut Vec<u8, A>) -> Result<(), AllocError>
-    ensures { OnOk result (out.new.items ≡ out.old.items ++ other_written octet) }
+/// Writes an octet into a room from a place on; gives the place behind it.
+fn write_at(octet: u8, room: &mut [u8; WIDE], at: usize) -> usize
+    requires { at + 4 ≤ WIDE }
+    ensures within { result ≤ at + 4 }
+    ensures front { take result room.new ≡ take at room.old ++ written octet }
 {
-    if is_plain(octet) {
-        out.extend_from_slice(&[octet])
-    } else {
-        out.extend_from_slice(&digits_of(octet))
-    }
-}
-
-/// Whether an octet has to be written by digits.
-fn has_digits(octet: u8) -> bool
-    ensures { result ≡ has_digits octet }
-{
-    octet != b' ' && octet != b'\n' && octet != b'\r' && octet != b'\\' && !is_plain(octet)
-}
-
-/// An octet as an escape by two digits.
-fn digits_of(octet: u8) -> [u8; 4]
-    ensures { result ≡ digits_written octet }
-{
-    [
-        b'\\',
-        b'x',
-        digit_octet(octet / 16),
-        digit_octet(octet % 16),
-    ]
-}
-
-/// A hexadecimal digit.
-fn digit_octet(value: u8) -> u8
-    requires { value ≤ 15 }
-    ensures { result ≡ digit_octet value }
-{
-    if value < 10 { 48 + value } else { 87 + value }
+    let ([first, second, third, fourth], count) = escape_of(octet);
+    room[at] = first;
+    room[at + 1] = second;
+    room[at + 2] = third;
+    room[at + 3] = fourth;
+    at + count
 }

@@ -17,6 +17,7 @@ mod report;
 mod reports;
 pub mod rows;
 mod script;
+mod tables;
 mod verb;
 
 pub use fault::LineFault;

@@ -6,7 +6,7 @@ ghost use Rattle.ftp_tool_script.specs.Field.{is_plain};
 use std::simd::prelude::*;
 
 /// How many octets are looked at at once.
-const LANES: usize = 32;
+pub(crate) const LANES: usize = 32;
 
 /// Whether an octet stands for itself.
 pub(crate) fn is_plain(octet: u8) -> bool
@@ -32,7 +32,7 @@ pub(crate) fn are_plain(octets: &[u8]) -> bool
 }
 
 /// The same of the octets of one vector.
-fn are_plain_in_lanes(octets: &[u8]) -> bool
+pub(crate) fn are_plain_in_lanes(octets: &[u8]) -> bool
     requires { length octets.now ≡ LANES }
     ensures { result ≡ list_all is_plain octets.now }
 {
