@@ -18,9 +18,14 @@ alone None = refl
 alone (Some octets) = refl
 
 -- a row that is said behind another
-rows_said : (old front : List ℕ) (rest : Option (List ℕ)) → with_front old (with_front front rest) ≡ with_front (old ++ front) rest
+pub rows_said : (old front : List ℕ) (rest : Option (List ℕ)) → with_front old (with_front front rest) ≡ with_front (old ++ front) rest
 rows_said old front None = refl
 rows_said old front (Some octets) = ap Some (sym (append_assoc old front octets))
+
+-- octets that are said, and others behind them
+pub led : (octet : ℕ) (front : List ℕ) (rest : Option (List ℕ)) → option_map (said_before (Some octet)) (with_front front rest) ≡ with_front (octet ∷ front) rest
+led octet front None = refl
+led octet front (Some octets) = refl
 
 -- ---- where an octet leads
 

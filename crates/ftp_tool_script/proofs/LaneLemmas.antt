@@ -19,7 +19,7 @@ all_both : (p q : ℕ → Bool) (xs : List ℕ) → (list_all p xs && list_all q
 all_both p q [] = refl
 all_both p q (x ∷ xs) = both_row (p x) (q x) (list_all p xs) (list_all q xs) ∙ ap (λ b. (p x && q x) && b) (all_both p q xs)
 
-all_same : (p q : ℕ → Bool) → ((x : ℕ) → p x ≡ q x) → (xs : List ℕ) → list_all p xs ≡ list_all q xs
+pub all_same : (p q : ℕ → Bool) → ((x : ℕ) → p x ≡ q x) → (xs : List ℕ) → list_all p xs ≡ list_all q xs
 all_same p q same xs = λ i. list_all (λ x. same x i) xs
 
 -- no lane passes
@@ -28,7 +28,7 @@ doubled true n rest is = ne_eqb (1 + 2 * n) 0 (λ same. absurd (omega (arith, sa
 doubled false zero rest is = is
 doubled false (suc n) rest is = ne_eqb (0 + 2 * suc n) 0 (λ same. absurd (omega (arith, same))) ∙ sym (ne_eqb (suc n) 0 (λ same. absurd (omega (arith, same)))) ∙ is
 
-none_set : (p : ℕ → Bool) (xs : List ℕ) → (mask_l (map p xs) == 0) ≡ list_all (λ x. not (p x)) xs
+pub none_set : (p : ℕ → Bool) (xs : List ℕ) → (mask_l (map p xs) == 0) ≡ list_all (λ x. not (p x)) xs
 none_set p [] = refl
 none_set p (x ∷ xs) = doubled (p x) (mask_l (map p xs)) (list_all (λ x. not (p x)) xs) (none_set p xs)
 

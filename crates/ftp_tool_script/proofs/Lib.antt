@@ -1,4 +1,5 @@
 pub mod CutLemmas
+pub mod EscapeLemmas
 pub mod FieldLemmas
 pub mod LaneLemmas
 pub mod PlainLemmas

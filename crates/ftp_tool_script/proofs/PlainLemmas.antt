@@ -1,11 +1,11 @@
 -- Octets that stand for themselves, read and written.
-use Rattle.std.proofs.Common.{◌≡◌, ◌≤◌, ◌==◌, ◌&&◌, ℕ, Bool, true, false, List, [], ◌∷◌, ◌++◌, take, drop, flat_map, Option, Some, None, option_map, refl, sym, ap, ◌∙◌, arith}
+use Rattle.std.proofs.Common.{◌≡◌, ◌≤◌, ◌==◌, ◌&&◌, ℕ, Bool, true, false, List, [], ◌∷◌, ◌++◌, take, drop, flat_map, Some, option_map, refl, sym, ap, ◌∙◌, arith}
 use Rattle.std.proofs.lemmas.Bool.{leb-true, ne_eqb}
 use Rattle.std.proofs.lemmas.List.{take-append-drop}
 use Rattle.std.specs.List.{list_all}
 use Rattle.std.specs.Prelude.{if◌then◌else◌, not, nat_le}
 use Rattle.ftp_tool_script.specs.Field.{Between, backslash, digits_written, is_plain, said_before, said_from, with_front, written}
-use Rattle.ftp_tool_script.proofs.FieldLemmas.{alone, itself}
+use Rattle.ftp_tool_script.proofs.FieldLemmas.{alone, itself, led}
 
 -- both of two that hold together
 left : (a b : Bool) → (a && b) ≡ true → a ≡ true
@@ -36,11 +36,6 @@ plain_said (octet ∷ text) all =
     let plain = left (is_plain octet) (list_all is_plain text) all in
     itself octet text (third (nat_le 33 octet) (nat_le octet 126) (octet == backslash) plain) plain
     ∙ ap (option_map (λ rest. octet ∷ rest)) (plain_said text (right (is_plain octet) (list_all is_plain text) all))
-
--- octets that are said, and others behind them
-led : (octet : ℕ) (front : List ℕ) (rest : Option (List ℕ)) → option_map (said_before (Some octet)) (with_front front rest) ≡ with_front (octet ∷ front) rest
-led octet front None = refl
-led octet front (Some octets) = refl
 
 front_said : (front behind : List ℕ) → list_all is_plain front ≡ true → said_from (front ++ behind) Between ≡ with_front front (said_from behind Between)
 front_said [] behind all = sym (alone (said_from behind Between))

@@ -9,7 +9,7 @@ are_same [] (y ∷ ys) = false
 are_same (x ∷ xs) [] = false
 are_same (x ∷ xs) (y ∷ ys) = (x == y) && are_same xs ys
 
-both_of : (a b : Bool) → (a && b) ≡ true → (a ≡ true) × (b ≡ true)
+pub both_of : (a b : Bool) → (a && b) ≡ true → (a ≡ true) × (b ≡ true)
 both_of true b is = (refl, is)
 both_of false b is = absurd (cc)
 

@@ -31,6 +31,11 @@ abbrev pub digit_value : ℕ → Option ℕ
 digit_value digit =
     if nat_le 48 digit && nat_le digit 57 then Some (digit - 48) else (if nat_le 97 digit && nat_le digit 102 then Some (digit - 87) else None)
 
+-- the same, with 255 for what is no digit
+abbrev pub digit_or_255 : ℕ → ℕ
+digit_or_255 digit =
+    if nat_le 48 digit && nat_le digit 57 then digit - 48 else (if nat_le 97 digit && nat_le digit 102 then digit - 87 else 255)
+
 -- the octet of two such digits
 abbrev pub digits_octet : ℕ → ℕ → Option ℕ
 digits_octet high low = and_then (digit_value high) (λ h. option_map (λ l. 16 * h + l) (digit_value low))
@@ -75,6 +80,10 @@ SaysFirst seen text place None = said_from text place ≡ None
 abbrev pub SaysFront : {Rest : Type 0} → (Rest → List ℕ) → (text room : List ℕ) → Option (ℕ × Rest) → Type 0
 SaysFront seen text room (Some filled) = said_from text Between ≡ with_front (take filled.0 room) (said_from (seen filled.1) Between)
 SaysFront seen text room None = said_from text Between ≡ None
+
+-- a text in front of others says what these octets have more than those
+abbrev pub SayFront : (text old new : List ℕ) → Type 0
+SayFront text old new = (rest : List ℕ) → with_front old (said_from (text ++ rest) Between) ≡ with_front new (said_from rest Between)
 
 -- `\e`, the field of no octets
 abbrev pub empty_field : List ℕ

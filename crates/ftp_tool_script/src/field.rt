@@ -4,17 +4,12 @@ ghost use Rattle.std.specs.List.{list_all};
 ghost use Rattle.ftp_tool_script.specs.Field.{Between, Escape, High, SaysFirst, SaysFront, SaysOn, digits_octet, field_text, field_value, is_plain, letter_octet, said_from, with_front, written};
 ghost use Rattle.ftp_tool_script.specs.Line.{Reads};
 
+use crate::escapes::{ROOM, fill_by_eights};
 use crate::fault::LineFault;
 use crate::plain::{LANES, are_plain, are_plain_in_lanes, is_plain};
 use crate::tables::{digit_value, escape_of};
 use ftp_facts::Text;
 use std::alloc::{AllocError, Allocator};
-
-/// How many octets are read one by one before they are appended.
-const ROOM: usize = 64;
-
-/// How many octets a room of written octets has.
-const WIDE: usize = 256;
 
 /// The octets that a field says.
 pub fn octets_of<A: Allocator + Copy>(alloc: A, field: &[u8]) -> Result<Text<A>, LineFault>
@@ -98,7 +93,7 @@ fn put_next<'a, A: Allocator + Copy>(
     put_room(text, out)
 }
 
-/// Appends a room of the octets that are said first; gives what is left.
+/// Appends a room of the octets that are said first, by eights where they begin with eight by digits; gives what is left.
 fn put_room<'a, A: Allocator + Copy>(
     text: &'a [u8],
     out: &mut Vec<u8, A>,
@@ -107,7 +102,24 @@ fn put_room<'a, A: Allocator + Copy>(
     ensures less { 0 < length text.now → IfOk result (λ left. length left.now < length text.now) }
 {
     let mut room = [0u8; ROOM];
-    let Some((count, left)) = fill(text, &mut room) else {
+    let (count, left) = fill_by_eights(text, &mut room);
+    if count > 0 {
+        let (said, _) = room.split_at(count);
+        return put_before(said, left, out);
+    }
+    put_each(text, &mut room, out)
+}
+
+/// The same, one after another.
+fn put_each<'a, A: Allocator + Copy>(
+    text: &'a [u8],
+    room: &mut [u8; ROOM],
+    out: &mut Vec<u8, A>,
+) -> Result<&'a [u8], LineFault>
+    ensures says { SaysOn (λ left. left.now) text.now Between out.old.items out.new.items result }
+    ensures less { 0 < length text.now → IfOk result (λ left. length left.now < length text.now) }
+{
+    let Some((count, left)) = fill(text, room) else {
         return Err(LineFault::Unfit);
     };
     let (said, _) = room.split_at(count);
@@ -283,7 +295,7 @@ fn put_written<'a, A: Allocator + Copy>(
     ensures put { IfOk result (λ left. out.new.items ++ flat_map written left.now ≡ out.old.items ++ flat_map written octets.now) }
     ensures less { 0 < length octets.now → IfOk result (λ left. length left.now < length octets.now) }
 {
-    let mut room = [0u8; WIDE];
+    let mut room = [0u8; ROOM];
     let (count, left) = write_front(octets, &mut room);
     let (front, _) = room.split_at(count);
     out.extend_from_slice(front)?;
@@ -291,14 +303,14 @@ fn put_written<'a, A: Allocator + Copy>(
 }
 
 /// Writes the first octets into a room; gives how much of it they take, and what is left of them.
-fn write_front<'a>(octets: &'a [u8], room: &mut [u8; WIDE]) -> (usize, &'a [u8])
-    ensures within { result.0 ≤ WIDE }
+fn write_front<'a>(octets: &'a [u8], room: &mut [u8; ROOM]) -> (usize, &'a [u8])
+    ensures within { result.0 ≤ ROOM }
     ensures front { take result.0 room.new ++ flat_map written result.1.now ≡ flat_map written octets.now }
     ensures less { 0 < length octets.now → length result.1.now < length octets.now }
 {
     let mut count = 0;
     let mut rest = octets;
-    while count <= WIDE - 4 {
+    while count <= ROOM - 4 {
         let [octet, behind @ ..] = rest else {
             return (count, rest);
         };
@@ -309,8 +321,8 @@ fn write_front<'a>(octets: &'a [u8], room: &mut [u8; WIDE]) -> (usize, &'a [u8])
 }
 
 /// Writes an octet into a room from a place on; gives the place behind it.
-fn write_at(octet: u8, room: &mut [u8; WIDE], at: usize) -> usize
-    requires { at + 4 ≤ WIDE }
+fn write_at(octet: u8, room: &mut [u8; ROOM], at: usize) -> usize
+    requires { at + 4 ≤ ROOM }
     ensures within { result ≤ at + 4 }
     ensures front { take result room.new ≡ take at room.old ++ written octet }
 {

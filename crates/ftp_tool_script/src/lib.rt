@@ -3,6 +3,7 @@
 #![tactic(auto)]
 
 mod cut;
+mod escapes;
 mod fault;
 mod field;
 mod how;
