@@ -4,7 +4,6 @@ use Rattle.std.specs.Prelude.{IfOk, IfErr, if◌then◌else◌}
 use Rattle.ftp_facts.specs.Value.{and_then}
 use Rattle.ftp_tool_script.specs.declared.fault.LineFault.{LineFault}
 use Rattle.ftp_tool_script.specs.declared.fault.LineFault.TheVariants.{Unfit, Memory}
-use Rattle.ftp_tool_script.specs.Line.{Reads}
 use Rattle.ftp_tool_script.specs.Field.{FieldState, Between, Escape, High, Low, SaysOn, backslash, digits_octet, is_plain, letter_octet, said_before, said_from, with_front}
 
 -- nothing is said before
@@ -54,23 +53,11 @@ slash octet behind is = ap (λ b. from_turn behind (begun octet b (is_plain octe
 pub itself : (octet : ℕ) (behind : List ℕ) → (octet == backslash) ≡ false → is_plain octet ≡ true → SaysOctet octet (octet ∷ behind) behind Between
 itself octet behind other plain = ap (λ b. from_turn behind (begun octet b (is_plain octet))) other ∙ ap (λ b. from_turn behind (begun octet false b)) plain
 
-pub neither : (octet : ℕ) (behind : List ℕ) → (octet == backslash) ≡ false → is_plain octet ≡ false → said_from (octet ∷ behind) Between ≡ None
-neither octet behind other none = ap (λ b. from_turn behind (begun octet b (is_plain octet))) other ∙ ap (λ b. from_turn behind (begun octet false b)) none
-
 pub digits : (letter : ℕ) (behind : List ℕ) → (letter == 120) ≡ true → said_from (letter ∷ behind) Escape ≡ said_from behind High
 digits letter behind is = ap (λ b. from_turn behind (escaped letter b)) is ∙ silent (said_from behind High)
 
-pub by_letter : (letter octet : ℕ) (behind : List ℕ) → (letter == 120) ≡ false → letter_octet letter ≡ Some octet → SaysOctet octet (letter ∷ behind) behind Escape
-by_letter letter octet behind other is = ap (λ b. from_turn behind (escaped letter b)) other ∙ ap (λ o. from_turn behind (ended o)) is
-
-pub no_letter : (letter : ℕ) (behind : List ℕ) → (letter == 120) ≡ false → letter_octet letter ≡ None → said_from (letter ∷ behind) Escape ≡ None
-no_letter letter behind other is = ap (λ b. from_turn behind (escaped letter b)) other ∙ ap (λ o. from_turn behind (ended o)) is
-
 pub by_digits : (high low octet : ℕ) (behind : List ℕ) → digits_octet high low ≡ Some octet → SaysOctet octet (high ∷ low ∷ behind) behind High
 by_digits high low octet behind is = silent (said_from (low ∷ behind) (Low high)) ∙ ap (λ o. from_turn behind (ended o)) is
-
-pub no_digits : (high low : ℕ) (behind : List ℕ) → digits_octet high low ≡ None → said_from (high ∷ low ∷ behind) High ≡ None
-no_digits high low behind is = silent (said_from (low ∷ behind) (Low high)) ∙ ap (λ o. from_turn behind (ended o)) is
 
 pub too_few : (text : List ℕ) → length text < 2 → said_from text High ≡ None
 too_few [] less = refl
@@ -88,9 +75,3 @@ puts seen text front behind place old new (Ok left) says put fault =
     ∙ sym (ap (λ l. with_front l (said_from (seen left) Between)) put.1 ∙ ap (λ s. with_front (old ++ front) (said_from s Between)) put.0)
 puts seen text front behind place old new (Err Unfit) says put fault = absurd (cc)
 puts seen text front behind place old new (Err Memory) says put fault = tt
-
--- why an octet is refused is why the text is
-pub refuses : {Rest Y : Type 0} (seen : Rest → List ℕ) (sees : Y → List ℕ) (fault : LineFault) (text old new : List ℕ) (whole : Option (List ℕ))
-    → with_front old (said_from text Between) ≡ whole → SaysOn seen text Between old new (Err fault) → Reads sees (Err fault) whole
-refuses seen sees Unfit text old new whole same says = sym same ∙ ap (with_front old) says
-refuses seen sees Memory text old new whole same says = tt
