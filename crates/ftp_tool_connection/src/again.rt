@@ -2,20 +2,16 @@
 ghost use Rattle.std.specs.Prelude.{◌≡◌};
 ghost use Rattle.ftp_tool_connection.specs.Again.{loss_by};
 
+use crate::conversing::{Converses, Logins, converse_as};
 use crate::fault::{Phase, SessionFault};
 use crate::last_reply::LastReply;
 use crate::live::SessionTask;
 use crate::server::ServerAddress;
-use crate::talking::converse_as;
 use ftp_operation::Answer;
 use ftp_tool_sockets::pause;
 use ftp_tool_words::User;
 use std::alloc::Global;
-use std::env::Env;
-use std::fs::Files;
 use std::io::Eprint;
-use std::net::{Net, TcpListener, TcpStream};
-use std::time::Clock;
 
 /// How long is waited before each further control connection, in seconds.
 const WAITS: [u16; 4] = [1, 2, 4, 8];
@@ -41,7 +37,7 @@ pub fn ask<R, P>(
     play: &mut P,
 ) -> Result<Answer<Global>, SessionFault>
 where
-    R: Net<Listener = TcpListener, Stream = TcpStream> + Files + Env + Eprint + Clock + AllocGlobal,
+    R: Converses + Logins + Eprint,
     P: SessionTask<Result<Answer<Global>, SessionFault>>,
 {
     let answered = converse_as(rt, server, user, noticed, play);
@@ -63,7 +59,7 @@ fn ask_again<R, P>(
     play: &mut P,
 ) -> Result<Answer<Global>, SessionFault>
 where
-    R: Net<Listener = TcpListener, Stream = TcpStream> + Files + Env + Eprint + Clock + AllocGlobal,
+    R: Converses + Logins + Eprint,
     P: SessionTask<Result<Answer<Global>, SessionFault>>,
 {
     let mut loss = Loss::Ended;

@@ -39,16 +39,10 @@ impl Phase {
 }
 
 /// What was under way, and what failed.
+#[derive(Clone, Copy)]
 pub struct SessionFault {
     stage: Phase,
     error: Error,
-}
-
-/// By hand: a derived drop is proved again, part by part, wherever a stop is let go.
-impl Drop for SessionFault {
-    fn drop(self) {
-        let Self { stage: _, error: _ } = self;
-    }
 }
 
 /// What was done at a stage, or that it stops the program.

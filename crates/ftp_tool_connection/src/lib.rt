@@ -2,6 +2,7 @@
 #![tactic(auto)]
 
 mod again;
+mod conversing;
 mod course;
 mod fault;
 mod last_reply;
@@ -15,6 +16,7 @@ mod server;
 mod talking;
 
 pub use again::ask;
+pub use conversing::{Converses, Logins, converse_as};
 pub use course::{Ending, Heard, Most};
 pub use fault::{Phase, SessionFault, at};
 pub use last_reply::{LastReply, Refusal, Said};
@@ -23,4 +25,3 @@ pub use pace::{Pace, Rest, Span};
 pub use request::{Request, Terms};
 pub use saying::say;
 pub use server::ServerAddress;
-pub use talking::{converse, converse_as};

@@ -31,6 +31,9 @@ pub trait SessionTask<T> {
 pub(crate) trait Opens: Ports {
     /// How many were opened so far.
     fn opened(&self) -> u32;
+
+    /// Waits a moment until the peer has ended the last one too.
+    fn finish(&mut self);
 }
 
 /// A client, its control connection, and its data connections.

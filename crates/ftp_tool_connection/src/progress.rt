@@ -67,11 +67,6 @@ where
         })
     }
 
-    /// Waits at most so many milliseconds until the peer has ended the last data connection too.
-    pub(crate) fn finish(&mut self) {
-        self.ports.finish();
-    }
-
     fn metered(&self, link: Link<'a>) -> MeteredLink<'a, R> {
         let told = match Instant::now(self.rt) {
             Ok(begun) if self.is_told => Some(Told { begun, last: None }),
@@ -147,6 +142,10 @@ where
 {
     fn opened(&self) -> u32 {
         self.ports.opened()
+    }
+
+    fn finish(&mut self) {
+        self.ports.finish();
     }
 }
 

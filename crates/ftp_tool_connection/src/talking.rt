@@ -13,34 +13,14 @@ use ftp_client_transfer::OperationTransfer;
 use ftp_endpoint::Host;
 use ftp_operation::Login;
 use ftp_tool_sockets::{ControlReader, ControlWriter, Patience, host_of};
-use ftp_tool_words::{User, login_of};
 use std::alloc::Global;
-use std::env::Env;
-use std::fs::Files;
 use std::io;
 use std::io::{Eprint, Read, Write};
 use std::net::{Net, TcpListener, TcpStream};
 use std::time::Clock;
 
-/// Opens a control connection for a user whose password is still to be had, plays over it, and closes it.
-pub fn converse_as<R, T, P>(
-    rt: &R,
-    server: ServerAddress<'_>,
-    user: User<'_>,
-    noticed: &mut LastReply,
-    play: &mut P,
-) -> Result<T, SessionFault>
-where
-    R: Net<Listener = TcpListener, Stream = TcpStream> + Files + Env + Eprint + Clock + AllocGlobal,
-    T: Drop,
-    P: SessionTask<Result<T, SessionFault>>,
-{
-    let login = at(Phase::Login, login_of(rt, server.host, user))?;
-    converse(rt, server, login, noticed, play)
-}
-
 /// Opens a control connection, plays over it by a client, says goodbye and closes it.
-pub fn converse<R, T, P>(
+pub(crate) fn converse<R, T, P>(
     rt: &R,
     server: ServerAddress<'_>,
     login: Login<Global>,
@@ -73,23 +53,63 @@ where
     T: Drop,
     P: SessionTask<Result<T, SessionFault>>,
 {
-    let hosts = at(Phase::Talking, hosts_of(stream))?;
     let patience = Patience::of_client(server.timeout);
     let course = Course::new();
     let ports = MeteredPorts::hearing(rt, stream, &patience, &course, server.progress);
     let mut ports = at(Phase::Talking, ports)?;
-    let reader = Noticing::new(ControlReader::new(stream, &patience), noticed, &course);
-    let mut control = Control::new(reader, ControlWriter::new(stream, &patience));
-    let done = match client_of(rt.alloc(), login, hosts) {
-        Some(client) => play_by(client, &mut control, &mut ports, &course, play),
+    let link = ControlLink {
+        stream,
+        patience: &patience,
+        course: &course,
+    };
+    let done = talk_over(rt.alloc(), link, &mut ports, login, noticed, play);
+    if patience.over().is_some() {
+        noticed.fell_silent(server.timeout);
+    }
+    done
+}
+
+/// A control connection that is open, and what is known of it.
+#[derive(Clone, Copy)]
+struct ControlLink<'a> {
+    stream: &'a TcpStream,
+    patience: &'a Patience<'a>,
+    course: &'a Course,
+}
+
+/// Plays over a control connection beside these data connections.
+fn talk_over<O, T, P>(
+    alloc: Global,
+    link: ControlLink<'_>,
+    ports: &mut O,
+    login: &mut Option<Login<Global>>,
+    noticed: &mut LastReply,
+    play: &mut P,
+) -> Result<T, SessionFault>
+where
+    O: Opens,
+    T: Drop,
+    P: SessionTask<Result<T, SessionFault>>,
+{
+    let hosts = at(Phase::Talking, hosts_of(link.stream))?;
+    let reader = ControlReader::new(link.stream, link.patience);
+    let mut control = Control::new(
+        Noticing::new(reader, noticed, link.course),
+        ControlWriter::new(link.stream, link.patience),
+    );
+    let done = match login.take() {
+        Some(login) => play_by_one(
+            (alloc, login, hosts),
+            &mut control,
+            ports,
+            link.course,
+            play,
+        ),
         None => Err(SessionFault::of_memory()),
     };
     drop(control);
     ports.finish();
     noticed.add_opened(ports.opened());
-    if patience.over().is_some() {
-        noticed.fell_silent(server.timeout);
-    }
     done
 }
 
@@ -100,16 +120,34 @@ fn hosts_of(stream: &TcpStream) -> io::Result<(Host, Host)> {
     Ok((here, peer))
 }
 
-/// A client between two hosts, which takes the login; none where memory is refused.
+/// Plays by a client between two hosts, which takes the login.
+fn play_by_one<C, W, O, T, P>(
+    (alloc, login, hosts): (Global, Login<Global>, (Host, Host)),
+    control: &mut Control<C, W>,
+    ports: &mut O,
+    course: &Course,
+    play: &mut P,
+) -> Result<T, SessionFault>
+where
+    C: Read + Drop,
+    W: Write + Drop,
+    O: Opens,
+    T: Drop,
+    P: SessionTask<Result<T, SessionFault>>,
+{
+    match client_of(alloc, login, hosts) {
+        Some(client) => play_by(client, control, ports, course, play),
+        None => Err(SessionFault::of_memory()),
+    }
+}
+
+/// A client between two hosts; none where memory is refused.
 fn client_of(
     alloc: Global,
-    login: &mut Option<Login<Global>>,
+    login: Login<Global>,
     (here, peer): (Host, Host),
 ) -> Option<Client<Global, OperationTransfer<Global>>> {
-    match login.take() {
-        Some(login) => Client::new(alloc, login, here, peer).ok(),
-        None => None,
-    }
+    Client::new(alloc, login, here, peer).ok()
 }
 
 /// Plays by a client.

@@ -4,19 +4,13 @@ use crate::target::Target;
 use ftp_facts::{Moment, Text};
 use ftp_operation::{Answer, How};
 use ftp_settings::{Mode, Structure};
-use ftp_tool_connection::{LastReply, Phase, SessionFault, at, say};
-use ftp_tool_local::{
-    Beside, Flush, Kept, Note, kept_beside, note_of, remove_kept, write_over, write_part,
-};
+use ftp_tool_connection::{Converses, LastReply, Logins, Phase, SessionFault, at, say};
+use ftp_tool_local::{Beside, Flush, Kept, LocalFiles, Note, note_of};
 use ftp_tool_status::{Arrival, Size, Status};
 use ftp_tool_transfer::{Came, Downloading, Part, Stamp, is_counted, tell, tell_too_large};
 use std::alloc::Global;
-use std::env::Env;
-use std::fs::Files;
 use std::io;
 use std::io::{Eprint, Print, Write};
-use std::net::{Net, TcpListener, TcpStream};
-use std::time::Clock;
 
 /// The file that stands for standard output.
 const OUTPUT: &str = "-";
@@ -43,6 +37,7 @@ pub struct Download<'a> {
 
 /// A download, the place of its file at a server, and the number of the part that it may go on behind.
 struct Job<'a> {
+    alloc: Global,
     download: Download<'a>,
     place: String<Global>,
     over: Option<u32>,
@@ -52,6 +47,7 @@ struct Job<'a> {
 impl<'a> Drop for Job<'a> {
     fn drop(self) {
         let Self {
+            alloc: _,
             download: _,
             place: _,
             over: _,
@@ -62,23 +58,19 @@ impl<'a> Drop for Job<'a> {
 /// Asks for the file, and leaves it at this end.
 pub(crate) fn get<R>(
     rt: &R,
+    alloc: Global,
     asked: &Target<'_>,
     download: Download<'_>,
     noticed: &mut LastReply,
 ) -> Result<Status, SessionFault>
 where
-    R: Net<Listener = TcpListener, Stream = TcpStream>
-        + Files
-        + Env
-        + Print
-        + Eprint
-        + Clock
-        + AllocGlobal,
+    R: Converses + Logins + LocalFiles + Print + Eprint,
 {
-    let mut downloading = at(Phase::Asking, begun(rt, asked, download))?;
+    let mut downloading = at(Phase::Asking, begun(rt, alloc, asked, download))?;
     let mut job = Job {
+        alloc,
         download,
-        place: at(Phase::Asking, place_text(rt.alloc(), asked))?,
+        place: at(Phase::Asking, place_text(alloc, asked))?,
         over: None,
     };
     if download.parts == Parts::Continued && download.file != OUTPUT {
@@ -91,12 +83,13 @@ where
 }
 
 /// A download of which nothing came yet.
-fn begun<'a, R: Eprint + AllocGlobal>(
+fn begun<'a, R: Eprint>(
     rt: &'a R,
+    alloc: Global,
     asked: &Target<'_>,
     download: Download<'_>,
 ) -> io::Result<Downloading<'a, R>> {
-    let mut downloading = Downloading::new(rt, asked.place.path, asked.how)?;
+    let mut downloading = Downloading::new(rt, alloc, asked.place.path, asked.how)?;
     downloading.put_terms(asked.limit, stamp_of(asked.how, download));
     Ok(downloading)
 }
@@ -117,13 +110,13 @@ fn place_text(alloc: Global, asked: &Target<'_>) -> io::Result<String<Global>> {
 }
 
 /// Takes the octets of a part that is kept beside the file; where it has no note that fits, that is told.
-fn resume<R: Files + Eprint + AllocGlobal>(
+fn resume<R: LocalFiles + Eprint>(
     rt: &R,
     limit: u64,
     job: &mut Job<'_>,
     downloading: &mut Downloading<'_, R>,
 ) -> io::Result<()> {
-    match kept_beside(rt, job.download.file, job.place.as_bytes(), limit)? {
+    match rt.kept_beside(job.download.file, job.place.as_bytes(), limit)? {
         Beside::Kept(kept) => {
             let Kept {
                 number,
@@ -157,13 +150,7 @@ fn get_by<R>(
     noticed: &mut LastReply,
 ) -> Result<Status, SessionFault>
 where
-    R: Net<Listener = TcpListener, Stream = TcpStream>
-        + Files
-        + Env
-        + Print
-        + Eprint
-        + Clock
-        + AllocGlobal,
+    R: Converses + Logins + LocalFiles + Print + Eprint,
 {
     match ask_at(rt, asked, noticed, downloading) {
         Ok(answer) => {
@@ -176,7 +163,7 @@ where
 }
 
 /// Leaves at this end what came, as the server answered.
-fn leave<R: Files + Print + Eprint + AllocGlobal>(
+fn leave<R: LocalFiles + Print + Eprint>(
     rt: &R,
     asked: &Target<'_>,
     job: &Job<'_>,
@@ -198,7 +185,7 @@ fn leave<R: Files + Print + Eprint + AllocGlobal>(
 }
 
 /// Leaves at this end what came of a download that the server says is done, where that may be the whole file.
-fn save<R: Files + Print + Eprint + AllocGlobal>(
+fn save<R: LocalFiles + Print + Eprint>(
     rt: &R,
     asked: &Target<'_>,
     job: &Job<'_>,
@@ -256,7 +243,7 @@ fn tell_past<R: Eprint>(rt: &R, limit: u64) -> io::Result<Status> {
 }
 
 /// Writes the file, or its octets to standard output.
-fn write<R: Files + Print + Eprint + AllocGlobal>(
+fn write<R: LocalFiles + Print + Eprint>(
     rt: &R,
     job: &Job<'_>,
     downloading: &Downloading<'_, R>,
@@ -266,12 +253,12 @@ fn write<R: Files + Print + Eprint + AllocGlobal>(
         put_out(rt, downloading.came())
     } else {
         let moment = moment_for(rt, job.download, downloading);
-        write_over(rt, file, downloading.came().pieces(), moment, Flush::First)
+        rt.write_over(file, downloading.came().pieces(), moment, Flush::First)
     };
     match at(Phase::Writing, written) {
         Ok(()) => {
             if let Some(number) = job.over {
-                let _gone = remove_kept(rt, file, number);
+                let _gone = rt.remove_kept(file, number);
             }
             Ok(Status::Done)
         }
@@ -280,7 +267,7 @@ fn write<R: Files + Print + Eprint + AllocGlobal>(
 }
 
 /// The moment that the file's last change is to be at; where the server does not tell it, that is told.
-fn moment_for<R: Eprint + AllocGlobal>(
+fn moment_for<R: Eprint>(
     rt: &R,
     download: Download<'_>,
     downloading: &Downloading<'_, R>,
@@ -316,7 +303,7 @@ fn tell_broken<R: Eprint>(rt: &R, came: &Came) -> io::Result<Status> {
 }
 
 /// Keeps the octets that came where they are to be kept, tells where they are, and gives the status.
-fn keep_part<R: Files + Eprint + AllocGlobal>(
+fn keep_part<R: LocalFiles + Eprint>(
     rt: &R,
     job: &Job<'_>,
     downloading: &Downloading<'_, R>,
@@ -331,9 +318,9 @@ fn keep_part<R: Files + Eprint + AllocGlobal>(
     if parts == Parts::Dropped || file == OUTPUT || came.count() == 0 {
         return Ok(status);
     }
-    let note = note_for(rt.alloc(), job, downloading)?;
+    let note = note_for(job, downloading)?;
     let note = note.as_ref().map(|text| text.as_slice());
-    match write_part(rt, file, came.pieces(), job.over, note) {
+    match rt.write_part(file, came.pieces(), job.over, note) {
         Ok(name) => {
             say(rt, "note: the octets that came are in ", &name, "")?;
             Ok(status)
@@ -346,8 +333,7 @@ fn keep_part<R: Files + Eprint + AllocGlobal>(
 }
 
 /// The note of a part, where the server told the size and the moment of its file.
-fn note_for<R: Eprint + AllocGlobal>(
-    alloc: Global,
+fn note_for<R: Eprint>(
     job: &Job<'_>,
     downloading: &Downloading<'_, R>,
 ) -> io::Result<Option<Vec<u8, Global>>> {
@@ -359,5 +345,5 @@ fn note_for<R: Eprint + AllocGlobal>(
         moment: moment.seconds,
         count: downloading.came().count(),
     };
-    Ok(note_of(alloc, note, job.place.as_bytes())?)
+    Ok(note_of(job.alloc, note, job.place.as_bytes())?)
 }

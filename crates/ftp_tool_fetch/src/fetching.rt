@@ -6,7 +6,8 @@ use crate::single::{Wish, ask_for};
 use crate::target::Target;
 use crate::upload::put;
 use ftp_operation::Answer;
-use ftp_tool_connection::{LastReply, Phase, SessionFault, at, say};
+use ftp_tool_connection::{Converses, LastReply, Logins, Phase, SessionFault, at, say};
+use ftp_tool_local::LocalFiles;
 use ftp_tool_status::Status;
 use ftp_tool_transfer::tell;
 use std::alloc::Global;
@@ -49,12 +50,20 @@ where
         + Clock
         + AllocGlobal,
 {
+    fetched(rt, rt.alloc(), asked, task)
+}
+
+/// The same, of whoever can ask a server and has files.
+fn fetched<R>(rt: &R, alloc: Global, asked: &Target<'_>, task: Task<'_>) -> io::Result<Status>
+where
+    R: Converses + Logins + LocalFiles + Input + Print + Eprint,
+{
     let mut noticed = LastReply::new();
     let done = match task {
-        Task::Get(download) => get(rt, asked, download, &mut noticed),
-        Task::Put(file) => put(rt, asked, file, &mut noticed),
-        Task::List(lines) => list(rt, asked, lines, &mut noticed),
-        Task::Simple(simple) => do_simple(rt, asked, simple, &mut noticed),
+        Task::Get(download) => get(rt, alloc, asked, download, &mut noticed),
+        Task::Put(file) => put(rt, alloc, asked, file, &mut noticed),
+        Task::List(lines) => list(rt, alloc, asked, lines, &mut noticed),
+        Task::Simple(simple) => do_simple(rt, alloc, asked, simple, &mut noticed),
     };
     match done {
         Ok(status) => Ok(status),
@@ -65,41 +74,37 @@ where
 /// Lists a directory on standard output.
 fn list<R>(
     rt: &R,
+    alloc: Global,
     asked: &Target<'_>,
     lines: Lines,
     noticed: &mut LastReply,
 ) -> Result<Status, SessionFault>
 where
-    R: Net<Listener = TcpListener, Stream = TcpStream>
-        + Files
-        + Env
-        + Print
-        + Eprint
-        + Clock
-        + AllocGlobal,
+    R: Converses + Logins + Print + Eprint,
 {
-    let answer = listed(rt, asked, noticed)?;
+    let answer = listed(rt, alloc, asked, noticed)?;
     at(
         Phase::Report,
-        show(rt, asked.place.path, lines, &answer, noticed),
+        show(rt, alloc, asked.place.path, lines, &answer, noticed),
     )
 }
 
 /// The entries of a directory, or its names where MLSD is not known there (RFC 959, section 4.2.2).
 fn listed<R>(
     rt: &R,
+    alloc: Global,
     asked: &Target<'_>,
     noticed: &mut LastReply,
 ) -> Result<Answer<Global>, SessionFault>
 where
-    R: Net<Listener = TcpListener, Stream = TcpStream> + Files + Env + Eprint + Clock + AllocGlobal,
+    R: Converses + Logins + Eprint,
 {
-    let listed = ask_for(rt, asked, Wish::Entries, noticed);
+    let listed = ask_for(rt, alloc, asked, Wish::Entries, noticed);
     if !is_unknown(&listed) {
         return listed;
     }
     drop(listed);
-    ask_for(rt, asked, Wish::Names, noticed)
+    ask_for(rt, alloc, asked, Wish::Names, noticed)
 }
 
 /// Whether the server does not know what was asked.
@@ -110,15 +115,16 @@ fn is_unknown(answered: &Result<Answer<Global>, SessionFault>) -> bool {
 /// Writes a listing to standard output, or tells why there is none.
 fn show<R>(
     rt: &R,
+    alloc: Global,
     path: &str,
     lines: Lines,
     answer: &Answer<Global>,
     noticed: &LastReply,
 ) -> io::Result<Status>
 where
-    R: Print + Eprint + AllocGlobal,
+    R: Print + Eprint,
 {
-    match listing_of(rt.alloc(), path, lines, answer)? {
+    match listing_of(alloc, path, lines, answer)? {
         Some(listing) => write(rt, listing),
         None => tell(rt, answer, noticed),
     }

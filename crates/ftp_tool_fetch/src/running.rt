@@ -2,8 +2,8 @@
 use ftp_facts::Text;
 use ftp_operation::Answer;
 use ftp_tool_connection::{
-    ClientSession, LastReply, Phase, Request, ServerAddress, SessionFault, SessionTask, at,
-    converse, converse_as, say,
+    ClientSession, Converses, LastReply, Logins, Phase, Request, ServerAddress, SessionFault,
+    SessionTask, at, converse_as, say,
 };
 use ftp_tool_script::{NoScript, Order, Script, read_script, write_report};
 use ftp_tool_status::Status;
@@ -34,7 +34,7 @@ where
         + Clock
         + AllocGlobal,
 {
-    match do_script(rt, server) {
+    match do_script(rt, rt.alloc(), server) {
         Ok(status) => Ok(status),
         Err(stop) => stop.tell(rt),
     }
@@ -52,50 +52,45 @@ where
         + Clock
         + AllocGlobal,
 {
-    match do_orders(rt, server, user) {
+    match do_orders(rt, rt.alloc(), server, user) {
         Ok(status) => Ok(status),
         Err(stop) => stop.tell(rt),
     }
 }
 
 /// Reads a script that says who logs in, and does it.
-fn do_script<R>(rt: &R, server: ServerAddress<'_>) -> Result<Status, SessionFault>
+fn do_script<R>(rt: &R, alloc: Global, server: ServerAddress<'_>) -> Result<Status, SessionFault>
 where
-    R: Net<Listener = TcpListener, Stream = TcpStream>
-        + Input
-        + Print
-        + Eprint
-        + Clock
-        + AllocGlobal,
+    R: Converses + Input + Print + Eprint,
 {
-    match read_script(rt.alloc(), &mut rt.reader()) {
+    match read_script(alloc, &mut rt.reader()) {
         Ok(Script { login, orders }) => {
             let mut all = All {
                 rt,
+                alloc,
                 orders: Some(orders),
             };
-            converse(rt, server, login, &mut LastReply::new(), &mut all)
+            rt.converse(server, login, &mut LastReply::new(), &mut all)
         }
         Err(fault) => tell_fault(rt, fault),
     }
 }
 
 /// Reads a script of orders alone, and does it for a user.
-fn do_orders<R>(rt: &R, server: ServerAddress<'_>, user: User<'_>) -> Result<Status, SessionFault>
+fn do_orders<R>(
+    rt: &R,
+    alloc: Global,
+    server: ServerAddress<'_>,
+    user: User<'_>,
+) -> Result<Status, SessionFault>
 where
-    R: Net<Listener = TcpListener, Stream = TcpStream>
-        + Files
-        + Env
-        + Input
-        + Print
-        + Eprint
-        + Clock
-        + AllocGlobal,
+    R: Converses + Logins + Input + Print + Eprint,
 {
-    match read_script(rt.alloc(), &mut NO_LOGIN.chain(rt.reader())) {
+    match read_script(alloc, &mut NO_LOGIN.chain(rt.reader())) {
         Ok(Script { login: _, orders }) => {
             let mut all = All {
                 rt,
+                alloc,
                 orders: Some(orders),
             };
             converse_as(rt, server, user, &mut LastReply::new(), &mut all)
@@ -122,46 +117,56 @@ fn tell_line<R: Eprint>(rt: &R, number: usize) -> io::Result<Status> {
 /// The orders of a script, until they are done.
 struct All<'a, R> {
     rt: &'a R,
+    alloc: Global,
     orders: Option<Orders>,
 }
 
 /// By hand: a derived drop is proved again, part by part, wherever orders are let go.
 impl<'a, R> Drop for All<'a, R> {
     fn drop(self) {
-        let Self { rt: _, orders: _ } = self;
+        let Self {
+            rt: _,
+            alloc: _,
+            orders: _,
+        } = self;
     }
 }
 
-impl<'a, R: Print + AllocGlobal> SessionTask<Result<Status, SessionFault>> for All<'a, R> {
+impl<'a, R: Print> SessionTask<Result<Status, SessionFault>> for All<'a, R> {
     fn play<S: ClientSession>(&mut self, seat: &mut S) -> Result<Status, SessionFault> {
         match self.orders.take() {
-            Some(orders) => at(Phase::Report, do_all(self.rt, orders, seat)),
+            Some(orders) => at(Phase::Report, do_all(self.rt, self.alloc, orders, seat)),
             None => Ok(Status::Done),
         }
     }
 }
 
 /// Does orders, one after another, and gives the worst of their statuses.
-fn do_all<R, S>(rt: &R, orders: Orders, seat: &mut S) -> io::Result<Status>
+fn do_all<R, S>(rt: &R, alloc: Global, orders: Orders, seat: &mut S) -> io::Result<Status>
 where
-    R: Print + AllocGlobal,
+    R: Print,
     S: ClientSession,
 {
     let mut worst = Status::Done;
     for order in orders {
-        worst = worst.worse(do_one(rt, order, seat)?);
+        worst = worst.worse(do_one(rt, alloc, order, seat)?);
     }
     Ok(worst)
 }
 
 /// Does an order, writes its report, and gives its status.
-fn do_one<R, S>(rt: &R, order: Order<Text<Global>>, seat: &mut S) -> io::Result<Status>
+fn do_one<R, S>(
+    rt: &R,
+    alloc: Global,
+    order: Order<Text<Global>>,
+    seat: &mut S,
+) -> io::Result<Status>
 where
-    R: Print + AllocGlobal,
+    R: Print,
     S: ClientSession,
 {
     let answer = seat.answer(request_of(order));
-    report(rt, &answer)
+    report(rt, alloc, &answer)
 }
 
 /// The request of an order.
@@ -173,8 +178,8 @@ fn request_of(order: Order<Text<Global>>) -> Request {
 }
 
 /// Writes the report of an answer, and gives its status: failed, where the control connection did.
-fn report<R: Print + AllocGlobal>(rt: &R, answer: &Answer<Global>) -> io::Result<Status> {
-    let status = write_report(rt.alloc(), answer, &mut io::writer(rt))?;
+fn report<R: Print>(rt: &R, alloc: Global, answer: &Answer<Global>) -> io::Result<Status> {
+    let status = write_report(alloc, answer, &mut io::writer(rt))?;
     match answer {
         Answer::Lost => Ok(Status::Failed),
         _ => Ok(status),

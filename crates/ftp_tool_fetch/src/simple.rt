@@ -6,16 +6,12 @@ use crate::single::ask_once;
 use crate::target::Target;
 use ftp_facts::Text;
 use ftp_operation::{Answer, How, Op};
-use ftp_tool_connection::{LastReply, Phase, SessionFault, at};
+use ftp_tool_connection::{Converses, LastReply, Logins, Phase, SessionFault, at};
 use ftp_tool_status::Status;
 use ftp_tool_transfer::tell;
 use std::alloc::{AllocError, Global};
-use std::env::Env;
-use std::fs::Files;
 use std::io;
 use std::io::{Eprint, Print};
-use std::net::{Net, TcpListener, TcpStream};
-use std::time::Clock;
 
 /// What is done at a path without a data connection.
 #[derive(Clone, Copy)]
@@ -51,20 +47,15 @@ pub(crate) fn op_of(
 /// Does what a word says, over one control connection, and gives the exit status; a size goes to standard output.
 pub(crate) fn do_simple<R>(
     rt: &R,
+    alloc: Global,
     asked: &Target<'_>,
     simple: Simple<'_>,
     noticed: &mut LastReply,
 ) -> Result<Status, SessionFault>
 where
-    R: Net<Listener = TcpListener, Stream = TcpStream>
-        + Files
-        + Env
-        + Print
-        + Eprint
-        + Clock
-        + AllocGlobal,
+    R: Converses + Logins + Print + Eprint,
 {
-    let answer = ask_once(rt, asked, simple, noticed)?;
+    let answer = ask_once(rt, alloc, asked, simple, noticed)?;
     at(Phase::Report, report(rt, &answer, noticed))
 }
 

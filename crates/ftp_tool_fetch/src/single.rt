@@ -4,15 +4,11 @@ use crate::target::Target;
 use ftp_facts::Text;
 use ftp_operation::{Answer, How, Op};
 use ftp_tool_connection::{
-    ClientSession, Ending, LastReply, Phase, Request, SessionFault, SessionTask, ask, at,
-    converse_as,
+    ClientSession, Converses, Ending, LastReply, Logins, Phase, Request, SessionFault, SessionTask,
+    ask, at, converse_as,
 };
 use std::alloc::{AllocError, Global};
-use std::env::Env;
-use std::fs::Files;
 use std::io::{Eprint, Error, ErrorKind};
-use std::net::{Net, TcpListener, TcpStream};
-use std::time::Clock;
 
 /// What is wished for at a place.
 #[derive(Clone, Copy)]
@@ -26,15 +22,16 @@ pub(crate) enum Wish<'a> {
 /// Asks for one thing over one control connection alone: what changes something is not asked twice.
 pub(crate) fn ask_once<R>(
     rt: &R,
+    alloc: Global,
     asked: &Target<'_>,
     simple: Simple<'_>,
     noticed: &mut LastReply,
 ) -> Result<Answer<Global>, SessionFault>
 where
-    R: Net<Listener = TcpListener, Stream = TcpStream> + Files + Env + Eprint + Clock + AllocGlobal,
+    R: Converses + Logins,
 {
     let mut single = Single {
-        alloc: rt.alloc(),
+        alloc,
         path: asked.place.path,
         how: asked.how,
         wish: Wish::Simple(simple),
@@ -45,15 +42,16 @@ where
 /// Asks for one thing. Where its control connection ends, it is asked anew over another one.
 pub(crate) fn ask_for<R>(
     rt: &R,
+    alloc: Global,
     asked: &Target<'_>,
     wish: Wish<'_>,
     noticed: &mut LastReply,
 ) -> Result<Answer<Global>, SessionFault>
 where
-    R: Net<Listener = TcpListener, Stream = TcpStream> + Files + Env + Eprint + Clock + AllocGlobal,
+    R: Converses + Logins + Eprint,
 {
     let mut single = Single {
-        alloc: rt.alloc(),
+        alloc,
         path: asked.place.path,
         how: asked.how,
         wish,
@@ -69,7 +67,7 @@ pub(crate) fn ask_at<R, P>(
     task: &mut P,
 ) -> Result<Answer<Global>, SessionFault>
 where
-    R: Net<Listener = TcpListener, Stream = TcpStream> + Files + Env + Eprint + Clock + AllocGlobal,
+    R: Converses + Logins + Eprint,
     P: SessionTask<Result<Answer<Global>, SessionFault>>,
 {
     ask(rt, asked.server(), asked.user, noticed, task)

@@ -1,16 +1,13 @@
 // An upload: what goes, and what is told of it.
 use crate::single::ask_at;
 use crate::target::Target;
-use ftp_tool_connection::{LastReply, Phase, SessionFault, at};
-use ftp_tool_local::{Reading, read_from, read_most};
+use ftp_tool_connection::{Converses, LastReply, Logins, Phase, SessionFault, at};
+use ftp_tool_local::{LocalFiles, Reading, read_most};
 use ftp_tool_status::Status;
 use ftp_tool_transfer::{Source, Uploading, tell_too_large};
-use std::env::Env;
-use std::fs::Files;
+use std::alloc::Global;
 use std::io;
 use std::io::Eprint;
-use std::net::{Net, TcpListener, TcpStream};
-use std::time::Clock;
 
 /// The file that stands for standard input.
 const INPUT: &str = "-";
@@ -18,34 +15,34 @@ const INPUT: &str = "-";
 /// Uploads a file, or standard input, and gives the exit status.
 pub(crate) fn put<R>(
     rt: &R,
+    alloc: Global,
     asked: &Target<'_>,
     file: &str,
     noticed: &mut LastReply,
 ) -> Result<Status, SessionFault>
 where
-    R: Net<Listener = TcpListener, Stream = TcpStream>
-        + Files
-        + Env
-        + Input
-        + Eprint
-        + Clock
-        + AllocGlobal,
+    R: Converses + Logins + LocalFiles + Input + Eprint,
 {
-    let source = match at(Phase::Reading, read(rt, file, asked.limit))? {
+    let source = match at(Phase::Reading, read(rt, alloc, file, asked.limit))? {
         Reading::Content(content) if file == INPUT => Source::Kept(content.octets),
         Reading::Content(content) => Source::file(file, content),
         Reading::TooLarge(size) => return at(Phase::Report, tell_too_large(rt, size, asked.limit)),
     };
-    let mut uploading = Uploading::new(rt, source, asked.place.path, asked.how);
+    let mut uploading = Uploading::new(rt, alloc, source, asked.place.path, asked.how);
     put_by(rt, asked, &mut uploading, noticed)
 }
 
 /// Reads what is to be uploaded.
-fn read<R: Files + Input + AllocGlobal>(rt: &R, file: &str, limit: u64) -> io::Result<Reading> {
+fn read<R: LocalFiles + Input>(
+    rt: &R,
+    alloc: Global,
+    file: &str,
+    limit: u64,
+) -> io::Result<Reading> {
     if file == INPUT {
-        read_most(rt.alloc(), &mut rt.reader(), limit)
+        read_most(alloc, &mut rt.reader(), limit)
     } else {
-        read_from(rt, file, 0, limit)
+        rt.read_from(file, 0, limit)
     }
 }
 
@@ -57,7 +54,7 @@ fn put_by<R>(
     noticed: &mut LastReply,
 ) -> Result<Status, SessionFault>
 where
-    R: Net<Listener = TcpListener, Stream = TcpStream> + Files + Env + Eprint + Clock + AllocGlobal,
+    R: Converses + Logins + LocalFiles + Eprint,
 {
     match ask_at(rt, asked, noticed, uploading) {
         Ok(answer) => {

@@ -3,12 +3,14 @@
 
 mod content;
 mod kept;
+mod local_files;
 mod note;
 mod part;
 mod place;
 
 pub use content::{Content, Reading, read_from, read_most};
 pub use kept::{Beside, Kept, kept_beside, remove_kept};
+pub use local_files::LocalFiles;
 pub use note::{Note, note_in, note_of};
 pub use part::{Flush, beside, write_over, write_part};
 pub use place::{Standing, Way};

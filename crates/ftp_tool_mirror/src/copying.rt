@@ -1,38 +1,66 @@
 // One file that is copied, one way or the other.
-use crate::server::text_of;
+use crate::asked::Mirror;
+use crate::telling::shown;
 use crate::trouble::Trouble;
 use ftp_facts::{Moment, Text};
 use ftp_operation::{Answer, How, Op};
 use ftp_tool_connection::{ClientSession, Request};
-use ftp_tool_local::{Flush, Reading, read_from, write_over};
+use ftp_tool_local::{Content, Flush, LocalFiles, Reading};
 use ftp_tool_plan::Facts;
 use ftp_tool_status::Arrival;
 use ftp_tool_transfer::{Came, Downloading, Stamp};
+use ftp_tool_words::joined;
 use std::alloc::{AllocError, Global};
-use std::fs::Files;
 use std::io::Eprint;
 
 /// A file at both ends.
-#[derive(Clone, Copy)]
+#[derive(Drop)]
 pub(crate) struct Ends<'a> {
+    /// Its path below both roots.
+    below: &'a str,
     /// Its path at the server.
-    pub(crate) there: &'a str,
+    there: String<Global>,
     /// Its name on this machine.
-    pub(crate) here: &'a str,
-    pub(crate) how: How,
+    here: String<Global>,
+    how: How,
     /// The most octets that it may have.
-    pub(crate) limit: u64,
+    limit: u64,
+}
+
+impl<'a> Ends<'a> {
+    /// What is called `below` in the tree.
+    pub(crate) fn new(
+        alloc: Global,
+        mirror: &Mirror<'_>,
+        below: &'a str,
+    ) -> Result<Ends<'a>, AllocError> {
+        let there = joined(alloc, mirror.path, below)?;
+        let here = mirror.here(alloc, below)?;
+        Ok(Ends {
+            below,
+            there,
+            here,
+            how: mirror.how,
+            limit: mirror.limit,
+        })
+    }
+
+    /// The path at the server, as it goes into an operation.
+    fn path(&self, alloc: Global) -> Result<Text<Global>, AllocError> {
+        Text::copy_of(alloc, self.there.as_bytes())
+    }
 }
 
 /// Writes what came of a file here, last changed at the moment that is known of it. Gives how many octets it has.
-pub(crate) fn leave<R: Files + AllocGlobal>(
+pub(crate) fn leave<R: LocalFiles>(
     rt: &R,
-    ends: Ends<'_>,
+    ends: &Ends<'_>,
     facts: Facts,
     came: &Came,
     flush: Flush,
 ) -> Result<u64, Trouble> {
-    write_over(rt, ends.here, came.pieces(), moment_of(facts), flush)?;
+    let moment = moment_of(facts);
+    rt.write_over(ends.here.as_str(), came.pieces(), moment, flush)?;
     Ok(came.count())
 }
 
@@ -42,39 +70,54 @@ fn moment_of(facts: Facts) -> Option<Moment> {
 }
 
 /// The download of a file that is listed so, of which nothing came yet.
-pub(crate) fn begun<'a, R: Eprint + AllocGlobal>(
+pub(crate) fn begun<'a, R: Eprint>(
     rt: &'a R,
-    ends: Ends<'_>,
+    alloc: Global,
+    ends: &Ends<'_>,
     facts: Facts,
 ) -> Result<Downloading<'a, R>, AllocError> {
-    let mut downloading = Downloading::new(rt, ends.there, ends.how)?;
+    let mut downloading = Downloading::new(rt, alloc, ends.there.as_str(), ends.how)?;
     downloading.put_terms(ends.limit, Stamp::Unasked);
+    downloading.name_as(shown(alloc, ends.below)?.as_str())?;
     if let Some(size) = facts.size {
         downloading.expect(size, moment_of(facts));
     }
     Ok(downloading)
 }
 
-/// Fails where not all of a download came that the server says is done.
-pub(crate) fn check_whole<R: Eprint + AllocGlobal>(
-    downloading: &Downloading<'_, R>,
+/// Goes on with a download until all of it came.
+pub(crate) fn download<R, S>(
+    downloading: &mut Downloading<'_, R>,
+    seat: &mut S,
     limit: u64,
-) -> Result<(), Trouble> {
-    match downloading.arrived() {
+) -> Result<(), Trouble>
+where
+    R: Eprint,
+    S: ClientSession,
+{
+    match &downloading.answer(seat) {
+        Answer::Done => check_whole(downloading.arrived(), downloading.came().count(), limit),
+        answer => Err(Trouble::of(answer)),
+    }
+}
+
+/// Fails where not all of a download came that the server says is done.
+fn check_whole(arrived: Arrival, count: u64, limit: u64) -> Result<(), Trouble> {
+    match arrived {
         Arrival::Whole | Arrival::Unknown => Ok(()),
-        Arrival::Wrong(total) => Err(Trouble::Size(downloading.came().count(), total)),
+        Arrival::Wrong(total) => Err(Trouble::Size(count, total)),
         Arrival::TooLarge(size) => Err(Trouble::TooLarge(size, limit)),
         Arrival::Past => Err(Trouble::Past(limit)),
     }
 }
 
 /// Whether a file here has the octets that came.
-pub(crate) fn is_same<R: Files + AllocGlobal>(
+pub(crate) fn is_same<R: LocalFiles>(
     rt: &R,
-    ends: Ends<'_>,
+    ends: &Ends<'_>,
     came: &Came,
 ) -> Result<bool, Trouble> {
-    match read_from(rt, ends.here, 0, came.count())? {
+    match rt.read_from(ends.here.as_str(), 0, came.count())? {
         Reading::Content(content) => Ok(are_pieces(content.octets.as_slice(), came.pieces())),
         Reading::TooLarge(_) => Ok(false),
     }
@@ -94,37 +137,55 @@ fn are_pieces(octets: &[u8], pieces: &[Text<Global>]) -> bool {
 }
 
 /// Uploads a file, over breaks; the server has to have its size then. Gives how many octets it has.
-pub(crate) fn copy_up<R, S>(rt: &R, seat: &mut S, ends: Ends<'_>) -> Result<u64, Trouble>
+pub(crate) fn copy_up<R, S>(
+    rt: &R,
+    alloc: Global,
+    seat: &mut S,
+    ends: &Ends<'_>,
+) -> Result<u64, Trouble>
 where
-    R: Files + AllocGlobal,
+    R: LocalFiles,
     S: ClientSession,
 {
-    let content = match read_from(rt, ends.here, 0, ends.limit)? {
-        Reading::Content(content) => content,
-        Reading::TooLarge(size) => return Err(Trouble::TooLarge(size, ends.limit)),
-    };
-    let count = content.octets.as_slice().len() as u64;
-    let path = text_of(rt.alloc(), ends.there)?;
-    let file = Some((path, Text::from_vec(content.octets)));
-    let answer = seat.answer(Request::Upload(file, ends.how));
-    if !matches!(&answer, Answer::Done) {
-        return Err(Trouble::Server(answer));
-    }
-    check_size(rt.alloc(), seat, ends, count)?;
+    let octets = octets_of(rt, ends)?;
+    let count = octets.as_slice().len() as u64;
+    upload(alloc, seat, ends, octets)?;
+    check_size(alloc, seat, ends, count)?;
     Ok(count)
+}
+
+/// The octets of a file here.
+fn octets_of<R: LocalFiles>(rt: &R, ends: &Ends<'_>) -> Result<Text<Global>, Trouble> {
+    match rt.read_from(ends.here.as_str(), 0, ends.limit)? {
+        Reading::Content(Content { octets, changed: _ }) => Ok(Text::from_vec(octets)),
+        Reading::TooLarge(size) => Err(Trouble::TooLarge(size, ends.limit)),
+    }
+}
+
+fn upload<S: ClientSession>(
+    alloc: Global,
+    seat: &mut S,
+    ends: &Ends<'_>,
+    octets: Text<Global>,
+) -> Result<(), Trouble> {
+    let path = ends.path(alloc)?;
+    match &seat.answer(Request::Upload(Some((path, octets)), ends.how)) {
+        Answer::Done => Ok(()),
+        answer => Err(Trouble::of(answer)),
+    }
 }
 
 /// Fails where the server tells another size of a file than so many octets (RFC 3659, section 4).
 fn check_size<S: ClientSession>(
     alloc: Global,
     seat: &mut S,
-    ends: Ends<'_>,
+    ends: &Ends<'_>,
     count: u64,
 ) -> Result<(), Trouble> {
-    let path = text_of(alloc, ends.there)?;
+    let path = ends.path(alloc)?;
     match &seat.answer(Request::One(Some(Op::Size(path, ends.how)))) {
         Answer::Number(total) if *total != count => Err(Trouble::Size(count, *total)),
-        Answer::Lost => Err(Trouble::Server(Answer::Lost)),
+        Answer::Lost => Err(Trouble::Lost),
         _ => Ok(()),
     }
 }

@@ -1,9 +1,10 @@
 // What stands in a folder of this machine.
+use crate::trouble::Trouble;
 use ftp_facts::Text;
 use ftp_tool_plan::{Facts, Item, Kind, Listing, is_excluded};
 use ftp_tool_words::joined;
-use std::alloc::Global;
-use std::fs::{DirEntry, Files, Metadata};
+use std::alloc::{AllocError, Global};
+use std::fs::{DirEntry, Files, Metadata, ReadDir};
 use std::os::unix::fs::MetadataExt;
 use std::{fs, io};
 
@@ -16,40 +17,58 @@ pub(crate) fn entries_here<R: Files + AllocGlobal + Clone + Drop>(
     place: &str,
     below: &str,
     excluded: &[&str],
+) -> Result<Listing<Global>, Trouble> {
+    let entries = fs::read_dir(files, place)?;
+    Ok(items_of(files.alloc(), entries, below, excluded)?)
+}
+
+fn items_of<R: Files + Clone + Drop>(
+    alloc: Global,
+    entries: ReadDir<R, Global>,
+    below: &str,
+    excluded: &[&str],
 ) -> io::Result<Listing<Global>> {
-    let mut items = Vec::new(files.alloc());
-    for entry in fs::read_dir(files, place)? {
+    let mut items = Vec::new(alloc);
+    for entry in entries {
         if items.len() >= MOST_ENTRIES {
             return Ok(Listing::CutOff);
         }
-        let entry = entry?;
-        items.push(item_of(files.alloc(), &entry, below, excluded)?)?;
+        put_item(alloc, &mut items, entry, below, excluded)?;
     }
     Ok(Listing::Whole(items))
 }
 
-fn item_of<R: Files>(
+fn put_item<R: Files + Drop>(
     alloc: Global,
-    entry: &DirEntry<R, Global>,
+    items: &mut Vec<Item<Global>, Global>,
+    entry: io::Result<DirEntry<R, Global>>,
     below: &str,
     excluded: &[&str],
-) -> io::Result<Item<Global>> {
-    let name = entry.file_name();
+) -> io::Result<()> {
+    let entry = entry?;
     let kind = kind_of(&entry.metadata()?);
-    let path = joined(alloc, below, name)?;
-    Ok(Item {
-        name: Text::copy_of(alloc, name.as_bytes())?,
-        kind: unless_excluded(kind, excluded, path.as_str(), name),
-    })
+    let name = entry.file_name();
+    items.push(item_of(alloc, name.as_bytes(), kind, below, excluded)?)?;
+    Ok(())
 }
 
-/// The kind of what stands at a path below the source, or that it is left alone.
-pub(crate) fn unless_excluded(kind: Kind, excluded: &[&str], path: &str, name: &str) -> Kind {
-    if is_excluded(excluded, path, name) {
+/// An entry of this name and this kind, unless it is left alone. One whose name is no text is below no path, and refused by its name.
+pub(crate) fn item_of(
+    alloc: Global,
+    name: &[u8],
+    kind: Kind,
+    below: &str,
+    excluded: &[&str],
+) -> Result<Item<Global>, AllocError> {
+    let text = std::str::from_utf8(name).unwrap_or("");
+    let path = joined(alloc, below, text)?;
+    let kind = if is_excluded(excluded, path.as_str(), text) {
         Kind::Excluded
     } else {
         kind
-    }
+    };
+    let name = Text::copy_of(alloc, name)?;
+    Ok(Item { name, kind })
 }
 
 fn kind_of(found: &Metadata) -> Kind {

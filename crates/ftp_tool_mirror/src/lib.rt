@@ -2,16 +2,20 @@
 //! is done is `ftp_tool_plan`.
 #![tactic(auto)]
 
+mod asked;
+mod changing;
 mod copying;
 mod folder;
+mod machine;
 mod mirroring;
+mod sentence;
 mod server;
 mod tally;
 mod telling;
+mod todo;
 mod trouble;
 mod walk;
 
+pub use asked::{Doing, Mirror};
 pub use ftp_tool_plan::{Check, Extra, Rules, Way};
 pub use mirroring::mirror;
-pub use tally::Tally;
-pub use walk::{Doing, Mirror, Walk};

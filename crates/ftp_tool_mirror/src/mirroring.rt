@@ -1,7 +1,10 @@
 // A mirror from its first connection to its last line.
-use crate::walk::{Mirror, Walk};
+use crate::asked::Mirror;
+use crate::machine::Machine;
+use crate::walk::Walk;
 use ftp_operation::Answer;
-use ftp_tool_connection::{LastReply, SessionFault, ask, say};
+use ftp_tool_connection::{Converses, LastReply, Logins, SessionFault, ask, say};
+use ftp_tool_local::LocalFiles;
 use ftp_tool_status::Status;
 use std::alloc::Global;
 use std::env::Env;
@@ -28,11 +31,20 @@ where
         + Clone
         + Drop,
 {
+    mirrored(rt, rt.alloc(), &asked)
+}
+
+/// The same, of whoever can ask a server and has a folder.
+fn mirrored<R>(rt: &R, alloc: Global, asked: &Mirror<'_>) -> io::Result<Status>
+where
+    R: Converses + Logins + LocalFiles + Machine + Eprint,
+{
     let mut noticed = LastReply::new();
-    let mut walk = Walk::new(rt, &asked)?;
-    let answered = walked(rt, &asked, &mut walk, &mut noticed);
-    let told = tell_end(rt, answered, &walk, &noticed);
-    say(rt, "", &walk.tally(), "")?;
+    let mut walk = Walk::new(rt, alloc, asked)?;
+    let answered = walked(rt, asked, &mut walk, &mut noticed);
+    let tally = walk.tally();
+    let told = tell_end(rt, &answered, tally.failed, &noticed);
+    say(rt, "", &tally, "")?;
     told
 }
 
@@ -44,15 +56,7 @@ fn walked<R>(
     noticed: &mut LastReply,
 ) -> Result<Answer<Global>, SessionFault>
 where
-    R: Net<Listener = TcpListener, Stream = TcpStream>
-        + Files
-        + Env
-        + Print
-        + Eprint
-        + Clock
-        + AllocGlobal
-        + Clone
-        + Drop,
+    R: Converses + Logins + LocalFiles + Machine + Eprint,
 {
     for _ in 0..ROUNDS {
         let before = walk.reach();
@@ -66,38 +70,34 @@ where
     Ok(Answer::Lost)
 }
 
-/// Tells why a mirror came to no end, and gives the exit status.
-fn tell_end<R: Files + Print + Eprint + AllocGlobal + Clone + Drop>(
+/// Tells why a mirror came to no end, and gives the exit status; so many things failed.
+fn tell_end<R: Eprint>(
     rt: &R,
-    answered: Result<Answer<Global>, SessionFault>,
-    walk: &Walk<'_, R>,
+    answered: &Result<Answer<Global>, SessionFault>,
+    failed: u64,
     noticed: &LastReply,
 ) -> io::Result<Status> {
-    match &answered {
-        Ok(Answer::Done) if walk.tally().failed == 0 => Ok(Status::Done),
+    match answered {
+        Ok(Answer::Done) if failed == 0 => Ok(Status::Done),
         Ok(Answer::Done) => Ok(Status::Refused),
-        Ok(Answer::Refused(code)) => {
-            say(
-                rt,
-                "error: the server has no machine listing, by which a mirror goes: ",
-                &noticed.refusal(*code),
-                "",
-            )?;
-            Ok(Status::Refused)
-        }
-        Ok(Answer::Lost) => {
-            say(
-                rt,
-                "error: the control connection ended",
-                &noticed.farewell(),
-                "; another run goes on",
-            )?;
-            Ok(Status::Failed)
-        }
+        Ok(Answer::Refused(code)) => tell_no_listing(rt, *code, noticed),
+        Ok(Answer::Lost) => tell_lost(rt, noticed),
         Ok(_) => {
             rt.eprintln("error: out of memory")?;
             Ok(Status::Failed)
         }
         Err(stop) => stop.tell(rt),
     }
+}
+
+fn tell_no_listing<R: Eprint>(rt: &R, code: u16, noticed: &LastReply) -> io::Result<Status> {
+    let sentence = "error: the server has no machine listing, by which a mirror goes: ";
+    say(rt, sentence, &noticed.refusal(code), "")?;
+    Ok(Status::Refused)
+}
+
+fn tell_lost<R: Eprint>(rt: &R, noticed: &LastReply) -> io::Result<Status> {
+    let sentence = "error: the control connection ended";
+    say(rt, sentence, &noticed.farewell(), "; another run goes on")?;
+    Ok(Status::Failed)
 }

@@ -1,16 +1,17 @@
 // What was done so far.
+use crate::changing::Change;
 use itoa::Buffer;
 use std::fmt;
 use std::fmt::{Display, Formatter};
 
 /// What was done so far.
 #[derive(Clone, Copy)]
-pub struct Tally {
-    pub files: u64,
-    pub dirs: u64,
-    pub removed: u64,
-    pub failed: u64,
-    pub octets: u64,
+pub(crate) struct Tally {
+    pub(crate) files: u64,
+    pub(crate) dirs: u64,
+    pub(crate) removed: u64,
+    pub(crate) failed: u64,
+    pub(crate) octets: u64,
 }
 
 impl Tally {
@@ -31,12 +32,12 @@ impl Tally {
         self.octets = self.octets.saturating_add(octets);
     }
 
-    pub(crate) fn add_dir(&mut self) {
-        self.dirs = self.dirs.saturating_add(1);
-    }
-
-    pub(crate) fn add_removed(&mut self) {
-        self.removed = self.removed.saturating_add(1);
+    /// The target was changed so.
+    pub(crate) fn add_change(&mut self, change: Change) {
+        match change {
+            Change::MakeDir => self.dirs = self.dirs.saturating_add(1),
+            Change::RemoveFile | Change::RemoveDir => self.removed = self.removed.saturating_add(1),
+        }
     }
 
     pub(crate) fn add_failed(&mut self) {

@@ -4,11 +4,18 @@ use std::alloc::{AllocError, Global};
 use std::io;
 
 /// Why something was not done.
+#[derive(Clone, Copy)]
 pub(crate) enum Trouble {
-    /// The server answered so.
-    Server(Answer<Global>),
+    /// The server refuses it, by this code.
+    Refused(u16),
     /// The server has no machine listing: the code of its reply.
     NoListing(u16),
+    /// The control connection ended.
+    Lost,
+    /// Memory was refused.
+    Memory,
+    /// Another answer than that it is done, as it is told.
+    Answered(&'static str),
     /// So many octets went one way or the other of a file that has so many, as the server says.
     Size(u64, u64),
     /// The file has so many octets, which are more than these, the most.
@@ -25,40 +32,35 @@ pub(crate) enum Trouble {
     TooMuch,
 }
 
-/// By hand: a derived drop is proved again, part by part, wherever a trouble is let go.
-impl Drop for Trouble {
-    fn drop(self) {
+impl Trouble {
+    /// An answer that is not what was asked for.
+    pub(crate) fn of(answer: &Answer<Global>) -> Trouble {
+        match answer {
+            Answer::Refused(code) => Trouble::Refused(*code),
+            Answer::Lost => Trouble::Lost,
+            Answer::Memory => Trouble::Memory,
+            other => Trouble::Answered(sentence_of(other)),
+        }
+    }
+
+    /// What a mirror answers that does nothing more for this reason.
+    pub(crate) fn answer(self) -> Answer<Global> {
         match self {
-            Trouble::Server(_) | Trouble::Here(_) => {}
-            Trouble::NoListing(_) | Trouble::Size(_, _) => {}
-            Trouble::TooLarge(_, _) | Trouble::Past(_) | Trouble::Spent => {}
-            Trouble::Stands | Trouble::TooMuch => {}
+            Trouble::Lost => Answer::Lost,
+            Trouble::NoListing(code) => Answer::Refused(code),
+            _ => Answer::Memory,
         }
     }
 }
 
-/// How much can't be done by reason of a trouble.
-#[derive(Clone, Copy)]
-pub(crate) enum Reach {
-    /// One thing.
-    One,
-    /// All over this control connection.
-    Connection,
-    /// All: the server has no machine listing, by this code.
-    All(u16),
-    /// All, for want of memory.
-    Memory,
-}
-
-impl Trouble {
-    /// How much can't be done.
-    pub(crate) fn reach(&self) -> Reach {
-        match self {
-            Trouble::Server(Answer::Lost) => Reach::Connection,
-            Trouble::Server(Answer::Memory) => Reach::Memory,
-            Trouble::NoListing(code) => Reach::All(*code),
-            _ => Reach::One,
-        }
+fn sentence_of(answer: &Answer<Global>) -> &'static str {
+    match answer {
+        Answer::BadOperation => "the path is no path that can be sent",
+        Answer::Unopened => "no data connection was opened",
+        Answer::Foreign => "another host than the server's was named, or came",
+        Answer::Broken { got: _, mark: _ } => "the data connection broke",
+        Answer::Strange => "the server says what has no place",
+        _ => "the server answers what was not asked",
     }
 }
 
@@ -70,6 +72,6 @@ impl From<io::Error> for Trouble {
 
 impl From<AllocError> for Trouble {
     fn from(_error: AllocError) -> Trouble {
-        Trouble::Server(Answer::Memory)
+        Trouble::Memory
     }
 }

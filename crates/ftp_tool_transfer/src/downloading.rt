@@ -38,6 +38,9 @@ enum Sight {
 /// A download, until the server answers to it.
 pub struct Downloading<'a, R> {
     rt: &'a R,
+    alloc: Global,
+    /// What its notes begin with.
+    head: String<Global>,
     path: String<Global>,
     how: How,
     /// The most octets that the file may have.
@@ -56,6 +59,8 @@ impl<'a, R> Drop for Downloading<'a, R> {
     fn drop(self) {
         let Self {
             rt: _,
+            alloc: _,
+            head: _,
             path: _,
             how: _,
             limit: _,
@@ -68,15 +73,24 @@ impl<'a, R> Drop for Downloading<'a, R> {
     }
 }
 
-impl<'a, R: Eprint + AllocGlobal> Downloading<'a, R> {
+impl<'a, R: Eprint> Downloading<'a, R> {
     /// What is asked for: the file at a path of a server, of any size; its moment is not asked for.
-    pub fn new(rt: &'a R, path: &str, how: How) -> Result<Downloading<'a, R>, AllocError> {
+    pub fn new(
+        rt: &'a R,
+        alloc: Global,
+        path: &str,
+        how: How,
+    ) -> Result<Downloading<'a, R>, AllocError> {
+        let head = String::from_str(alloc, "note: ")?;
+        let path = String::from_str(alloc, path)?;
         Ok(Downloading {
             rt,
-            path: String::from_str(rt.alloc(), path)?,
+            alloc,
+            head,
+            path,
             how,
             limit: u64::MAX,
-            came: Came::new(rt.alloc()),
+            came: Came::new(alloc),
             left: MOST_TRIES,
             size: if is_counted(how) {
                 Size::Untold
@@ -92,6 +106,12 @@ impl<'a, R: Eprint + AllocGlobal> Downloading<'a, R> {
     pub fn put_terms(&mut self, limit: u64, stamp: Stamp) {
         self.limit = limit;
         self.stamp = stamp;
+    }
+
+    /// Its notes name the file so.
+    pub fn name_as(&mut self, name: &str) -> Result<(), AllocError> {
+        self.head.push_str(name)?;
+        self.head.push_str(": ")
     }
 
     /// These octets came before, of a file of this size that was changed last at this moment: the download goes on behind them where the server has
@@ -226,7 +246,7 @@ impl<'a, R: Eprint + AllocGlobal> Downloading<'a, R> {
             Stamp::Unasked | Stamp::Strange => return true,
             Stamp::Untold | Stamp::Told(_) => {}
         }
-        match &answer_to(seat, moment_request(self.rt.alloc(), self.path.as_str())) {
+        match &answer_to(seat, moment_request(self.alloc, self.path.as_str())) {
             Answer::Stamp(moment) => self.stamp = Stamp::Told(*moment),
             Answer::Strange => self.stamp = Stamp::Strange,
             Answer::Lost => return false,
@@ -237,10 +257,7 @@ impl<'a, R: Eprint + AllocGlobal> Downloading<'a, R> {
 
     /// What the server answers to the question for the size.
     fn size_answer<S: ClientSession>(&self, seat: &mut S) -> Answer<Global> {
-        answer_to(
-            seat,
-            size_request(self.rt.alloc(), self.path.as_str(), self.how),
-        )
+        answer_to(seat, size_request(self.alloc, self.path.as_str(), self.how))
     }
 
     /// One try, behind what came so far.
@@ -262,7 +279,7 @@ impl<'a, R: Eprint + AllocGlobal> Downloading<'a, R> {
 
     /// What is asked for a try. Where the size is known, what came is kept where the control connection ends.
     fn request(&self) -> Result<Request, AllocError> {
-        let path = Text::copy_of(self.rt.alloc(), self.path.as_bytes())?;
+        let path = Text::copy_of(self.alloc, self.path.as_bytes())?;
         let op = match self.came.count() {
             0 => Op::Get(path, self.how),
             from => Op::GetFrom(path, from, self.how),
@@ -281,7 +298,7 @@ impl<'a, R: Eprint + AllocGlobal> Downloading<'a, R> {
 
     /// Takes the octets out of an answer.
     fn take(&mut self, mut answer: Answer<Global>) -> Answer<Global> {
-        let none = Text::from_vec(Vec::new(self.rt.alloc()));
+        let none = Text::from_vec(Vec::new(self.alloc));
         let octets = match &mut answer {
             Answer::Octets(octets) => mem::replace(octets, none),
             Answer::Broken { got, mark: _ } => mem::replace(got, none),
@@ -359,21 +376,20 @@ impl<'a, R: Eprint + AllocGlobal> Downloading<'a, R> {
     /// Tells from where the download goes on; where that is not behind what came, it begins anew.
     fn go_on(&mut self, from: u64) {
         if from != self.came.count() {
-            self.came = Came::new(self.rt.alloc());
-            let _told = self.rt.eprintln("note: the download begins anew");
+            self.came = Came::new(self.alloc);
+            let _told = say(self.rt, self.head.as_str(), &"the download begins anew", "");
         } else if let Size::Told(total) = self.size {
             let part = Part {
                 count: from,
                 between: " of ",
                 total,
             };
-            let _told = say(self.rt, "note: ", &part, " octets came; going on");
+            let _told = say(self.rt, self.head.as_str(), &part, " octets came; going on");
         }
     }
 }
 
-impl<'a, R: Eprint + AllocGlobal> SessionTask<Result<Answer<Global>, SessionFault>>
-    for Downloading<'a, R> {
+impl<'a, R: Eprint> SessionTask<Result<Answer<Global>, SessionFault>> for Downloading<'a, R> {
     fn play<S: ClientSession>(&mut self, seat: &mut S) -> Result<Answer<Global>, SessionFault> {
         Ok(self.answer(seat))
     }

@@ -1,7 +1,6 @@
 // The octets of an upload, at this end.
-use ftp_tool_local::{Content, Reading, read_from};
+use ftp_tool_local::{Content, LocalFiles, Reading};
 use std::alloc::Global;
-use std::fs::Files;
 use std::io;
 use std::io::{Error, ErrorKind};
 use std::time::SystemTime;
@@ -66,14 +65,15 @@ impl<'a> Source<'a> {
     }
 
     /// The octets from one of them on; fails where a file has changed since it was read first. The first try asks for all.
-    pub(crate) fn octets_from<R: Files + AllocGlobal>(
+    pub(crate) fn octets_from<R: LocalFiles>(
         &mut self,
         rt: &R,
+        alloc: Global,
         from: u64,
     ) -> io::Result<Vec<u8, Global>> {
         match self {
             Source::File(file) => file.octets_from(rt, from),
-            Source::Kept(octets) => copy_from(rt.alloc(), octets.as_slice(), from),
+            Source::Kept(octets) => copy_from(alloc, octets.as_slice(), from),
         }
     }
 }
@@ -86,11 +86,7 @@ fn copy_from(alloc: Global, octets: &[u8], from: u64) -> io::Result<Vec<u8, Glob
 
 impl<'a> FileSource<'a> {
     /// The octets from one of them on.
-    fn octets_from<R: Files + AllocGlobal>(
-        &mut self,
-        rt: &R,
-        from: u64,
-    ) -> io::Result<Vec<u8, Global>> {
+    fn octets_from<R: LocalFiles>(&mut self, rt: &R, from: u64) -> io::Result<Vec<u8, Global>> {
         match self.octets.take() {
             Some(octets) => Ok(octets),
             None => self.read_again(rt, from),
@@ -98,8 +94,8 @@ impl<'a> FileSource<'a> {
     }
 
     /// Reads octets of the file anew; fails where it has another size or moment than before.
-    fn read_again<R: Files + AllocGlobal>(&self, rt: &R, from: u64) -> io::Result<Vec<u8, Global>> {
-        if let Reading::Content(content) = read_from(rt, self.name, from, self.total)? {
+    fn read_again<R: LocalFiles>(&self, rt: &R, from: u64) -> io::Result<Vec<u8, Global>> {
+        if let Reading::Content(content) = rt.read_from(self.name, from, self.total)? {
             let Content { octets, changed } = content;
             if from.saturating_add(octets.len() as u64) == self.total && changed == self.changed {
                 return Ok(octets);

@@ -8,15 +8,16 @@ use ftp_operation::{Answer, How, Op};
 use ftp_tool_connection::{
     ClientSession, LastReply, Phase, Request, SessionFault, SessionTask, at, say,
 };
+use ftp_tool_local::LocalFiles;
 use ftp_tool_status::{Ended, Status, Step, There, Transfer, follows};
 use std::alloc::{AllocError, Global};
-use std::fs::Files;
 use std::io;
 use std::io::Eprint;
 
 /// An upload, until the server answers to it.
 pub struct Uploading<'a, R> {
     rt: &'a R,
+    alloc: Global,
     source: Source<'a>,
     path: &'a str,
     how: How,
@@ -32,6 +33,7 @@ impl<'a, R> Drop for Uploading<'a, R> {
     fn drop(self) {
         let Self {
             rt: _,
+            alloc: _,
             source: _,
             path: _,
             how: _,
@@ -42,11 +44,18 @@ impl<'a, R> Drop for Uploading<'a, R> {
     }
 }
 
-impl<'a, R: Files + Eprint + AllocGlobal> Uploading<'a, R> {
+impl<'a, R: LocalFiles + Eprint> Uploading<'a, R> {
     /// These octets are to be at a path of a server.
-    pub fn new(rt: &'a R, source: Source<'a>, path: &'a str, how: How) -> Uploading<'a, R> {
+    pub fn new(
+        rt: &'a R,
+        alloc: Global,
+        source: Source<'a>,
+        path: &'a str,
+        how: How,
+    ) -> Uploading<'a, R> {
         Uploading {
             rt,
+            alloc,
             upload: Transfer {
                 total: source.total(),
                 left: MOST_TRIES,
@@ -72,7 +81,7 @@ impl<'a, R: Files + Eprint + AllocGlobal> Uploading<'a, R> {
 
     /// The size of what stands there.
     fn size<S: ClientSession>(&self, seat: &mut S) -> There {
-        match size_request(self.rt.alloc(), self.path, self.how) {
+        match size_request(self.alloc, self.path, self.how) {
             Ok(request) => {
                 let answer = seat.answer(request);
                 let there = there_of(&answer);
@@ -84,7 +93,7 @@ impl<'a, R: Files + Eprint + AllocGlobal> Uploading<'a, R> {
     }
 
     fn path(&self) -> Result<Text<Global>, AllocError> {
-        Text::copy_of(self.rt.alloc(), self.path.as_bytes())
+        Text::copy_of(self.alloc, self.path.as_bytes())
     }
 
     /// One try, from an octet of the file on: where the next one begins, or the answer where there is none.
@@ -100,7 +109,7 @@ impl<'a, R: Files + Eprint + AllocGlobal> Uploading<'a, R> {
     /// What is asked for a try.
     fn request(&mut self, from: u64) -> io::Result<Request> {
         let path = self.path()?;
-        let octets = Text::from_vec(self.source.octets_from(self.rt, from)?);
+        let octets = Text::from_vec(self.source.octets_from(self.rt, self.alloc, from)?);
         Ok(Request::One(Some(if from == 0 {
             Op::Put(path, octets, self.how)
         } else {
@@ -221,7 +230,7 @@ impl<'a, R: Files + Eprint + AllocGlobal> Uploading<'a, R> {
     }
 }
 
-impl<'a, R: Files + Eprint + AllocGlobal> SessionTask<Result<Answer<Global>, SessionFault>>
+impl<'a, R: LocalFiles + Eprint> SessionTask<Result<Answer<Global>, SessionFault>>
     for Uploading<'a, R> {
     fn play<S: ClientSession>(&mut self, seat: &mut S) -> Result<Answer<Global>, SessionFault> {
         if !self.look(seat) {

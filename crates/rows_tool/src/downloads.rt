@@ -19,7 +19,7 @@ fn begun<'a, R: Eprint + AllocGlobal>(
     row: Row<'_>,
     stamp: Stamp,
 ) -> Result<Downloading<'a, R>, AllocError> {
-    let mut downloading = Downloading::new(rt, "a", row.how)?;
+    let mut downloading = Downloading::new(rt, rt.alloc(), "a", row.how)?;
     downloading.put_terms(LIMIT, stamp);
     Ok(downloading)
 }

@@ -24,7 +24,7 @@ where
     let Reading::Content(content) = read_from(rt, FILE, 0, LIMIT)? else {
         return Err(Error::from(ErrorKind::InvalidInput));
     };
-    let mut uploading = Uploading::new(rt, Source::file(FILE, content), "a", row.how);
+    let mut uploading = Uploading::new(rt, rt.alloc(), Source::file(FILE, content), "a", row.how);
     let answer = played(rt.alloc(), paper, row, &mut uploading);
     paper.put(b"; ");
     put_end(paper, &uploading, &answer)?;

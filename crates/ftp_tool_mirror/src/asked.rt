@@ -1,0 +1,50 @@
+// What is mirrored, and how.
+use ftp_facts::Text;
+use ftp_operation::How;
+use ftp_tool_connection::ServerAddress;
+use ftp_tool_local::Flush;
+use ftp_tool_plan::Rules;
+use ftp_tool_words::{User, joined};
+use std::alloc::{AllocError, Global};
+
+/// What is done of what is planned.
+#[derive(Clone, Copy)]
+pub enum Doing {
+    /// All of it.
+    All,
+    /// Nothing: it is told.
+    Nothing,
+}
+
+/// What is mirrored, and how.
+#[derive(Clone, Copy)]
+pub struct Mirror<'a> {
+    pub server: ServerAddress<'a>,
+    pub user: User<'a>,
+    /// The directory of the server.
+    pub path: &'a str,
+    /// The folder of this machine.
+    pub folder: &'a str,
+    pub how: How,
+    pub rules: Rules,
+    /// Patterns of what is left alone.
+    pub excluded: &'a [&'a str],
+    /// When a file of this machine is on the disk.
+    pub flush: Flush,
+    /// The most octets of a file, which is held in memory.
+    pub limit: u64,
+    pub doing: Doing,
+}
+
+impl<'a> Mirror<'a> {
+    /// The place on this machine of what is called `below` in the tree.
+    pub(crate) fn here(&self, alloc: Global, below: &str) -> Result<String<Global>, AllocError> {
+        joined(alloc, self.folder, below)
+    }
+
+    /// Its path at the server, as it goes into an operation.
+    pub(crate) fn path(&self, alloc: Global, below: &str) -> Result<Text<Global>, AllocError> {
+        let there = joined(alloc, self.path, below)?;
+        Text::copy_of(alloc, there.as_bytes())
+    }
+}
