@@ -23,6 +23,14 @@ pub struct Drive {
     pub full: u64,
     /// How many data connections break at first.
     pub breaks: u64,
+    /// Whether the octets that come are those of the fixed sequence.
+    pub is_fixed: bool,
+    /// The most octets that one call moves over a data connection.
+    pub takes: usize,
+    /// How many calls of each data connection go before one that fails.
+    pub fails: u64,
+    /// How many seconds the clock is further after each look.
+    pub ticks: u64,
 }
 
 /// A call of the control connection.
@@ -52,14 +60,18 @@ pub enum Owner<'a> {
     Page(&'a [u8]),
 }
 
-/// What is said of connections: `moves 7 sends 3 silent 7 full 1000 breaks 2`.
+/// What is said of connections: `moves 7 sends 3 silent 7 full 1000 breaks 2`, `fixed 1000 takes 7 fails 3 ticks 1`.
 pub fn drive_of(text: &[u8]) -> Drive {
     Drive {
         moves: value(text, b"moves").unwrap_or(1) as usize,
-        sends: value(text, b"sends"),
+        sends: value(text, b"sends").or(value(text, b"fixed")),
         silent: value(text, b"silent").unwrap_or(NEVER as u64),
         full: value(text, b"full").unwrap_or(0),
         breaks: value(text, b"breaks").unwrap_or(0),
+        is_fixed: value(text, b"fixed").is_some(),
+        takes: value(text, b"takes").unwrap_or(NEVER as u64) as usize,
+        fails: value(text, b"fails").unwrap_or(NEVER as u64),
+        ticks: value(text, b"ticks").unwrap_or(0),
     }
 }
 

@@ -1,5 +1,5 @@
 // The other side of data connections that is the same each time: it opens each at once, sends so many octets, has no room at first, breaks the
-// first ones, and the control connection speaks at a time of its choice.
+// first ones, moves few octets a call, fails at a call, and the control connection speaks at a time of its choice.
 ghost use Rattle.std.specs.Prelude.{None};
 ghost use Rattle.ftp_control.specs.Asking.{Closes};
 
@@ -10,7 +10,7 @@ use ftp_control::{Accepted, For, Ports, Ready, Spoken, Watch, Whole};
 use ftp_endpoint::{Endpoint, Host};
 use ftp_ends::Wants;
 use ftp_facts::Moment;
-use rows_base::{Paper, Tally};
+use rows_base::{Paper, Tally, fixed};
 use std::alloc::Global;
 use std::io;
 use std::io::{Error, ErrorKind, Read, Write};
@@ -24,13 +24,40 @@ const TAKES: usize = 4;
 /// More octets than a data connection takes.
 const AMPLE: usize = 1 << 40;
 
-/// A data connection that gives so many octets, if it can be read, and takes so many behind so many writes that find no room.
+/// A data connection that gives so many octets, if it can be read, and takes so many behind so many writes that find no room; a call may fail.
 #[derive(Drop)]
 pub struct Link {
     rest: Option<u64>,
+    given: u64,
     full: u64,
     room: usize,
     taken: Vec<u8>,
+    /// How many calls go before one that fails.
+    calls: u64,
+    drive: Drive,
+}
+
+impl Link {
+    /// Counts a call; whether it fails.
+    fn fails(&mut self) -> bool {
+        if self.calls == 0 {
+            return true;
+        }
+        self.calls -= 1;
+        false
+    }
+
+    /// Fills a room with the octets that come next.
+    fn fill(&mut self, room: &mut [u8]) {
+        for octet in room {
+            *octet = if self.drive.is_fixed {
+                fixed(self.given)
+            } else {
+                b'x'
+            };
+            self.given = self.given.wrapping_add(1);
+        }
+    }
 }
 
 impl Read for Link {
@@ -38,8 +65,11 @@ impl Read for Link {
         let Some(rest) = self.rest else {
             return Err(Error::from(ErrorKind::ConnectionReset));
         };
-        let count = room.len().min(rest as usize);
-        room[..count].fill(b'x');
+        if self.fails() {
+            return Err(Error::from(ErrorKind::ConnectionReset));
+        }
+        let count = room.len().min(rest as usize).min(self.drive.takes);
+        self.fill(&mut room[..count]);
         self.rest = Some(rest - count as u64);
         Ok(count)
     }
@@ -51,10 +81,10 @@ impl Write for Link {
             self.full -= 1;
             return Err(Error::from(ErrorKind::WouldBlock));
         }
-        if self.room == 0 {
+        if self.room == 0 || self.fails() {
             return Err(Error::from(ErrorKind::BrokenPipe));
         }
-        let count = octets.len().min(self.room);
+        let count = octets.len().min(self.room).min(self.drive.takes);
         if self.taken.extend_from_slice(&octets[..count]).is_err() {
             return Err(Error::from(ErrorKind::OutOfMemory));
         }
@@ -97,12 +127,22 @@ impl Peer {
         paper.put(b"\n");
     }
 
+    pub fn clock(&self) -> Clock {
+        Clock {
+            now: YEAR_2000,
+            step: self.drive.ticks,
+        }
+    }
+
     fn link(&mut self) -> Link {
         Link {
             rest: self.drive.sends,
+            given: 0,
             full: self.drive.full,
             room: self.room(),
             taken: Vec::new(self.alloc),
+            calls: self.drive.fails,
+            drive: self.drive,
         }
     }
 
@@ -176,12 +216,17 @@ impl Sockets for Peer {
     }
 }
 
-/// A clock that stands at the first second of the year 2000.
+/// A clock that begins at the first second of the year 2000, and is so many seconds further after each look.
 #[derive(Drop)]
-pub struct Still {}
+pub struct Clock {
+    now: Moment,
+    step: u64,
+}
 
-impl Watch for Still {
+impl Watch for Clock {
     fn moment(&mut self) -> Moment {
-        YEAR_2000
+        let now = self.now;
+        self.now = Moment::new(now.seconds.saturating_add(self.step)).unwrap_or(now);
+        now
     }
 }

@@ -2,7 +2,7 @@
 use crate::driven::Owner;
 use crate::embedded::server::serve;
 use crate::event::{Event, Told};
-use crate::peer::{Peer, Still};
+use crate::peer::Peer;
 use crate::plays::{Holds, Plays};
 use ftp_ends::Wants;
 use ftp_server_drive::{Control, drive_server};
@@ -89,7 +89,8 @@ impl<A: Allocator + Copy, S: Far<A, MemTree<A>> + Holds> Plays for Played<A, S> 
         let ended = match owner {
             Owner::Drive => {
                 let mut control = Control::new(reader, &mut writer);
-                drive_server(&mut self.server, &mut control, peer, &mut Still {})
+                let mut clock = peer.clock();
+                drive_server(&mut self.server, &mut control, peer, &mut clock)
             }
             Owner::Page(_) => serve(&mut self.server, (&mut reader, &mut writer), peer),
         };
