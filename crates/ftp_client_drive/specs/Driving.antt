@@ -1,19 +1,16 @@
 -- What a drive of a client beside its control connection did, whole or until a read or a write failed.
-use Rattle.std.specs.Prelude.{◌≡◌, ◌⊎◌, ℕ, List, [], ◌∷◌, Option, Some, IsTrue}
-use Rattle.std.specs.declared.result.Result.{Result}
-use Rattle.std.specs.declared.result.Result.TheVariants.{Ok, Err}
+use Rattle.std.specs.Prelude.{◌≡◌, ◌⊎◌, ℕ, List, ◌∷◌, Option, Some, IsTrue}
 use Rattle.ftp_control.specs.Asking.{Asked, Shut}
 use Rattle.ftp_control.specs.Courses.{Carries}
-use Rattle.ftp_control.specs.Deeds.{Calls, Deed, Other, Stand, with_owner}
-use Rattle.ftp_control.specs.Driving.{Cuts, Fails, Leads, Quietly, Sums}
+use Rattle.ftp_control.specs.Deeds.{Deed, Other, Stand, with_owner}
+use Rattle.ftp_control.specs.Driving.{Cuts, Sums}
 use Rattle.ftp_control.specs.Lane.{Lane, with_untold}
 use Rattle.ftp_control.specs.Outcome.{IsDropped}
-use Rattle.ftp_control.specs.declared.pieces.Failed.{Failed}
 use Rattle.ftp_operation.specs.Answer.{Said, Lost, said_of}
 use Rattle.ftp_operation.specs.declared.answer.Answer.{Answer}
 use Rattle.ftp_client_model.specs.Calls.{is_sound}
 use Rattle.ftp_client_model.specs.Failing.{Client}
-use Rattle.ftp_control.specs.Machine.{Called, Closed, Held, IsCut, Left, held, move_of}
+use Rattle.ftp_control.specs.Machine.{Called, Closed, Held, IsCut, Left, move_of}
 use Rattle.ftp_client_drive.specs.Side.{Report, client_machine, client_side, is_under_way}
 
 -- the client is asked for its report, which is this answer

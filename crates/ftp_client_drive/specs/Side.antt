@@ -1,5 +1,5 @@
 -- A client as the end of a session that is driven: what its calls do, as `Near` says it (RFC 959, section 2.3).
-use Rattle.std.specs.Prelude.{◌≡◌, ℕ, Bool, true, false, IsTrue, List, length, Option}
+use Rattle.std.specs.Prelude.{◌≡◌, Bool, true, false, IsTrue, length, Option}
 use Rattle.ftp_control.specs.Machine.{Machine, Call, Aside, side_of}
 use Rattle.ftp_control.specs.Side.{Side}
 use Rattle.ftp_ends.specs.declared.link.Wants.TheVariants as Want

@@ -1,5 +1,5 @@
 -- What the parts of a drive say, put together.
-use Rattle.std.proofs.Common.{◌≡◌, ◌≢◌, ◌<◌, ◌∙◌, ℕ, List, [], ◌∷◌, length, drop, Option, refl, sym, ap, subst, inl, inr, Result, Ok, Err, arith}
+use Rattle.std.proofs.Common.{◌≡◌, ◌<◌, ℕ, List, [], length, drop, Option, refl, sym, ap, subst, inl, inr, Result, Ok, Err, arith}
 use Rattle.std.specs.Prelude.{IsErr, true, false}
 use Rattle.std.specs.Io.KnownBytes.{IsAtEnd}
 use Rattle.std.proofs.lemmas.List.{take-append-drop}
@@ -7,7 +7,7 @@ use Rattle.ftp_control.specs.Asking.{Adds, Asked}
 use Rattle.ftp_control.specs.Deeds.{Stand, with_owner}
 use Rattle.ftp_control.specs.Driving.{Fails, Goes, Leads, Quietly, Settles}
 use Rattle.ftp_control.specs.Lane.{IsRead, IsWaited, IsWritten, Lane, with_asked, with_untold}
-use Rattle.ftp_control.specs.Machine.{Aside, Break, End, Held, Idles, Machine, Received, held, side_of, stand_of}
+use Rattle.ftp_control.specs.Machine.{Aside, Break, End, Idles, Machine, Received, held, side_of, stand_of}
 use Rattle.ftp_control.specs.Side.{Side}
 use Rattle.ftp_control.specs.declared.control.Control.{Control}
 use Rattle.ftp_control.specs.declared.pieces.Failed.{Failed}

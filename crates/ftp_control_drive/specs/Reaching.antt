@@ -1,5 +1,5 @@
 -- From where the parts of a drive go on, and how all of its turns end.
-use Rattle.std.specs.Prelude.{◌≡◌, List, []}
+use Rattle.std.specs.Prelude.{◌≡◌, []}
 use Rattle.std.specs.declared.result.Result.{Result}
 use Rattle.std.specs.declared.result.Result.TheVariants.{Ok, Err}
 use Rattle.ftp_control.specs.Deeds.{Stand, with_owner}

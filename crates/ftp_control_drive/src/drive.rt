@@ -129,16 +129,16 @@ where
         ensures kept { IsKept self.old self.new }
     {
         if !self.control.has_unheard() {
-            return self.serve();
+            return self.go_on();
         }
         if self.hear() {
             return Ok(());
         }
-        self.serve()
+        self.go_on()
     }
 
     /// Waits for the data connection, moves octets over it, or reads the control connection, where none are to be heard first.
-    fn serve(&mut self) -> Result<(), Failed>
+    fn go_on(&mut self) -> Result<(), Failed>
         ensures goes { Follows K.machine K.here R.remaining W.contents P.history S.remaining S.contents self.old self.new result }
         ensures kept { IsKept self.old self.new }
     {

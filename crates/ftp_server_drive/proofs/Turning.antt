@@ -1,5 +1,5 @@
 -- How a drive ends.
-use Rattle.std.proofs.Common.{◌≡◌, ◌∙◌, [], ◌∷◌, refl, sym, ap, subst, Result, Ok, Err}
+use Rattle.std.proofs.Common.{◌≡◌, ◌∙◌, [], ◌∷◌, sym, ap, subst, Result, Ok, Err}
 use Rattle.ftp_control.specs.Asking.{Asked}
 use Rattle.ftp_control.specs.Deeds.{Led, Other, Stand, with_owner}
 use Rattle.ftp_control.specs.Driving.{Fails, Leads}

@@ -1,4 +1,4 @@
-use Rattle.std.proofs.Common.{[], sym, refl, drop}
+use Rattle.std.proofs.Common.{[], refl, drop}
 use Rattle.ftp_control_drive.proofs.Words.{fails_here, fails_lets, fails_then, handing, hands_err, leads_then, receives, settled_leads, with_untold}
 use Rattle.ftp_control_drive.proofs.hand.hand_some.Goals as goal
 

@@ -7,5 +7,5 @@ returns-then-hear-clause-goes g c start reaches = reached_then start _ _ reaches
 
 pub returns-clause-goes : goal.returns-clause-goes
 returns-clause-goes g c start reaches =
-    c.serve-2.ensures.goes start (reaches_unheard start _ _ reaches c.hear.ensures.leads
+    c.go_on-2.ensures.goes start (reaches_unheard start _ _ reaches c.hear.ensures.leads
     (subst (λ l. 0 < length l) (sym (c.hear.ensures.none c.if-hear.false)) (c.has_unheard.ensures.some (search rules))))
