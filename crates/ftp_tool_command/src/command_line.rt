@@ -1,26 +1,13 @@
 // The command line: one level of subcommands.
-use crate::fetching::{FILES, NAMES, OPTIONS, TRANSFERS};
+use crate::fetching::{CAT, GET, LS, MKDIR, MV, PUT, RM, RMDIR, SIZE, place_options};
 use crate::help;
-use crate::looping::LOOP;
-use crate::mirroring::MIRROR;
+use crate::mirroring::{MIRROR, mirror_options};
 use crate::pairing::PAIR;
 use crate::running::RUN;
-use crate::serving::SERVE;
-use crate::words::{Form, MODE, MOST, STRU, Subcommand, TIMEOUT, TYPE, Value, Word, subcommand_of};
+use crate::serving::{SERVE, serve_options};
+use crate::words::{Form, MODE, MOST, STRU, Subcommand, TYPE, Value, Word, subcommand_of};
 use clap::Command;
 use std::alloc::{AllocError, Global};
-
-/// The subcommands between the standard streams.
-const PARTS: &[Subcommand<'static>] = &[DIALOGUE, FACTS, FRAME];
-
-/// Those that have both ends.
-const BOTH_ENDS: &[Subcommand<'static>] = &[LOOP, PAIR];
-
-/// Those of a client that do more than ask at one place.
-const MANY: &[Subcommand<'static>] = &[RUN, MIRROR];
-
-/// The options that both of them have.
-const SILENCE: &[Word<'static>] = &[TIMEOUT];
 
 const DIALOGUE: Subcommand<'static> = Subcommand {
     name: "dialogue",
@@ -73,6 +60,13 @@ const FRAME: Subcommand<'static> = Subcommand {
     ],
 };
 
+const LOOP: Subcommand<'static> = Subcommand {
+    name: "loop",
+    about: "plays a script of operations between a client and a server of its own",
+    help: help::LOOP,
+    words: &[],
+};
+
 /// What a subcommand asks for.
 #[derive(Clone, Copy)]
 pub enum Program {
@@ -114,45 +108,45 @@ pub fn command<'a>(alloc: Global) -> Result<Command<'a>, AllocError> {
         .subcommands(known)
 }
 
-/// All subcommands. Each table is put by a function of its own: what names a large one is dear to prove.
+/// All subcommands. Each few are put by a function of their own, and options come from one: who names words pays by the square of how many they are.
 fn subcommands<'a>(alloc: Global) -> Result<Vec<Command<'a>>, AllocError> {
     let mut known = Vec::new(alloc);
     put_parts(alloc, &mut known)?;
-    put_both_ends(alloc, &mut known)?;
     put_serve(alloc, &mut known)?;
     put_transfers(alloc, &mut known)?;
-    put_files(alloc, &mut known)?;
-    put_names(alloc, &mut known)?;
-    put_many(alloc, &mut known)?;
+    put_simple(alloc, &mut known)?;
+    put_run(alloc, &mut known)?;
+    put_mirror(alloc, &mut known)?;
     Ok(known)
 }
 
 fn put_parts<'a>(alloc: Global, known: &mut Vec<Command<'a>>) -> Result<(), AllocError> {
-    put_all(alloc, known, PARTS, &[])
-}
-
-fn put_both_ends<'a>(alloc: Global, known: &mut Vec<Command<'a>>) -> Result<(), AllocError> {
-    put_all(alloc, known, BOTH_ENDS, &[])
+    put_all(alloc, known, &[DIALOGUE, FACTS, FRAME, LOOP, PAIR], &[])
 }
 
 fn put_serve<'a>(alloc: Global, known: &mut Vec<Command<'a>>) -> Result<(), AllocError> {
-    put_all(alloc, known, &[SERVE], &[])
+    put_all(alloc, known, &[SERVE], serve_options())
 }
 
 fn put_transfers<'a>(alloc: Global, known: &mut Vec<Command<'a>>) -> Result<(), AllocError> {
-    put_all(alloc, known, TRANSFERS, OPTIONS)
+    put_all(alloc, known, &[GET, PUT, LS], place_options())
 }
 
-fn put_files<'a>(alloc: Global, known: &mut Vec<Command<'a>>) -> Result<(), AllocError> {
-    put_all(alloc, known, FILES, OPTIONS)
+fn put_simple<'a>(alloc: Global, known: &mut Vec<Command<'a>>) -> Result<(), AllocError> {
+    put_all(
+        alloc,
+        known,
+        &[CAT, SIZE, RM, MKDIR, RMDIR, MV],
+        place_options(),
+    )
 }
 
-fn put_names<'a>(alloc: Global, known: &mut Vec<Command<'a>>) -> Result<(), AllocError> {
-    put_all(alloc, known, NAMES, OPTIONS)
+fn put_run<'a>(alloc: Global, known: &mut Vec<Command<'a>>) -> Result<(), AllocError> {
+    put_all(alloc, known, &[RUN], &[])
 }
 
-fn put_many<'a>(alloc: Global, known: &mut Vec<Command<'a>>) -> Result<(), AllocError> {
-    put_all(alloc, known, MANY, SILENCE)
+fn put_mirror<'a>(alloc: Global, known: &mut Vec<Command<'a>>) -> Result<(), AllocError> {
+    put_all(alloc, known, &[MIRROR], mirror_options())
 }
 
 /// Puts the subcommands of a table behind those before, each with these options.

@@ -3,8 +3,8 @@ use crate::help;
 use crate::place::{location_in, user_in};
 use crate::refusal::{BadValue, Refusal};
 use crate::words::{
-    Form, LIMIT, MODE, PASSWORD_FILE, STRU, Subcommand, TIMEOUT, TYPE, USER, Value, Word, limit_in,
-    number_in, representation_in,
+    ACTIVE, EXTENDED, Form, LIMIT, MODE, PASSWORD_FILE, STRU, Subcommand, TIMEOUT, TYPE, USER,
+    Value, Word, limit_in, number_in, representation_in,
 };
 use clap::ArgMatches;
 use ftp_operation::How;
@@ -12,16 +12,7 @@ use ftp_tool_fetch::{Download, Lines, Parts, Simple, Target, Task};
 use ftp_tool_files::number_of;
 use ftp_tool_words::UrlPlace;
 
-/// The subcommands that ask at one place: those that copy or list.
-pub const TRANSFERS: &[Subcommand<'static>] = &[GET, PUT, LS];
-
-/// Those that show something of a file, or remove it.
-pub const FILES: &[Subcommand<'static>] = &[CAT, SIZE, RM];
-
-/// Those that change directories and names.
-pub const NAMES: &[Subcommand<'static>] = &[MKDIR, RMDIR, MV];
-
-const GET: Subcommand<'static> = Subcommand {
+pub const GET: Subcommand<'static> = Subcommand {
     name: "get",
     about: "downloads files from a server",
     help: help::GET,
@@ -49,7 +40,7 @@ const GET: Subcommand<'static> = Subcommand {
     ],
 };
 
-const PUT: Subcommand<'static> = Subcommand {
+pub const PUT: Subcommand<'static> = Subcommand {
     name: "put",
     about: "uploads files to a server",
     help: help::PUT,
@@ -63,7 +54,7 @@ const PUT: Subcommand<'static> = Subcommand {
     ],
 };
 
-const LS: Subcommand<'static> = Subcommand {
+pub const LS: Subcommand<'static> = Subcommand {
     name: "ls",
     about: "lists a directory of a server",
     help: help::LS,
@@ -77,42 +68,42 @@ const LS: Subcommand<'static> = Subcommand {
     ],
 };
 
-const CAT: Subcommand<'static> = Subcommand {
+pub const CAT: Subcommand<'static> = Subcommand {
     name: "cat",
     about: "writes a file of a server to standard output",
     help: help::CAT,
     words: &[PLACE],
 };
 
-const SIZE: Subcommand<'static> = Subcommand {
+pub const SIZE: Subcommand<'static> = Subcommand {
     name: "size",
     about: "writes how many octets a file of a server has",
     help: help::SIZE,
     words: &[PLACE],
 };
 
-const RM: Subcommand<'static> = Subcommand {
+pub const RM: Subcommand<'static> = Subcommand {
     name: "rm",
     about: "removes a file of a server",
     help: help::RM,
     words: &[PLACE],
 };
 
-const MKDIR: Subcommand<'static> = Subcommand {
+pub const MKDIR: Subcommand<'static> = Subcommand {
     name: "mkdir",
     about: "makes a directory of a server",
     help: help::MKDIR,
     words: &[PLACE],
 };
 
-const RMDIR: Subcommand<'static> = Subcommand {
+pub const RMDIR: Subcommand<'static> = Subcommand {
     name: "rmdir",
     about: "removes an empty directory of a server",
     help: help::RMDIR,
     words: &[PLACE],
 };
 
-const MV: Subcommand<'static> = Subcommand {
+pub const MV: Subcommand<'static> = Subcommand {
     name: "mv",
     about: "gives a file or a directory of a server another path",
     help: help::MV,
@@ -136,19 +127,15 @@ const PLACE: Word<'static> = Word {
 pub const PLACE_OPTION: &str = "<HOST:PORT/PATH>";
 
 /// The options that all of them have.
-pub const OPTIONS: &[Word<'static>] = &[
+pub fn place_options() -> &'static [Word<'static>] {
+    OPTIONS
+}
+
+const OPTIONS: &[Word<'static>] = &[
     USER,
     PASSWORD_FILE,
-    Word {
-        name: "active",
-        form: Form::Flag,
-        help: "the server opens the data connection",
-    },
-    Word {
-        name: "extended",
-        form: Form::Flag,
-        help: "EPSV and EPRT over IPv4 too",
-    },
+    ACTIVE,
+    EXTENDED,
     Word {
         name: "progress",
         form: Form::Flag,

@@ -4,14 +4,12 @@
 mod command_line;
 mod fetching;
 mod help;
-mod looping;
 mod mirroring;
 mod pairing;
 mod place;
 mod refusal;
 mod running;
 mod serving;
-mod several;
 mod task;
 mod words;
 
@@ -23,5 +21,4 @@ pub use place::{url_in, urls_in};
 pub use refusal::{BadValue, Refusal};
 pub use running::{script_server_of, script_user_of};
 pub use serving::serving_of;
-pub use several::{asks_of, check_names, goes_into, sources_of};
 pub use task::{Task, task_of};

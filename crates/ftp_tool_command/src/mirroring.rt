@@ -2,7 +2,8 @@
 use crate::place::{location_in, user_in};
 use crate::refusal::{BadValue, Refusal};
 use crate::words::{
-    Form, LIMIT, PASSWORD_FILE, Subcommand, USER, Value, Word, limit_in, number_in,
+    ACTIVE, EXTENDED, Form, LIMIT, PASSWORD_FILE, Subcommand, TIMEOUT, USER, Value, Word, limit_in,
+    number_in,
 };
 use clap::ArgMatches;
 use ftp_operation::How;
@@ -69,31 +70,32 @@ pub const MIRROR: Subcommand<'static> = Subcommand {
             form: Form::Many(Value::Name("GLOB")),
             help: "leaves alone what meets it; may be given several times",
         },
-        USER,
-        PASSWORD_FILE,
-        LIMIT,
-        Word {
-            name: "active",
-            form: Form::Flag,
-            help: "the server opens the data connection",
-        },
-        Word {
-            name: "extended",
-            form: Form::Flag,
-            help: "EPSV and EPRT over IPv4 too",
-        },
-        Word {
-            name: "no-flush",
-            form: Form::Flag,
-            help: "leaves it to the system when a file is on the disk",
-        },
-        Word {
-            name: "progress",
-            form: Form::Flag,
-            help: "tells of each file that is copied",
-        },
     ],
 };
+
+/// The options behind them, of which others have some too.
+pub fn mirror_options() -> &'static [Word<'static>] {
+    OPTIONS
+}
+
+const OPTIONS: &[Word<'static>] = &[
+    USER,
+    PASSWORD_FILE,
+    LIMIT,
+    ACTIVE,
+    EXTENDED,
+    Word {
+        name: "no-flush",
+        form: Form::Flag,
+        help: "leaves it to the system when a file is on the disk",
+    },
+    Word {
+        name: "progress",
+        form: Form::Flag,
+        help: "tells of each file that is copied",
+    },
+    TIMEOUT,
+];
 
 /// What is mirrored, where these are the URLs that both places are; exactly one is a server's.
 pub fn mirror_of<'a>(

@@ -1,6 +1,7 @@
 // The subcommand `run`: its words.
 use crate::help;
-use crate::words::{Form, PASSWORD_FILE, Subcommand, Value, Word, number_in};
+use crate::refusal::{BadValue, Refusal};
+use crate::words::{Form, PASSWORD_FILE, Subcommand, TIMEOUT, Value, Word, number_in};
 use clap::ArgMatches;
 use ftp_tool_fetch::ServerAddress;
 use ftp_tool_words::{User, server_port_of};
@@ -27,6 +28,7 @@ pub const RUN: Subcommand<'static> = Subcommand {
             help: "who logs in; the script then has no line of a login",
         },
         PASSWORD_FILE,
+        TIMEOUT,
     ],
 };
 
@@ -45,12 +47,20 @@ pub fn script_server_of<'a>(words: &'a ArgMatches<'_>) -> Option<ServerAddress<'
     })
 }
 
-/// Who logs in, where that is not said by the script.
-pub fn script_user_of<'a>(words: &'a ArgMatches<'_>) -> Option<User<'a>> {
-    let name = words.get_str("user")?;
-    Some(User {
-        name: Some(name),
-        password_file: words.get_str("password-file"),
-        password: None,
-    })
+/// Who logs in, where the script does not say it; a file of a password wants a user whose it is.
+pub fn script_user_of<'a>(words: &'a ArgMatches<'_>) -> Result<Option<User<'a>>, Refusal<'a>> {
+    let password_file = words.get_str("password-file");
+    match (words.get_str("user"), password_file) {
+        (None, None) => Ok(None),
+        (None, Some(value)) => Err(Refusal::Value(BadValue {
+            option: "--password-file <F>",
+            value,
+            wanted: "--user is wanted too, which names whose password it is",
+        })),
+        (name, password_file) => Ok(Some(User {
+            name,
+            password_file,
+            password: None,
+        })),
+    }
 }

@@ -41,38 +41,46 @@ pub const SERVE: Subcommand<'static> = Subcommand {
             form: Form::Given(Value::Text("FILE")),
             help: "who may log in: a file of lines user:password:root or user:password:root:rights, its owner's alone",
         },
-        Word {
-            name: "log",
-            form: Form::Flag,
-            help: "tells on standard error what sessions do, a line each",
-        },
-        Word {
-            name: "keep",
-            form: Form::Flag,
-            help: "nobody else changes the folder: it is not looked at anew for each session",
-        },
-        Word {
-            name: "login",
-            form: Form::Else(SECONDS, "30"),
-            help: "ends a control connection on which nobody logged in for so long; 0: never",
-        },
-        Word {
-            name: "idle",
-            form: Form::Else(SECONDS, "300"),
-            help: "ends one without a command and without an octet of a transfer for so long; 0: never",
-        },
-        Word {
-            name: "idle-while-waited",
-            form: Form::Else(SECONDS, "15"),
-            help: "the same while another client waits to be served",
-        },
-        Word {
-            name: "passive-ports",
-            form: Form::Else(Value::Text("A-B"), "49152-65535"),
-            help: "the ports of passive data connections, each tried in turn",
-        },
     ],
 };
+
+/// Its options behind them.
+pub fn serve_options() -> &'static [Word<'static>] {
+    OPTIONS
+}
+
+const OPTIONS: &[Word<'static>] = &[
+    Word {
+        name: "log",
+        form: Form::Flag,
+        help: "tells on standard error what sessions do, a line each",
+    },
+    Word {
+        name: "keep",
+        form: Form::Flag,
+        help: "nobody else changes the folder: it is not looked at anew for each session",
+    },
+    Word {
+        name: "login",
+        form: Form::Else(SECONDS, "30"),
+        help: "ends a control connection on which nobody logged in for so long; 0: never",
+    },
+    Word {
+        name: "idle",
+        form: Form::Else(SECONDS, "300"),
+        help: "ends one without a command and without an octet of a transfer for so long; 0: never",
+    },
+    Word {
+        name: "idle-while-waited",
+        form: Form::Else(SECONDS, "15"),
+        help: "the same while another client waits to be served",
+    },
+    Word {
+        name: "passive-ports",
+        form: Form::Else(Value::Text("A-B"), "49152-65535"),
+        help: "the ports of passive data connections, each tried in turn",
+    },
+];
 
 /// What is to be served; none where a value is none of its option.
 pub fn serving_of<'a>(words: &'a ArgMatches<'_>) -> Result<Serving<'a>, Refusal<'a>> {

@@ -34,6 +34,19 @@ pub const PASSWORD_FILE: Word<'static> = Word {
     help: "a file of mode 600 with the password",
 };
 
+/// Who opens the data connection, and by which commands, for the same.
+pub const ACTIVE: Word<'static> = Word {
+    name: "active",
+    form: Form::Flag,
+    help: "the server opens the data connection",
+};
+
+pub const EXTENDED: Word<'static> = Word {
+    name: "extended",
+    form: Form::Flag,
+    help: "EPSV and EPRT over IPv4 too",
+};
+
 /// The most octets of a file that is held in memory.
 pub const LIMIT: Word<'static> = Word {
     name: "limit",

@@ -1,0 +1,107 @@
+// The programs, each one call: what stands on a trait without types of its own is proved for less than on those of the system's sockets, files and
+// streams.
+use crate::perform::perform;
+use ftp_tool_command::Task;
+use ftp_tool_fetch::{ServerAddress, Target};
+use ftp_tool_mirror::Mirror;
+use ftp_tool_pair::PairSettings;
+use ftp_tool_serve::Serving;
+use ftp_tool_status::Status;
+use ftp_tool_words::User;
+use std::env::Env;
+use std::fs::Files;
+use std::io::Write;
+use std::net::{Net, TcpListener, TcpStream};
+use std::time::Clock;
+use std::{fs, io};
+
+/// What the program can do for a command line. Each call gives the exit status.
+pub(crate) trait Programs {
+    fn serve(&self, job: Serving<'_>) -> io::Result<Status>;
+
+    fn play_loop(&self) -> io::Result<Status>;
+
+    fn play_pair<F: Write>(&self, settings: PairSettings, faults: &mut F) -> Status;
+
+    /// A user is named where the script says none.
+    fn run(&self, server: ServerAddress<'_>, user: Option<User<'_>>) -> io::Result<Status>;
+
+    fn mirror(&self, asked: Mirror<'_>) -> io::Result<Status>;
+
+    fn fetch(&self, asked: &Target<'_>, task: ftp_tool_fetch::Task<'_>) -> io::Result<Status>;
+
+    /// Between the standard streams.
+    fn perform<F: Write>(&self, task: Task, faults: &mut F) -> u8;
+
+    /// Whether a folder of this machine has this name; `-` is standard output.
+    fn is_folder(&self, name: &str) -> bool;
+}
+
+impl<R> Programs for R
+where
+    R: Input
+        + Print
+        + Eprint
+        + Env
+        + Files
+        + AllocGlobal
+        + Clock
+        + Net<Listener = TcpListener, Stream = TcpStream>
+        + Clone
+        + Drop,
+{
+    fn serve(&self, job: Serving<'_>) -> io::Result<Status> {
+        ftp_tool_serve::serve(self, job)
+    }
+
+    fn play_loop(&self) -> io::Result<Status> {
+        ftp_tool_loop::play(self)
+    }
+
+    fn play_pair<F: Write>(&self, settings: PairSettings, faults: &mut F) -> Status {
+        let mut reader = self.reader();
+        ftp_tool_pair::play(
+            self.alloc(),
+            settings,
+            &mut reader,
+            &mut io::writer(self),
+            faults,
+        )
+    }
+
+    fn run(&self, server: ServerAddress<'_>, user: Option<User<'_>>) -> io::Result<Status> {
+        match user {
+            Some(user) => ftp_tool_fetch::run_as(self, server, user),
+            None => ftp_tool_fetch::run(self, server),
+        }
+    }
+
+    fn mirror(&self, asked: Mirror<'_>) -> io::Result<Status> {
+        ftp_tool_mirror::mirror(self, asked)
+    }
+
+    fn fetch(&self, asked: &Target<'_>, task: ftp_tool_fetch::Task<'_>) -> io::Result<Status> {
+        ftp_tool_fetch::fetch(self, asked, task)
+    }
+
+    fn perform<F: Write>(&self, task: Task, faults: &mut F) -> u8 {
+        let mut reader = self.reader();
+        perform(
+            self.alloc(),
+            task,
+            &mut reader,
+            &mut io::writer(self),
+            faults,
+        )
+    }
+
+    fn is_folder(&self, name: &str) -> bool {
+        if name == "-" {
+            return false;
+        }
+        match fs::metadata(self, name) {
+            Ok(found) => found.is_dir(),
+            Err(_) => false,
+        }
+    }
+}
