@@ -1,18 +1,19 @@
 -- How a drive ends, or gives up.
 use Rattle.std.proofs.Common.{◌≡◌, ◌∙◌, ℕ, List, [], ◌∷◌, Option, Some, refl, sym, ap, subst, Result, Ok, Err}
-use Rattle.std.specs.Prelude.{Bool, true, false}
+use Rattle.std.specs.Prelude.{Bool, IfErr, true, false}
 use Rattle.ftp_control.specs.Asking.{Asked, Shut}
+use Rattle.ftp_control.specs.Cause.{IsCause}
 use Rattle.ftp_control.specs.Deeds.{Deed, Done, Led, Other, Stand, with_owner}
 use Rattle.ftp_control.specs.Driving.{Cuts, Fails}
 use Rattle.ftp_control.specs.Lane.{IsEnded, IsLeft, Lane}
 use Rattle.ftp_control.specs.Outcome.{IsReset}
-use Rattle.ftp_control.specs.declared.pieces.Failed.{Failed}
+use Rattle.ftp_control.specs.declared.cause.Cause.{Cause}
 use Rattle.ftp_control.proofs.Courses.{carries}
 use Rattle.ftp_control.proofs.Idling.{carrier, stood_so}
 use Rattle.ftp_control.proofs.Totals.{cuts, sums}
 use Rattle.ftp_operation.specs.declared.answer.Answer.{Answer}
 use Rattle.ftp_operation.specs.Answer.{Said, Lost, said_of}
-use Rattle.ftp_client_model.specs.Calls.{control_end, data_closed, is_sound, report_of, report_of_job, reported_by, reports}
+use Rattle.ftp_client_model.specs.Calls.{control_end, data_closed, is_sound, may_hear, report_of, report_of_job, reported_by, reports, wants}
 use Rattle.ftp_client_model.specs.Failing.{Client}
 use Rattle.ftp_client_model.specs.View.{View, Job, Idle, Waiting, Doing, Transferring, Told, failed_job, fails_by}
 use Rattle.ftp_client_model.specs.declared.client.Failure.TheVariants as Failures
@@ -96,7 +97,7 @@ gave_up said asked last old cut closed new mid lane closes reports is_cut reset 
 -- ---- a drive
 
 -- one that came to its end: it gave its report, its data connection was left, and it was told that it is closed
-pub drove : {A : Type 0} (start off now : Stand client_side) (r : Result (Answer A) Failed) (answer : Answer A) (asked : Asked) → start.owner.lane.unwritten ≡ []
+pub drove : {A : Type 0} (start off now : Stand client_side) (r : Result (Answer A) Cause) (answer : Answer A) (asked : Asked) → start.owner.lane.unwritten ≡ []
     → start.owner.lane.untold ≡ [] → r ≡ Ok answer → Ends client_machine Reports start off r → IsLeft asked off.owner.lane now.owner.lane
     → Does client_machine Closed off.owner.end now.owner.end → now ≡ with_owner now.owner off → Drove start now (Some (said_of answer))
 drove start off now r answer asked unwritten untold gave ends left closed same =
@@ -122,10 +123,10 @@ drove start off now r answer asked unwritten untold gave ends left closed same =
     }
 
 -- one that broke off, and the client gave up
-pub broke_off : {A : Type 0} (start off now : Stand client_side) (r : Result (Answer A) Failed) (failed : Failed) (said : Option Said) → start.owner.lane.unwritten ≡ []
-    → start.owner.lane.untold ≡ [] → r ≡ Err failed → Ends client_machine Reports start off r → off ≡ with_owner off.owner now → GivesUp said off.owner now.owner
-    → BrokeOff start now said
-broke_off start off now r failed said unwritten untold gave ends same gave_up =
+pub broke_off : {A : Type 0} (start off now : Stand client_side) (r : Result (Answer A) Cause) (cause : Cause) (failed : Bool) (said : Option Said) → start.owner.lane.unwritten ≡ []
+    → start.owner.lane.untold ≡ [] → r ≡ Err cause → Ends client_machine Reports start off r → off ≡ with_owner off.owner now → GivesUp said off.owner now.owner
+    → IfErr r (λ cause. IsCause cause failed off.owner.lane.asked now.unheard (wants off.owner.end.view) (may_hear off.owner.end.view) false) → BrokeOff failed start now said
+broke_off start off now r cause failed said unwritten untold gave ends same gave_up why =
     let fails : Fails start off = subst (λ r. Ends client_machine Reports start off r) gave ends in
     record {
       deeds = fails.leads.deeds;
@@ -136,4 +137,6 @@ broke_off start off now r failed said unwritten untold gave ends same gave_up =
       carries = carries move_of (carrier client_machine) fails.leads.deeds start fails.mid fails.leads.led unwritten untold;
       lets = stood_so client_machine fails.octets fails.mid off fails.breaks;
       gave_up = gave_up;
+      cause = cause;
+      why = subst (λ r. IfErr r (λ cause. IsCause cause failed off.owner.lane.asked now.unheard (wants off.owner.end.view) (may_hear off.owner.end.view) false)) gave why;
     }

@@ -1,14 +1,16 @@
--- What a drive of a client beside its control connection did, whole or until a read or a write failed.
-use Rattle.std.specs.Prelude.{◌≡◌, ◌⊎◌, ℕ, List, ◌∷◌, Option, Some, IsTrue}
+-- What a drive of a client beside its control connection did, whole or until it broke off.
+use Rattle.std.specs.Prelude.{◌≡◌, ◌⊎◌, ℕ, Bool, false, List, ◌∷◌, Option, Some, IsTrue}
 use Rattle.ftp_control.specs.Asking.{Asked, Shut}
+use Rattle.ftp_control.specs.Cause.{IsCause}
 use Rattle.ftp_control.specs.Courses.{Carries}
 use Rattle.ftp_control.specs.Deeds.{Deed, Other, Stand, with_owner}
 use Rattle.ftp_control.specs.Driving.{Cuts, Sums}
 use Rattle.ftp_control.specs.Lane.{Lane, with_untold}
 use Rattle.ftp_control.specs.Outcome.{IsDropped}
+use Rattle.ftp_control.specs.declared.cause.Cause.{Cause}
 use Rattle.ftp_operation.specs.Answer.{Said, Lost, said_of}
 use Rattle.ftp_operation.specs.declared.answer.Answer.{Answer}
-use Rattle.ftp_client_model.specs.Calls.{is_sound}
+use Rattle.ftp_client_model.specs.Calls.{is_sound, may_hear, wants}
 use Rattle.ftp_client_model.specs.Failing.{Client}
 use Rattle.ftp_control.specs.Machine.{Called, Closed, Held, IsCut, Left, move_of}
 use Rattle.ftp_client_drive.specs.Side.{Report, client_machine, client_side, is_under_way}
@@ -43,9 +45,9 @@ pub record GivesUp (said : Option Said) (old new : Held Client) : Type 0 where
   pub reports : Called client_machine (Report said) closed new
   pub lost : IsTrue (is_sound old.end.view.standing) → IsTrue (is_under_way old.end.view.job) → said ≡ Some Lost
 
--- the same deeds where a read or a write failed: a beginning of what the client said was written, what of a download it was not told is let go,
--- and it gave up
-pub record BrokeOff (start now : Stand client_side) (said : Option Said) : Type 0 where
+-- the same deeds where the drive broke off, for this cause, whether a read or a write failed or not: a beginning of what the client said was
+-- written, what of a download it was not told is let go, and it gave up
+pub record BrokeOff (failed : Bool) (start now : Stand client_side) (said : Option Said) : Type 0 where
   pub deeds : List (Deed client_side)
   pub last : List ℕ
   pub off : Held Client
@@ -54,7 +56,9 @@ pub record BrokeOff (start now : Stand client_side) (said : Option Said) : Type 
   pub carries : Carries {side = client_side} move_of deeds start.owner.lane stood
   pub lets : off.lane ≡ with_untold off.lane.untold stood
   pub gave_up : GivesUp said off now.owner
+  pub cause : Cause
+  pub why : IsCause cause failed off.lane.asked now.unheard (wants off.end.view) (may_hear off.end.view) false
 
--- how a drive ends, with this report
-abbrev pub Drives : (start now : Stand client_side) → Option Said → Type 0
-Drives start now said = Drove start now said ⊎ BrokeOff start now said
+-- how a drive ends, with this report, where a read or a write of the control connection failed or not
+abbrev pub Drives : (failed : Bool) → (start now : Stand client_side) → Option Said → Type 0
+Drives failed start now said = Drove start now said ⊎ BrokeOff failed start now said

@@ -42,6 +42,10 @@ impl<A: Allocator + Copy, N: Near<A>> EndCalls<N, ()> for Asks<A> {
         end.wants()
     }
 
+    fn may_hear(end: &N) -> bool {
+        end.may_hear()
+    }
+
     fn hear(end: &mut N, unheard: &[u8]) -> usize {
         end.hear(unheard)
     }

@@ -8,7 +8,7 @@ ghost use Rattle.ftp_client_drive.specs.Driving.{Drives};
 
 use crate::asks::Asks;
 use ftp_client_model::Near;
-use ftp_control::{Control, Failed, Ports};
+use ftp_control::{Control, Ports};
 use ftp_control_drive::drive_end;
 use ftp_operation::Answer;
 use std::alloc::Allocator;
@@ -17,8 +17,8 @@ use std::io::{Read, Write};
 /// Does what a client wants until the operation that it has begun is answered, and gives that report; `None` where none was begun.
 ///
 /// A read or a write of a data connection that would wait is to fail as `WouldBlock` where the control connection has octets or ended: so
-/// replies are heard while a transfer is under way. After a read or a write of the control connection that failed, or
-/// 1,099,511,627,776 turns, the client is told that the control connection ended. The data connection and the port are closed at the end.
+/// replies are heard while a transfer is under way. Where the drive breaks off, which it does only for a `Cause` that is so, the client is told
+/// that the control connection ended. The data connection and the port are closed at the end.
 pub fn drive_client<A, N, R, W, P>(
     client: &mut N,
     control: &mut Control<R, W>,
@@ -30,7 +30,7 @@ where
     R: Read + Drop,
     W: Write + Drop,
     P: Ports,
-    ensures { Drives (beside R.remaining W.contents (held (N.client client.old) (no_lane (P.history ports.old))) control.old) (beside R.remaining W.contents (held (N.client client.new) (no_lane (P.history ports.new))) control.new) (option_map said_of result) }
+    ensures { Drives control.new.failed (beside R.remaining W.contents (held (N.client client.old) (no_lane (P.history ports.old))) control.old) (beside R.remaining W.contents (held (N.client client.new) (no_lane (P.history ports.new))) control.new) (option_map said_of result) }
 {
     let (data, ended) = drive_end::<Asks<A>, N, (), R, W, P>(client, control, ports, &mut ());
     match ended {
@@ -39,7 +39,7 @@ where
             client.data_closed();
             Some(answer)
         }
-        Err(Failed) => {
+        Err(_) => {
             let mut data = data;
             client.control_end();
             data.reset(ports);

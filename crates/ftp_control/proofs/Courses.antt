@@ -27,7 +27,7 @@ follows_begun at_first so_far lane unwritten untold consumed appended =
 
 follows : (move : Move) (course : Course) (old new : Lane) → Follows course old → Moves move old new → Follows (after move course) new
 follows Stays course old new before same = subst (λ l. Follows course l) (sym same) before
-follows Waits course old new before waited = record {
+follows (Waits lost) course old new before waited = record {
   given = before.given ∙ ap (λ l. course.written ++ l) (sym waited.holds.unwritten);
   read = before.read ∙ ap (λ l. course.told ++ l) (sym waited.holds.untold);
   consumed = λ e. Consumes-kept course.at_first old.left new.left course.read (before.consumed e) waited.left;
@@ -83,7 +83,7 @@ fair Ends course old new before end =
     (all, λ e. Consumes-whole course.at_first old.left course.read (λ whole. course.told ≡ whole) (before.consumed e) end.1 all)
 fair (Leaves asked) course old new before left = ended_fair old.stands asked course old before left.ended
 fair Stays course old new before moved = tt
-fair Waits course old new before moved = tt
+fair (Waits lost) course old new before moved = tt
 fair (Reads octets) course old new before moved = tt
 fair (Writes octets) course old new before moved = tt
 fair (Gives octets) course old new before moved = tt
@@ -93,12 +93,12 @@ fair (Asks asked) course old new before moved = tt
 fair (Opens host asked at_first so_far) course old new before moved = tt
 
 adds_none : (old new : Option (List Asked)) → new ≡ old → Adds old new []
-adds_none None new same = tt
+adds_none None new same = subst (λ n. Adds None n []) (sym same) tt
 adds_none (Some l) new same = subst (λ n. Adds (Some l) n []) (sym same) refl
 
 adds : (move : Move) (old new : Lane) → Moves move old new → Adds old.asked new.asked (asked_by move)
 adds Stays old new same = adds_none old.asked new.asked (ap (λ l. l.asked) same)
-adds Waits old new waited = waited.asked
+adds (Waits lost) old new waited = waited.asked
 adds (Reads octets) old new read = adds_none old.asked new.asked read.asked
 adds (Writes octets) old new wrote = adds_none old.asked new.asked wrote.asked
 adds (Gives octets) old new same = adds_none old.asked new.asked (ap (λ l. l.asked) same)

@@ -5,7 +5,7 @@ use Rattle.std.proofs.KnownBytes.{Keeps-refl}
 use Rattle.std.specs.Io.KnownBytes.{Consumes, IsAtEnd, Keeps}
 use Rattle.ftp_control.proofs.Fronts.{AppendsFront-none}
 use Rattle.ftp_control.specs.Beginning.{AppendsFront}
-use Rattle.ftp_control.specs.declared.pieces.Failed.{Failed}
+use Rattle.ftp_control.specs.declared.cause.Cause.{Cause}
 use Rattle.ftp_control.specs.Side.{Side}
 use Rattle.ftp_control.specs.Deeds.{Read, Ended, Stand}
 use Rattle.ftp_control.specs.Driving.{Fails, Flushes, Goes, Leads, Settles}
@@ -19,23 +19,23 @@ none_owed n room (octet ∷ octets) none some gave = absurd (let least = gave so
 module _ {side : Side} where
   -- ---- results
 
-  pub goes_err : {T : Type 0} (a b : Stand side) (r : Result T Failed) → IsErr r → Fails a b → Goes a b r
+  pub goes_err : {T : Type 0} (a b : Stand side) (r : Result T Cause) → IsErr r → Fails a b → Goes a b r
   goes_err a b (Ok value) failed fails = absurd (let e : false ≡ true = failed in cc)
   goes_err a b (Err e) failed fails = fails
 
-  pub flushes_err : {T : Type 0} (a b : Stand side) (r : Result T Failed) → IsErr r → Fails a b → Flushes a b r
+  pub flushes_err : {T : Type 0} (a b : Stand side) (r : Result T Cause) → IsErr r → Fails a b → Flushes a b r
   flushes_err a b (Ok value) failed fails = absurd (let e : false ≡ true = failed in cc)
   flushes_err a b (Err e) failed fails = fails
 
-  pub goes_then : {T : Type 0} (a b c : Stand side) (r : Result T Failed) → Leads a b → Goes b c r → Goes a c r
+  pub goes_then : {T : Type 0} (a b c : Stand side) (r : Result T Cause) → Leads a b → Goes b c r → Goes a c r
   goes_then a b c (Ok value) first goes = leads_then a b c first goes
   goes_then a b c (Err e) first fails = fails_then a b c first fails
 
-  pub goes_settled : {T : Type 0} (start a b : Stand side) (r : Result T Failed) → Settles start a → Goes a b r → Goes start b r
+  pub goes_settled : {T : Type 0} (start a b : Stand side) (r : Result T Cause) → Settles start a → Goes a b r → Goes start b r
   goes_settled start a b r settles goes = goes_then start a b r (settled_leads start a settles) goes
 
   -- a part that calls the end alone and then gives up, or not
-  pub goes_either : {T : Type 0} (a b : Stand side) (r : Result T Failed) → Leads a b → Goes a b r
+  pub goes_either : {T : Type 0} (a b : Stand side) (r : Result T Cause) → Leads a b → Goes a b r
   goes_either a b (Ok value) leads = leads
   goes_either a b (Err e) leads = fails_here a b leads
 

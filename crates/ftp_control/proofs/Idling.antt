@@ -1,9 +1,9 @@
 -- How an end's data connection moves between its calls, whatever that end holds, and what deeds of it come to.
 use Rattle.std.proofs.Common.{◌≡◌, ◌∙◌, ◌⊎◌, ℕ, ◌+◌, inl, inr, List, [], ◌++◌, take, drop, Option, Some, None, refl, sym, ap, subst}
-use Rattle.std.specs.Prelude.{◌≢◌}
+use Rattle.std.specs.Prelude.{◌≢◌, Bool}
 use Rattle.std.proofs.KnownBytes.{Keeps-refl}
 use Rattle.std.proofs.lemmas.List.{append-nil, drop-drop, take-append-drop}
-use Rattle.ftp_control.specs.Asking.{Adds, Asked}
+use Rattle.ftp_control.specs.Asking.{Adds, Asked, told_lost}
 use Rattle.ftp_control.specs.Deeds.{Heard, Other, Stand, with_owner}
 use Rattle.ftp_control.specs.Driving.{Breaks, Leads, Quietly, Settles}
 use Rattle.ftp_control.specs.Lane.{IsLeft, IsRead, IsWaited, IsWritten, Lane, with_asked, with_untold}
@@ -36,8 +36,8 @@ module _ (machine : Machine) where
   pub idles_then : (a b c : Lane) → Idles machine a b → Idles machine b c → Idles machine a c
   idles_then a b c first second here = quiet_then (side_of machine) (held here a) (held here b) (held here c) (first here) (second here)
 
-  pub idles_waited : (old new : Lane) → IsWaited old new → Idles machine old new
-  idles_waited old new waited here = quiet_call (side_of machine) Waited (held here old) (held here new) (refl, waited, tt)
+  pub idles_waited : (lost : Bool) (old new : Lane) → IsWaited lost old new → Idles machine old new
+  idles_waited lost old new waited here = quiet_call (side_of machine) (Waited lost) (held here old) (held here new) (refl, waited, tt)
 
   pub idles_read : (octets : List ℕ) (old new : Lane) → IsRead octets old new → Idles machine old new
   idles_read octets old new read here = quiet_call (side_of machine) (Got octets) (held here old) (held here new) (refl, read, tt)
@@ -51,9 +51,9 @@ module _ (machine : Machine) where
   pub idles_same : (old new : Lane) → new ≡ old → Idles machine old new
   idles_same old new same = subst (λ l. Idles machine old l) (sym same) (idles_nothing old)
 
-  -- nothing was asked
-  pub idles_asked : (lane : Lane) (h0 h1 : Option (List Asked)) → Adds h0 h1 [] → Idles machine (with_asked h0 lane) (with_asked h1 lane)
-  idles_asked lane h0 h1 asked = idles_waited (with_asked h0 lane) (with_asked h1 lane) (record {
+  -- it was told that the control connection ended, or not
+  pub idles_asked : (lost : Bool) (lane : Lane) (h0 h1 : Option (List Asked)) → Adds h0 h1 (told_lost lost) → Idles machine (with_asked h0 lane) (with_asked h1 lane)
+  idles_asked lost lane h0 h1 asked = idles_waited lost (with_asked h0 lane) (with_asked h1 lane) (record {
     holds = record { stands = refl; unwritten = refl; untold = refl };
     left = Keeps-refl lane.left;
     written = Keeps-refl lane.written;

@@ -1,11 +1,11 @@
 -- What calls of a data connection are as moves of its lane.
-use Rattle.std.proofs.Common.{◌≡◌, ◌∙◌, ℕ, false, List, [], ◌∷◌, ◌++◌, length, take, drop, Option, Some, None, refl, sym, ap, inl, inr, append_assoc, arith}
+use Rattle.std.proofs.Common.{◌≡◌, ◌∙◌, ℕ, Bool, false, List, [], ◌∷◌, ◌++◌, length, take, drop, Option, Some, None, refl, sym, ap, inl, inr, append_assoc, arith}
 use Rattle.std.proofs.Math.Nat.{min-le_left}
 use Rattle.std.proofs.lemmas.List.{drop_all, length-take}
 use Rattle.std.specs.Option.{is_some}
 use Rattle.std.specs.Io.KnownBytes.{Consumes, Keeps}
 use Rattle.ftp_endpoint.specs.declared.host.Host.{Host}
-use Rattle.ftp_control.specs.Asking.{Asked, Reset, Ended, Shut, Adds, Drops, Leaves, Replaces}
+use Rattle.ftp_control.specs.Asking.{Asked, Reset, Ended, Shut, Adds, Drops, Leaves, Replaces, told_lost}
 use Rattle.ftp_control.specs.Carrying.{Sends, on_their_way, told_by}
 use Rattle.ftp_control.specs.Lane.{IsEnded, IsHad, IsLeft, IsOpened, IsRead, IsReplaced, IsWaited, IsWritten, lane_of, no_lane, with_given}
 use Rattle.ftp_control.specs.Whole.{IsWhole}
@@ -14,7 +14,9 @@ use Rattle.ftp_control.specs.declared.whole.Rest.{Rest}
 
 -- some were asked, and then others
 pub adds_then : (a b c : Option (List Asked)) (first second : List Asked) → Adds a b first → Adds b c second → Adds a c (second ++ first)
-adds_then None b c first second one two = tt
+adds_then None None None first second one two = tt
+adds_then None None (Some z) first second one two = absurd two
+adds_then None (Some y) c first second one two = absurd one
 adds_then (Some x) None c first second one two = absurd one
 adds_then (Some x) (Some y) None first second one two = absurd two
 adds_then (Some x) (Some y) (Some z) first second one two = two ∙ ap (λ l. second ++ l) one ∙ sym (append_assoc second first x)
@@ -114,10 +116,10 @@ module _ {S : Type 0} (remaining contents : S → Option (List ℕ)) where
       )
 
   -- it is waited at
-  pub waits : (old new : DataConnection S) (h0 h1 : Option (List Asked)) (room untold : List ℕ) → Keeps (told_by remaining old.stream) (told_by remaining new.stream)
-      → Keeps (told_by contents old.stream) (told_by contents new.stream) → new.at ≡ old.at → new.end ≡ old.end → is_some new.stream ≡ is_some old.stream → Adds h0 h1 []
-      → IsWaited (lane_of remaining contents h0 old room untold) (lane_of remaining contents h1 new room untold)
-  waits old new h0 h1 room untold left written at end stands asked = record {
+  pub waits : (lost : Bool) (old new : DataConnection S) (h0 h1 : Option (List Asked)) (room untold : List ℕ) → Keeps (told_by remaining old.stream) (told_by remaining new.stream)
+      → Keeps (told_by contents old.stream) (told_by contents new.stream) → new.at ≡ old.at → new.end ≡ old.end → is_some new.stream ≡ is_some old.stream → Adds h0 h1 (told_lost lost)
+      → IsWaited lost (lane_of remaining contents h0 old room untold) (lane_of remaining contents h1 new room untold)
+  waits lost old new h0 h1 room untold left written at end stands asked = record {
     holds = record { stands = stands; unwritten = ap (λ n. drop n (take new.end room)) at ∙ ap (λ n. drop old.at (take n room)) end; untold = refl };
     left = left;
     written = written;

@@ -5,6 +5,7 @@ pub mod Leading
 pub mod Totals
 pub mod Going
 pub mod Courses
+pub mod Causing
 pub mod Idling
 pub mod Meeting
 pub mod Outcomes

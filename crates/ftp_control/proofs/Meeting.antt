@@ -1,6 +1,7 @@
 -- How an end comes to a data connection, as it wants it: a port is listened at, one is waited for or opened; or none is had.
-use Rattle.std.proofs.Common.{◌≡◌, ℕ, List, [], ◌∷◌, Option, Some, None, refl, subst}
-use Rattle.ftp_control.specs.Asking.{Accepts, Adds, Asked, Came, Listened, NotCame, Replaces}
+use Rattle.std.proofs.Common.{◌≡◌, ℕ, Bool, List, [], ◌∷◌, Option, Some, None, refl, subst}
+use Rattle.std.specs.Prelude.{not}
+use Rattle.ftp_control.specs.Asking.{Accepts, Adds, Asked, Came, Listened, NotCame, Replaces, told_lost}
 use Rattle.ftp_control.specs.Deeds.{Other, Stand, with_owner}
 use Rattle.ftp_control.specs.Driving.{Leads, Quietly}
 use Rattle.ftp_control.specs.Lane.{IsHad, lane_of, with_asked}
@@ -16,17 +17,17 @@ use Rattle.ftp_endpoint.specs.declared.host.Host.{Host}
 use Rattle.ftp_ends.specs.declared.link.Wants.TheVariants as Want
 
 -- one came, or none did, or nothing was answered
-pub one_came : {S : Type 0} (remaining contents : S → Option (List ℕ)) (h0 h1 : Option (List Asked)) (answer : Accepted S) (stream : S) (host : Host)
-    → answer ≡ Answers.Came stream host → Accepts remaining contents answer h0 h1 → Adds h0 h1 (Came host (remaining stream) (contents stream) ∷ [])
-one_came remaining contents h0 h1 answer stream host is asked = subst (λ a. Accepts remaining contents a h0 h1) is asked
+pub one_came : {S : Type 0} (remaining contents : S → Option (List ℕ)) (h0 h1 : Option (List Asked)) (hears : Bool) (answer : Accepted S) (stream : S) (host : Host)
+    → answer ≡ Answers.Came stream host → Accepts remaining contents answer hears h0 h1 → Adds h0 h1 (Came host (remaining stream) (contents stream) ∷ [])
+one_came remaining contents h0 h1 hears answer stream host is asked = subst (λ a. Accepts remaining contents a hears h0 h1) is asked
 
-pub none_came : {S : Type 0} (remaining contents : S → Option (List ℕ)) (h0 h1 : Option (List Asked)) (answer : Accepted S) → answer ≡ Answers.Refused
-    → Accepts remaining contents answer h0 h1 → Adds h0 h1 (NotCame ∷ [])
-none_came remaining contents h0 h1 answer is asked = subst (λ a. Accepts remaining contents a h0 h1) is asked
+pub none_came : {S : Type 0} (remaining contents : S → Option (List ℕ)) (h0 h1 : Option (List Asked)) (hears : Bool) (answer : Accepted S) → answer ≡ Answers.Refused
+    → Accepts remaining contents answer hears h0 h1 → Adds h0 h1 (NotCame ∷ [])
+none_came remaining contents h0 h1 hears answer is asked = subst (λ a. Accepts remaining contents a hears h0 h1) is asked
 
-pub none_answered : {S : Type 0} (remaining contents : S → Option (List ℕ)) (h0 h1 : Option (List Asked)) (answer : Accepted S) → answer ≡ Answers.Spoken
-    → Accepts remaining contents answer h0 h1 → Adds h0 h1 []
-none_answered remaining contents h0 h1 answer is asked = subst (λ a. Accepts remaining contents a h0 h1) is asked
+pub none_answered : {S : Type 0} (remaining contents : S → Option (List ℕ)) (h0 h1 : Option (List Asked)) (hears : Bool) (answer : Accepted S) → answer ≡ Answers.Spoken
+    → Accepts remaining contents answer hears h0 h1 → Adds h0 h1 (told_lost (not hears))
+none_answered remaining contents h0 h1 hears answer is asked = subst (λ a. Accepts remaining contents a hears h0 h1) is asked
 
 module _ (machine : Machine) where
   -- a port is listened at, and the end is told which

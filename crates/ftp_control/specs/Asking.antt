@@ -1,10 +1,14 @@
 -- What is asked of whatever opens and closes data connections, and what it answers (RFC 959, section 3.2).
-use Rattle.std.specs.Prelude.{◌≡◌, ◌⊎◌, ⊤, ℕ, List, [], ◌∷◌, ◌++◌, Option, Some, None}
+use Rattle.std.specs.Prelude.{◌≡◌, ◌⊎◌, ⊤, ℕ, Bool, true, false, not, List, [], ◌∷◌, ◌++◌, Option, Some, None}
 use Rattle.ftp_endpoint.specs.declared.host.Host.{Host}
 use Rattle.ftp_endpoint.specs.declared.endpoint.Endpoint.{Endpoint}
 use Rattle.ftp_control.specs.Whole.{IsCut, IsWhole}
 use Rattle.ftp_control.specs.declared.ports.Accepted.{Accepted}
 use Rattle.ftp_control.specs.declared.ports.Accepted.TheVariants as Answers
+use Rattle.ftp_control.specs.declared.ports.Ready.{Ready}
+use Rattle.ftp_control.specs.declared.ports.Ready.TheVariants as Readies
+use Rattle.ftp_control.specs.declared.ports.Spoken.{Spoken}
+use Rattle.ftp_control.specs.declared.ports.Spoken.TheVariants as Speaks
 use Rattle.ftp_control.specs.declared.whole.Rest.{Rest}
 use Rattle.ftp_control.specs.declared.whole.Whole.{Whole}
 
@@ -18,19 +22,39 @@ pub data Asked : Type 0 where
   Ended : (left written : Option (List ℕ)) → Asked
   Reset : (left written : Option (List ℕ)) → Asked
   Shut : Asked
+  -- it told that the control connection ended, or that waiting failed
+  Lost : Asked
 
--- these were asked too, the last one first, where it is known what was asked
+-- these were asked too, the last one first, where it is known what was asked; else it stays unknown
 abbrev pub Adds : (old new : Option (List Asked)) → List Asked → Type 0
-Adds None new more = ⊤
+Adds None None more = ⊤
+Adds None (Some after) more = ⊥
 Adds (Some before) None more = ⊥
 Adds (Some before) (Some after) more = after ≡ more ++ before
 
+-- it told that, or not
+abbrev pub told_lost : (lost : Bool) → List Asked
+told_lost true = Lost ∷ []
+told_lost false = []
+
+-- what a waiting at a data connection told; where octets of the control connection did not stop it, its end did
+abbrev pub is_lost : Ready → (hears : Bool) → Bool
+is_lost Readies.Data hears = false
+is_lost Readies.Control hears = not hears
+is_lost Readies.Lost hears = true
+
+-- what a look at the control connection told
+abbrev pub is_over : Spoken → Bool
+is_over Speaks.Nothing = false
+is_over Speaks.Octets = false
+is_over Speaks.Ended = true
+
 module _ {S : Type 0} (remaining contents : S → Option (List ℕ)) where
   -- a data connection is waited for
-  abbrev pub Accepts : Accepted S → (old new : Option (List Asked)) → Type 0
-  Accepts (Answers.Came stream host) old new = Adds old new (Came host (remaining stream) (contents stream) ∷ [])
-  Accepts Answers.Spoken old new = Adds old new []
-  Accepts Answers.Refused old new = Adds old new (NotCame ∷ [])
+  abbrev pub Accepts : Accepted S → (hears : Bool) → (old new : Option (List Asked)) → Type 0
+  Accepts (Answers.Came stream host) hears old new = Adds old new (Came host (remaining stream) (contents stream) ∷ [])
+  Accepts Answers.Spoken hears old new = Adds old new (told_lost (not hears))
+  Accepts Answers.Refused hears old new = Adds old new (NotCame ∷ [])
 
   -- one is opened to an endpoint
   abbrev pub Connects : Endpoint → Option S → (old new : Option (List Asked)) → Type 0

@@ -1,7 +1,7 @@
 -- What goes over data connections, one after another, as deeds tell it (RFC 959, section 3.2).
 use Rattle.std.specs.Prelude.{◌≡◌, ⊤, ℕ, Bool, true, false, List, [], ◌∷◌, ◌++◌, Option, None, IfSome}
 use Rattle.std.specs.Io.KnownBytes.{Appends}
-use Rattle.ftp_control.specs.Asking.{Asked, Listened, Came, Connected, NotCame, NotConnected, Ended as EndedBy, Reset, Shut, Adds}
+use Rattle.ftp_control.specs.Asking.{Asked, Listened, Came, Connected, NotCame, NotConnected, Ended as EndedBy, Reset, Shut, Lost, Adds, told_lost}
 use Rattle.ftp_control.specs.Deeds.{Deed, Heard, Said, Read, Ended, Other}
 use Rattle.ftp_control.specs.Lane.{Lane, Move, Stays, Waits, Reads, Writes, Gives, Takes, Ends, Stops, Asks, Opens, Leaves}
 use Rattle.ftp_control.specs.Side.{Side}
@@ -25,7 +25,7 @@ begun at_first so_far =
 -- a move goes on with it, or begins another
 abbrev pub after : Move → Course → Course
 after Stays course = course
-after Waits course = course
+after (Waits lost) course = course
 after (Reads octets) course = record course { is_read = true; read = course.read ++ octets }
 after (Writes octets) course = record course { is_written = true; written = course.written ++ octets }
 after (Gives octets) course = record course { given = course.given ++ octets }
@@ -42,7 +42,7 @@ asked_by (Asks asked) = asked
 asked_by (Opens host asked at_first so_far) = asked
 asked_by (Leaves asked) = asked ∷ []
 asked_by Stays = []
-asked_by Waits = []
+asked_by (Waits lost) = told_lost lost
 asked_by (Reads octets) = []
 asked_by (Writes octets) = []
 asked_by (Gives octets) = []
@@ -63,6 +63,7 @@ IsFairLeave (Listened port) course = ⊤
 IsFairLeave (Came host left written) course = ⊤
 IsFairLeave (Connected endpoint left written) course = ⊤
 IsFairLeave NotCame course = ⊤
+IsFairLeave Lost course = ⊤
 IsFairLeave (NotConnected endpoint) course = ⊤
 
 -- what is so before a move: this end is told of an end behind all that was read, and that is all that was to be read, if nothing was written
@@ -70,7 +71,7 @@ abbrev pub IsFair : Move → Course → Type 0
 IsFair Ends course = (course.told ≡ course.read) × (course.is_written ≡ false → IfSome course.at_first (λ all. course.told ≡ all))
 IsFair (Leaves asked) course = IsFairLeave asked course
 IsFair Stays course = ⊤
-IsFair Waits course = ⊤
+IsFair (Waits lost) course = ⊤
 IsFair (Reads octets) course = ⊤
 IsFair (Writes octets) course = ⊤
 IsFair (Gives octets) course = ⊤

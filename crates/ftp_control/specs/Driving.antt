@@ -6,7 +6,7 @@ use Rattle.std.specs.Io.KnownBytes.{Appends, Consumes, Keeps}
 use Rattle.ftp_control.specs.Beginning.{AppendsFront}
 use Rattle.ftp_control.specs.Deeds.{Deed, Led, OwesNothing, Stand, heard_in, read_in, said_in}
 use Rattle.ftp_control.specs.Side.{Side}
-use Rattle.ftp_control.specs.declared.pieces.Failed.{Failed}
+use Rattle.ftp_control.specs.declared.cause.Cause.{Cause}
 
 module _ {side : Side} where
   -- deeds led from here to there
@@ -39,18 +39,18 @@ module _ {side : Side} where
   -- ---- what the parts of a drive say
 
   -- a part of a drive leads on, or fails
-  abbrev pub Goes : {T : Type 0} → (old new : Stand side) → Result T Failed → Type 0
+  abbrev pub Goes : {T : Type 0} → (old new : Stand side) → Result T Cause → Type 0
   Goes old new (Ok value) = Leads old new
-  Goes old new (Err failed) = Fails old new
+  Goes old new (Err cause) = Fails old new
 
   -- the same of a part that is begun where the end owes nothing, from wherever that was led to
-  abbrev pub GoesSettled : {T : Type 0} → (old new : Stand side) → Result T Failed → Type 0
+  abbrev pub GoesSettled : {T : Type 0} → (old new : Stand side) → Result T Cause → Type 0
   GoesSettled old new result = (start : Stand side) → Settles start old → Goes start new result
 
   -- all that is owed is written, or that fails
-  abbrev pub Flushes : {T : Type 0} → (old new : Stand side) → Result T Failed → Type 0
+  abbrev pub Flushes : {T : Type 0} → (old new : Stand side) → Result T Cause → Type 0
   Flushes old new (Ok value) = Settles old new
-  Flushes old new (Err failed) = Fails old new
+  Flushes old new (Err cause) = Fails old new
 
   -- ---- what deeds come to
 

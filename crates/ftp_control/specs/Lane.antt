@@ -4,7 +4,7 @@ use Rattle.std.specs.Option.{is_some}
 use Rattle.std.specs.Io.KnownBytes.{Appends, Consumes, IsAtEnd, Keeps}
 use Rattle.ftp_endpoint.specs.declared.host.Host.{Host}
 use Rattle.ftp_endpoint.specs.declared.endpoint.Endpoint.{Endpoint}
-use Rattle.ftp_control.specs.Asking.{Asked, Came, Connected, Ended, Reset, Shut, Adds}
+use Rattle.ftp_control.specs.Asking.{Asked, Came, Connected, Ended, Reset, Shut, Adds, told_lost}
 use Rattle.ftp_control.specs.Carrying.{carried_of, left_of, on_their_way}
 use Rattle.ftp_control.specs.declared.data.DataConnection.{DataConnection}
 
@@ -49,8 +49,8 @@ with_asked asked lane = record lane { asked = asked }
 pub data Move : Type 0 where
   -- not at all
   Stays : Move
-  -- it is waited at
-  Waits : Move
+  -- it is waited at, and that told that the control connection ended, or not
+  Waits : (lost : Bool) → Move
   -- these are read; none where that fails, or at its end
   Reads : (octets : List ℕ) → Move
   -- these are written, the first of those that are not yet
@@ -76,11 +76,11 @@ pub record Holds (old new : Lane) : Type 0 where
   pub unwritten : new.unwritten ≡ old.unwritten
   pub untold : new.untold ≡ old.untold
 
-pub record IsWaited (old new : Lane) : Type 0 where
+pub record IsWaited (lost : Bool) (old new : Lane) : Type 0 where
   pub holds : Holds old new
   pub left : Keeps old.left new.left
   pub written : Keeps old.written new.written
-  pub asked : Adds old.asked new.asked []
+  pub asked : Adds old.asked new.asked (told_lost lost)
 
 -- where all that were read before are told
 pub record IsRead (octets : List ℕ) (old new : Lane) : Type 0 where
@@ -133,7 +133,7 @@ pub record IsLeft (asked : Asked) (old new : Lane) : Type 0 where
 
 abbrev pub Moves : Move → (old new : Lane) → Type 0
 Moves Stays old new = new ≡ old
-Moves Waits old new = IsWaited old new
+Moves (Waits lost) old new = IsWaited lost old new
 Moves (Reads octets) old new = IsRead octets old new
 Moves (Writes octets) old new = IsWritten octets old new
 Moves (Gives octets) old new = new ≡ with_given octets old

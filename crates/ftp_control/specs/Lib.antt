@@ -2,6 +2,7 @@ pub mod Unheard
 pub mod Beginning
 pub mod Whole
 pub mod Asking
+pub mod Cause
 pub mod Carrying
 pub mod Lane
 pub mod Side

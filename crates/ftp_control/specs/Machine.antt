@@ -1,6 +1,6 @@
 -- An end of a session and its data connection, whichever end it is: its calls, and what is done between them (RFC 959, section 2.3).
 use Rattle.std.proofs.Common.{◌∙◌, ap}
-use Rattle.std.specs.Prelude.{◌≡◌, ◌≢◌, ⊤, ℕ, true, List, [], ◌∷◌, take, Option, Some, None, refl}
+use Rattle.std.specs.Prelude.{◌≡◌, ◌≢◌, ⊤, ℕ, Bool, true, List, [], ◌∷◌, take, Option, Some, None, refl}
 use Rattle.ftp_control.specs.Asking.{Asked, Listened, Came, Connected, NotCame, NotConnected}
 use Rattle.ftp_control.specs.Deeds.{Stand}
 use Rattle.ftp_control.specs.Driving.{Quietly}
@@ -19,6 +19,8 @@ pub record Machine : Type 1 where
   pub wants : Here → Wants
   pub owed : Here → List ℕ
   pub to_give : Here → List ℕ
+  -- whether it may take an octet of the control connection
+  pub may_hear : Here → Bool
   -- of the control octets that were read and are not heard yet, it hears the first ones; it gives so many; it is told that the connection ended
   pub Hears : (octets unheard : List ℕ) → (old new : Here) → Type 0
   pub Gives : (count : ℕ) → (old new : Here) → Type 0
@@ -49,8 +51,8 @@ pub data Call (Own : Type 0) : Type 0 where
   Received : (octets : List ℕ) → (count : ℕ) → Call Own
   Gave : (count : ℕ) → (octets : List ℕ) → Call Own
   NoPort End Break Closed : Call Own
-  -- it is waited at; octets are read, written, and let go; it is closed or reset
-  Waited : Call Own
+  -- it is waited at, or looked at the control connection, and that told that it ended, or not; octets are read, written, and let go; it is closed or reset
+  Waited : (lost : Bool) → Call Own
   Got Wrote LetGo : (octets : List ℕ) → Call Own
   Left : (asked : Asked) → Call Own
 
@@ -66,7 +68,7 @@ move_of NoPort = Asks (Listened None ∷ [])
 move_of End = Ends
 move_of Break = Stays
 move_of Closed = Stops
-move_of Waited = Waits
+move_of (Waited lost) = Waits lost
 move_of (Got octets) = Reads octets
 move_of (Wrote octets) = Writes octets
 move_of (LetGo octets) = Takes octets
@@ -114,7 +116,7 @@ module _ (machine : Machine) where
   Does End old new = machine.End old new
   Does Break old new = machine.Break old new
   Does Closed old new = machine.Closed old new
-  Does Waited old new = new ≡ old
+  Does (Waited lost) old new = new ≡ old
   Does (Got octets) old new = new ≡ old
   Does (Wrote octets) old new = new ≡ old
   Does (LetGo octets) old new = (new ≡ old) × (machine.wants old ≢ Want.Receive)

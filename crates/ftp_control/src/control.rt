@@ -1,9 +1,11 @@
 // A control connection: what was read of it and is not heard yet, and what is written to it.
-ghost use Rattle.std.specs.Prelude.{◌≡◌, ◌≤◌, ◌<◌, IsTrue, IfOk, OnOk, OnErr, false, [], drop, length};
+ghost use Rattle.std.specs.Prelude.{◌≡◌, ◌≤◌, ◌<◌, IsTrue, IfErr, IfOk, OnOk, OnErr, false, [], drop, length};
 ghost use Rattle.std.specs.Io.KnownBytes.{Appends, Consumes, IsAtEnd, Keeps};
 ghost use Rattle.ftp_control.specs.Beginning.{AppendsFront};
+ghost use Rattle.ftp_control.specs.Cause.{IsFault};
 
-use crate::pieces::Failed;
+use crate::cause::Cause;
+use crate::pieces::{Failed, get, put};
 use std::io::{Read, Write};
 
 /// The most octets that one read of a control connection asks for.
@@ -17,6 +19,8 @@ pub struct Control<R, W> {
     piece: [u8; CONTROL_PIECE],
     at: usize,
     end: usize,
+    /// Whether a read or a write of it failed.
+    failed: bool,
     ghost order: { at ≤ end },
     ghost within: { end ≤ 1024 },
 }
@@ -29,6 +33,7 @@ impl<R: Read + Drop, W: Write + Drop> Control<R, W> {
         ensures left { left_of R.remaining result ≡ R.remaining reader }
         ensures written { written_of W.contents result ≡ W.contents writer }
         ensures unheard { unheard_of result ≡ [] }
+        ensures failed { result.failed ≡ false }
     {
         Control {
             reader,
@@ -36,6 +41,7 @@ impl<R: Read + Drop, W: Write + Drop> Control<R, W> {
             piece: [0; CONTROL_PIECE],
             at: 0,
             end: 0,
+            failed: false,
         }
     }
 
@@ -62,12 +68,13 @@ impl<R: Read + Drop, W: Write + Drop> Control<R, W> {
         ensures unheard { unheard_of self.new ≡ drop count (unheard_of self.old) }
         ensures left { left_of R.remaining self.new ≡ left_of R.remaining self.old }
         ensures written { written_of W.contents self.new ≡ written_of W.contents self.old }
+        ensures failed { self.new.failed ≡ self.old.failed }
     {
         self.at += count;
     }
 
     /// Reads once, where all octets before were heard, and gives how many came; none is the end of the connection.
-    pub fn read(&mut self) -> Result<usize, Failed>
+    pub fn read(&mut self) -> Result<usize, Cause>
         requires { unheard_of self.old ≡ [] }
         ensures ok { OnOk result (Consumes (left_of R.remaining self.old) (left_of R.remaining self.new) (unheard_of self.new)) }
         ensures none { IfOk result (λ count. count ≡ 0 → IsAtEnd (left_of R.remaining self.new) × (unheard_of self.new ≡ [])) }
@@ -75,21 +82,38 @@ impl<R: Read + Drop, W: Write + Drop> Control<R, W> {
         ensures err { OnErr result (Keeps (left_of R.remaining self.old) (left_of R.remaining self.new)) }
         ensures kept { OnErr result (unheard_of self.new ≡ []) }
         ensures written { written_of W.contents self.new ≡ written_of W.contents self.old }
+        ensures sound { OnOk result (self.new.failed ≡ self.old.failed) }
+        ensures fault { IfErr result (λ cause. IsFault cause self.new.failed) }
     {
         self.at = 0;
         self.end = 0;
-        let count = crate::pieces::get(&mut self.reader, &mut self.piece)?;
-        self.end = count;
-        Ok(count)
+        match get(&mut self.reader, &mut self.piece) {
+            Ok(count) => {
+                self.end = count;
+                Ok(count)
+            }
+            Err(Failed) => {
+                self.failed = true;
+                Err(Cause::Failed)
+            }
+        }
     }
 
     /// Writes all of these octets; where that fails, a beginning of them was written.
-    pub fn write(&mut self, octets: &[u8]) -> Result<(), Failed>
+    pub fn write(&mut self, octets: &[u8]) -> Result<(), Cause>
         ensures ok { OnOk result (Appends (written_of W.contents self.old) (written_of W.contents self.new) octets.now) }
         ensures front { AppendsFront (written_of W.contents self.old) (written_of W.contents self.new) octets.now }
         ensures left { left_of R.remaining self.new ≡ left_of R.remaining self.old }
         ensures unheard { unheard_of self.new ≡ unheard_of self.old }
+        ensures sound { OnOk result (self.new.failed ≡ self.old.failed) }
+        ensures fault { IfErr result (λ cause. IsFault cause self.new.failed) }
     {
-        crate::pieces::put(&mut self.writer, octets)
+        match put(&mut self.writer, octets) {
+            Ok(()) => Ok(()),
+            Err(Failed) => {
+                self.failed = true;
+                Err(Cause::Failed)
+            }
+        }
     }
 }

@@ -41,7 +41,7 @@ pub struct DataConnection<S> {
 }
 
 impl<S: Read + Write> DataConnection<S> {
-    ghost use Rattle.ftp_control.specs.Asking.{Adds, Drops, Replaces};
+    ghost use Rattle.ftp_control.specs.Asking.{Adds, Drops, Replaces, is_lost, told_lost};
     ghost use Rattle.ftp_control.specs.Carrying.{Sends, carried_of, left_of, on_their_way};
 
     /// No data connection.
@@ -198,7 +198,8 @@ impl<S: Read + Write> DataConnection<S> {
         read_some(stream, room)
     }
 
-    /// Waits until octets can be read or written, or where `hears` until the control connection is to be served.
+    /// Waits until octets can be read or written, or where `hears` until the control connection is to be served. Where none stands, the next
+    /// read or write says so.
     pub fn wait<P: Ports<Stream = S>>(&mut self, ports: &mut P, what: For, hears: bool) -> Ready
         ensures left { Keeps (left_of S.remaining self.old) (left_of S.remaining self.new) }
         ensures written { Keeps (carried_of S.contents self.old) (carried_of S.contents self.new) }
@@ -206,11 +207,11 @@ impl<S: Read + Write> DataConnection<S> {
         ensures end { self.new.end ≡ self.old.end }
         ensures rest { self.new.rest ≡ self.old.rest }
         ensures stands { is_some self.new.stream ≡ is_some self.old.stream }
-        ensures asked { Adds (P.history ports.old) (P.history ports.new) [] }
+        ensures asked { Adds (P.history ports.old) (P.history ports.new) (told_lost (is_lost result hears)) }
     {
         match &mut self.stream {
             Some(stream) => ports.wait(stream, what, hears),
-            None => Ready::Lost,
+            None => Ready::Data,
         }
     }
 

@@ -2,12 +2,14 @@
 //! it and is not heard yet; data connections and a clock by traits; one read, and all of a text written. No IO of its own.
 #![tactic(auto)]
 
+mod cause;
 mod control;
 mod data;
 mod pieces;
 mod ports;
 mod whole;
 
+pub use cause::{Cause, Spent, Turns};
 pub use control::Control;
 pub use data::{DataConnection, Halt};
 pub use pieces::{Failed, PIECE_LIMIT, TURNS, get, put};

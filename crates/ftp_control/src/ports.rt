@@ -1,7 +1,7 @@
 // What opens and closes data connections, and what tells the time.
 ghost use Rattle.std.specs.Prelude.{List, [], ◌∷◌, Option, None};
 ghost use Rattle.std.specs.Io.KnownBytes.{Keeps};
-ghost use Rattle.ftp_control.specs.Asking.{Accepts, Adds, Asked, Closes, Connects, Listened, Resets};
+ghost use Rattle.ftp_control.specs.Asking.{Accepts, Adds, Asked, Closes, Connects, Listened, Resets, is_lost, is_over, told_lost};
 
 use crate::whole::Whole;
 use ftp_endpoint::{Endpoint, Host};
@@ -64,9 +64,9 @@ pub trait Ports {
     fn listen(&mut self) -> Option<u16>
         ensures { Adds (history self.old) (history self.new) (Listened result ∷ []) };
 
-    /// Waits for the data connection at that port. Where `hears`, octets of the control connection end the waiting.
+    /// Waits for the data connection at that port. Where `hears`, octets of the control connection end the waiting; else only its end does.
     fn accept(&mut self, hears: bool) -> Accepted<Self::Stream>
-        ensures { Accepts Self.Stream.remaining Self.Stream.contents result (history self.old) (history self.new) };
+        ensures { Accepts Self.Stream.remaining Self.Stream.contents result hears (history self.old) (history self.new) };
 
     /// Opens a data connection to an endpoint.
     fn connect(&mut self, endpoint: Endpoint) -> Option<Self::Stream>
@@ -77,11 +77,11 @@ pub trait Ports {
     fn wait(&mut self, stream: &mut Self::Stream, what: For, hears: bool) -> Ready
         ensures left { Keeps (Self.Stream.remaining stream.old) (Self.Stream.remaining stream.new) }
         ensures written { Keeps (Self.Stream.contents stream.old) (Self.Stream.contents stream.new) }
-        ensures asked { Adds (history self.old) (history self.new) [] };
+        ensures asked { Adds (history self.old) (history self.new) (told_lost (is_lost result hears)) };
 
     /// What the control connection has now.
     fn spoken(&mut self) -> Spoken
-        ensures { Adds (history self.old) (history self.new) [] };
+        ensures { Adds (history self.old) (history self.new) (told_lost (is_over result)) };
 
     /// Closes a data connection and the port that is listened at, if there are any: the peer finds the end behind all that was written.
     fn close(&mut self, stream: Option<Whole<Self::Stream>>)

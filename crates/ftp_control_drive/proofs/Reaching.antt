@@ -1,16 +1,16 @@
 -- What the parts of a drive say, put together.
 use Rattle.std.proofs.Common.{◌≡◌, ◌<◌, ℕ, List, [], length, drop, Option, refl, sym, ap, subst, inl, inr, Result, Ok, Err, arith}
-use Rattle.std.specs.Prelude.{IsErr, true, false}
+use Rattle.std.specs.Prelude.{Bool, IsErr, true, false}
 use Rattle.std.specs.Io.KnownBytes.{IsAtEnd}
 use Rattle.std.proofs.lemmas.List.{take-append-drop}
-use Rattle.ftp_control.specs.Asking.{Adds, Asked}
+use Rattle.ftp_control.specs.Asking.{Adds, Asked, told_lost}
 use Rattle.ftp_control.specs.Deeds.{Stand, with_owner}
 use Rattle.ftp_control.specs.Driving.{Fails, Goes, Leads, Quietly, Settles}
 use Rattle.ftp_control.specs.Lane.{IsRead, IsWaited, IsWritten, Lane, with_asked, with_untold}
 use Rattle.ftp_control.specs.Machine.{Aside, Break, End, Idles, Machine, Received, held, side_of, stand_of}
 use Rattle.ftp_control.specs.Side.{Side}
 use Rattle.ftp_control.specs.declared.control.Control.{Control}
-use Rattle.ftp_control.specs.declared.pieces.Failed.{Failed}
+use Rattle.ftp_control.specs.declared.cause.Cause.{Cause}
 use Rattle.ftp_control.proofs.Going.{goes_then}
 use Rattle.ftp_control.proofs.Idling.{idles_asked, idles_read, idles_waited, idles_wrote, settles_idle}
 use Rattle.ftp_control.proofs.Leading.{fails_here, leads_then, quiet_call, quiet_nothing, quiet_then, settled_leads}
@@ -34,7 +34,7 @@ module _ {side : Side} where
   pub reached_then : (start a b : Stand side) → Reaches start a → Leads a b → Leads start b
   reached_then start a b reaches leads = leads_then start a b reaches.leads leads
 
-  pub reached_goes : {T : Type 0} (start a b : Stand side) (r : Result T Failed) → Reaches start a → Goes a b r → Goes start b r
+  pub reached_goes : {T : Type 0} (start a b : Stand side) (r : Result T Cause) → Reaches start a → Goes a b r → Goes start b r
   reached_goes start a b r reaches goes = goes_then start a b r reaches.leads goes
 
   pub reached_fails : (start a : Stand side) → Reaches start a → Fails start a
@@ -84,16 +84,17 @@ module _ (machine : Machine) where
   sends old new lane given last gave wrote =
       quiet_then (side_of machine) (held old lane) (held new given) (held new last) gave (idles_wrote machine wrote.0 given last wrote.1 new)
 
-  -- nothing was asked
-  pub reaches_asked : (start old : Stand (side_of machine)) (h1 : Option (List Asked)) → Reaches start old → Adds old.owner.lane.asked h1 [] → Reaches start (asked_before h1 old)
-  reaches_asked start old h1 reaches none =
-      reaches_idle start old (with_asked h1 old.owner.lane) reaches (idles_asked machine old.owner.lane old.owner.lane.asked h1 none)
+  -- it was told that the control connection ended, or not
+  pub reaches_asked : (lost : Bool) (start old : Stand (side_of machine)) (h1 : Option (List Asked)) → Reaches start old → Adds old.owner.lane.asked h1 (told_lost lost)
+      → Reaches start (asked_before h1 old)
+  reaches_asked lost start old h1 reaches told =
+      reaches_idle start old (with_asked h1 old.owner.lane) reaches (idles_asked machine lost old.owner.lane old.owner.lane.asked h1 told)
 
   -- it was waited at, behind a call that left it as it was
-  pub reaches_waited : (start old : Stand (side_of machine)) (same waited : Lane) → Reaches start old → same ≡ old.owner.lane → IsWaited same waited
+  pub reaches_waited : (lost : Bool) (start old : Stand (side_of machine)) (same waited : Lane) → Reaches start old → same ≡ old.owner.lane → IsWaited lost same waited
       → Reaches start (with_owner (held old.owner.end waited) old)
-  reaches_waited start old same waited reaches is waits =
-      reaches_idle start old waited reaches (idles_waited machine old.owner.lane waited (subst (λ l. IsWaited l waited) is waits))
+  reaches_waited lost start old same waited reaches is waits =
+      reaches_idle start old waited reaches (idles_waited machine lost old.owner.lane waited (subst (λ l. IsWaited lost l waited) is waits))
 
   -- these came, and are in hand
   pub reaches_came : (start old : Stand (side_of machine)) (came : Lane) (hand octets : List ℕ) → Reaches start old → IsRead hand old.owner.lane (with_untold hand came)
@@ -102,13 +103,13 @@ module _ (machine : Machine) where
       subst (λ l. Reaches start (with_owner (held old.owner.end (with_untold l came)) old)) is
       (reaches_idle start old (with_untold hand came) reaches (idles_read machine hand old.owner.lane (with_untold hand came) read))
 
-  pub ends_err : {Over : Type 0} (last : Over → (old new : machine.Here) → Type 0) (a b : Stand (side_of machine)) (r : Result Over Failed) → IsErr r → Fails a b
+  pub ends_err : {Over : Type 0} (last : Over → (old new : machine.Here) → Type 0) (a b : Stand (side_of machine)) (r : Result Over Cause) → IsErr r → Fails a b
       → Ends machine last a b r
   ends_err last a b (Ok over) failed fails = absurd (let e : false ≡ true = failed in cc)
   ends_err last a b (Err e) failed fails = fails
 
 -- where it breaks off, what was not taken is let go
-pub hands_err : {side : Side} (old : Stand side) (new : List ℕ → Stand side) (octets : List ℕ) (r : Result ℕ Failed) → IsErr r → Fails old (new [])
+pub hands_err : {side : Side} (old : Stand side) (new : List ℕ → Stand side) (octets : List ℕ) (r : Result ℕ Cause) → IsErr r → Fails old (new [])
     → Goes old (new (untaken octets r)) r
 hands_err old new octets (Ok value) failed fails = absurd (let e : false ≡ true = failed in cc)
 hands_err old new octets (Err e) failed fails = fails

@@ -3,7 +3,7 @@ use Rattle.std.specs.Prelude.{◌≡◌, ◌⊎◌, ℕ, List, [], drop, Option,
 use Rattle.std.specs.declared.result.Result.{Result}
 use Rattle.std.specs.declared.result.Result.TheVariants.{Ok, Err}
 use Rattle.ftp_control.specs.Machine.{Machine}
-use Rattle.ftp_control.specs.declared.pieces.Failed.{Failed}
+use Rattle.ftp_control.specs.declared.cause.Cause.{Cause}
 use Rattle.ftp_ends.specs.declared.link.Wants.TheVariants as Want
 
 -- one of its own calls, or none
@@ -20,9 +20,9 @@ IsAsked machine last (Some over) old new = last over old new
 IsAsked machine last None old new = Asides machine old new
 
 -- of the octets that it was handed those that it did not take; where the drive breaks off they are let go
-abbrev pub untaken : (octets : List ℕ) → Result ℕ Failed → List ℕ
+abbrev pub untaken : (octets : List ℕ) → Result ℕ Cause → List ℕ
 untaken octets (Ok count) = drop count octets
-untaken octets (Err failed) = []
+untaken octets (Err cause) = []
 
 -- it may be told of a close where it wants one
 abbrev pub IsToldOfClose : (machine : Machine) → machine.Here → Type 0

@@ -1,15 +1,18 @@
 -- Where a drive of the program stands.
-use Rattle.std.specs.Prelude.{◌≡◌, ℕ, true, List, [], Option}
+use Rattle.std.specs.Prelude.{◌≡◌, ℕ, Bool, true, List, [], Option, IfErr}
 use Rattle.std.specs.Option.{is_some}
 use Rattle.std.specs.Io.KnownBytes.{IsAtEnd}
 use Rattle.std.specs.declared.result.Result.{Result}
 use Rattle.ftp_control.specs.Asking.{Asked}
 use Rattle.ftp_control.specs.Carrying.{left_of}
+use Rattle.ftp_control.specs.Cause.{IsCause}
 use Rattle.ftp_control.specs.Deeds.{Stand, with_owner}
 use Rattle.ftp_control.specs.Driving.{Leads}
 use Rattle.ftp_control.specs.Lane.{Lane, lane_of, with_asked}
 use Rattle.ftp_control.specs.Machine.{Machine, held, side_of, stand_of}
-use Rattle.ftp_control.specs.declared.pieces.Failed.{Failed}
+use Rattle.ftp_control.specs.Unheard.{unheard_of}
+use Rattle.ftp_control.specs.declared.cause.Cause.{Cause}
+use Rattle.ftp_control.specs.declared.control.Control.{Control}
 use Rattle.ftp_control_drive.specs.Reaching.{GoesOn}
 use Rattle.ftp_control_drive.specs.declared.data.Data.{Data}
 use Rattle.ftp_control_drive.specs.declared.drive.Drive.{Drive}
@@ -25,6 +28,11 @@ HasEnded remaining data_connection = (is_some data_connection.connection.stream 
 -- it is a drive of the same end, control connection and ports
 abbrev pub IsKept : {K E C R W P S : Type 0} → (old new : Drive K E C R W P S) → Type 0
 IsKept old new = (new.end.ghost_name ≡ old.end.ghost_name) × (new.control.ghost_name ≡ old.control.ghost_name) × (new.ports.ghost_name ≡ old.ports.ghost_name)
+
+-- an end beside its control connection breaks off only for a cause, after this was asked
+abbrev pub Why : {R W T : Type 0} → (machine : Machine) → (serves : Bool) → machine.Here → Option (List Asked) → Control R W → Result T Cause → Type 0
+Why machine serves here asked control result =
+    IfErr result (λ cause. IsCause cause control.failed asked (unheard_of control) (machine.wants here) (machine.may_hear here) serves)
 
 -- by what its end holds, its reader has left, its writer holds, and `Ports` and a stream tell
 module _ (machine : Machine) {K E C R W P S : Type 0} (here : E → machine.Here) (left : R → Option (List ℕ)) (written : W → Option (List ℕ))
@@ -43,7 +51,7 @@ module _ (machine : Machine) {K E C R W P S : Type 0} (here : E → machine.Here
   LeadsOn old new = Leads (standing old) (standing new)
 
   -- it leads on, or fails
-  abbrev pub Follows : {T : Type 0} → (old new : Drive K E C R W P S) → Result T Failed → Type 0
+  abbrev pub Follows : {T : Type 0} → (old new : Drive K E C R W P S) → Result T Cause → Type 0
   Follows old new result = GoesOn (standing old) (standing new) result
 
 -- the same before what was asked last

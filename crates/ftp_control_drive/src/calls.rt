@@ -38,6 +38,10 @@ pub trait EndCalls<E, C> {
     fn wants(end: &E) -> Wants
         ensures { result ≡ machine.wants (here end.now) };
 
+    /// Whether it may take an octet of the control connection.
+    fn may_hear(end: &E) -> bool
+        ensures { result ≡ machine.may_hear (here end.now) };
+
     /// Takes the first of the octets of the control connection that were read and not heard, and says how many.
     fn hear(end: &mut E, unheard: &[u8]) -> usize
         ensures within { result ≤ length unheard.now }

@@ -1,15 +1,17 @@
 // A transfer under way: octets go over the data connection, and control octets that come first are read.
-ghost use Rattle.std.specs.Prelude.{◌≡◌, ◌≢◌, [], false};
-ghost use Rattle.ftp_control.specs.Asking.{Adds};
+ghost use Rattle.std.specs.Prelude.{◌≡◌, ◌≢◌, ◌<◌, IsTrue, false, length};
+ghost use Rattle.ftp_control.specs.Asking.{Adds, is_over, told_lost};
+ghost use Rattle.ftp_control.specs.Cause.{HasLost};
+ghost use Rattle.ftp_control.specs.Unheard.{unheard_of};
 ghost use Rattle.ftp_control_drive.specs.Calling.{IsTold};
-ghost use Rattle.ftp_control_drive.specs.Standing.{Follows, HasEnded, IsKept, LeadsOn};
+ghost use Rattle.ftp_control_drive.specs.Standing.{Follows, HasEnded, IsKept, LeadsOn, Why};
 
 use crate::calls::EndCalls;
 use crate::control::flush;
 use crate::data::Data;
 use crate::drive::Drive;
 use crate::hand::hand;
-use ftp_control::{Failed, For, Halt, Ports, Ready, Spoken};
+use ftp_control::{Cause, For, Halt, Ports, Ready, Spoken};
 use std::io::{Read, Write};
 
 impl<'e, 'k, 'p, 'w, K, E, C, R, W, P, S> Drive<'e, 'k, 'p, 'w, K, E, C, R, W, P, S>
@@ -21,8 +23,9 @@ where
     S: Read + Write,
 {
     /// Takes octets from an end that asks, which the turns behind it write; of one that serves sends them where there is room for them.
-    pub(crate) fn carry(&mut self) -> Result<(), Failed>
+    pub(crate) fn carry(&mut self) -> Result<(), Cause>
         ensures goes { Follows K.machine K.here R.remaining W.contents P.history S.remaining S.contents self.old self.new result }
+        ensures why { Why K.machine K.serves (K.here self.new.end.now) (P.history self.new.ports.now) self.new.control.now result }
         ensures kept { IsKept self.old self.new }
     {
         if !K::serves() {
@@ -32,41 +35,45 @@ where
         self.data.note::<K, E, C>(self.end);
         let hears = !self.control.has_unheard();
         match self.data.wait(self.ports, For::Room, hears) {
-            Ready::Control => return self.read(),
+            Ready::Control => return self.heed(),
             Ready::Data => self.send_more(),
-            Ready::Lost => return Err(Failed),
+            Ready::Lost => return Err(Cause::Lost),
         }
         Ok(())
     }
 
     /// Receives octets where there are any, and reads the control connection where it has some first.
-    pub(crate) fn receive(&mut self) -> Result<(), Failed>
+    pub(crate) fn receive(&mut self) -> Result<(), Cause>
         ensures goes { Follows K.machine K.here R.remaining W.contents P.history S.remaining S.contents self.old self.new result }
+        ensures why { Why K.machine K.serves (K.here self.new.end.now) (P.history self.new.ports.now) self.new.control.now result }
         ensures kept { IsKept self.old self.new }
     {
         self.data.note::<K, E, C>(self.end);
         let hears = !self.control.has_unheard();
         match self.data.wait(self.ports, For::Octets, hears) {
-            Ready::Control => self.read(),
+            Ready::Control => self.heed(),
             Ready::Data => self.take(),
             Ready::Lost => self.lost(),
         }
     }
 
     /// The waiting failed: an end that serves gives up, one that asks may still receive what came before.
-    fn lost(&mut self) -> Result<(), Failed>
+    fn lost(&mut self) -> Result<(), Cause>
+        requires { HasLost (P.history self.old.ports.now) }
         ensures goes { Follows K.machine K.here R.remaining W.contents P.history S.remaining S.contents self.old self.new result }
+        ensures why { Why K.machine K.serves (K.here self.new.end.now) (P.history self.new.ports.now) self.new.control.now result }
         ensures kept { IsKept self.old self.new }
     {
         if K::serves() {
-            return Err(Failed);
+            return Err(Cause::Lost);
         }
         self.take()
     }
 
     /// Takes what a data connection has: octets are handed on; or it ended or broke, and the end is told that.
-    fn take(&mut self) -> Result<(), Failed>
+    fn take(&mut self) -> Result<(), Cause>
         ensures goes { Follows K.machine K.here R.remaining W.contents P.history S.remaining S.contents self.old self.new result }
+        ensures why { Why K.machine K.serves (K.here self.new.end.now) (P.history self.new.ports.now) self.new.control.now result }
         ensures kept { IsKept self.old self.new }
     {
         match self.data.come() {
@@ -90,8 +97,9 @@ where
     }
 
     /// Writes octets that are on their way, as many as one write takes.
-    pub(crate) fn send(&mut self) -> Result<(), Failed>
+    pub(crate) fn send(&mut self) -> Result<(), Cause>
         ensures goes { Follows K.machine K.here R.remaining W.contents P.history S.remaining S.contents self.old self.new result }
+        ensures why { Why K.machine K.serves (K.here self.new.end.now) (P.history self.new.ports.now) self.new.control.now result }
         ensures kept { IsKept self.old self.new }
     {
         match self.data.write::<K, E, C>() {
@@ -100,17 +108,23 @@ where
         }
     }
 
-    /// Follows a read or a write of the data connection that moved no octet: one that asks reads what goes first, and where it broke, the end is told.
-    fn halted(&mut self, halt: Halt) -> Result<(), Failed>
+    /// Follows a read or a write of the data connection that moved no octet: one that asks reads what goes first, where all before was heard, and
+    /// where it broke, the end is told.
+    fn halted(&mut self, halt: Halt) -> Result<(), Cause>
         ensures goes { Follows K.machine K.here R.remaining W.contents P.history S.remaining S.contents self.old self.new result }
+        ensures why { Why K.machine K.serves (K.here self.new.end.now) (P.history self.new.ports.now) self.new.control.now result }
         ensures kept { IsKept self.old self.new }
     {
         match halt {
             Halt::Again => {}
             Halt::Spoken => {
-                if !K::serves() {
-                    return self.read();
+                if K::serves() {
+                    return Ok(());
                 }
+                if self.control.has_unheard() {
+                    return Ok(());
+                }
+                return self.read();
             }
             Halt::Broken => self.lose(),
         }
@@ -118,26 +132,28 @@ where
     }
 
     /// The data connection ended: that is told, unless the control connection goes first.
-    fn ended(&mut self) -> Result<(), Failed>
+    fn ended(&mut self) -> Result<(), Cause>
         requires { HasEnded S.remaining self.old.data }
         ensures goes { Follows K.machine K.here R.remaining W.contents P.history S.remaining S.contents self.old self.new result }
+        ensures why { Why K.machine K.serves (K.here self.new.end.now) (P.history self.new.ports.now) self.new.control.now result }
         ensures kept { IsKept self.old self.new }
     {
         let spoken = look::<K, E, C, P>(self.ports);
         if self.goes_first(spoken) {
-            return self.read();
+            return self.heed();
         }
         self.over(spoken)
     }
 
     /// The data connection broke: that is told, unless the control connection goes first.
-    fn broke(&mut self) -> Result<(), Failed>
+    fn broke(&mut self) -> Result<(), Cause>
         ensures goes { Follows K.machine K.here R.remaining W.contents P.history S.remaining S.contents self.old self.new result }
+        ensures why { Why K.machine K.serves (K.here self.new.end.now) (P.history self.new.ports.now) self.new.control.now result }
         ensures kept { IsKept self.old self.new }
     {
         let spoken = look::<K, E, C, P>(self.ports);
         if self.goes_first(spoken) {
-            return self.read();
+            return self.heed();
         }
         self.lose();
         Ok(())
@@ -145,7 +161,8 @@ where
 
     /// Whether what the control connection has goes before the end of a data connection: octets, where all before were heard, and its own end.
     fn goes_first(&self, spoken: Spoken) -> bool
-        ensures { result ≡ false → spoken ≢ Spoken.Ended }
+        ensures behind { result ≡ false → spoken ≢ Spoken.Ended }
+        ensures first { IsTrue result → 0 < length (unheard_of self.now.control.now) → spoken ≡ Spoken.Ended }
     {
         match spoken {
             Spoken::Nothing => false,
@@ -156,10 +173,11 @@ where
 
     /// The data connection ended: the end is told, what it owes then is written, and only then is it closed: its peer, which ended it, waits for
     /// the reply alone.
-    fn over(&mut self, spoken: Spoken) -> Result<(), Failed>
+    fn over(&mut self, spoken: Spoken) -> Result<(), Cause>
         requires before { spoken ≢ Spoken.Ended }
         requires ended { HasEnded S.remaining self.old.data }
         ensures goes { Follows K.machine K.here R.remaining W.contents P.history S.remaining S.contents self.old self.new result }
+        ensures why { Why K.machine K.serves (K.here self.new.end.now) (P.history self.new.ports.now) self.new.control.now result }
         ensures kept { IsKept self.old self.new }
     {
         end::<K, E, C, S>(self.end, self.watch, &self.data, spoken);
@@ -201,7 +219,7 @@ fn fault<K: EndCalls<E, C>, E, C>(end: &mut E, watch: &mut C)
 
 /// What the control connection has, where an end that serves looks at it before its data connection is over; one that asks has looked already.
 fn look<K: EndCalls<E, C>, E, C, P: Ports>(ports: &mut P) -> Spoken
-    ensures { Adds (P.history ports.old) (P.history ports.new) [] }
+    ensures { Adds (P.history ports.old) (P.history ports.new) (told_lost (is_over result)) }
 {
     if K::serves() {
         return ports.spoken();

@@ -1,26 +1,31 @@
 // The octets of a control connection: those that the end owes are written, those that were read are heard.
-ghost use Rattle.std.specs.Prelude.{◌≡◌, ◌<◌, IsTrue, false, length};
+ghost use Rattle.std.specs.Prelude.{◌≡◌, ◌<◌, IsTrue, false, length, [], List, Option};
+ghost use Rattle.ftp_control.specs.Asking.{Asked};
+ghost use Rattle.ftp_control.specs.Cause.{HasLost};
 ghost use Rattle.ftp_control.specs.Driving.{Flushes};
 ghost use Rattle.ftp_control.specs.Lane.{Lane};
 ghost use Rattle.ftp_control.specs.Machine.{held, stand_of};
 ghost use Rattle.ftp_control.specs.Unheard.{unheard_of};
-ghost use Rattle.ftp_control_drive.specs.Standing.{Follows, IsKept, LeadsOn};
+ghost use Rattle.ftp_control_drive.specs.Standing.{Follows, IsKept, LeadsOn, Why};
 
 use crate::calls::EndCalls;
 use crate::drive::Drive;
-use ftp_control::{Control, Failed, Ports, TURNS};
+use ftp_control::{Cause, Control, Ports, Turns};
 use std::io::{Read, Write};
 
 /// Writes all control octets that the end owes.
-pub(crate) fn flush<K, E, C, R, W>(end: &mut E, control: &mut Control<R, W>) -> Result<(), Failed>
+pub(crate) fn flush<K, E, C, R, W>(end: &mut E, control: &mut Control<R, W>) -> Result<(), Cause>
 where
     K: EndCalls<E, C>,
     R: Read + Drop,
     W: Write + Drop,
-    ensures { (lane : Lane) → Flushes (stand_of K.machine R.remaining W.contents (held (K.here end.old) lane) control.old) (stand_of K.machine R.remaining W.contents (held (K.here end.new) lane) control.new) result }
+    ensures flushes { (lane : Lane) → Flushes (stand_of K.machine R.remaining W.contents (held (K.here end.old) lane) control.old) (stand_of K.machine R.remaining W.contents (held (K.here end.new) lane) control.new) result }
+    ensures why { (asked : Option (List Asked)) → Why K.machine K.serves (K.here end.new) asked control.new result }
 {
     let mut room = [0u8; 1024];
-    for _ in 0..TURNS {
+    let mut turns = Turns::new();
+    loop {
+        turns.next()?;
         let count = K::control_out(end, &mut room);
         if count == 0 {
             return Ok(());
@@ -28,7 +33,6 @@ where
         let (octets, _) = room.split_at(count);
         control.write(octets)?;
     }
-    Err(Failed)
 }
 
 impl<'e, 'k, 'p, 'w, K, E, C, R, W, P, S> Drive<'e, 'k, 'p, 'w, K, E, C, R, W, P, S>
@@ -51,14 +55,26 @@ where
         taken != 0
     }
 
-    /// Reads from the control connection, and tells the end the moment, or that the connection ended; fails where octets stand unheard before it.
-    pub(crate) fn read(&mut self) -> Result<(), Failed>
+    /// Serves the control connection, of which `Ports` told: reads it; where octets stand unheard its end was told, and the drive breaks off.
+    pub(crate) fn heed(&mut self) -> Result<(), Cause>
+        requires { 0 < length (unheard_of self.old.control.now) → HasLost (P.history self.old.ports.now) }
         ensures goes { Follows K.machine K.here R.remaining W.contents P.history S.remaining S.contents self.old self.new result }
+        ensures why { Why K.machine K.serves (K.here self.new.end.now) (P.history self.new.ports.now) self.new.control.now result }
         ensures kept { IsKept self.old self.new }
     {
         if self.control.has_unheard() {
-            return Err(Failed);
+            return Err(Cause::Lost);
         }
+        self.read()
+    }
+
+    /// Reads from the control connection, where all octets before were heard, and tells the end the moment, or that the connection ended.
+    pub(crate) fn read(&mut self) -> Result<(), Cause>
+        requires { unheard_of self.old.control.now ≡ [] }
+        ensures goes { Follows K.machine K.here R.remaining W.contents P.history S.remaining S.contents self.old self.new result }
+        ensures why { Why K.machine K.serves (K.here self.new.end.now) (P.history self.new.ports.now) self.new.control.now result }
+        ensures kept { IsKept self.old self.new }
+    {
         let count = self.control.read()?;
         if count == 0 {
             K::control_end(self.end);

@@ -1,6 +1,6 @@
 // A data connection, and room for its octets.
 ghost use Rattle.std.specs.Prelude.{◌≡◌, ◌≢◌, ◌≤◌, ℕ, List, [], IfOk, OnOk, Option, None, take, true};
-ghost use Rattle.ftp_control.specs.Asking.{Asked};
+ghost use Rattle.ftp_control.specs.Asking.{Asked, is_lost};
 ghost use Rattle.ftp_control.specs.Driving.{Quietly};
 ghost use Rattle.ftp_control.specs.Lane.{IsLeft, IsRead, IsWaited, IsWritten, no_lane};
 ghost use Rattle.ftp_control.specs.Machine.{held, side_of};
@@ -95,7 +95,7 @@ impl<S: Read + Write> Data<S> {
         what: For,
         hears: bool,
     ) -> Ready
-        ensures { IsWaited (lane_at S.remaining S.contents (P.history ports.old) self.old []) (lane_at S.remaining S.contents (P.history ports.new) self.new []) }
+        ensures { IsWaited (is_lost result hears) (lane_at S.remaining S.contents (P.history ports.old) self.old []) (lane_at S.remaining S.contents (P.history ports.new) self.new []) }
     {
         self.connection.wait(ports, what, hears)
     }

@@ -1,15 +1,16 @@
 // The drive: what an end wants is done, turn by turn, until that is over.
-ghost use Rattle.std.specs.Prelude.{[]};
+ghost use Rattle.std.specs.Prelude.{◌≡◌, []};
+ghost use Rattle.ftp_control.specs.Cause.{is_still};
 ghost use Rattle.ftp_control.specs.Driving.{Goes};
 ghost use Rattle.ftp_control.specs.Lane.{no_lane};
 ghost use Rattle.ftp_control.specs.Machine.{held, stand_of};
 ghost use Rattle.ftp_control_drive.specs.Reaching.{Ends};
-ghost use Rattle.ftp_control_drive.specs.Standing.{Follows, IsKept, lane_at, standing};
+ghost use Rattle.ftp_control_drive.specs.Standing.{Follows, IsKept, Why, lane_at, standing};
 
 use crate::calls::EndCalls;
 use crate::control::flush;
 use crate::data::Data;
-use ftp_control::{Control, Failed, Ports, TURNS};
+use ftp_control::{Cause, Control, Ports, Turns};
 use ftp_ends::Wants;
 use std::io::{Read, Write};
 use std::marker::PhantomData;
@@ -26,19 +27,20 @@ pub(crate) struct Drive<'e, 'k, 'p, 'w, K, E, C, R, W, P, S> {
 }
 
 /// Drives an end until its drive is over, from where no data connection stands; gives the data connection that is left, and what the end gave.
-/// After a read or a write of the control connection that failed, or 1,099,511,627,776 turns, it breaks off.
+/// It breaks off only for a `Cause` that is so then.
 pub fn drive_end<K, E, C, R, W, P>(
     end: &mut E,
     control: &mut Control<R, W>,
     ports: &mut P,
     watch: &mut C,
-) -> (Data<P::Stream>, Result<K::Over, Failed>)
+) -> (Data<P::Stream>, Result<K::Over, Cause>)
 where
     K: EndCalls<E, C>,
     R: Read + Drop,
     W: Write + Drop,
     P: Ports,
-    ensures { Ends K.machine K.last (stand_of K.machine R.remaining W.contents (held (K.here end.old) (no_lane (P.history ports.old))) control.old) (stand_of K.machine R.remaining W.contents (held (K.here end.new) (lane_at P.Stream.remaining P.Stream.contents (P.history ports.new) result.0 [])) control.new) result.1 }
+    ensures ends { Ends K.machine K.last (stand_of K.machine R.remaining W.contents (held (K.here end.old) (no_lane (P.history ports.old))) control.old) (stand_of K.machine R.remaining W.contents (held (K.here end.new) (lane_at P.Stream.remaining P.Stream.contents (P.history ports.new) result.0 [])) control.new) result.1 }
+    ensures why { Why K.machine K.serves (K.here end.new) (P.history ports.new) control.new result.1 }
 {
     let mut drive = Drive {
         end,
@@ -71,24 +73,27 @@ where
     S: Read + Write,
 {
     /// The turns of a drive.
-    fn turns(&mut self) -> Result<K::Over, Failed>
+    fn turns(&mut self) -> Result<K::Over, Cause>
         ensures ends { Ends K.machine K.last (standing K.machine K.here R.remaining W.contents P.history S.remaining S.contents self.old) (standing K.machine K.here R.remaining W.contents P.history S.remaining S.contents self.new) result }
+        ensures why { Why K.machine K.serves (K.here self.new.end.now) (P.history self.new.ports.now) self.new.control.now result }
         ensures kept { IsKept self.old self.new }
     {
         K::tell_time(self.end, self.watch);
-        for _ in 0..TURNS {
+        let mut turns = Turns::new();
+        loop {
+            turns.next()?;
             match K::over(self.end) {
                 Some(over) => return Ok(over),
                 None => self.turn()?,
             }
         }
-        Err(Failed)
     }
 
     /// One turn: what the end owes is written; then of one that asks what was read is heard, or octets that are on their way are written; or what
     /// the end wants is done.
-    fn turn(&mut self) -> Result<(), Failed>
+    fn turn(&mut self) -> Result<(), Cause>
         ensures goes { Goes (standing K.machine K.here R.remaining W.contents P.history S.remaining S.contents self.old) (standing K.machine K.here R.remaining W.contents P.history S.remaining S.contents self.new) result }
+        ensures why { Why K.machine K.serves (K.here self.new.end.now) (P.history self.new.ports.now) self.new.control.now result }
         ensures kept { IsKept self.old self.new }
     {
         flush::<K, E, C, R, W>(self.end, self.control)?;
@@ -105,15 +110,16 @@ where
     }
 
     /// Does what the end wants.
-    fn act(&mut self) -> Result<(), Failed>
+    fn act(&mut self) -> Result<(), Cause>
         ensures goes { Follows K.machine K.here R.remaining W.contents P.history S.remaining S.contents self.old self.new result }
+        ensures why { Why K.machine K.serves (K.here self.new.end.now) (P.history self.new.ports.now) self.new.control.now result }
         ensures kept { IsKept self.old self.new }
     {
         match K::wants(self.end) {
             Wants::Nothing | Wants::Accept | Wants::Receive | Wants::Send => return self.attend(),
             Wants::CloseAll => {
                 if !K::serves() {
-                    return Err(Failed);
+                    return Err(Cause::Closed);
                 }
             }
             Wants::Listen => self.listen(),
@@ -124,8 +130,9 @@ where
     }
 
     /// Hears octets that were read, where the end takes any, and else does what it wants with its data connection.
-    fn attend(&mut self) -> Result<(), Failed>
+    fn attend(&mut self) -> Result<(), Cause>
         ensures goes { Follows K.machine K.here R.remaining W.contents P.history S.remaining S.contents self.old self.new result }
+        ensures why { Why K.machine K.serves (K.here self.new.end.now) (P.history self.new.ports.now) self.new.control.now result }
         ensures kept { IsKept self.old self.new }
     {
         if !self.control.has_unheard() {
@@ -138,16 +145,50 @@ where
     }
 
     /// Waits for the data connection, moves octets over it, or reads the control connection, where none are to be heard first.
-    fn go_on(&mut self) -> Result<(), Failed>
+    fn go_on(&mut self) -> Result<(), Cause>
         ensures goes { Follows K.machine K.here R.remaining W.contents P.history S.remaining S.contents self.old self.new result }
+        ensures why { Why K.machine K.serves (K.here self.new.end.now) (P.history self.new.ports.now) self.new.control.now result }
         ensures kept { IsKept self.old self.new }
     {
         match K::wants(self.end) {
-            Wants::Nothing => self.read(),
             Wants::Accept => self.accept(),
             Wants::Receive => self.receive(),
             Wants::Send => self.carry(),
-            _ => Err(Failed),
+            wants => self.stay(wants),
         }
+    }
+
+    /// Reads where nothing is wanted and all octets before were heard. The drive breaks off where octets stand that the end may not hear, and it
+    /// wants nothing that goes on beside them; else the next turn goes on.
+    fn stay(&mut self, wants: Wants) -> Result<(), Cause>
+        requires { wants ≡ K.machine.wants (K.here self.old.end.now) }
+        ensures goes { Follows K.machine K.here R.remaining W.contents P.history S.remaining S.contents self.old self.new result }
+        ensures why { Why K.machine K.serves (K.here self.new.end.now) (P.history self.new.ports.now) self.new.control.now result }
+        ensures kept { IsKept self.old self.new }
+    {
+        if self.control.has_unheard() {
+            if !stands_still::<K, E, C>(wants) {
+                return Ok(());
+            }
+            if K::may_hear(self.end) {
+                return Ok(());
+            }
+            return Err(Cause::Unheard);
+        }
+        if wants == Wants::Nothing {
+            return self.read();
+        }
+        Ok(())
+    }
+}
+
+/// Whether an end that wants this goes on only once what stands unheard is heard.
+fn stands_still<K: EndCalls<E, C>, E, C>(wants: Wants) -> bool
+    ensures { result ≡ is_still K.serves wants }
+{
+    match wants {
+        Wants::Nothing => true,
+        Wants::Accept | Wants::Receive | Wants::Send => false,
+        Wants::Listen | Wants::Connect(_) | Wants::CloseData | Wants::CloseAll => !K::serves(),
     }
 }

@@ -1,13 +1,15 @@
 // Octets that go from the end into a room, and those that come and are handed to it.
-ghost use Rattle.std.specs.Prelude.{◌<◌, ◌≤◌, [], IfOk, length, take};
+ghost use Rattle.std.specs.Prelude.{◌≤◌, [], IfOk, List, Option, length, take};
+ghost use Rattle.ftp_control.specs.Asking.{Asked};
 ghost use Rattle.ftp_control.specs.Driving.{Goes, Quietly};
 ghost use Rattle.ftp_control.specs.Lane.{Lane, with_given, with_untold};
 ghost use Rattle.ftp_control.specs.Machine.{held, side_of, stand_of};
 ghost use Rattle.ftp_control_drive.specs.Calling.{untaken};
+ghost use Rattle.ftp_control_drive.specs.Standing.{Why};
 
 use crate::calls::EndCalls;
 use crate::control::flush;
-use ftp_control::{Control, Failed};
+use ftp_control::{Cause, Control, Turns};
 use ftp_ends::Wants;
 use std::io::{Read, Write};
 
@@ -48,42 +50,42 @@ pub(crate) fn hand<K, E, C, R, W>(
     end: &mut E,
     control: &mut Control<R, W>,
     octets: &[u8],
-) -> Result<(), Failed>
+) -> Result<(), Cause>
 where
     K: EndCalls<E, C>,
     R: Read + Drop,
     W: Write + Drop,
-    ensures { (lane : Lane) → Goes (stand_of K.machine R.remaining W.contents (held (K.here end.old) (with_untold octets.now lane)) control.old) (stand_of K.machine R.remaining W.contents (held (K.here end.new) (with_untold [] lane)) control.new) result }
+    ensures goes { (lane : Lane) → Goes (stand_of K.machine R.remaining W.contents (held (K.here end.old) (with_untold octets.now lane)) control.old) (stand_of K.machine R.remaining W.contents (held (K.here end.new) (with_untold [] lane)) control.new) result }
+    ensures why { (asked : Option (List Asked)) → Why K.machine K.serves (K.here end.new) asked control.new result }
 {
     let mut at = 0;
+    let mut turns = Turns::new();
     while at < octets.len() {
         if K::wants(end) != Wants::Receive {
             return Ok(());
         }
+        turns.next()?;
         let (_, rest) = octets.split_at(at);
         at += hand_some::<K, E, C, R, W>(end, control, rest)?;
     }
     Ok(())
 }
 
-/// Hands octets to the end once, and writes what it owes then; gives how many it took, one at least.
+/// Hands octets to the end once, and writes what it owes then; gives how many it took.
 fn hand_some<K, E, C, R, W>(
     end: &mut E,
     control: &mut Control<R, W>,
     octets: &[u8],
-) -> Result<usize, Failed>
+) -> Result<usize, Cause>
 where
     K: EndCalls<E, C>,
     R: Read + Drop,
     W: Write + Drop,
-    ensures some { IfOk result (λ taken. 0 < taken) }
     ensures within { IfOk result (λ taken. taken ≤ length octets.now) }
     ensures goes { (lane : Lane) → Goes (stand_of K.machine R.remaining W.contents (held (K.here end.old) (with_untold octets.now lane)) control.old) (stand_of K.machine R.remaining W.contents (held (K.here end.new) (with_untold (untaken octets.now result) lane)) control.new) result }
+    ensures why { (asked : Option (List Asked)) → Why K.machine K.serves (K.here end.new) asked control.new result }
 {
     let taken = K::data_hear(end, octets);
-    if taken == 0 {
-        return Err(Failed);
-    }
     flush::<K, E, C, R, W>(end, control)?;
     Ok(taken)
 }

@@ -4,11 +4,11 @@ ghost use Rattle.ftp_control.specs.Asking.{Adds, Asked};
 ghost use Rattle.ftp_control.specs.Driving.{Leads};
 ghost use Rattle.ftp_control.specs.Lane.{IsHad};
 ghost use Rattle.ftp_control.specs.Machine.{IsWanted};
-ghost use Rattle.ftp_control_drive.specs.Standing.{Follows, IsKept, LeadsOn, asked_before, standing};
+ghost use Rattle.ftp_control_drive.specs.Standing.{Follows, IsKept, LeadsOn, Why, asked_before, standing};
 
 use crate::calls::EndCalls;
 use crate::drive::Drive;
-use ftp_control::{Accepted, Failed, Ports};
+use ftp_control::{Accepted, Cause, Ports};
 use ftp_endpoint::{Endpoint, Host};
 use ftp_ends::Wants;
 use std::io::{Read, Write};
@@ -23,15 +23,16 @@ where
 {
     /// Waits for the data connection that the other end opens. Where all that was read was heard, octets of the control connection that come first
     /// are read; else the drive breaks off where the waiting ends so.
-    pub(crate) fn accept(&mut self) -> Result<(), Failed>
+    pub(crate) fn accept(&mut self) -> Result<(), Cause>
         requires { K.machine.wants (K.here self.old.end.now) ≡ Wants.Accept }
         ensures goes { Follows K.machine K.here R.remaining W.contents P.history S.remaining S.contents self.old self.new result }
+        ensures why { Why K.machine K.serves (K.here self.new.end.now) (P.history self.new.ports.now) self.new.control.now result }
         ensures kept { IsKept self.old self.new }
     {
         let hears = !self.control.has_unheard();
         match self.ports.accept(hears) {
             Accepted::Came(stream, host) => self.opened(stream, host),
-            Accepted::Spoken => return self.read(),
+            Accepted::Spoken => return self.heed(),
             Accepted::Refused => K::data_refused(self.end),
         }
         Ok(())

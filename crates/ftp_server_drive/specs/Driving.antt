@@ -1,15 +1,18 @@
--- What a drive of a server beside its control connection did, whole or until a read or a write failed.
-use Rattle.std.specs.Prelude.{◌≡◌, List, ◌∷◌, ℕ}
+-- What a drive of a server beside its control connection did, whole or until it broke off.
+use Rattle.std.specs.Prelude.{◌≡◌, Bool, true, List, ◌∷◌, ℕ}
 use Rattle.std.specs.declared.result.Result.{Result}
 use Rattle.std.specs.declared.result.Result.TheVariants.{Ok, Err}
 use Rattle.ftp_ends.specs.declared.link.Wants.TheVariants.{CloseAll}
 use Rattle.ftp_control.specs.Asking.{Asked}
+use Rattle.ftp_control.specs.Cause.{IsCause}
 use Rattle.ftp_control.specs.Courses.{Carries}
 use Rattle.ftp_control.specs.Deeds.{Deed, Other, Stand, with_owner}
 use Rattle.ftp_control.specs.Driving.{Cuts, Sums}
 use Rattle.ftp_control.specs.Lane.{IsLeft, Lane, with_untold}
+use Rattle.ftp_control.specs.declared.cause.Cause.{Cause}
 use Rattle.ftp_control.specs.declared.pieces.Failed.{Failed}
 use Rattle.ftp_server_model.specs.Calls.{wants}
+use Rattle.ftp_server_model.specs.Machine.{may_hear}
 use Rattle.ftp_server_model.specs.Far.{Server}
 use Rattle.ftp_control.specs.Machine.{Left, move_of}
 use Rattle.ftp_server_drive.specs.Side.{ended, server_side}
@@ -31,9 +34,9 @@ pub record Drove (start now : Stand server_side) : Type 0 where
   pub carries : Carries {side = server_side} move_of (Other (Left asked) ∷ deeds) start.owner.lane now.owner.lane
   pub over : IsOver now
 
--- the same where a read or a write failed: a beginning of what it said was written, and what of an upload it was not told is let go; it was told
--- that the control connection ended, and its data connection was left
-pub record BrokeOff (start now : Stand server_side) : Type 0 where
+-- the same where the drive broke off, for this cause, whether a read or a write failed or not: a beginning of what it said was written, and what
+-- of an upload it was not told is let go; it was told that the control connection ended, and its data connection was left
+pub record BrokeOff (failed : Bool) (start now : Stand server_side) : Type 0 where
   pub deeds : List (Deed server_side)
   pub last : List ℕ
   pub off : Stand server_side
@@ -45,8 +48,10 @@ pub record BrokeOff (start now : Stand server_side) : Type 0 where
   pub cut : now.owner.end ≡ ended off.owner.end
   pub asked : Asked
   pub left : IsLeft asked off.owner.lane now.owner.lane
+  pub cause : Cause
+  pub why : IsCause cause failed off.owner.lane.asked off.unheard (wants off.owner.end.view) (may_hear off.owner.end.view) true
 
--- how a drive ends
-abbrev pub Drives : {T : Type 0} → (start now : Stand server_side) → Result T Failed → Type 0
-Drives start now (Ok value) = Drove start now
-Drives start now (Err failed) = BrokeOff start now
+-- how a drive ends, where a read or a write of the control connection failed or not
+abbrev pub Drives : {T : Type 0} → (failed : Bool) → (start now : Stand server_side) → Result T Failed → Type 0
+Drives failed start now (Ok value) = Drove start now
+Drives failed start now (Err error) = BrokeOff failed start now

@@ -4,6 +4,7 @@ use Rattle.ftp_control.specs.Machine.{Machine, Call, Aside, side_of}
 use Rattle.ftp_control.specs.Side.{Side}
 use Rattle.ftp_ends.specs.declared.link.Wants.TheVariants as Want
 use Rattle.ftp_server_model.specs.Calls.{break_step, clock_step, close_step, control_end, control_step, end_step, given_step, listening_step, no_port_step, opened_step, refused_step, to_give, wants}
+use Rattle.ftp_server_model.specs.Machine.{may_hear}
 use Rattle.ftp_server_model.specs.Failing.{EndFails, GiveFails}
 use Rattle.ftp_server_model.specs.Far.{Acts, Hears, Receives, Server, Steps}
 
@@ -22,6 +23,7 @@ server_machine = record {
   wants = λ server. wants server.view;
   owed = λ server. server.view.owed;
   to_give = λ server. to_give server.view;
+  may_hear = λ server. may_hear server.view;
   Hears = λ octets unheard old new. Hears octets old new;
   Gives = λ count old new. Acts (control_step count) old new;
   IsCut = λ old new. new ≡ ended old;

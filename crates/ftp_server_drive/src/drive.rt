@@ -15,8 +15,8 @@ use std::io::{Read, Write};
 /// Serves a control connection until the server is done with it.
 ///
 /// All that the server owes is written before more is read, and all that was read is heard, while a transfer is under way too: between its
-/// pieces, and where its data connection would wait. After a read or a write of the control connection that failed, or 1,099,511,627,776
-/// turns, the server is told that the control connection ended. Data connections and ports are closed at the end.
+/// pieces, and where its data connection would wait. Where the drive breaks off, which it does only for a `Cause` that is so, the server is told
+/// that the control connection ended. Data connections and ports are closed at the end.
 pub fn drive_server<A, T, F, R, W, P, C>(
     server: &mut F,
     control: &mut Control<R, W>,
@@ -31,7 +31,7 @@ where
     W: Write + Drop,
     P: Ports,
     C: Watch,
-    ensures { Drives (beside R.remaining W.contents (held (F.server server.old) (no_lane (P.history ports.old))) control.old) (beside R.remaining W.contents (held (F.server server.new) (no_lane (P.history ports.new))) control.new) result }
+    ensures { Drives control.new.failed (beside R.remaining W.contents (held (F.server server.old) (no_lane (P.history ports.old))) control.old) (beside R.remaining W.contents (held (F.server server.new) (no_lane (P.history ports.new))) control.new) result }
 {
     let (data, ended) = drive_end::<Serves<A, T>, F, C, R, W, P>(server, control, ports, watch);
     match ended {
@@ -39,7 +39,7 @@ where
             data.finish(ports);
             Ok(())
         }
-        Err(Failed) => {
+        Err(_) => {
             let mut data = data;
             data.note::<Serves<A, T>, F, C>(server);
             server.control_end();

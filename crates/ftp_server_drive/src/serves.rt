@@ -54,6 +54,10 @@ where
         end.wants()
     }
 
+    fn may_hear(end: &F) -> bool {
+        end.may_hear()
+    }
+
     /// One octet a call: what is behind it is heard where the server takes it, or waits for a transfer's end.
     fn hear(end: &mut F, unheard: &[u8]) -> usize {
         let (first, _) = unheard.split_at(unheard.len().min(1));

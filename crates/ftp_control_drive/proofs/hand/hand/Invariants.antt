@@ -1,4 +1,4 @@
-use Rattle.std.proofs.Common.{length, drop, ◌-◌, ◌≤◌}
+use Rattle.std.proofs.Common.{length, drop, ◌≤◌}
 use Rattle.ftp_control_drive.proofs.Words.{Lane, Leads, held, stand_of, with_untold}
 use Rattle.ftp_control_drive.proofs.hand.hand.Given as goal
 
@@ -10,4 +10,4 @@ invariant-loop-at g l =
     × ((lane : Lane) → Leads (stand (held (here l.fn.end) (with_untold l.octets lane)) l.fn.control) (stand (held (here l.end) (with_untold (drop l.at l.octets) lane)) l.control))
 
 abbrev pub decreases-loop-at : goal.decreases-loop-at
-decreases-loop-at g l = length l.octets - l.at
+decreases-loop-at g l = l.turns.left

@@ -6,13 +6,13 @@ returns-then-not-serves-clause-goes g c start reaches = reached_then start _ _ r
 
 pub returns-in-Control-clause-goes : goal.returns-in-Control-clause-goes
 returns-in-Control-clause-goes g c start reaches =
-    c.read.ensures.goes start (reaches_waited g.K.EndCalls.machine start _ _ _ reaches (c.note.ensures.same (g.P.Ports.history c.args.self.now.ports.now)) c.wait.ensures)
+    c.heed.ensures.goes start (reaches_waited g.K.EndCalls.machine _ start _ _ _ reaches (c.note.ensures.same (g.P.Ports.history c.args.self.now.ports.now)) c.wait.ensures)
 
 pub returns-in-Lost-clause-goes : goal.returns-in-Lost-clause-goes
 returns-in-Lost-clause-goes g c start reaches =
-    reached_fails start _ (reaches_waited g.K.EndCalls.machine start _ _ _ reaches (c.note.ensures.same (g.P.Ports.history c.args.self.now.ports.now)) c.wait.ensures)
+    reached_fails start _ (reaches_waited g.K.EndCalls.machine _ start _ _ _ reaches (c.note.ensures.same (g.P.Ports.history c.args.self.now.ports.now)) c.wait.ensures)
 
 pub returns-clause-goes : goal.returns-clause-goes
 returns-clause-goes g c start reaches =
-    reached_then start _ _ (reaches_waited g.K.EndCalls.machine start _ _ _ reaches (c.note.ensures.same (g.P.Ports.history c.args.self.now.ports.now)) c.wait.ensures)
+    reached_then start _ _ (reaches_waited g.K.EndCalls.machine _ start _ _ _ reaches (c.note.ensures.same (g.P.Ports.history c.args.self.now.ports.now)) c.wait.ensures)
     c.send_more.ensures.leads

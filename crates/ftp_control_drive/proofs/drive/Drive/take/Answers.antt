@@ -16,7 +16,7 @@ returns-in-Ok-clause-goes g c start reaches =
     let asked = g.P.Ports.history c.args.self.now.ports.now in
     let lane = lane_at g.S.Read.remaining g.S.Write.contents asked came.new.self [] in
     reached_goes start _ _ c.hand.result (reaches_came g.K.EndCalls.machine start _ lane (in_hand came.result came.new.self.room) c.front.result.now reaches (came.ensures.moved asked)
-    (ap (λ r. in_hand r came.new.self.room) c.in-Ok.is ∙ sym c.front.ensures)) (c.hand.ensures lane)
+    (ap (λ r. in_hand r came.new.self.room) c.in-Ok.is ∙ sym c.front.ensures)) (c.hand.ensures.goes lane)
 
 pub returns-in-Err-Broken-clause-goes : goal.returns-in-Err-Broken-clause-goes
 returns-in-Err-Broken-clause-goes g c start reaches =
