@@ -1,14 +1,12 @@
 -- Why a drive breaks off, as the parts of it say that.
-use Rattle.std.proofs.Common.{◌≡◌, ◌<◌, ℕ, List, [], ◌∷◌, ◌++◌, length, Option, Some, None, refl, sym, ap, subst, Result, Ok, Err, arith}
+use Rattle.std.proofs.Common.{◌≡◌, ◌<◌, ℕ, List, [], ◌++◌, length, Option, Some, None, refl, sym, ap, subst, Result, Ok, Err, arith}
 use Rattle.std.specs.Prelude.{Bool, IfErr, IsErrAnd, true, false, not}
-use Rattle.ftp_control.specs.Asking.{Adds, Asked, Lost, is_lost, is_over, told_lost}
+use Rattle.ftp_control.specs.Asking.{Adds, Asked, is_lost, told_lost}
 use Rattle.ftp_control.specs.Cause.{HasLost, IsCause, IsFault, IsSpent}
 use Rattle.ftp_control.specs.declared.cause.Cause.{Cause}
 use Rattle.ftp_control.specs.declared.cause.Cause.TheVariants as Causes
 use Rattle.ftp_control.specs.declared.ports.Ready.{Ready}
 use Rattle.ftp_control.specs.declared.ports.Ready.TheVariants as Readies
-use Rattle.ftp_control.specs.declared.ports.Spoken.{Spoken}
-use Rattle.ftp_control.specs.declared.ports.Spoken.TheVariants as Speaks
 use Rattle.ftp_ends.specs.declared.link.Wants.{Wants}
 
 -- a cause that is passed on is so still

@@ -1,5 +1,5 @@
 -- Why a drive breaks off.
-use Rattle.std.specs.Prelude.{◌≡◌, ◌<◌, ⊤, ℕ, Bool, true, false, not, List, [], ◌∷◌, length, Option, Some, None}
+use Rattle.std.specs.Prelude.{◌≡◌, ◌<◌, ⊤, ℕ, Bool, true, false, not, List, ◌∷◌, length, Option, Some, None}
 use Rattle.ftp_control.specs.Asking.{Asked, Lost}
 use Rattle.ftp_control.specs.declared.cause.Cause.{Cause}
 use Rattle.ftp_control.specs.declared.cause.Cause.TheVariants as Causes
