@@ -1,6 +1,6 @@
 // A listing, as it goes to standard output.
 use ftp_operation::Answer;
-use ftp_tool_shown::{put_entries, put_long, put_names, strange_entries, strange_names};
+use ftp_tool_listing::{put_entries, put_long, put_names, strange_entries, strange_names};
 use std::alloc::{AllocError, Global};
 
 /// What the lines of entries are.

@@ -1,7 +1,7 @@
 // What stands in a folder of this machine.
 use crate::trouble::Trouble;
 use ftp_facts::Text;
-use ftp_tool_plan::{Facts, Item, Kind, Listing, is_excluded};
+use ftp_tool_listing::{Facts, Item, Kind, Listing, is_excluded};
 use ftp_tool_words::joined;
 use std::alloc::{AllocError, Global};
 use std::fs::{DirEntry, Files, Metadata, ReadDir};

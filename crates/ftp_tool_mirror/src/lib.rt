@@ -1,5 +1,5 @@
 //! The program `mirror`: copies a tree of a server's into a folder of this machine, or back, over one control connection (RFC 959; RFC 3659). What
-//! is done is `ftp_tool_plan`.
+//! is done in a directory is decided by `ftp_tool_listing`.
 #![tactic(auto)]
 
 mod asked;
@@ -17,5 +17,5 @@ mod trouble;
 mod walk;
 
 pub use asked::{Doing, Mirror};
-pub use ftp_tool_plan::{Check, Extra, Rules, Way};
+pub use ftp_tool_listing::{Check, Extra, Rules, Way};
 pub use mirroring::mirror;

@@ -2,7 +2,7 @@
 use crate::changing::Change;
 use crate::folder::entries_here;
 use crate::trouble::Trouble;
-use ftp_tool_plan::Listing;
+use ftp_tool_listing::Listing;
 use std::alloc::Global;
 use std::fs::Files;
 use std::io;

@@ -4,7 +4,7 @@ use crate::trouble::Trouble;
 use ftp_facts::{Entry, EntryKind, Text};
 use ftp_operation::{Answer, Op};
 use ftp_tool_connection::{ClientSession, Ending, Request};
-use ftp_tool_plan::{Facts, Kind, Listing};
+use ftp_tool_listing::{Facts, Kind, Listing};
 use std::alloc::{AllocError, Global};
 
 /// The codes of a server that does not know a command (RFC 959, section 4.2.2).

@@ -1,6 +1,6 @@
 // What is still to be done, one thing after another.
 use crate::trouble::Trouble;
-use ftp_tool_plan::{Deed, Listing, Rules, Step, Way, plan};
+use ftp_tool_listing::{Deed, Listing, Rules, Step, Way, plan};
 use ftp_tool_words::joined;
 use std::alloc::{AllocError, Global};
 

@@ -1,0 +1,17 @@
+use Rattle.std.proofs.Common.{◌∙◌, sym}
+use Rattle.ftp_tool_listing.specs.Lines.{is_strange_entry}
+use Rattle.ftp_tool_listing.proofs.LinesLemmas.{none_counted, one_counted}
+use Rattle.ftp_tool_listing.proofs.lines.strange_entries.Goals.{then-is_strange_entry, else-is_strange_entry}
+use Rattle.ftp_tool_listing.proofs.lines.strange_entries.Goals as goal
+
+pub loop-entry-preserved : goal.loop-entry-preserved
+loop-entry-preserved g c =
+    let p = is_strange_entry {A = g.row.A.Denot} in
+    elim c.if-is_strange_entry.branch [
+      | then-is_strange_entry w ↦ one_counted p c.args.entries.now c.loop-entry.entry-index c.entry-item.result c.loop-entry.count
+          c.if-is_strange_entry.count c.loop-entry-test.true c.entry-item.is (sym c.is_strange_entry.ensures ∙ w.if-is_strange_entry.true)
+          c.loop-entry.invariant w.count-is
+      | else-is_strange_entry w ↦ none_counted p c.args.entries.now c.loop-entry.entry-index c.entry-item.result c.loop-entry.count
+          c.if-is_strange_entry.count c.loop-entry-test.true c.entry-item.is (sym c.is_strange_entry.ensures ∙ w.if-is_strange_entry.false)
+          c.loop-entry.invariant w.count-is
+    ]

@@ -1,0 +1,9 @@
+-- How a server's listings look on a terminal; what a mirror does by two listings, and which paths a pattern leaves out.
+pub mod Shown
+pub mod Lines
+pub mod Long
+pub mod ShownRows
+pub mod Pattern
+pub mod Deeds
+pub mod Plan
+pub mod PlanRows

@@ -1,0 +1,49 @@
+-- What a mirror does of a directory, by the listing of the source and that of the target (own choice).
+use Rattle.std.specs.Prelude.{ℕ, ◌++◌, List, [], ◌∷◌, flat_map, find, option_map, nat_eq, Bool, Option}
+use Rattle.std.specs.Cmp.Lexicographic.{pointwise}
+use Rattle.ftp_tool_listing.specs.declared.item.Kind.{Kind}
+use Rattle.ftp_tool_listing.specs.declared.item.Item.{Item}
+use Rattle.ftp_tool_listing.specs.declared.item.Listing.{Listing}
+use Rattle.ftp_tool_listing.specs.declared.item.Listing.TheVariants as Listings
+use Rattle.ftp_tool_listing.specs.declared.deeds.Rules.{Rules}
+use Rattle.ftp_tool_listing.specs.declared.deeds.Reason.TheVariants as Reasons
+use Rattle.ftp_tool_listing.specs.declared.deeds.Deed.TheVariants as Does
+use Rattle.ftp_tool_listing.specs.declared.deeds.Deeds.{Deeds}
+use Rattle.ftp_tool_listing.specs.declared.deeds.Deeds.TheVariants as Many
+use Rattle.ftp_tool_listing.specs.declared.planning.Step.{Step}
+use Rattle.ftp_tool_listing.specs.Deeds.{deeds_for, removal_for}
+
+-- an entry has this name
+abbrev pub is_named : {A : Type 0} → List ℕ → Item A → Bool
+is_named name item = pointwise nat_eq item.name name
+
+-- what stands under a name among entries: the first that has it
+abbrev pub stands : {A : Type 0} → List (Item A) → List ℕ → Option Kind
+stands items name = option_map (λ item. item.kind) (find (is_named name) items)
+
+-- what is done, in its order, of a name
+abbrev pub steps : {A : Type 0} → List ℕ → Deeds → List (Step A)
+steps name Many.Nothing = []
+steps name (Many.One deed) = record { deed = deed; name = name } ∷ []
+steps name (Many.Two first second) = record { deed = first; name = name } ∷ record { deed = second; name = name } ∷ []
+
+-- of an entry of the source, by what stands under its name in the target
+abbrev pub copying : {A : Type 0} → Rules → List (Item A) → Item A → List (Step A)
+copying rules target item = steps item.name (deeds_for rules item (stands target item.name))
+
+-- of an entry of the target, by what stands under its name in the source
+abbrev pub clearing : {A : Type 0} → Rules → List (Item A) → Item A → List (Step A)
+clearing rules source item = steps item.name (removal_for rules item (stands source item.name))
+
+-- all that is done of whole listings: first of each entry of the source, and then of each of the target, both in their orders
+abbrev pub whole_plan : {A : Type 0} → Rules → List (Item A) → List (Item A) → List (Step A)
+whole_plan rules source target = flat_map (copying rules target) source ++ flat_map (clearing rules source) target
+
+-- where one of both is cut off, it is refused, and nothing is done
+abbrev pub refused : {A : Type 0} → List (Step A)
+refused = record { deed = Does.Refuse Reasons.CutOff; name = [] } ∷ []
+
+abbrev pub plan : {A : Type 0} → Rules → Listing A → Listing A → List (Step A)
+plan rules (Listings.Whole source) (Listings.Whole target) = whole_plan rules source.items target.items
+plan rules (Listings.Whole source) Listings.CutOff = refused
+plan rules Listings.CutOff target = refused

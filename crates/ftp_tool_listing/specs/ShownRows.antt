@@ -1,0 +1,45 @@
+-- Worked rows: what is shown of octets, which texts are names, and the columns of a listing for people. Each is a theorem that computes.
+use Rattle.std.specs.Prelude.{◌≡◌, true, false, codes, [], ◌∷◌, None}
+use Rattle.ftp_tool_listing.specs.Lines.{is_listed}
+use Rattle.ftp_tool_listing.specs.Long.{column, dated, size_text}
+use Rattle.ftp_tool_listing.specs.Shown.{is_name, shown}
+
+-- text, control characters, marks of direction, and octets of no character
+abbrev pub CharactersShown : Type 0
+CharactersShown =
+    (shown (codes "a b.txt") ≡ codes "a b.txt")
+    × (shown (97 ∷ 27 ∷ codes "[2J") ≡ codes "a\\x1b[2J")
+    × (shown (10 ∷ 127 ∷ []) ≡ codes "\\x0a\\x7f")
+    × (shown (codes "\\x41") ≡ codes "\\\\x41")
+    × (shown (0xC3 ∷ 0xA9 ∷ []) ≡ 0xC3 ∷ 0xA9 ∷ [])
+    × (shown (0xC2 ∷ 0x9B ∷ []) ≡ codes "\\xc2\\x9b")
+    × (shown (0x9B ∷ []) ≡ codes "\\x9b")
+    × (shown (0xE2 ∷ 0x80 ∷ 0xAE ∷ []) ≡ codes "\\xe2\\x80\\xae")
+    × (shown (0xE2 ∷ 0x82 ∷ 0xAC ∷ []) ≡ 0xE2 ∷ 0x82 ∷ 0xAC ∷ [])
+    × (shown (0xF0 ∷ 0x9F ∷ 0x98 ∷ 0x80 ∷ []) ≡ 0xF0 ∷ 0x9F ∷ 0x98 ∷ 0x80 ∷ [])
+    × (shown (0xC0 ∷ 0x9B ∷ []) ≡ codes "\\xc0\\x9b")
+    × (shown (0xE2 ∷ 0x82 ∷ []) ≡ codes "\\xe2\\x82")
+
+-- names of single files, and others
+abbrev pub NamesListed : Type 0
+NamesListed =
+    (is_name (codes "a") ≡ true)
+    × (is_name (codes "..a") ≡ true)
+    × (is_name [] ≡ false)
+    × (is_name (codes ".") ≡ false)
+    × (is_name (codes "..") ≡ false)
+    × (is_name (codes "a/b") ≡ false)
+    × (is_name (codes "/") ≡ false)
+    × (is_listed (codes "pub") (codes "pub/a") ≡ true)
+    × (is_listed (codes "pub") (codes "pub") ≡ true)
+    × (is_listed (codes "pub") (codes "pub/..") ≡ false)
+    × (is_listed (codes "pub") (codes "pub/a/b") ≡ false)
+    × (is_listed [] (codes "/a") ≡ false)
+
+-- the columns of a listing for people
+abbrev pub ColumnsShown : Type 0
+ColumnsShown =
+    (column (codes "      ") (codes "1234") ≡ codes "  1234")
+    × (column (codes "      ") (codes "1234567") ≡ codes "1234567")
+    × (column (codes "   ") (size_text None) ≡ codes "  -")
+    × (dated (codes "20000229235959") ≡ codes "2000-02-29 23:59:59")

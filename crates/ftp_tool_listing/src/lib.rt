@@ -1,0 +1,22 @@
+//! What is made of a server's listings: how they look on a terminal, as octets that no terminal obeys and names of single files alone; and what a mirror
+//! does by the listing of a source and that of a target, but for what a pattern leaves out (own choice; RFC 3629, section 4; RFC 3659, section 7). No IO.
+#![tactic(auto)]
+
+mod deeds;
+mod item;
+mod lines;
+mod long;
+mod name;
+mod pattern;
+mod planning;
+pub mod rows;
+mod shown;
+
+pub use deeds::{Check, Deed, Deeds, Extra, Reason, Rules, Way, deeds_for, removal_for};
+pub use item::{Facts, Item, Kind, Listing};
+pub use lines::{put_entries, put_names, strange_entries, strange_names};
+pub use long::put_long;
+pub use name::is_name;
+pub use pattern::{is_excluded, matches};
+pub use planning::{Step, plan};
+pub use shown::put_shown;

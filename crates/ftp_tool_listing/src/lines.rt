@@ -1,0 +1,150 @@
+// Listings of a server, a line an entry.
+ghost use Rattle.std.specs.Prelude.{◌≡◌, ◌++◌, OnOk, count_by, flat_map};
+ghost use Rattle.ftp_facts.specs.Entry.{entry_line};
+ghost use Rattle.ftp_tool_listing.specs.Lines.{entry_text, is_below, is_listed, is_strange_entry, is_strange_name, line, name_text, without_slash};
+
+use crate::{is_name, put_shown};
+use ftp_facts::{Entry, Text, write_entry};
+use std::alloc::{AllocError, Allocator};
+
+/// Appends the lines of entries, as a terminal is to show them: the facts, a space and the name (RFC 3659, section 7.2), each with LF at its end. One
+/// whose name is none of a single file is left out.
+///
+/// Refused memory, a part of them may stand there.
+pub fn put_entries<A: Allocator + Copy, B: Allocator + Copy>(
+    alloc: B,
+    entries: &[Entry<A>],
+    out: &mut Vec<u8, B>,
+) -> Result<(), AllocError>
+    ensures { OnOk result (out.new.items ≡ out.old.items ++ flat_map entry_text entries.now) }
+{
+    for entry in entries {
+        put_entry(alloc, entry, out)?;
+    }
+    Ok(())
+}
+
+fn put_entry<A: Allocator + Copy, B: Allocator + Copy>(
+    alloc: B,
+    entry: &Entry<A>,
+    out: &mut Vec<u8, B>,
+) -> Result<(), AllocError>
+    ensures { OnOk result (out.new.items ≡ out.old.items ++ entry_text entry.now) }
+{
+    if is_name(entry.name.as_slice()) {
+        put_entry_line(alloc, entry, out)
+    } else {
+        Ok(())
+    }
+}
+
+fn put_entry_line<A: Allocator + Copy, B: Allocator + Copy>(
+    alloc: B,
+    entry: &Entry<A>,
+    out: &mut Vec<u8, B>,
+) -> Result<(), AllocError>
+    ensures { OnOk result (out.new.items ≡ out.old.items ++ line (entry_line entry.now)) }
+{
+    let mut plain = Vec::new(alloc);
+    if write_entry(entry, &mut plain).is_err() {
+        return Err(AllocError);
+    }
+    put_line(plain.as_slice(), out)
+}
+
+/// Appends octets as a terminal is to show them, and LF.
+pub(crate) fn put_line<B: Allocator + Copy>(
+    octets: &[u8],
+    out: &mut Vec<u8, B>,
+) -> Result<(), AllocError>
+    ensures { OnOk result (out.new.items ≡ out.old.items ++ line octets.now) }
+{
+    put_shown(octets, out)?;
+    out.extend_from_slice(b"\n")
+}
+
+/// How many entries are left out.
+pub fn strange_entries<A: Allocator + Copy>(entries: &[Entry<A>]) -> usize
+    ensures { result ≡ count_by is_strange_entry entries.now }
+{
+    let mut count = 0;
+    for entry in entries {
+        if is_strange_entry(entry) {
+            count += 1;
+        }
+    }
+    count
+}
+
+fn is_strange_entry<A: Allocator + Copy>(entry: &Entry<A>) -> bool
+    ensures { result ≡ is_strange_entry entry.now }
+{
+    !is_name(entry.name.as_slice())
+}
+
+/// Appends the names of the files of the directory at a path, as a terminal is to show them, each with LF at its end. One that is none of a single
+/// file, alone or behind that path, is left out.
+///
+/// Refused memory, a part of them may stand there.
+pub fn put_names<A: Allocator + Copy, B: Allocator + Copy>(
+    path: &[u8],
+    names: &[Text<A>],
+    out: &mut Vec<u8, B>,
+) -> Result<(), AllocError>
+    ensures { OnOk result (out.new.items ≡ out.old.items ++ flat_map (name_text path.now) names.now) }
+{
+    for name in names {
+        put_name(path, name.as_slice(), out)?;
+    }
+    Ok(())
+}
+
+fn put_name<B: Allocator + Copy>(
+    path: &[u8],
+    name: &[u8],
+    out: &mut Vec<u8, B>,
+) -> Result<(), AllocError>
+    ensures { OnOk result (out.new.items ≡ out.old.items ++ name_text path.now name.now) }
+{
+    if is_listed(path, name) {
+        put_line(name, out)
+    } else {
+        Ok(())
+    }
+}
+
+/// How many names are left out.
+pub fn strange_names<A: Allocator + Copy>(path: &[u8], names: &[Text<A>]) -> usize
+    ensures { result ≡ count_by (is_strange_name path.now) names.now }
+{
+    let mut count = 0;
+    for name in names {
+        if !is_listed(path, name.as_slice()) {
+            count += 1;
+        }
+    }
+    count
+}
+
+/// Whether a name is one of a single file, alone or behind the path of the directory that is listed.
+fn is_listed(path: &[u8], name: &[u8]) -> bool
+    ensures { result ≡ is_listed path.now name.now }
+{
+    is_name(name) || is_below(path, name)
+}
+
+fn is_below(path: &[u8], name: &[u8]) -> bool
+    ensures { result ≡ is_below path.now name.now }
+{
+    !path.is_empty() && name.starts_with(path) && is_name(without_slash(&name[path.len()..]))
+}
+
+/// Octets without a slash at their front.
+fn without_slash(octets: &[u8]) -> &[u8]
+    ensures { result.now ≡ without_slash octets.now }
+{
+    match octets {
+        [b'/', rest @ ..] => rest,
+        _ => octets,
+    }
+}

@@ -1,0 +1,127 @@
+// What is done of a directory.
+ghost use Rattle.std.specs.Prelude.{◌≡◌, ◌++◌, IfOk, OnOk, flat_map};
+ghost use Rattle.ftp_tool_listing.specs.Plan.{clearing, copying, is_named, plan, stands, steps};
+
+use crate::deeds::{Deed, Deeds, Reason, Rules, deeds_for, removal_for};
+use crate::item::{Item, Kind, Listing};
+use ftp_facts::Text;
+use std::alloc::{AllocError, Allocator};
+
+/// Something that is done of a name.
+#[derive(Drop)]
+pub struct Step<A: Allocator + Copy> {
+    pub deed: Deed,
+    pub name: Text<A>,
+}
+
+/// What a mirror does of a directory, by the listing of the source and that of the target: first of each entry of the source, and then of each of
+/// the target, both in their orders. Where one of both is cut off, nothing is done.
+pub fn plan<A: Allocator + Copy>(
+    alloc: A,
+    rules: Rules,
+    source: &Listing<A>,
+    target: &Listing<A>,
+) -> Result<Vec<Step<A>, A>, AllocError>
+    ensures { IfOk result (λ planned. planned.items ≡ plan rules source.now target.now) }
+{
+    let mut planned = Vec::new(alloc);
+    match (source, target) {
+        (Listing::Whole(source), Listing::Whole(target)) => {
+            put_copying(
+                alloc,
+                rules,
+                source.as_slice(),
+                target.as_slice(),
+                &mut planned,
+            )?;
+            put_clearing(
+                alloc,
+                rules,
+                source.as_slice(),
+                target.as_slice(),
+                &mut planned,
+            )?;
+        }
+        _ => put_step(alloc, b"", Deed::Refuse(Reason::CutOff), &mut planned)?,
+    }
+    Ok(planned)
+}
+
+fn put_copying<A: Allocator + Copy>(
+    alloc: A,
+    rules: Rules,
+    source: &[Item<A>],
+    target: &[Item<A>],
+    planned: &mut Vec<Step<A>, A>,
+) -> Result<(), AllocError>
+    ensures { OnOk result (planned.new.items ≡ planned.old.items ++ flat_map (copying rules target.now) source.now) }
+{
+    for item in source {
+        let deeds = deeds_for(rules, item, stands(target, item.name.as_slice()));
+        put_steps(alloc, item.name.as_slice(), deeds, planned)?;
+    }
+    Ok(())
+}
+
+fn put_clearing<A: Allocator + Copy>(
+    alloc: A,
+    rules: Rules,
+    source: &[Item<A>],
+    target: &[Item<A>],
+    planned: &mut Vec<Step<A>, A>,
+) -> Result<(), AllocError>
+    ensures { OnOk result (planned.new.items ≡ planned.old.items ++ flat_map (clearing rules source.now) target.now) }
+{
+    for item in target {
+        let deeds = removal_for(rules, item, stands(source, item.name.as_slice()));
+        put_steps(alloc, item.name.as_slice(), deeds, planned)?;
+    }
+    Ok(())
+}
+
+fn put_steps<A: Allocator + Copy>(
+    alloc: A,
+    name: &[u8],
+    deeds: Deeds,
+    planned: &mut Vec<Step<A>, A>,
+) -> Result<(), AllocError>
+    ensures { OnOk result (planned.new.items ≡ planned.old.items ++ steps name.now deeds) }
+{
+    match deeds {
+        Deeds::Nothing => Ok(()),
+        Deeds::One(deed) => put_step(alloc, name, deed, planned),
+        Deeds::Two(first, second) => {
+            put_step(alloc, name, first, planned)?;
+            put_step(alloc, name, second, planned)
+        }
+    }
+}
+
+fn put_step<A: Allocator + Copy>(
+    alloc: A,
+    name: &[u8],
+    deed: Deed,
+    planned: &mut Vec<Step<A>, A>,
+) -> Result<(), AllocError>
+    ensures { OnOk result (planned.new.items ≡ planned.old.items ++ steps name.now (Deeds.One deed)) }
+{
+    let name = Text::copy_of(alloc, name)?;
+    planned.push(Step { deed, name })?;
+    Ok(())
+}
+
+/// What stands under a name among entries: the first that has it.
+fn stands<A: Allocator + Copy>(items: &[Item<A>], name: &[u8]) -> Option<Kind>
+    ensures { result ≡ stands items.now name.now }
+{
+    items
+        .iter()
+        .find(|item| is_named(name, item))
+        .map(|item| item.kind)
+}
+
+fn is_named<A: Allocator + Copy>(name: &[u8], item: &Item<A>) -> bool
+    ensures { result ≡ is_named name.now item.now }
+{
+    item.name.as_slice() == name
+}

@@ -1,2 +1,0 @@
-mod ShownLemmas
-mod ListingLemmas

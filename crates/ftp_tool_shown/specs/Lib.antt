@@ -1,4 +1,0 @@
-pub mod Shown
-pub mod Listing
-pub mod Long
-pub mod Rows
