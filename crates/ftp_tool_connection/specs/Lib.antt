@@ -2,5 +2,3 @@
 pub mod Again
 -- What is heard of a server's lines, and how much a data connection may bring.
 pub mod Course
--- How fast a transfer is, and how much of it is left.
-pub mod Pace

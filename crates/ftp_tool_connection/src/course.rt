@@ -2,9 +2,9 @@
 ghost use Rattle.std.specs.Prelude.{◌≡◌};
 ghost use Rattle.ftp_tool_connection.specs.Course.{hears, is_past};
 
-use crate::pace::Span;
 use crate::request::{Request, most_of, span_of};
 use ftp_control::{Ready, Spoken};
+use ftp_tool_status::Span;
 use std::cell::Cell;
 
 /// The first octet of a reply that a transfer begins, and of one that all is done (RFC 959, section 4.2.1).

@@ -4,10 +4,10 @@ ghost use Rattle.ftp_control.specs.Asking.{Closes};
 
 use crate::course::Course;
 use crate::live::Opens;
-use crate::pace::pace_of;
 use ftp_control::{Accepted, For, Ports, Ready, Spoken, Whole};
 use ftp_endpoint::Endpoint;
 use ftp_tool_sockets::{Link, Patience, SocketPorts};
+use ftp_tool_status::pace_of;
 use std::io;
 use std::io::{Eprint, Error, ErrorKind, Read, Write};
 use std::net::{Net, TcpListener, TcpStream};

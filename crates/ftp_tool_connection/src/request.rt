@@ -1,9 +1,9 @@
 // What is asked of a client.
 use crate::course::Most;
-use crate::pace::Span;
 use ftp_client_model::Near;
 use ftp_facts::Text;
 use ftp_operation::{How, Op};
+use ftp_tool_status::Span;
 use std::alloc::Global;
 
 /// The most entries of a listing, and its most octets.

@@ -1,5 +1,5 @@
 -- The note beside a part of a download (own choice): three numbers of 18 digits, each with LF behind it, and the place of the file at its server.
-use Rattle.std.specs.Prelude.{ℕ, List, take, drop, nat_eq, Option, Some, None, if◌then◌else◌}
+use Rattle.std.specs.Prelude.{ℕ, ◌++◌, List, [], ◌∷◌, codes, decimal, length, take, drop, nat_eq, Option, Some, None, if◌then◌else◌}
 use Rattle.std.specs.Cmp.Lexicographic.{pointwise}
 use Rattle.ftp_facts.specs.Value.{and_then, number_value}
 use Rattle.ftp_tool_local.specs.declared.note.Note.{Note}
@@ -17,3 +17,15 @@ numbers_of text =
 -- what a note says of the file at a place; none where it is a note of another one
 abbrev pub note_value : List ℕ → List ℕ → Option Note
 note_value text place = if pointwise nat_eq (drop 57 text) place then numbers_of text else None
+
+-- digits with zeros before them, as many as these where there are not more digits, and LF
+abbrev pub padded : (zeros digits : List ℕ) → List ℕ
+padded zeros digits = drop (length digits) zeros ++ digits ++ 10 ∷ []
+
+-- a number in 18 digits, or in more, and LF
+abbrev pub number_line : ℕ → List ℕ
+number_line number = padded (codes "000000000000000000") (decimal number)
+
+-- the text of a note of the file at a place
+abbrev pub note_text : Note → List ℕ → List ℕ
+note_text note place = number_line note.size ++ number_line note.moment ++ number_line note.count ++ place

@@ -1,12 +1,13 @@
 // A part that was kept of a download before, with a note of which file it is.
-use crate::content::{Reading, read_from};
+use crate::content::Reading;
+use crate::disk::Disk;
 use crate::note::{Note, note_in};
-use crate::part::{NAMES, beside};
+use crate::part::beside;
 use crate::place::{Place, place_of};
+use crate::writing::NAMES;
 use std::alloc::{AllocError, Global};
-use std::fs::{Files, OpenFile, OpenOptions};
-use std::io::{ErrorKind, Write};
-use std::{fs, io};
+use std::io;
+use std::io::ErrorKind;
 
 /// What stands behind the name of a part in that of its note.
 const NOTE: &str = ".note";
@@ -34,60 +35,75 @@ pub enum Beside {
 }
 
 /// The first part beside a file that has a note of the file at this place of a server, and is as long as that says; `limit` octets at most.
-pub fn kept_beside<R: Files + AllocGlobal>(
-    files: &R,
+pub(crate) fn kept_beside<D: Disk>(
+    disk: &D,
+    alloc: Global,
     file: &str,
     place: &[u8],
     limit: u64,
 ) -> io::Result<Beside> {
-    let Place::File { name, mode: _ } = place_of(files, file)? else {
-        return Ok(Beside::Nothing);
-    };
+    match &place_of(disk, alloc, file)? {
+        Place::File { name, mode: _ } => kept_at(disk, alloc, name.as_str(), place, limit),
+        Place::Device => Ok(Beside::Nothing),
+    }
+}
+
+/// The same, of a file whose name is no link's.
+fn kept_at<D: Disk>(
+    disk: &D,
+    alloc: Global,
+    name: &str,
+    place: &[u8],
+    limit: u64,
+) -> io::Result<Beside> {
     for number in 0..NAMES {
-        let part = beside(files.alloc(), name.as_str(), number)?;
-        if let Some((octets, note)) = part_with_note(files, part.as_str(), place, limit)? {
-            return Ok(Beside::Kept(Kept {
-                number,
-                octets,
-                note,
-            }));
+        if let Some(kept) = kept_as(disk, alloc, name, number, place, limit)? {
+            return Ok(Beside::Kept(kept));
         }
     }
-    let first = beside(files.alloc(), name.as_str(), 0)?;
-    Ok(if fs::exists(files, first.as_str())? {
+    let first = beside(alloc, name, 0)?;
+    Ok(if disk.exists(first.as_str())? {
         Beside::Unnoted
     } else {
         Beside::Nothing
     })
 }
 
-/// The octets of a part, and its note.
-fn part_with_note<R: Files + AllocGlobal>(
-    files: &R,
-    part: &str,
+/// The part of this number, where it has such a note.
+fn kept_as<D: Disk>(
+    disk: &D,
+    alloc: Global,
+    name: &str,
+    number: u32,
     place: &[u8],
     limit: u64,
-) -> io::Result<Option<(Vec<u8, Global>, Note)>> {
-    let noted = name_of_note(files.alloc(), part)?;
-    let Some(text) = octets_of(files, noted.as_str(), NOTE_LIMIT)? else {
+) -> io::Result<Option<Kept>> {
+    let part = beside(alloc, name, number)?;
+    let Some(note) = noted(disk, alloc, part.as_str(), place)? else {
         return Ok(None);
     };
-    let Some(note) = note_in(text.as_slice(), place) else {
-        return Ok(None);
-    };
-    match octets_of(files, part, limit)? {
-        Some(octets) if octets.len() as u64 == note.count => Ok(Some((octets, note))),
+    match octets_of(disk, part.as_str(), limit)? {
+        Some(octets) if octets.len() as u64 == note.count => Ok(Some(Kept {
+            number,
+            octets,
+            note,
+        })),
         _ => Ok(None),
     }
 }
 
+/// What the note of a part says, where it is of the file at this place.
+fn noted<D: Disk>(disk: &D, alloc: Global, part: &str, place: &[u8]) -> io::Result<Option<Note>> {
+    let name = name_of_note(alloc, part)?;
+    match &octets_of(disk, name.as_str(), NOTE_LIMIT)? {
+        Some(text) => Ok(note_in(text.as_slice(), place)),
+        None => Ok(None),
+    }
+}
+
 /// The octets of a file; none where there is no such file, or one of too many octets.
-fn octets_of<R: Files + AllocGlobal>(
-    files: &R,
-    file: &str,
-    limit: u64,
-) -> io::Result<Option<Vec<u8, Global>>> {
-    match read_from(files, file, 0, limit) {
+fn octets_of<D: Disk>(disk: &D, file: &str, limit: u64) -> io::Result<Option<Vec<u8, Global>>> {
+    match disk.read(file, limit) {
         Ok(Reading::Content(content)) => Ok(Some(content.octets)),
         Ok(Reading::TooLarge(_)) => Ok(None),
         Err(error) if error.kind() == ErrorKind::NotFound => Ok(None),
@@ -96,37 +112,44 @@ fn octets_of<R: Files + AllocGlobal>(
 }
 
 /// Writes the note of a part, and flushes it.
-pub(crate) fn write_note<R: Files + AllocGlobal>(
-    files: &R,
+pub(crate) fn write_note<D: Disk>(
+    disk: &D,
+    alloc: Global,
     part: &str,
     note: &[u8],
 ) -> io::Result<()> {
-    let noted = name_of_note(files.alloc(), part)?;
-    let mut how = OpenOptions::new();
-    how.write(true).create(true).truncate(true);
-    let mut opened = how.open(files, noted.as_str())?;
-    opened.write_all(note)?;
-    opened.sync_all()
+    let name = name_of_note(alloc, part)?;
+    disk.write_whole(name.as_str(), note)
 }
 
 /// Removes the note of a part, if there is one.
-pub(crate) fn forget_note<R: Files + AllocGlobal>(files: &R, part: &str) -> Result<(), AllocError> {
-    let noted = name_of_note(files.alloc(), part)?;
-    let _gone = fs::remove_file(files, noted.as_str());
+pub(crate) fn forget_note<D: Disk>(disk: &D, alloc: Global, part: &str) -> Result<(), AllocError> {
+    let name = name_of_note(alloc, part)?;
+    let _gone = disk.remove(name.as_str());
     Ok(())
 }
 
 /// Removes a part beside a file, and its note, which goes first.
-pub fn remove_kept<R: Files + AllocGlobal>(files: &R, file: &str, number: u32) -> io::Result<()> {
-    let Place::File { name, mode: _ } = place_of(files, file)? else {
-        return Ok(());
-    };
-    let part = beside(files.alloc(), name.as_str(), number)?;
-    forget_note(files, part.as_str())?;
-    fs::remove_file(files, part.as_str())
+pub(crate) fn remove_kept<D: Disk>(
+    disk: &D,
+    alloc: Global,
+    file: &str,
+    number: u32,
+) -> io::Result<()> {
+    match &place_of(disk, alloc, file)? {
+        Place::File { name, mode: _ } => remove_part(disk, alloc, name.as_str(), number),
+        Place::Device => Ok(()),
+    }
 }
 
-fn name_of_note(alloc: Global, part: &str) -> Result<String<Global>, AllocError> {
+fn remove_part<D: Disk>(disk: &D, alloc: Global, name: &str, number: u32) -> io::Result<()> {
+    let part = beside(alloc, name, number)?;
+    forget_note(disk, alloc, part.as_str())?;
+    disk.remove(part.as_str())
+}
+
+/// What the note of a part is called.
+pub(crate) fn name_of_note(alloc: Global, part: &str) -> Result<String<Global>, AllocError> {
     let mut name: String<Global> = String::from_str(alloc, part)?;
     name.push_str(NOTE)?;
     Ok(name)

@@ -1,7 +1,7 @@
 // The note beside a part of a download: of which file it is, and how much of it.
-ghost use Rattle.std.specs.Prelude.{◌≡◌, IfOk, IfSome, Some, drop, take};
+ghost use Rattle.std.specs.Prelude.{◌≡◌, ◌≢◌, ◌++◌, IfOk, IfNone, IfSome, OnOk, Some, drop, take};
 ghost use Rattle.ftp_facts.specs.Value.{number_value};
-ghost use Rattle.ftp_tool_local.specs.Note.{field, note_value, numbers_of};
+ghost use Rattle.ftp_tool_local.specs.Note.{field, note_text, note_value, number_line, numbers_of, padded};
 
 use ftp_endpoint::number;
 use itoa::Buffer;
@@ -9,6 +9,9 @@ use std::alloc::{AllocError, Global};
 
 /// How many digits a number of a note has.
 const DIGITS: usize = 18;
+
+/// As many zeros.
+const ZEROS: &[u8] = b"000000000000000000";
 
 /// Where the second and the third number begin, and the place.
 const SECOND: usize = 19;
@@ -85,34 +88,57 @@ fn behind(text: &[u8], count: usize) -> &[u8]
     rest
 }
 
-/// The text of a note; none where it has a number of more than 18 digits.
+/// The text of a note; none where it would not be read as that note, since a number has more than 18 digits.
 pub fn note_of(
     alloc: Global,
     note: Note,
     place: &[u8],
 ) -> Result<Option<Vec<u8, Global>>, AllocError>
-    ensures { IfOk result (λ text. IfSome text (λ text. note_value text.items place.now ≡ Some note)) }
+    ensures text { IfOk result (λ text. IfSome text (λ text. text.items ≡ note_text note place.now)) }
+    ensures read { IfOk result (λ text. IfSome text (λ text. note_value text.items place.now ≡ Some note)) }
+    ensures none { IfOk result (λ text. IfNone text (note_value (note_text note place.now) place.now ≢ Some note)) }
+{
+    let text = text_of(alloc, note, place)?;
+    Ok(read_back(text, note, place))
+}
+
+/// A text that is read as this note; none where it is not.
+fn read_back(text: Vec<u8, Global>, note: Note, place: &[u8]) -> Option<Vec<u8, Global>>
+    ensures text { IfSome result (λ found. found.items ≡ text.items) }
+    ensures read { IfSome result (λ found. note_value found.items place.now ≡ Some note) }
+    ensures none { IfNone result (note_value text.items place.now ≢ Some note) }
+{
+    if note_in(text.as_slice(), place) == Some(note) {
+        Some(text)
+    } else {
+        None
+    }
+}
+
+fn text_of(alloc: Global, note: Note, place: &[u8]) -> Result<Vec<u8, Global>, AllocError>
+    ensures { IfOk result (λ text. text.items ≡ note_text note place.now) }
 {
     let mut text = Vec::new(alloc);
     put_number(note.size, &mut text)?;
     put_number(note.moment, &mut text)?;
     put_number(note.count, &mut text)?;
     text.extend_from_slice(place)?;
-    Ok(if note_in(text.as_slice(), place) == Some(note) {
-        Some(text)
-    } else {
-        None
-    })
+    Ok(text)
 }
 
 /// Puts a number with zeros before it, and LF.
-fn put_number(number: u64, text: &mut Vec<u8, Global>) -> Result<(), AllocError> {
-    let mut buffer = Buffer::new();
-    let digits = buffer.format(number).as_bytes();
-    for _ in digits.len()..DIGITS {
-        text.push(b'0')?;
-    }
+fn put_number(number: u64, text: &mut Vec<u8, Global>) -> Result<(), AllocError>
+    ensures { OnOk result (text.new.items ≡ text.old.items ++ number_line number) }
+{
+    put_padded(ZEROS, Buffer::new().format(number).as_bytes(), text)
+}
+
+/// Puts digits with zeros before them, as many as these where there are not more digits, and LF.
+fn put_padded(zeros: &[u8], digits: &[u8], text: &mut Vec<u8, Global>) -> Result<(), AllocError>
+    ensures { OnOk result (text.new.items ≡ text.old.items ++ padded zeros.now digits.now) }
+{
+    let (_, left) = zeros.split_at(zeros.len().min(digits.len()));
+    text.extend_from_slice(left)?;
     text.extend_from_slice(digits)?;
-    text.push(b'\n')?;
-    Ok(())
+    text.extend_from_slice(b"\n")
 }

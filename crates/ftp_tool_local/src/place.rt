@@ -2,12 +2,13 @@
 ghost use Rattle.std.specs.Prelude.{◌≡◌};
 ghost use Rattle.ftp_tool_local.specs.Place.{way_of};
 
+use crate::disk::Disk;
 use std::alloc::Global;
-use std::fs::{Files, Metadata};
+use std::fs::Metadata;
+use std::io;
 use std::io::{Error, ErrorKind};
 use std::os::unix::fs::PermissionsExt;
 use std::path::PathBuf;
-use std::{fs, io};
 
 /// The most links that are followed from a name, as Linux does.
 const LINKS: u32 = 40;
@@ -24,6 +25,19 @@ pub enum Standing {
     Directory,
     /// What is no file, as a terminal or a pipe.
     Other,
+}
+
+impl Standing {
+    /// What the system found at a name.
+    pub(crate) fn of(found: &Metadata) -> Standing {
+        if found.is_file() {
+            Standing::File(found.permissions().mode() & 0o777)
+        } else if found.is_dir() {
+            Standing::Directory
+        } else {
+            Standing::Other
+        }
+    }
 }
 
 /// How octets get to a name.
@@ -48,24 +62,13 @@ pub(crate) enum Place {
 }
 
 /// Where the octets of a file go: past links, so that none is replaced by a file. No octets go to a directory.
-pub(crate) fn place_of<R: Files + AllocGlobal>(files: &R, file: &str) -> io::Result<Place> {
-    let standing = standing_at(files, file)?;
-    let name = led(files, file)?;
+pub(crate) fn place_of<D: Disk>(disk: &D, alloc: Global, file: &str) -> io::Result<Place> {
+    let standing = disk.standing_at(file)?;
+    let name = led(disk, alloc, file)?;
     match way_of(standing, name.as_str().starts_with(PROCESSES)) {
         Way::Over(mode) => Ok(Place::File { name, mode }),
         Way::Into => Ok(Place::Device),
         Way::Nowhere => Err(bad("a directory has that name")),
-    }
-}
-
-/// What stands at a name, where links are followed.
-fn standing_at<R: Files>(files: &R, file: &str) -> io::Result<Standing> {
-    match fs::metadata(files, file) {
-        Ok(found) if found.is_file() => Ok(Standing::File(mode_of(&found))),
-        Ok(found) if found.is_dir() => Ok(Standing::Directory),
-        Ok(_) => Ok(Standing::Other),
-        Err(error) if error.kind() == ErrorKind::NotFound => Ok(Standing::Nothing),
-        Err(error) => Err(error),
     }
 }
 
@@ -82,42 +85,21 @@ fn way_of(standing: Standing, is_open: bool) -> Way
     }
 }
 
-/// The permissions of a file.
-fn mode_of(found: &Metadata) -> u32 {
-    found.permissions().mode() & 0o777
-}
-
 fn bad(why: &'static str) -> Error {
     Error::new(ErrorKind::InvalidInput, why)
 }
 
 /// The name to which links lead from a name, whether something stands there or not. A link to what a process has open is not followed.
-fn led<R: Files + AllocGlobal>(files: &R, file: &str) -> io::Result<PathBuf<Global>> {
-    let mut name = PathBuf::from_str(files.alloc(), file)?;
+fn led<D: Disk>(disk: &D, alloc: Global, file: &str) -> io::Result<PathBuf<Global>> {
+    let mut name = PathBuf::from_str(alloc, file)?;
     for _ in 0..LINKS {
-        if name.as_str().starts_with(PROCESSES) || !is_link(files, &name) {
+        if name.as_str().starts_with(PROCESSES) {
             return Ok(name);
         }
-        name = behind(files, &name)?;
+        match disk.link_at(&name)? {
+            Some(target) => name = target,
+            None => return Ok(name),
+        }
     }
     Err(bad("too many links follow one another"))
-}
-
-fn is_link<R: Files>(files: &R, name: &PathBuf<Global>) -> bool {
-    match fs::symlink_metadata(files, name) {
-        Ok(found) => found.is_symlink(),
-        Err(_) => false,
-    }
-}
-
-/// The name that a link has, from the directory that the link is in.
-fn behind<R: Files + AllocGlobal>(
-    files: &R,
-    link: &PathBuf<Global>,
-) -> io::Result<PathBuf<Global>> {
-    let target = fs::read_link(files, link)?;
-    match link.parent() {
-        Some(parent) => Ok(parent.join(files.alloc(), &target)?),
-        None => Ok(target),
-    }
 }

@@ -1,3 +1,4 @@
 pub mod Status
 pub mod Steps
 pub mod Version
+pub mod Pace

@@ -1,11 +1,13 @@
-//! What follows a try of an upload or a download, by values alone (sizes are those of RFC 3659, section 4), and the exit statuses of the
-//! programs (own choice). No IO.
+//! What follows a try of an upload or a download, by values alone (sizes are those of RFC 3659, section 4), how far a transfer is, and the exit
+//! statuses of the programs (own choice). No IO.
 #![tactic(auto)]
 
+mod pace;
 mod status;
 mod step;
 mod version;
 
+pub use pace::{Pace, Rest, Span, pace_of};
 pub use status::Status;
 pub use step::{Ended, Step, There, Transfer, follows, follows_download};
 pub use version::{Arrival, Size, Version, arrived, is_too_large, resumes};

@@ -1,8 +1,8 @@
 -- How fast a transfer is, and how much of it is left (own choice).
 use Rattle.std.specs.Prelude.{ℕ, ◌+◌, ◌-◌, ◌*◌, ◌/◌, ◌==◌, Option, Some, None, option_map, if◌then◌else◌}
-use Rattle.ftp_tool_connection.specs.declared.pace.Span.{Span}
-use Rattle.ftp_tool_connection.specs.declared.pace.Pace.{Pace}
-use Rattle.ftp_tool_connection.specs.declared.pace.Rest.{Rest}
+use Rattle.ftp_tool_status.specs.declared.pace.Span.{Span}
+use Rattle.ftp_tool_status.specs.declared.pace.Pace.{Pace}
+use Rattle.ftp_tool_status.specs.declared.pace.Rest.{Rest}
 
 -- octets a second, rounded down; none before the first millisecond
 abbrev pub per_second : (moved millis : ℕ) → ℕ

@@ -1,6 +1,6 @@
 // How fast a transfer is, and how much of it is left.
 ghost use Rattle.std.specs.Prelude.{◌≡◌, ◌+◌};
-ghost use Rattle.ftp_tool_connection.specs.Pace.{hundredths, pace_of, per_second, seconds_left};
+ghost use Rattle.ftp_tool_status.specs.Pace.{hundredths, pace_of, per_second, seconds_left};
 
 use std::fmt;
 use std::fmt::{Display, Formatter};
@@ -33,7 +33,7 @@ pub struct Rest {
 }
 
 /// How far a transfer is that moved so many octets in so many milliseconds.
-pub(crate) fn pace_of(span: Span, moved: u64, millis: u64) -> Pace
+pub fn pace_of(span: Span, moved: u64, millis: u64) -> Pace
     ensures { result ≡ pace_of span moved millis }
 {
     let count = u128::from(span.start) + u128::from(moved);

@@ -1,0 +1,107 @@
+// What is asked of this machine's files by names alone, as a trait without types of its own: what stands on it is proved for less than on the system's
+// files, which bring two types and their bounds.
+use crate::content::{Reading, read_from};
+use crate::place::Standing;
+use crate::writing::{Writing, write_beside, write_into, write_whole};
+use ftp_facts::Text;
+use std::alloc::Global;
+use std::fs::Files;
+use std::io::ErrorKind;
+use std::path::PathBuf;
+use std::{fs, io};
+
+/// What is asked of files by their names.
+pub(crate) trait Disk {
+    /// All octets of a file, where it has `limit` octets at most.
+    fn read(&self, name: &str, limit: u64) -> io::Result<Reading>;
+
+    /// What stands at a name, where links are followed.
+    fn standing_at(&self, name: &str) -> io::Result<Standing>;
+
+    fn exists(&self, name: &str) -> io::Result<bool>;
+
+    /// The name that a link has, from the directory that the link is in; none where no link has this name.
+    fn link_at(&self, name: &PathBuf<Global>) -> io::Result<Option<PathBuf<Global>>>;
+
+    /// Writes a file that is made just now, beside this one, and gives its name. Where that fails, what was written is removed again.
+    fn write_beside(&self, file: &str, writing: Writing<'_>) -> io::Result<String<Global>>;
+
+    /// Writes octets behind what stands at a name that is no file's.
+    fn write_into(&self, name: &str, pieces: &[Text<Global>]) -> io::Result<()>;
+
+    /// Writes octets in the place of what a file has, and flushes them.
+    fn write_whole(&self, name: &str, octets: &[u8]) -> io::Result<()>;
+
+    fn rename(&self, from: &str, to: &str) -> io::Result<()>;
+
+    fn remove(&self, name: &str) -> io::Result<()>;
+}
+
+impl<R: Files + AllocGlobal> Disk for R {
+    fn read(&self, name: &str, limit: u64) -> io::Result<Reading> {
+        read_from(self, name, 0, limit)
+    }
+
+    fn standing_at(&self, name: &str) -> io::Result<Standing> {
+        standing_at(self, name)
+    }
+
+    fn exists(&self, name: &str) -> io::Result<bool> {
+        fs::exists(self, name)
+    }
+
+    fn link_at(&self, name: &PathBuf<Global>) -> io::Result<Option<PathBuf<Global>>> {
+        if !is_link(self, name) {
+            return Ok(None);
+        }
+        let target = fs::read_link(self, name)?;
+        from_directory(self.alloc(), name, target)
+    }
+
+    fn write_beside(&self, file: &str, writing: Writing<'_>) -> io::Result<String<Global>> {
+        write_beside(self, self.alloc(), file, writing)
+    }
+
+    fn write_into(&self, name: &str, pieces: &[Text<Global>]) -> io::Result<()> {
+        write_into(self, name, pieces)
+    }
+
+    fn write_whole(&self, name: &str, octets: &[u8]) -> io::Result<()> {
+        write_whole(self, name, octets)
+    }
+
+    fn rename(&self, from: &str, to: &str) -> io::Result<()> {
+        fs::rename(self, from, to)
+    }
+
+    fn remove(&self, name: &str) -> io::Result<()> {
+        fs::remove_file(self, name)
+    }
+}
+
+fn standing_at<R: Files>(files: &R, name: &str) -> io::Result<Standing> {
+    match fs::metadata(files, name) {
+        Ok(found) => Ok(Standing::of(&found)),
+        Err(error) if error.kind() == ErrorKind::NotFound => Ok(Standing::Nothing),
+        Err(error) => Err(error),
+    }
+}
+
+fn is_link<R: Files>(files: &R, name: &PathBuf<Global>) -> bool {
+    match fs::symlink_metadata(files, name) {
+        Ok(found) => found.is_symlink(),
+        Err(_) => false,
+    }
+}
+
+/// What a link reads, from the directory that the link is in.
+fn from_directory(
+    alloc: Global,
+    link: &PathBuf<Global>,
+    target: PathBuf<Global>,
+) -> io::Result<Option<PathBuf<Global>>> {
+    match link.parent() {
+        Some(parent) => Ok(Some(parent.join(alloc, &target)?)),
+        None => Ok(Some(target)),
+    }
+}
