@@ -1,7 +1,7 @@
 // Why a program stops before it has an answer of the server.
 ghost use Rattle.std.specs.Prelude.{◌≡◌};
 
-use crate::saying::say;
+use crate::saying::told;
 use ftp_tool_status::Status;
 use std::io;
 use std::io::{Eprint, Error, ErrorKind};
@@ -34,6 +34,15 @@ impl Phase {
             Phase::Script => "error: the script is not read: ",
             Phase::Listing => "error: the listing is not taken: ",
             Phase::Report => "error: no report: ",
+        }
+    }
+
+    /// How a program ends that stops there.
+    fn status(self) -> Status {
+        match self {
+            Phase::Login => Status::BadWords,
+            Phase::Listing => Status::Refused,
+            _ => Status::Failed,
         }
     }
 }
@@ -72,11 +81,12 @@ impl SessionFault {
     /// Tells why on standard error, and gives the exit status: that of bad words for a bad login, that of a refusal for a listing, and else that of a
     /// failure.
     pub fn tell<R: Eprint>(&self, rt: &R) -> io::Result<Status> {
-        say(rt, self.stage.sentence(), &self.error, "")?;
-        match self.stage {
-            Phase::Login => Ok(Status::BadWords),
-            Phase::Listing => Ok(Status::Refused),
-            _ => Ok(Status::Failed),
-        }
+        told(
+            rt,
+            self.stage.sentence(),
+            &self.error,
+            "",
+            self.stage.status(),
+        )
     }
 }

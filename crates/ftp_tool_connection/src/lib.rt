@@ -21,5 +21,5 @@ pub use fault::{Phase, SessionFault, at};
 pub use last_reply::{LastReply, Refusal, Said};
 pub use live::{ClientSession, SessionTask};
 pub use request::{Request, Terms};
-pub use saying::say;
+pub use saying::{say, told};
 pub use server::ServerAddress;

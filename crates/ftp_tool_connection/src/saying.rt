@@ -1,4 +1,5 @@
 // What is told on standard error.
+use ftp_tool_status::Status;
 use std::fmt::Display;
 use std::io;
 use std::io::Eprint;
@@ -10,4 +11,20 @@ where
     D: Display,
 {
     eprintln!(rt; "{before}{what}{behind}")
+}
+
+/// The same, and gives an exit status.
+pub fn told<R, D>(
+    rt: &R,
+    before: &str,
+    what: &D,
+    behind: &str,
+    status: Status,
+) -> io::Result<Status>
+where
+    R: Eprint,
+    D: Display,
+{
+    say(rt, before, what, behind)?;
+    Ok(status)
 }

@@ -54,6 +54,23 @@ pub enum Reason {
     CutOff,
 }
 
+impl Reason {
+    /// Why, as it is told behind the name.
+    pub fn sentence(self) -> &'static str {
+        match self {
+            Reason::Name => "the name is none of a single file; it is left out",
+            Reason::Directory => {
+                "a directory stands where a file is to be, and stays without --delete"
+            }
+            Reason::File => "a file stands where a directory is to be, and stays without --delete",
+            Reason::Neither => {
+                "what stands there is neither file nor directory, and stays without --delete"
+            }
+            Reason::CutOff => "more than 1,000,000 entries are listed; nothing is done there",
+        }
+    }
+}
+
 /// What is done of a name.
 #[derive(Clone, Copy)]
 pub enum Deed {

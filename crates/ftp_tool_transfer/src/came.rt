@@ -39,6 +39,19 @@ impl Came {
         self.count
     }
 
+    /// Whether these octets came.
+    pub fn is(&self, octets: &[u8]) -> bool {
+        let mut rest = octets;
+        for piece in &self.pieces {
+            let piece = piece.as_slice();
+            if !rest.starts_with(piece) {
+                return false;
+            }
+            rest = rest.get(piece.len()..).unwrap_or(&[]);
+        }
+        rest.is_empty()
+    }
+
     /// The octets, piece by piece.
     pub fn pieces(&self) -> &[Text<Global>] {
         self.pieces.as_slice()

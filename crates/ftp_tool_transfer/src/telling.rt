@@ -1,6 +1,6 @@
 // What an answer that is none of those wished for tells, in a sentence and an exit status.
 use ftp_operation::Answer;
-use ftp_tool_connection::{LastReply, say};
+use ftp_tool_connection::{LastReply, told};
 use ftp_tool_status::Status;
 use std::alloc::Global;
 use std::fmt::{Display, Formatter};
@@ -9,28 +9,31 @@ use std::{fmt, io};
 
 /// Tells on standard error why an operation was not done, and gives the exit status.
 pub fn tell<R: Eprint>(rt: &R, answer: &Answer<Global>, noticed: &LastReply) -> io::Result<Status> {
+    let status = status(answer);
     match answer {
-        Answer::Refused(code) => say(
+        Answer::Refused(code) => told(
             rt,
             "error: the server refuses it: ",
             &noticed.refusal(*code),
             "",
+            status,
         ),
-        Answer::Lost => say(
+        Answer::Lost => told(
             rt,
             "error: the control connection ended",
             &noticed.farewell(),
             "; it may be done in part",
+            status,
         ),
-        Answer::Strange => say(
+        Answer::Strange => told(
             rt,
             "error: the server says what has no place",
             &noticed.said(),
             "",
+            status,
         ),
-        other => say(rt, "error: ", &sentence(other), ""),
-    }?;
-    Ok(status(answer))
+        other => told(rt, "error: ", &sentence(other), "", status),
+    }
 }
 
 fn sentence(answer: &Answer<Global>) -> &'static str {
@@ -60,8 +63,7 @@ pub fn tell_too_large<R: Eprint>(rt: &R, size: u64, limit: u64) -> io::Result<St
         between: " octets are past the limit of ",
         total: limit,
     };
-    say(rt, "error: ", &part, "")?;
-    Ok(Status::Refused)
+    told(rt, "error: ", &part, "", Status::Refused)
 }
 
 /// How much of a file there is, as it is told: both numbers, and a text between them.

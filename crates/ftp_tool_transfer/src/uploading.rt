@@ -6,7 +6,7 @@ use ftp_client_steps::MOST_TRIES;
 use ftp_facts::Text;
 use ftp_operation::{Answer, How, Op};
 use ftp_tool_connection::{
-    ClientSession, LastReply, Phase, Request, SessionFault, SessionTask, at, say,
+    ClientSession, LastReply, Phase, Request, SessionFault, SessionTask, at, say, told,
 };
 use ftp_tool_local::LocalFiles;
 use ftp_tool_status::{Ended, Status, Step, There, Transfer, follows};
@@ -197,9 +197,16 @@ impl<'a, R: LocalFiles + Eprint> Uploading<'a, R> {
     /// Tells how many tries the upload took, where it was more than one: each has a data connection of its own.
     fn tell_tries(&self, tries: u32) -> io::Result<Status> {
         if tries > 1 {
-            say(self.rt, "note: the upload took ", &tries, " tries")?;
+            told(
+                self.rt,
+                "note: the upload took ",
+                &tries,
+                " tries",
+                Status::Done,
+            )
+        } else {
+            Ok(Status::Done)
         }
-        Ok(Status::Done)
     }
 
     /// Tells that the server has not what it says that it has.
@@ -209,24 +216,24 @@ impl<'a, R: LocalFiles + Eprint> Uploading<'a, R> {
             between: " octets of a file that has ",
             total: self.upload.total,
         };
-        say(
+        told(
             self.rt,
             "error: the server says that it is done, and has ",
             &part,
             "",
-        )?;
-        Ok(Status::Refused)
+            Status::Refused,
+        )
     }
 
     /// Tells that the server says that it is done, and then that there is no such file.
     fn tell_missing(&self, noticed: &LastReply) -> io::Result<Status> {
-        say(
+        told(
             self.rt,
             "error: the server says that it is done, and tells no size of it: ",
             &noticed.refusal(NO_FILE),
             "",
-        )?;
-        Ok(Status::Refused)
+            Status::Refused,
+        )
     }
 }
 
