@@ -4,7 +4,7 @@ use crate::target::Target;
 use ftp_facts::{Moment, Text};
 use ftp_operation::{Answer, How};
 use ftp_settings::{Mode, Structure};
-use ftp_tool_connection::{Converses, LastReply, Logins, Phase, SessionFault, at, say};
+use ftp_tool_connection::{Converses, LastReply, Logins, Phase, SessionFault, at, say, told};
 use ftp_tool_local::{Beside, Flush, Kept, LocalFiles, Note, note_of};
 use ftp_tool_status::{Arrival, Size, Status};
 use ftp_tool_transfer::{Came, Downloading, Part, Stamp, is_counted, tell, tell_too_large};
@@ -233,13 +233,13 @@ fn tell_wrong<R: Eprint>(rt: &R, came: &Came, total: u64) -> io::Result<()> {
 
 /// Tells that more octets came than the limit, and gives the exit status.
 fn tell_past<R: Eprint>(rt: &R, limit: u64) -> io::Result<Status> {
-    say(
+    told(
         rt,
         "error: the file has more than ",
         &limit,
         " octets, which is the limit",
-    )?;
-    Ok(Status::Refused)
+        Status::Refused,
+    )
 }
 
 /// Writes the file, or its octets to standard output.
@@ -293,13 +293,13 @@ fn put_out<R: Print>(rt: &R, came: &Came) -> io::Result<()> {
 
 /// Tells behind how many octets the data connection broke, and gives the exit status.
 fn tell_broken<R: Eprint>(rt: &R, came: &Came) -> io::Result<Status> {
-    say(
+    told(
         rt,
         "error: the data connection broke behind ",
         &came.count(),
         " octets",
-    )?;
-    Ok(Status::Refused)
+        Status::Refused,
+    )
 }
 
 /// Keeps the octets that came where they are to be kept, tells where they are, and gives the status.
@@ -321,14 +321,14 @@ fn keep_part<R: LocalFiles + Eprint>(
     let note = note_for(job, downloading)?;
     let note = note.as_ref().map(|text| text.as_slice());
     match rt.write_part(file, came.pieces(), job.over, note) {
-        Ok(name) => {
-            say(rt, "note: the octets that came are in ", &name, "")?;
-            Ok(status)
-        }
-        Err(error) => {
-            say(rt, "error: the octets that came are not kept: ", &error, "")?;
-            Ok(Status::Failed)
-        }
+        Ok(name) => told(rt, "note: the octets that came are in ", &name, "", status),
+        Err(error) => told(
+            rt,
+            "error: the octets that came are not kept: ",
+            &error,
+            "",
+            Status::Failed,
+        ),
     }
 }
 

@@ -3,7 +3,7 @@ use ftp_facts::Text;
 use ftp_operation::Answer;
 use ftp_tool_connection::{
     ClientSession, Converses, LastReply, Logins, Phase, Request, ServerAddress, SessionFault,
-    SessionTask, at, converse_as, say,
+    SessionTask, at, converse_as, told,
 };
 use ftp_tool_script::{NoScript, Order, Script, read_script, write_report};
 use ftp_tool_status::Status;
@@ -110,8 +110,7 @@ fn tell_fault<R: Eprint>(rt: &R, fault: NoScript) -> Result<Status, SessionFault
 
 /// Tells which line of a text makes it no script.
 fn tell_line<R: Eprint>(rt: &R, number: usize) -> io::Result<Status> {
-    say(rt, "error: ", &NoScript::Line(number), "")?;
-    Ok(Status::BadWords)
+    told(rt, "error: ", &NoScript::Line(number), "", Status::BadWords)
 }
 
 /// The orders of a script, until they are done.
