@@ -111,13 +111,18 @@ pub fn command<'a>(alloc: Global) -> Result<Command<'a>, AllocError> {
 /// All subcommands. Each few are put by a function of their own, and options come from one: who names words pays by the square of how many they are.
 fn subcommands<'a>(alloc: Global) -> Result<Vec<Command<'a>>, AllocError> {
     let mut known = Vec::new(alloc);
-    put_parts(alloc, &mut known)?;
-    put_serve(alloc, &mut known)?;
-    put_transfers(alloc, &mut known)?;
-    put_simple(alloc, &mut known)?;
-    put_run(alloc, &mut known)?;
-    put_mirror(alloc, &mut known)?;
+    put_subcommands(alloc, &mut known)?;
     Ok(known)
+}
+
+/// Puts all of them; where nothing is owned, a `?` has nothing to let go.
+fn put_subcommands<'a>(alloc: Global, known: &mut Vec<Command<'a>>) -> Result<(), AllocError> {
+    put_parts(alloc, known)?;
+    put_serve(alloc, known)?;
+    put_transfers(alloc, known)?;
+    put_simple(alloc, known)?;
+    put_run(alloc, known)?;
+    put_mirror(alloc, known)
 }
 
 fn put_parts<'a>(alloc: Global, known: &mut Vec<Command<'a>>) -> Result<(), AllocError> {

@@ -4,12 +4,10 @@ use crate::place::{location_in, user_in};
 use crate::refusal::{BadValue, Refusal};
 use crate::words::{
     ACTIVE, EXTENDED, Form, LIMIT, MODE, PASSWORD_FILE, STRU, Subcommand, TIMEOUT, TYPE, USER,
-    Value, Word, limit_in, number_in, representation_in,
+    Value, Word, bad_timeout, chosen, how_of, limit_in, number_in, representation_in,
 };
 use clap::ArgMatches;
-use ftp_operation::How;
 use ftp_tool_fetch::{Download, Lines, Parts, Simple, Target, Task};
-use ftp_tool_files::number_of;
 use ftp_tool_words::UrlPlace;
 
 pub const GET: Subcommand<'static> = Subcommand {
@@ -173,14 +171,7 @@ fn refusal_of<'a>(
             wanted: "an address or a name, a port from 1 to 65535 and a path are wanted",
         });
     }
-    match words.get_str("timeout") {
-        Some(timeout) if number_of(timeout).is_none() => Refusal::Value(BadValue {
-            option: "--timeout <SECONDS>",
-            value: timeout,
-            wanted: "decimal digits alone are wanted",
-        }),
-        _ => Refusal::Number,
-    }
+    Refusal::of_value(bad_timeout(words))
 }
 
 /// What is asked at a place, which is this URL, if it is one. At a terminal progress is told.
@@ -205,26 +196,17 @@ fn target_of<'a>(
     Some(Target {
         place: location_in(place, url)?,
         user: user_in(words, url),
-        how: how_of(words)?,
+        how: how_of(words, representation_in(words)?),
         timeout: number_in(words, "timeout")?,
         progress: is_terminal || words.get_flag("progress"),
         limit: limit_in(words)?,
     })
 }
 
-fn how_of(words: &ArgMatches<'_>) -> Option<How> {
-    Some(How {
-        representation: representation_in(words)?,
-        marks: false,
-        active: words.get_flag("active"),
-        extended: words.get_flag("extended"),
-    })
-}
-
 /// What is done at the one place that a subcommand of this name asks at.
 pub fn fetch_task_of<'a>(name: &str, words: &'a ArgMatches<'_>) -> Option<Task<'a>> {
     match name {
-        "ls" => Some(Task::List(lines_of(words))),
+        "ls" => Some(Task::List(chosen(words, "long", Lines::Long, Lines::Facts))),
         "cat" => Some(Task::Get(SHOWN)),
         "size" => Some(Task::Simple(Simple::Size)),
         "rm" => Some(Task::Simple(Simple::Remove)),
@@ -232,14 +214,6 @@ pub fn fetch_task_of<'a>(name: &str, words: &'a ArgMatches<'_>) -> Option<Task<'
         "rmdir" => Some(Task::Simple(Simple::RemoveDirectory)),
         "mv" => move_of(words),
         _ => None,
-    }
-}
-
-fn lines_of(words: &ArgMatches<'_>) -> Lines {
-    if words.get_flag("long") {
-        Lines::Long
-    } else {
-        Lines::Facts
     }
 }
 

@@ -2,13 +2,12 @@
 use crate::place::{location_in, user_in};
 use crate::refusal::{BadValue, Refusal};
 use crate::words::{
-    ACTIVE, EXTENDED, Form, LIMIT, PASSWORD_FILE, Subcommand, TIMEOUT, USER, Value, Word, limit_in,
-    number_in,
+    ACTIVE, EXTENDED, Form, LIMIT, PASSWORD_FILE, Subcommand, TIMEOUT, USER, Value, Word,
+    bad_timeout, chosen, how_of, limit_in, number_in,
 };
 use clap::ArgMatches;
-use ftp_operation::How;
 use ftp_tool_connection::ServerAddress;
-use ftp_tool_files::{number_of, representation_of};
+use ftp_tool_files::representation_of;
 use ftp_tool_local::Flush;
 use ftp_tool_mirror::{Check, Doing, Extra, Mirror, Rules, Way};
 use ftp_tool_words::{Location, UrlPlace, User};
@@ -105,10 +104,7 @@ pub fn mirror_of<'a>(
 ) -> Result<Mirror<'a>, Refusal<'a>> {
     match mirrored_by(words, from, to) {
         Some(mirror) => Ok(mirror),
-        None => Err(match bad_value(words) {
-            Some(bad) => Refusal::Value(bad),
-            None => Refusal::Number,
-        }),
+        None => Err(Refusal::of_value(bad_value(words))),
     }
 }
 
@@ -141,67 +137,53 @@ fn asked_of<'a>(
     folder: &'a str,
     way: Way,
 ) -> Option<Mirror<'a>> {
+    let server = server_at(words, place)?;
+    let limit = limit_in(words)?;
+    let how = how_of(words, representation_of("I", "F", "S")?);
     Some(Mirror {
-        server: ServerAddress {
-            host: place.host,
-            port: place.port,
-            timeout: number_in(words, "timeout")?,
-            progress: words.get_flag("progress"),
-        },
+        server,
         user,
         path: place.path,
         folder,
-        how: How {
-            representation: representation_of("I", "F", "S")?,
-            marks: false,
-            active: words.get_flag("active"),
-            extended: words.get_flag("extended"),
-        },
+        how,
         rules: rules_of(words, way),
         excluded: words.get_strs("exclude").unwrap_or(&[]),
-        flush: if words.get_flag("no-flush") {
-            Flush::Later
-        } else {
-            Flush::First
-        },
-        limit: limit_in(words)?,
-        doing: if words.get_flag("dry-run") {
-            Doing::Nothing
-        } else {
-            Doing::All
-        },
+        flush: chosen(words, "no-flush", Flush::Later, Flush::First),
+        limit,
+        doing: chosen(words, "dry-run", Doing::Nothing, Doing::All),
+    })
+}
+
+fn server_at<'a>(words: &ArgMatches<'_>, place: Location<'a>) -> Option<ServerAddress<'a>> {
+    let timeout = number_in(words, "timeout")?;
+    Some(ServerAddress {
+        host: place.host,
+        port: place.port,
+        timeout,
+        progress: words.get_flag("progress"),
     })
 }
 
 fn rules_of(words: &ArgMatches<'_>, way: Way) -> Rules {
     Rules {
         way,
-        check: if words.get_flag("checksum") {
-            Check::ByOctets
-        } else {
-            Check::ByFacts
-        },
-        extra: if words.get_flag("delete") {
-            Extra::Removed
-        } else {
-            Extra::Kept
-        },
+        check: chosen(words, "checksum", Check::ByOctets, Check::ByFacts),
+        extra: chosen(words, "delete", Extra::Removed, Extra::Kept),
     }
 }
 
 /// The value that is none.
 fn bad_value<'a>(words: &'a ArgMatches<'_>) -> Option<BadValue<'a>> {
-    let timeout = words.get_str("timeout")?;
-    if number_of(timeout).is_none() {
-        return Some(BadValue {
-            option: "--timeout <SECONDS>",
-            value: timeout,
-            wanted: "decimal digits alone are wanted",
-        });
+    match bad_timeout(words) {
+        Some(bad) => Some(bad),
+        None => bad_target(words.get_str("target")?),
     }
+}
+
+fn bad_target(target: &str) -> Option<BadValue<'_>> {
     Some(BadValue {
         option: "<TARGET>",
-        value: words.get_str("target")?,
+        value: target,
         wanted: "one of SOURCE and TARGET is HOST:PORT/PATH, the other a folder, with / or ./ before it where it has a slash",
     })
 }

@@ -22,6 +22,14 @@ pub enum Refusal<'a> {
 }
 
 impl<'a> Refusal<'a> {
+    /// A value that is none of its option, or, where all are, a number that has a sign.
+    pub fn of_value(bad: Option<BadValue<'a>>) -> Refusal<'a> {
+        match bad {
+            Some(bad) => Refusal::Value(bad),
+            None => Refusal::Number,
+        }
+    }
+
     /// A word that is a URL names no place.
     pub fn of_url(option: &'a str, word: &'a str, fault: UrlFault) -> Refusal<'a> {
         match fault {

@@ -1,7 +1,7 @@
 // The subcommand `serve`: its words.
 use crate::help;
 use crate::refusal::{BadValue, Refusal};
-use crate::words::{Form, MOST, Subcommand, Value, Word, number_in};
+use crate::words::{Form, MOST, Subcommand, Value, Word, chosen, number_in};
 use clap::ArgMatches;
 use ftp_tool_serve::{Limits, Log, Others, Serving, Sessions};
 use ftp_tool_words::{port_of, ports_of, sessions_of};
@@ -86,10 +86,7 @@ const OPTIONS: &[Word<'static>] = &[
 pub fn serving_of<'a>(words: &'a ArgMatches<'_>) -> Result<Serving<'a>, Refusal<'a>> {
     match served_by(words) {
         Some(serving) => Ok(serving),
-        None => Err(match bad_value(words) {
-            Some(bad) => Refusal::Value(bad),
-            None => Refusal::Number,
-        }),
+        None => Err(Refusal::of_value(bad_value(words))),
     }
 }
 
@@ -100,10 +97,10 @@ fn served_by<'a>(words: &'a ArgMatches<'_>) -> Option<Serving<'a>> {
         dir: words.get_str("dir")?,
         sessions: count_of(words)?,
         accounts: words.get_str("accounts"),
-        log: log_of(words),
+        log: chosen(words, "log", Log::Told, Log::Silent),
         limits: limits_of(words)?,
         passive: passive_of(words)?,
-        others: others_of(words),
+        others: chosen(words, "keep", Others::Keep, Others::Change),
     })
 }
 
@@ -129,22 +126,6 @@ fn limits_of(words: &ArgMatches<'_>) -> Option<Limits> {
         idle: number_in(words, "idle")?,
         idle_while_waited: number_in(words, "idle-while-waited")?,
     })
-}
-
-fn log_of(words: &ArgMatches<'_>) -> Log {
-    if words.get_flag("log") {
-        Log::Told
-    } else {
-        Log::Silent
-    }
-}
-
-fn others_of(words: &ArgMatches<'_>) -> Others {
-    if words.get_flag("keep") {
-        Others::Keep
-    } else {
-        Others::Change
-    }
 }
 
 /// The first value that is none of its option, of those that `clap` takes as they are.

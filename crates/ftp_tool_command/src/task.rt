@@ -21,16 +21,22 @@ pub enum Task {
 
 /// The task of words that the program knows; none where a value is none of its option.
 pub fn task_of(matches: &ArgMatches<'_>) -> Option<Task> {
-    match matches.subcommand() {
-        Some(("dialogue", inner)) => {
-            let piece = number_in(inner, "piece")?;
-            Some(Task::Dialogue { piece })
-        }
-        Some(("facts", _)) => Some(Task::Facts),
-        Some(("frame", inner)) => Some(Task::Frame {
-            form: representation_in(inner)?,
-            direction: Direction::new(inner.get_flag("read"), inner.get_flag("marks")),
-        }),
+    let (name, inner) = matches.subcommand()?;
+    match name {
+        "dialogue" => dialogue_of(inner),
+        "facts" => Some(Task::Facts),
+        "frame" => frame_of(inner),
         _ => None,
     }
+}
+
+fn dialogue_of(words: &ArgMatches<'_>) -> Option<Task> {
+    let piece = number_in(words, "piece")?;
+    Some(Task::Dialogue { piece })
+}
+
+fn frame_of(words: &ArgMatches<'_>) -> Option<Task> {
+    let form = representation_in(words)?;
+    let direction = Direction::new(words.get_flag("read"), words.get_flag("marks"));
+    Some(Task::Frame { form, direction })
 }

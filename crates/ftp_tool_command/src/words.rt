@@ -1,6 +1,8 @@
 // Words of a command line, as tables, and what `clap` makes of them.
+use crate::refusal::BadValue;
 use clap::builder::{ValueParser, ValueRange};
 use clap::{Arg, ArgAction, ArgMatches, Command};
+use ftp_operation::How;
 use ftp_tool_files::{Representation, number_of, representation_of};
 use std::alloc::{AllocError, Global};
 
@@ -102,8 +104,6 @@ pub enum Form<'a> {
     Needed(Value<'a>),
     /// An option with a value, and the value where it is not there.
     Else(Value<'a>, &'a str),
-    /// A word that is no option.
-    Place(Value<'a>),
     /// A word that is no option and has to be there.
     NeededPlace(Value<'a>),
     /// Words that are no options, of which one has to be there.
@@ -165,7 +165,6 @@ fn arg_of<'a>(alloc: Global, word: Word<'a>) -> Arg<'a> {
         Form::Many(value) => option(alloc, word, value).action(ArgAction::Append),
         Form::Needed(value) => option(alloc, word, value).required(true),
         Form::Else(value, other) => option(alloc, word, value).default_value(other),
-        Form::Place(value) => place(alloc, word, value),
         Form::NeededPlace(value) => place(alloc, word, value).required(true),
         Form::NeededPlaces(value) => place(alloc, word, value)
             .required(true)
@@ -185,9 +184,41 @@ fn place<'a>(alloc: Global, word: Word<'a>, value: Value<'a>) -> Arg<'a> {
         .action(ArgAction::Set)
 }
 
+/// The first where an option without a value is there, and else the second.
+pub fn chosen<T: Copy>(matches: &ArgMatches<'_>, option: &str, given: T, other: T) -> T {
+    if matches.get_flag(option) {
+        given
+    } else {
+        other
+    }
+}
+
 /// The number that an option has.
 pub fn number_in(matches: &ArgMatches<'_>, option: &str) -> Option<u32> {
     number_of(matches.get_str(option)?)
+}
+
+/// The seconds of `--timeout`, where they are no number.
+pub fn bad_timeout<'a>(matches: &'a ArgMatches<'_>) -> Option<BadValue<'a>> {
+    let timeout = matches.get_str("timeout")?;
+    if number_of(timeout).is_some() {
+        return None;
+    }
+    Some(BadValue {
+        option: "--timeout <SECONDS>",
+        value: timeout,
+        wanted: "decimal digits alone are wanted",
+    })
+}
+
+/// How a transfer of this representation goes.
+pub fn how_of(matches: &ArgMatches<'_>, representation: Representation) -> How {
+    How {
+        representation,
+        marks: false,
+        active: matches.get_flag("active"),
+        extended: matches.get_flag("extended"),
+    }
 }
 
 /// The most octets that a file may have.
