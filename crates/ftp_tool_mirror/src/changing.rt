@@ -1,51 +1,32 @@
 // What changes the target beside the octets of files.
 use crate::asked::Mirror;
-use crate::machine::Machine;
 use crate::server::done_by;
 use crate::trouble::Trouble;
 use ftp_facts::Text;
 use ftp_operation::Op;
 use ftp_tool_connection::ClientSession;
+use ftp_tool_local::{Change, LocalFiles};
 use std::alloc::Global;
-use std::fs::Files;
-use std::{fs, io};
 
-/// What changes the target beside the octets of files.
-#[derive(Clone, Copy)]
-pub(crate) enum Change {
-    MakeDir,
-    RemoveFile,
-    RemoveDir,
+/// What a change does, as it is told.
+pub(crate) fn word_of(change: Change) -> &'static str {
+    match change {
+        Change::MakeDir => "make",
+        Change::RemoveFile | Change::RemoveDir => "remove",
+    }
 }
 
-impl Change {
-    /// What it does, as it is told.
-    pub(crate) fn word(self) -> &'static str {
-        match self {
-            Change::MakeDir => "make",
-            Change::RemoveFile | Change::RemoveDir => "remove",
-        }
-    }
-
-    fn op(self, path: Text<Global>) -> Op<Text<Global>> {
-        match self {
-            Change::MakeDir => Op::MakeDir(path),
-            Change::RemoveFile => Op::Delete(path),
-            Change::RemoveDir => Op::RemoveDir(path),
-        }
-    }
-
-    pub(crate) fn done_at<R: Files>(self, files: &R, place: &str) -> io::Result<()> {
-        match self {
-            Change::MakeDir => fs::create_dir(files, place),
-            Change::RemoveFile => fs::remove_file(files, place),
-            Change::RemoveDir => fs::remove_dir(files, place),
-        }
+/// A change of what has this path at a server.
+fn op_of(change: Change, path: Text<Global>) -> Op<Text<Global>> {
+    match change {
+        Change::MakeDir => Op::MakeDir(path),
+        Change::RemoveFile => Op::Delete(path),
+        Change::RemoveDir => Op::RemoveDir(path),
     }
 }
 
 /// Changes the folder of this machine.
-pub(crate) fn change_here<R: Machine>(
+pub(crate) fn change_here<R: LocalFiles>(
     rt: &R,
     alloc: Global,
     mirror: &Mirror<'_>,
@@ -66,5 +47,5 @@ pub(crate) fn change_there<S: ClientSession>(
     below: &str,
 ) -> Result<(), Trouble> {
     let path = mirror.path(alloc, below)?;
-    done_by(seat, change.op(path))
+    done_by(seat, op_of(change, path))
 }

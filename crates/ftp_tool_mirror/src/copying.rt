@@ -14,7 +14,6 @@ use std::alloc::{AllocError, Global};
 use std::io::Eprint;
 
 /// A file at both ends.
-#[derive(Drop)]
 pub(crate) struct Ends<'a> {
     /// Its path below both roots.
     below: &'a str,
@@ -25,6 +24,19 @@ pub(crate) struct Ends<'a> {
     how: How,
     /// The most octets that it may have.
     limit: u64,
+}
+
+/// By hand: a derived drop is proved again, part by part, wherever ends are let go.
+impl<'a> Drop for Ends<'a> {
+    fn drop(self) {
+        let Self {
+            below: _,
+            there: _,
+            here: _,
+            how: _,
+            limit: _,
+        } = self;
+    }
 }
 
 impl<'a> Ends<'a> {
@@ -77,8 +89,8 @@ pub(crate) fn begun<'a, R: Eprint>(
     facts: Facts,
 ) -> Result<Downloading<'a, R>, AllocError> {
     let mut downloading = Downloading::new(rt, alloc, ends.there.as_str(), ends.how)?;
-    downloading.put_terms(ends.limit, Stamp::Unasked);
     downloading.name_as(shown(alloc, ends.below)?.as_str())?;
+    downloading.put_terms(ends.limit, Stamp::Unasked);
     if let Some(size) = facts.size {
         downloading.expect(size, moment_of(facts));
     }
@@ -118,22 +130,9 @@ pub(crate) fn is_same<R: LocalFiles>(
     came: &Came,
 ) -> Result<bool, Trouble> {
     match rt.read_from(ends.here.as_str(), 0, came.count())? {
-        Reading::Content(content) => Ok(are_pieces(content.octets.as_slice(), came.pieces())),
+        Reading::Content(content) => Ok(came.is(content.octets.as_slice())),
         Reading::TooLarge(_) => Ok(false),
     }
-}
-
-/// Whether octets are these pieces, one behind another.
-fn are_pieces(octets: &[u8], pieces: &[Text<Global>]) -> bool {
-    let mut rest = octets;
-    for piece in pieces {
-        let piece = piece.as_slice();
-        if !rest.starts_with(piece) {
-            return false;
-        }
-        rest = rest.get(piece.len()..).unwrap_or(&[]);
-    }
-    rest.is_empty()
 }
 
 /// Uploads a file, over breaks; the server has to have its size then. Gives how many octets it has.

@@ -33,12 +33,12 @@ fn items_of<R: Files + Clone + Drop>(
         if items.len() >= MOST_ENTRIES {
             return Ok(Listing::CutOff);
         }
-        put_item(alloc, &mut items, entry, below, excluded)?;
+        put_entry(alloc, &mut items, entry, below, excluded)?;
     }
     Ok(Listing::Whole(items))
 }
 
-fn put_item<R: Files + Drop>(
+fn put_entry<R: Files + Drop>(
     alloc: Global,
     items: &mut Vec<Item<Global>, Global>,
     entry: io::Result<DirEntry<R, Global>>,
@@ -48,18 +48,18 @@ fn put_item<R: Files + Drop>(
     let entry = entry?;
     let kind = kind_of(&entry.metadata()?);
     let name = entry.file_name();
-    items.push(item_of(alloc, name.as_bytes(), kind, below, excluded)?)?;
-    Ok(())
+    Ok(put_item(alloc, items, name.as_bytes(), kind, below, excluded)?)
 }
 
-/// An entry of this name and this kind, unless it is left alone. One whose name is no text is below no path, and refused by its name.
-pub(crate) fn item_of(
+/// Puts an entry of this name and this kind, unless it is left alone. One whose name is no text is below no path, and refused by its name.
+pub(crate) fn put_item(
     alloc: Global,
+    items: &mut Vec<Item<Global>, Global>,
     name: &[u8],
     kind: Kind,
     below: &str,
     excluded: &[&str],
-) -> Result<Item<Global>, AllocError> {
+) -> Result<(), AllocError> {
     let text = std::str::from_utf8(name).unwrap_or("");
     let path = joined(alloc, below, text)?;
     let kind = if is_excluded(excluded, path.as_str(), text) {
@@ -68,7 +68,8 @@ pub(crate) fn item_of(
         kind
     };
     let name = Text::copy_of(alloc, name)?;
-    Ok(Item { name, kind })
+    items.push(Item { name, kind })?;
+    Ok(())
 }
 
 fn kind_of(found: &Metadata) -> Kind {

@@ -1,12 +1,11 @@
 // What a mirror asks of this machine beside files: what stands on a trait without types of its own is proved for less.
-use crate::changing::Change;
 use crate::folder::entries_here;
 use crate::trouble::Trouble;
 use ftp_tool_listing::Listing;
 use std::alloc::Global;
 use std::fs::Files;
 use std::io;
-use std::io::{Print, Write};
+use std::io::Print;
 
 /// What a mirror asks of this machine beside files.
 pub(crate) trait Machine {
@@ -18,11 +17,8 @@ pub(crate) trait Machine {
         excluded: &[&str],
     ) -> Result<Listing<Global>, Trouble>;
 
-    /// Changes what stands at a place.
-    fn change(&self, change: Change, place: &str) -> io::Result<()>;
-
-    /// Writes a text to standard output.
-    fn put_out(&self, text: &str) -> io::Result<()>;
+    /// Tells on standard output what would be done of what is shown so.
+    fn tell_would(&self, what: &str, name: &str) -> io::Result<()>;
 }
 
 impl<R: Files + Print + AllocGlobal + Clone + Drop> Machine for R {
@@ -35,11 +31,7 @@ impl<R: Files + Print + AllocGlobal + Clone + Drop> Machine for R {
         entries_here(self, place, below, excluded)
     }
 
-    fn change(&self, change: Change, place: &str) -> io::Result<()> {
-        change.done_at(self, place)
-    }
-
-    fn put_out(&self, text: &str) -> io::Result<()> {
-        io::writer(self).write_all(text.as_bytes())
+    fn tell_would(&self, what: &str, name: &str) -> io::Result<()> {
+        println!(self; "{what} {name}")
     }
 }

@@ -3,7 +3,7 @@ use crate::asked::Mirror;
 use crate::machine::Machine;
 use crate::walk::Walk;
 use ftp_operation::Answer;
-use ftp_tool_connection::{Converses, LastReply, Logins, SessionFault, ask, say};
+use ftp_tool_connection::{Converses, LastReply, Logins, SessionFault, ask, say, told};
 use ftp_tool_local::LocalFiles;
 use ftp_tool_status::Status;
 use std::alloc::Global;
@@ -16,6 +16,12 @@ use std::time::Clock;
 
 /// How often a mirror goes on that got further over the control connections before.
 const ROUNDS: u32 = 1_000_000;
+
+/// What is told before the reply of a server that knows no MLSD.
+const NO_LISTING: &str = "error: the server has no machine listing, by which a mirror goes: ";
+
+/// What is told before what the server said last.
+const ENDED: &str = "error: the control connection ended";
 
 /// Mirrors a tree, and gives the exit status: 0; 1 where something was refused or failed; 2 for a bad login; 3 where the control connection or a
 /// device failed, or memory was refused. All that is not done is told on standard error, and at the end how much was.
@@ -42,9 +48,8 @@ where
     let mut noticed = LastReply::new();
     let mut walk = Walk::new(rt, alloc, asked)?;
     let answered = walked(rt, asked, &mut walk, &mut noticed);
-    let tally = walk.tally();
-    let told = tell_end(rt, &answered, tally.failed, &noticed);
-    say(rt, "", &tally, "")?;
+    let told = tell_end(rt, &answered, walk.tally.failed, &noticed);
+    say(rt, "", &walk.tally, "")?;
     told
 }
 
@@ -80,24 +85,21 @@ fn tell_end<R: Eprint>(
     match answered {
         Ok(Answer::Done) if failed == 0 => Ok(Status::Done),
         Ok(Answer::Done) => Ok(Status::Refused),
-        Ok(Answer::Refused(code)) => tell_no_listing(rt, *code, noticed),
-        Ok(Answer::Lost) => tell_lost(rt, noticed),
-        Ok(_) => {
-            rt.eprintln("error: out of memory")?;
-            Ok(Status::Failed)
-        }
+        Ok(Answer::Refused(code)) => told(
+            rt,
+            NO_LISTING,
+            &noticed.refusal(*code),
+            "",
+            Status::Refused,
+        ),
+        Ok(Answer::Lost) => told(
+            rt,
+            ENDED,
+            &noticed.farewell(),
+            "; another run goes on",
+            Status::Failed,
+        ),
+        Ok(_) => told(rt, "error: ", &"out of memory", "", Status::Failed),
         Err(stop) => stop.tell(rt),
     }
-}
-
-fn tell_no_listing<R: Eprint>(rt: &R, code: u16, noticed: &LastReply) -> io::Result<Status> {
-    let sentence = "error: the server has no machine listing, by which a mirror goes: ";
-    say(rt, sentence, &noticed.refusal(code), "")?;
-    Ok(Status::Refused)
-}
-
-fn tell_lost<R: Eprint>(rt: &R, noticed: &LastReply) -> io::Result<Status> {
-    let sentence = "error: the control connection ended";
-    say(rt, sentence, &noticed.farewell(), "; another run goes on")?;
-    Ok(Status::Failed)
 }

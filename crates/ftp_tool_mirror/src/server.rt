@@ -1,5 +1,5 @@
 // What stands in a directory of a server, and what is asked of it.
-use crate::folder::{MOST_ENTRIES, item_of};
+use crate::folder::{MOST_ENTRIES, put_item};
 use crate::trouble::Trouble;
 use ftp_facts::{Entry, EntryKind, Text};
 use ftp_operation::{Answer, Op};
@@ -68,7 +68,7 @@ fn items_of(
     let mut items = Vec::new(alloc);
     for entry in entries {
         let name = entry.name.as_slice();
-        items.push(item_of(alloc, name, kind_of(entry), below, excluded)?)?;
+        put_item(alloc, &mut items, name, kind_of(entry), below, excluded)?;
     }
     Ok(Listing::Whole(items))
 }

@@ -1,5 +1,5 @@
 // What was done so far.
-use crate::changing::Change;
+use ftp_tool_local::Change;
 use itoa::Buffer;
 use std::fmt;
 use std::fmt::{Display, Formatter};
@@ -50,15 +50,36 @@ impl Display for Tally {
     fn fmt<W: fmt::Write>(&self, formatter: &mut Formatter<W>) -> fmt::Result {
         write!(
             formatter,
-            "{} files copied, {} directories made, {} removed, {} failed; ",
-            self.files, self.dirs, self.removed, self.failed
+            "{} files copied, {} directories made, ",
+            self.files, self.dirs
         )?;
-        write_grouped(self.octets, formatter)?;
-        formatter.write_str(" octets")
+        write!(
+            formatter,
+            "{} removed, {} failed; ",
+            self.removed, self.failed
+        )?;
+        write_grouped(self.octets, formatter)
     }
 }
 
-/// Writes a number with a comma before each three digits.
+/// How far a mirror is, where so many things wait.
+#[derive(Clone, Copy)]
+pub(crate) struct Progress {
+    pub(crate) tally: Tally,
+    pub(crate) left: usize,
+}
+
+impl Display for Progress {
+    fn fmt<W: fmt::Write>(&self, formatter: &mut Formatter<W>) -> fmt::Result {
+        write!(
+            formatter,
+            "{}; {} more to do in sight",
+            self.tally, self.left
+        )
+    }
+}
+
+/// Writes how many octets there are, with a comma before each three digits.
 fn write_grouped<W: fmt::Write>(number: u64, formatter: &mut Formatter<W>) -> fmt::Result {
     let mut buffer = Buffer::new();
     let digits = buffer.format(number);
@@ -69,5 +90,5 @@ fn write_grouped<W: fmt::Write>(number: u64, formatter: &mut Formatter<W>) -> fm
         }
         formatter.write_char(digit)?;
     }
-    Ok(())
+    formatter.write_str(" octets")
 }

@@ -1,23 +1,22 @@
 // The way through a tree, one thing after another.
 use crate::asked::{Doing, Mirror};
-use crate::changing::{Change, change_here, change_there};
+use crate::changing::{change_here, change_there, word_of};
 use crate::copying::{Ends, begun, copy_up, download, is_same, leave};
 use crate::machine::Machine;
 use crate::server::{MISSING, entries_there, stands_there};
-use crate::tally::Tally;
-use crate::telling::{refusal, tell, tell_copied, tell_trouble, tell_would};
+use crate::tally::{Progress, Tally};
+use crate::telling::{shown, tell, tell_trouble};
 use crate::todo::{Chore, Todo, Work};
 use crate::trouble::Trouble;
 use ftp_operation::{Answer, Op};
 use ftp_tool_connection::{ClientSession, SessionFault, SessionTask};
 use ftp_tool_listing::{Deed, Extra, Facts, Listing, Rules, Way};
-use ftp_tool_local::LocalFiles;
+use ftp_tool_local::{Change, LocalFiles};
 use ftp_tool_transfer::Downloading;
 use std::alloc::{AllocError, Global};
 use std::io::{Eprint, ErrorKind};
 
 /// A mirror on its way.
-#[derive(Drop)]
 pub(crate) struct Walk<'a, R> {
     rt: &'a R,
     alloc: Global,
@@ -25,7 +24,22 @@ pub(crate) struct Walk<'a, R> {
     todo: Todo,
     /// The download of what comes next, where a control connection ended in its middle.
     cut: Option<Downloading<'a, R>>,
-    tally: Tally,
+    /// What was done so far.
+    pub(crate) tally: Tally,
+}
+
+/// By hand: a derived drop is proved again, part by part, wherever a walk is let go.
+impl<'a, R> Drop for Walk<'a, R> {
+    fn drop(self) {
+        let Self {
+            rt: _,
+            alloc: _,
+            mirror: _,
+            todo: _,
+            cut: _,
+            tally: _,
+        } = self;
+    }
 }
 
 impl<'a, R: LocalFiles + Machine + Eprint> Walk<'a, R> {
@@ -45,11 +59,6 @@ impl<'a, R: LocalFiles + Machine + Eprint> Walk<'a, R> {
             cut: None,
             tally: Tally::new(),
         })
-    }
-
-    /// What was done so far.
-    pub(crate) fn tally(&self) -> Tally {
-        self.tally
     }
 
     /// How far it got: how many things it took up, and how many octets came of the file under way.
@@ -131,24 +140,16 @@ impl<'a, R: LocalFiles + Machine + Eprint> Walk<'a, R> {
             Deed::RemoveFile => self.change(seat, Change::RemoveFile, below),
             Deed::RemoveDir => self.empty_dir(seat, below),
             Deed::PassOver => {
-                self.say(
-                    "note: ",
-                    below,
-                    "neither file nor directory; it is left out",
-                );
+                let what = "neither file nor directory; it is left out";
+                let _told = tell(self.rt, self.alloc, "note: ", below, &what);
                 Ok(())
             }
             Deed::Refuse(reason) => {
                 self.tally.add_failed();
-                self.say("error: ", below, refusal(reason));
+                let _told = tell(self.rt, self.alloc, "error: ", below, &reason.sentence());
                 Ok(())
             }
         }
-    }
-
-    /// Tells of something, if that can be told.
-    fn say(&self, kind: &str, below: &str, text: &str) {
-        let _told = tell(self.rt, self.alloc, kind, below, text);
     }
 
     /// Copies a file.
@@ -240,8 +241,17 @@ impl<'a, R: LocalFiles + Machine + Eprint> Walk<'a, R> {
         facts: Facts,
     ) -> Result<bool, Trouble> {
         let ends = Ends::new(self.alloc, self.mirror, below)?;
-        let downloading = self.downloaded(seat, &ends, facts)?;
-        is_same(self.rt, &ends, downloading.came())
+        self.is_same_there(seat, &ends, facts)
+    }
+
+    fn is_same_there<S: ClientSession>(
+        &mut self,
+        seat: &mut S,
+        ends: &Ends<'_>,
+        facts: Facts,
+    ) -> Result<bool, Trouble> {
+        let downloading = self.downloaded(seat, ends, facts)?;
+        is_same(self.rt, ends, downloading.came())
     }
 
     /// Makes a directory of the target, and goes into it. One that is there already, as where its making was answered over a connection that ended, is
@@ -340,20 +350,25 @@ impl<'a, R: LocalFiles + Machine + Eprint> Walk<'a, R> {
         change: Change,
         below: &str,
     ) -> Result<(), Trouble> {
-        if !self.is_told_only(change.word(), below)? {
+        let changed = if self.is_told_only(word_of(change), below)? {
+            Ok(())
+        } else {
             match self.mirror.rules.way {
-                Way::Down => change_here(self.rt, self.alloc, self.mirror, change, below)?,
-                Way::Up => change_there(self.alloc, seat, self.mirror, change, below)?,
+                Way::Down => change_here(self.rt, self.alloc, self.mirror, change, below),
+                Way::Up => change_there(self.alloc, seat, self.mirror, change, below),
             }
+        };
+        if changed.is_ok() {
+            self.tally.add_change(change);
         }
-        self.tally.add_change(change);
-        Ok(())
+        changed
     }
 
     /// Tells what would be done, where nothing is; says whether that is so.
     fn is_told_only(&self, what: &str, below: &str) -> Result<bool, Trouble> {
         if self.mirror.doing == Doing::Nothing {
-            tell_would(self.rt, self.alloc, what, below)?;
+            let name = shown(self.alloc, below)?;
+            self.rt.tell_would(what, name.as_str())?;
             return Ok(true);
         }
         Ok(false)
@@ -362,8 +377,11 @@ impl<'a, R: LocalFiles + Machine + Eprint> Walk<'a, R> {
     /// Tells how far the mirror is, where that is asked for.
     fn tell_progress(&self, below: &str) {
         if self.mirror.server.progress {
-            let left = self.todo.count();
-            let _told = tell_copied(self.rt, self.alloc, below, self.tally, left);
+            let progress = Progress {
+                tally: self.tally,
+                left: self.todo.count(),
+            };
+            let _told = tell(self.rt, self.alloc, "", below, &progress);
         }
     }
 }
