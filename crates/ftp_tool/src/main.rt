@@ -124,19 +124,35 @@ fn run_script<R: Programs + Eprint>(rt: &R, words: &ArgMatches<'_>) -> io::Resul
     }
 }
 
-/// Does what `mirror` asks for.
+/// Does what `mirror` asks for. A URL is let go where one call ends: each way out of a function that has one is proved anew.
 fn mirror<R: Programs + Eprint>(rt: &R, alloc: Global, words: &ArgMatches<'_>) -> io::Result<u8> {
-    let source = words.get_str("source").unwrap_or("");
-    let target = words.get_str("target").unwrap_or("");
-    let from = match url_in(alloc, "<SOURCE>", source) {
-        Ok(url) => url,
-        Err(refusal) => return refuse(rt, refusal),
-    };
-    let to = match url_in(alloc, "<TARGET>", target) {
-        Ok(url) => url,
-        Err(refusal) => return refuse(rt, refusal),
-    };
-    match mirror_of(words, from.as_ref(), to.as_ref()) {
+    match url_in(alloc, "<SOURCE>", words.get_str("source").unwrap_or("")) {
+        Ok(from) => mirror_from(rt, alloc, words, from.as_ref()),
+        Err(refusal) => refuse(rt, refusal),
+    }
+}
+
+/// The same, from this URL, if it is one.
+fn mirror_from<R: Programs + Eprint>(
+    rt: &R,
+    alloc: Global,
+    words: &ArgMatches<'_>,
+    from: Option<&UrlPlace>,
+) -> io::Result<u8> {
+    match url_in(alloc, "<TARGET>", words.get_str("target").unwrap_or("")) {
+        Ok(to) => mirror_between(rt, words, from, to.as_ref()),
+        Err(refusal) => refuse(rt, refusal),
+    }
+}
+
+/// The same, between these URLs.
+fn mirror_between<'a, R: Programs + Eprint>(
+    rt: &R,
+    words: &'a ArgMatches<'_>,
+    from: Option<&'a UrlPlace>,
+    to: Option<&'a UrlPlace>,
+) -> io::Result<u8> {
+    match mirror_of(words, from, to) {
         Ok(asked) => number_of(rt.mirror(asked)),
         Err(refusal) => refuse(rt, refusal),
     }
@@ -148,16 +164,15 @@ where
     R: Programs + Eprint,
 {
     let (places, target) = sources_of(words.get_strs("places").unwrap_or(&[]));
-    let urls = match urls_in(alloc, PLACE_OPTION, places) {
-        Ok(urls) => urls,
-        Err(refusal) => return refuse(rt, refusal),
-    };
     let goal = Goal {
         target,
         into: places.len() > 1 || says_directory(target) || rt.is_folder(target),
         is_terminal,
     };
-    get_where(rt, alloc, words, places, urls.as_slice(), goal)
+    match urls_in(alloc, PLACE_OPTION, places) {
+        Ok(urls) => get_where(rt, alloc, words, places, urls.as_slice(), goal),
+        Err(refusal) => refuse(rt, refusal),
+    }
 }
 
 /// Downloads the files at places of which these are URLs, where all of them can be asked at.
@@ -222,18 +237,24 @@ fn put<R>(rt: &R, alloc: Global, words: &ArgMatches<'_>, is_terminal: bool) -> i
 where
     R: Programs + Eprint,
 {
-    let files = words.get_strs("files").unwrap_or(&[]);
     let place = words.get_str("place").unwrap_or("");
-    let url = match url_in(alloc, PLACE_OPTION, place) {
-        Ok(url) => url,
-        Err(refusal) => return refuse(rt, refusal),
-    };
-    let asked = match asked_of(words, place, url.as_ref(), is_terminal) {
-        Ok(asked) => asked,
-        Err(refusal) => return refuse(rt, refusal),
-    };
+    match url_in(alloc, PLACE_OPTION, place) {
+        Ok(url) => match asked_of(words, place, url.as_ref(), is_terminal) {
+            Ok(asked) => put_where(rt, alloc, words, &asked),
+            Err(refusal) => refuse(rt, refusal),
+        },
+        Err(refusal) => refuse(rt, refusal),
+    }
+}
+
+/// Uploads files to a place, where all of them can go there.
+fn put_where<R>(rt: &R, alloc: Global, words: &ArgMatches<'_>, asked: &Target<'_>) -> io::Result<u8>
+where
+    R: Programs + Eprint,
+{
+    let files = words.get_strs("files").unwrap_or(&[]);
     match goes_into(asked.place.path, files) {
-        Ok(into) => number_of(put_all(rt, alloc, &asked, into, files)),
+        Ok(into) => number_of(put_all(rt, alloc, asked, into, files)),
         Err(refusal) => refuse(rt, refusal),
     }
 }
@@ -294,16 +315,24 @@ where
     R: Programs + Eprint,
 {
     let place = words.get_str("place").unwrap_or("");
-    let url = match url_in(alloc, PLACE_OPTION, place) {
-        Ok(url) => url,
-        Err(refusal) => return refuse(rt, refusal),
-    };
-    let asked = match asked_of(words, place, url.as_ref(), is_terminal) {
-        Ok(asked) => asked,
-        Err(refusal) => return refuse(rt, refusal),
-    };
+    match url_in(alloc, PLACE_OPTION, place) {
+        Ok(url) => match asked_of(words, place, url.as_ref(), is_terminal) {
+            Ok(asked) => ask_at(rt, name, words, &asked),
+            Err(refusal) => refuse(rt, refusal),
+        },
+        Err(refusal) => refuse(rt, refusal),
+    }
+}
+
+/// The same at this place.
+fn ask_at<R: Programs + Eprint>(
+    rt: &R,
+    name: &str,
+    words: &ArgMatches<'_>,
+    asked: &Target<'_>,
+) -> io::Result<u8> {
     match fetch_task_of(name, words) {
-        Some(task) => number_of(rt.fetch(&asked, task)),
+        Some(task) => number_of(rt.fetch(asked, task)),
         None => refuse(rt, Refusal::Number),
     }
 }
