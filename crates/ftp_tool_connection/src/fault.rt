@@ -36,15 +36,6 @@ impl Phase {
             Phase::Report => "error: no report: ",
         }
     }
-
-    /// How a program ends that stops there.
-    fn status(self) -> Status {
-        match self {
-            Phase::Login => Status::BadWords,
-            Phase::Listing => Status::Refused,
-            _ => Status::Failed,
-        }
-    }
 }
 
 /// What was under way, and what failed.
@@ -81,12 +72,11 @@ impl SessionFault {
     /// Tells why on standard error, and gives the exit status: that of bad words for a bad login, that of a refusal for a listing, and else that of a
     /// failure.
     pub fn tell<R: Eprint>(&self, rt: &R) -> io::Result<Status> {
-        told(
-            rt,
-            self.stage.sentence(),
-            &self.error,
-            "",
-            self.stage.status(),
-        )
+        let status = match self.stage {
+            Phase::Login => Status::BadWords,
+            Phase::Listing => Status::Refused,
+            _ => Status::Failed,
+        };
+        told(rt, self.stage.sentence(), &self.error, "", status)
     }
 }
