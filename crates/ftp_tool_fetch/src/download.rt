@@ -318,9 +318,21 @@ fn keep_part<R: LocalFiles + Eprint>(
     if parts == Parts::Dropped || file == OUTPUT || came.count() == 0 {
         return Ok(status);
     }
-    let note = note_for(job, downloading)?;
-    let note = note.as_ref().map(|text| text.as_slice());
-    match rt.write_part(file, came.pieces(), job.over, note) {
+    match &note_for(job, downloading)? {
+        Some(note) => write_part(rt, job, came, Some(note.as_slice()), status),
+        None => write_part(rt, job, came, None, status),
+    }
+}
+
+/// Writes the octets that came beside the file, with this note, tells where they are, and gives the status.
+fn write_part<R: LocalFiles + Eprint>(
+    rt: &R,
+    job: &Job<'_>,
+    came: &Came,
+    note: Option<&[u8]>,
+    status: Status,
+) -> io::Result<Status> {
+    match rt.write_part(job.download.file, came.pieces(), job.over, note) {
         Ok(name) => told(rt, "note: the octets that came are in ", &name, "", status),
         Err(error) => told(
             rt,
