@@ -25,13 +25,22 @@ pub enum Reason {
 }
 
 /// Why a folder is not loaded: which file or directory, and what is wrong with it.
-#[derive(Debug, Drop, Error)]
+#[derive(Debug, Error)]
 pub enum LoadFault {
     #[error("{place:?}: {why}")]
     Refused { place: String<Global>, why: Reason },
     /// The allocator refused a growth.
     #[error("out of memory")]
     Memory,
+}
+
+/// By hand: a derived drop is proved again wherever a fault is let go.
+impl Drop for LoadFault {
+    fn drop(self) {
+        match self {
+            LoadFault::Refused { place: _, why: _ } | LoadFault::Memory => {}
+        }
+    }
 }
 
 impl LoadFault {

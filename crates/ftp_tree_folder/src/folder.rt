@@ -5,19 +5,17 @@ ghost use Rattle.ftp_tree_folder.specs.Place.{folder_text};
 
 use crate::place::{check_free, check_way, place_of};
 use crate::reasons::{Reasons, Touches};
-use crate::writing::{sync_above, write_over};
-use crate::{Folder, FolderFault};
+use crate::{Disk, Folder, FolderFault};
 use ftp_facts::Moment;
 use ftp_operation::{Deed, Rights};
 use ftp_path::Path;
 use ftp_tree::Content;
 use std::alloc::{AllocError, Allocator, Global};
-use std::fs::Files;
-use std::{fs, io};
+use std::io;
 
 /// The files and directories below a directory of the system. No clause says what files keep: what it keeps is not known. A link on
 /// the way to what is changed is not followed: the call fails. So does a change that the rights of `reasons` do not allow, before the folder is touched.
-pub struct DiskFolder<'a, R: Files + AllocGlobal + Clone + Drop> {
+pub struct DiskFolder<'a, R: Disk> {
     files: &'a R,
     reasons: &'a Reasons,
     dir: String<Global>,
@@ -25,7 +23,7 @@ pub struct DiskFolder<'a, R: Files + AllocGlobal + Clone + Drop> {
 }
 
 /// By hand, as that of a mirror.
-impl<'a, R: Files + AllocGlobal + Clone + Drop> Drop for DiskFolder<'a, R> {
+impl<'a, R: Disk> Drop for DiskFolder<'a, R> {
     fn drop(self) {
         let Self {
             files: _,
@@ -36,7 +34,7 @@ impl<'a, R: Files + AllocGlobal + Clone + Drop> Drop for DiskFolder<'a, R> {
     }
 }
 
-impl<'a, R: Files + AllocGlobal + Clone + Drop> DiskFolder<'a, R> {
+impl<'a, R: Disk> DiskFolder<'a, R> {
     /// The folder below a directory, which is the current one for an empty text. Nothing is looked at. What may be changed is asked of
     /// `reasons`, and why a change fails goes there.
     pub fn new(
@@ -47,7 +45,7 @@ impl<'a, R: Files + AllocGlobal + Clone + Drop> DiskFolder<'a, R> {
         ensures dir { IfOk result (λ folder. string_bytes folder.dir ≡ folder_text dir.now) }
         ensures failures { IfOk result (λ folder. folder.failures ≡ 0) }
     {
-        let dir = String::from_str(files.alloc(), if dir.is_empty() { "." } else { dir })?;
+        let dir = String::from_str(files.memory(), if dir.is_empty() { "." } else { dir })?;
         Ok(DiskFolder {
             files,
             reasons,
@@ -62,9 +60,20 @@ impl<'a, R: Files + AllocGlobal + Clone + Drop> DiskFolder<'a, R> {
         root: &Path<B>,
         path: &Path<C>,
     ) -> io::Result<String<Global>> {
-        let place = place_of(self.files.alloc(), self.dir.as_str(), root, path)?;
+        let place = place_of(self.files.memory(), self.dir.as_str(), root, path)?;
         check_way(self.files, place.as_str(), self.dir.len())?;
         Ok(place)
+    }
+
+    /// The same, where the rights allow to do that with names.
+    fn place_to<B: Allocator + Copy, C: Allocator + Copy>(
+        &self,
+        deed: Deed,
+        root: &Path<B>,
+        path: &Path<C>,
+    ) -> io::Result<String<Global>> {
+        self.reasons.check(deed, Touches::Names)?;
+        self.place(root, path)
     }
 
     fn made<B: Allocator + Copy, C: Allocator + Copy>(
@@ -72,14 +81,10 @@ impl<'a, R: Files + AllocGlobal + Clone + Drop> DiskFolder<'a, R> {
         root: &Path<B>,
         path: &Path<C>,
     ) -> io::Result<()> {
-        self.reasons.check(Deed::Make, Touches::Names)?;
-        let place = self.place(root, path)?;
-        fs::create_dir(self.files, place.as_str())?;
-        let synced = sync_above(self.files, place.as_str());
-        if synced.is_err() {
-            let _gone = fs::remove_dir(self.files, place.as_str());
+        match self.place_to(Deed::Make, root, path) {
+            Ok(place) => make_at(self.files, place.as_str()),
+            Err(error) => Err(error),
         }
-        synced
     }
 
     fn removed<B: Allocator + Copy, C: Allocator + Copy>(
@@ -87,10 +92,10 @@ impl<'a, R: Files + AllocGlobal + Clone + Drop> DiskFolder<'a, R> {
         root: &Path<B>,
         path: &Path<C>,
     ) -> io::Result<()> {
-        self.reasons.check(Deed::Change, Touches::Names)?;
-        let place = self.place(root, path)?;
-        fs::remove_dir(self.files, place.as_str())?;
-        sync_above(self.files, place.as_str())
+        match self.place_to(Deed::Change, root, path) {
+            Ok(place) => remove_at(self.files, place.as_str()),
+            Err(error) => Err(error),
+        }
     }
 
     fn deleted<B: Allocator + Copy, C: Allocator + Copy>(
@@ -98,10 +103,10 @@ impl<'a, R: Files + AllocGlobal + Clone + Drop> DiskFolder<'a, R> {
         root: &Path<B>,
         path: &Path<C>,
     ) -> io::Result<()> {
-        self.reasons.check(Deed::Change, Touches::Names)?;
-        let place = self.place(root, path)?;
-        fs::remove_file(self.files, place.as_str())?;
-        sync_above(self.files, place.as_str())
+        match self.place_to(Deed::Change, root, path) {
+            Ok(place) => delete_at(self.files, place.as_str()),
+            Err(error) => Err(error),
+        }
     }
 
     fn renamed<B: Allocator + Copy, C: Allocator + Copy, D: Allocator + Copy>(
@@ -110,22 +115,9 @@ impl<'a, R: Files + AllocGlobal + Clone + Drop> DiskFolder<'a, R> {
         from: &Path<C>,
         to: &Path<D>,
     ) -> io::Result<()> {
-        self.reasons.check(Deed::Change, Touches::Names)?;
-        let from = self.place(root, from)?;
+        let from = self.place_to(Deed::Change, root, from)?;
         let to = self.place(root, to)?;
-        check_free(self.files, to.as_str())?;
-        fs::rename(self.files, from.as_str(), to.as_str())?;
-        let synced = self.synced(from.as_str(), to.as_str());
-        if synced.is_err() {
-            let _back = fs::rename(self.files, to.as_str(), from.as_str());
-        }
-        synced
-    }
-
-    /// Both names of a move are on the disk: the new one first, so that the file never has none there.
-    fn synced(&self, from: &str, to: &str) -> io::Result<()> {
-        sync_above(self.files, to)?;
-        sync_above(self.files, from)
+        move_at(self.files, from.as_str(), to.as_str())
     }
 
     fn written<A: Allocator + Copy, B: Allocator + Copy, C: Allocator + Copy>(
@@ -136,8 +128,10 @@ impl<'a, R: Files + AllocGlobal + Clone + Drop> DiskFolder<'a, R> {
         moment: Moment,
     ) -> io::Result<()> {
         let place = self.place(root, path)?;
-        self.check_writing(place.as_str())?;
-        write_over(self.files, place.as_str(), content, moment)
+        match self.check_writing(place.as_str()) {
+            Ok(()) => self.files.write_over(place.as_str(), content, moment),
+            Err(error) => Err(error),
+        }
     }
 
     /// Fails where the rights do not allow to write a file at a place: where something stands there, that is a change of it.
@@ -167,7 +161,7 @@ impl<'a, R: Files + AllocGlobal + Clone + Drop> DiskFolder<'a, R> {
     }
 }
 
-impl<'a, R: Files + AllocGlobal + Clone + Drop> Folder for DiskFolder<'a, R> {
+impl<'a, R: Disk> Folder for DiskFolder<'a, R> {
     ghost kept = { λ _. None };
 
     ghost failures = { λ folder. folder.failures };
@@ -223,4 +217,41 @@ impl<'a, R: Files + AllocGlobal + Clone + Drop> Folder for DiskFolder<'a, R> {
         let done = self.written(root, path, content, moment);
         self.counted(done)
     }
+}
+
+/// Makes a directory whose name is on the disk, or none.
+fn make_at<R: Disk>(files: &R, place: &str) -> io::Result<()> {
+    files.put_dir(place)?;
+    let synced = files.sync_above(place);
+    if synced.is_err() {
+        let _gone = files.take_dir(place);
+    }
+    synced
+}
+
+fn remove_at<R: Disk>(files: &R, place: &str) -> io::Result<()> {
+    files.take_dir(place)?;
+    files.sync_above(place)
+}
+
+fn delete_at<R: Disk>(files: &R, place: &str) -> io::Result<()> {
+    files.take_file(place)?;
+    files.sync_above(place)
+}
+
+/// Moves to a place where nothing stands, or not at all.
+fn move_at<R: Disk>(files: &R, from: &str, to: &str) -> io::Result<()> {
+    check_free(files, to)?;
+    files.move_to(from, to)?;
+    let synced = sync_both(files, from, to);
+    if synced.is_err() {
+        let _back = files.move_to(to, from);
+    }
+    synced
+}
+
+/// Both names of a move are on the disk: the new one first, so that the file never has none there.
+fn sync_both<R: Disk>(files: &R, from: &str, to: &str) -> io::Result<()> {
+    files.sync_above(to)?;
+    files.sync_above(from)
 }

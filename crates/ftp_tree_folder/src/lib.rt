@@ -2,6 +2,7 @@
 #![tactic(auto)]
 
 mod device;
+mod disk;
 mod fault;
 mod folder;
 mod loading;
@@ -14,6 +15,7 @@ mod reloading;
 mod writing;
 
 pub use device::{Folder, FolderFault};
+pub use disk::Disk;
 pub use fault::{LoadFault, Reason};
 pub use folder::DiskFolder;
 pub use loading::{load, open};

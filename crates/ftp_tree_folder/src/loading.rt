@@ -2,13 +2,13 @@
 ghost use Rattle.std.specs.Prelude.{◌≡◌, IfOk, string_bytes};
 ghost use Rattle.ftp_tree_folder.specs.Place.{folder_text};
 
-use crate::Mirror;
 use crate::fault::{LoadFault, Reason};
 use crate::folder::DiskFolder;
 use crate::look::{Look, Seen};
 use crate::place::place_of;
-use crate::reading::{is_left, leave, moment_of, open_same, path_in, read_all};
+use crate::reading::{is_left, leave, moment_of, path_in};
 use crate::reasons::Reasons;
+use crate::{Disk, Mirror};
 use ftp_path::Path;
 use ftp_tree::{Content, MemTree, NodeKind, Tree, TreeFault};
 use std::alloc::{AllocError, Global};
@@ -66,7 +66,7 @@ pub fn load<'a, R: Files + AllocGlobal + Clone + Drop>(
     };
     for _ in 0..DIR_TURNS {
         let Some(here) = loading.next_dir() else {
-            return Ok(loading.tree);
+            return Ok(loading.into_parts().0);
         };
         loading.load_dir(&here, &mut Refusing)?;
     }
@@ -109,8 +109,7 @@ impl OnFault for Refusing {
 
 /// A tree that is being loaded, and the directories that are still to be read: those below the root that is being loaded now, and the roots
 /// that come behind it.
-#[derive(Drop)]
-pub(crate) struct Loading<'a, R: Files + AllocGlobal + Clone + Drop> {
+pub(crate) struct Loading<'a, R: Disk> {
     pub(crate) files: &'a R,
     pub(crate) dir: &'a str,
     roots: &'a [Path<Global>],
@@ -127,7 +126,26 @@ pub(crate) struct Loading<'a, R: Files + AllocGlobal + Clone + Drop> {
     buffer: Vec<u8, Global>,
 }
 
-impl<'a, R: Files + AllocGlobal + Clone + Drop> Loading<'a, R> {
+/// By hand, as that of a mirror.
+impl<'a, R: Disk> Drop for Loading<'a, R> {
+    fn drop(self) {
+        let Self {
+            files: _,
+            dir: _,
+            roots: _,
+            root: _,
+            tree: _,
+            old: _,
+            seen: _,
+            now: _,
+            waiting: _,
+            later: _,
+            buffer: _,
+        } = self;
+    }
+}
+
+impl<'a, R: Disk> Loading<'a, R> {
     /// Loads into a tree that stands already; where memory is refused, it is given back.
     pub(crate) fn new(
         files: &'a R,
@@ -136,7 +154,7 @@ impl<'a, R: Files + AllocGlobal + Clone + Drop> Loading<'a, R> {
         old: Old,
         now: u64,
     ) -> Result<Loading<'a, R>, Old> {
-        let alloc = files.alloc();
+        let alloc = files.memory();
         let mut waiting = Vec::new(alloc);
         let Ok(()) = waiting.push(Path::root(alloc)) else {
             return Err(old);
@@ -159,13 +177,31 @@ impl<'a, R: Files + AllocGlobal + Clone + Drop> Loading<'a, R> {
         })
     }
 
+    /// The tree that was loaded, and how its files look.
+    pub(crate) fn into_parts(self) -> (MemTree<Global>, Seen) {
+        let Self {
+            files: _,
+            dir: _,
+            roots: _,
+            root: _,
+            tree,
+            old: _,
+            seen,
+            now: _,
+            waiting: _,
+            later: _,
+            buffer: _,
+        } = self;
+        (tree, seen)
+    }
+
     /// The next directory, below the root that is being loaded; where none waits there, the next root is.
     pub(crate) fn next_dir(&mut self) -> Option<Path<Global>> {
         if let Some(here) = self.waiting.pop() {
             return Some(here);
         }
         self.root = self.later.pop()?;
-        Some(Path::root(self.files.alloc()))
+        Some(Path::root(self.files.memory()))
     }
 
     /// Whether a path is one of the roots, which is loaded behind what is below none.
@@ -173,64 +209,34 @@ impl<'a, R: Files + AllocGlobal + Clone + Drop> Loading<'a, R> {
         self.root.key().is_empty() && self.roots.iter().any(|root| root.key() == path.key())
     }
 
-    /// Loads what stands directly in a directory; the directories in it wait.
-    pub(crate) fn load_dir<F: OnFault>(
+    /// Loads one entry of a directory, which was found at a place.
+    fn load_found(
         &mut self,
         here: &Path<Global>,
-        on_fault: &mut F,
+        name: &str,
+        place: &str,
+        found: &Metadata,
     ) -> Result<(), LoadFault> {
-        let alloc = self.files.alloc();
-        let place = match place_of(alloc, self.dir, &self.root, here) {
-            Ok(place) => place,
-            Err(error) => return on_fault.meet(LoadFault::of_system(alloc, self.dir, error)),
-        };
-        let entries = match fs::read_dir(self.files, place.as_str()) {
-            Ok(entries) => entries,
-            Err(error) => return on_fault.meet(LoadFault::of_system(alloc, place.as_str(), error)),
-        };
-        for entry in entries {
-            let loaded = match entry {
-                Ok(entry) => self.load_entry(here, &entry),
-                Err(error) => Err(LoadFault::of_system(alloc, place.as_str(), error)),
-            };
-            if let Err(fault) = loaded {
-                on_fault.meet(fault)?;
-            }
-        }
-        Ok(())
-    }
-
-    /// Loads one entry of a directory.
-    fn load_entry(
-        &mut self,
-        here: &Path<Global>,
-        entry: &DirEntry<R, Global>,
-    ) -> Result<(), LoadFault> {
-        let alloc = self.files.alloc();
-        let place = entry.path().as_os_str();
-        let found = match entry.metadata() {
-            Ok(found) => found,
-            Err(error) => return Err(LoadFault::of_system(alloc, place, error)),
-        };
-        if found.is_file() && is_left(entry.file_name()) {
+        let alloc = self.files.memory();
+        if found.is_file() && is_left(name) {
             return match leave(self.files, place, found.len()) {
                 Ok(()) => Ok(()),
                 Err(error) => Err(LoadFault::of_system(alloc, place, error)),
             };
         }
-        let path = path_in(alloc, here, entry.file_name().as_bytes(), place)?;
+        let path = path_in(alloc, here, name.as_bytes(), place)?;
         if found.is_dir() {
             return self.add_dir(path, place);
         }
         if !found.is_file() {
             return Err(LoadFault::at(alloc, place, Reason::Kind));
         }
-        self.add_file(&path, place, &found)
+        self.add_file(&path, place, found)
     }
 
     /// Adds a directory, which then waits.
     fn add_dir(&mut self, path: Path<Global>, place: &str) -> Result<(), LoadFault> {
-        let alloc = self.files.alloc();
+        let alloc = self.files.memory();
         if self.tree.kind(&self.root, &path) != Some(NodeKind::Dir) {
             if let Err(fault) = self.tree.make_dir(&self.root, &path) {
                 return Err(LoadFault::of_tree(alloc, place, fault));
@@ -280,7 +286,7 @@ impl<'a, R: Files + AllocGlobal + Clone + Drop> Loading<'a, R> {
         place: &str,
         found: &Metadata,
     ) -> Result<(), LoadFault> {
-        let alloc = self.files.alloc();
+        let alloc = self.files.memory();
         if let Some(fault) = self.tree.install_refusal(&self.root, path, found.len()) {
             return Err(LoadFault::of_tree(alloc, place, fault));
         }
@@ -288,15 +294,56 @@ impl<'a, R: Files + AllocGlobal + Clone + Drop> Loading<'a, R> {
             Ok(room) => room,
             Err(fault) => return Err(LoadFault::of_tree(alloc, place, fault)),
         };
-        let mut file = open_same(self.files, place, found)?;
         let mut content = Content::new(alloc);
-        if let Err(why) = read_all(&mut file, self.buffer.as_mut_slice(), room, &mut content) {
-            return Err(LoadFault::at(alloc, place, why));
-        }
+        let buffer = self.buffer.as_mut_slice();
+        self.files
+            .read_same(place, found, room, buffer, &mut content)?;
         let moment = moment_of(found.mtime());
         match self.tree.install(&self.root, path, &mut content, moment) {
             Ok(()) => Ok(()),
             Err(fault) => Err(LoadFault::of_tree(alloc, place, fault)),
+        }
+    }
+}
+
+impl<'a, R: Files + AllocGlobal + Clone + Drop> Loading<'a, R> {
+    /// Loads what stands directly in a directory; the directories in it wait.
+    pub(crate) fn load_dir<F: OnFault>(
+        &mut self,
+        here: &Path<Global>,
+        on_fault: &mut F,
+    ) -> Result<(), LoadFault> {
+        let alloc = self.files.memory();
+        let place = match place_of(alloc, self.dir, &self.root, here) {
+            Ok(place) => place,
+            Err(error) => return on_fault.meet(LoadFault::of_system(alloc, self.dir, error)),
+        };
+        let entries = match fs::read_dir(self.files, place.as_str()) {
+            Ok(entries) => entries,
+            Err(error) => return on_fault.meet(LoadFault::of_system(alloc, place.as_str(), error)),
+        };
+        for entry in entries {
+            let loaded = match entry {
+                Ok(entry) => self.load_entry(here, &entry),
+                Err(error) => Err(LoadFault::of_system(alloc, place.as_str(), error)),
+            };
+            if let Err(fault) = loaded {
+                on_fault.meet(fault)?;
+            }
+        }
+        Ok(())
+    }
+
+    /// Loads one entry of a directory.
+    fn load_entry(
+        &mut self,
+        here: &Path<Global>,
+        entry: &DirEntry<R, Global>,
+    ) -> Result<(), LoadFault> {
+        let place = entry.path().as_os_str();
+        match entry.metadata() {
+            Ok(found) => self.load_found(here, entry.file_name(), place, &found),
+            Err(error) => Err(LoadFault::of_system(self.files.memory(), place, error)),
         }
     }
 }

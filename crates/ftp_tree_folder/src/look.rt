@@ -34,9 +34,15 @@ struct SeenFile {
 }
 
 /// The files of a folder, as each looked when it was read.
-#[derive(Drop)]
 pub struct Seen {
     files: Vec<SeenFile, Global>,
+}
+
+/// By hand, as that of a mirror.
+impl Drop for Seen {
+    fn drop(self) {
+        let Self { files: _ } = self;
+    }
 }
 
 impl Seen {

@@ -3,11 +3,11 @@ ghost use Rattle.std.specs.Prelude.{◌≡◌, ◌++◌, IfOk, OnOk, string_byte
 ghost use Rattle.ftp_path.specs.Path.{joined};
 ghost use Rattle.ftp_tree_folder.specs.Place.{IsBelow};
 
+use crate::Disk;
 use ftp_path::Path;
 use std::alloc::{Allocator, Global};
-use std::fs::Files;
+use std::io;
 use std::io::{Error, ErrorKind};
-use std::{fs, io};
 
 /// Where the path below a root lies: the text of the folder, and then a `/` before each name. No name of a path is `..`, so it is
 /// below the folder.
@@ -37,7 +37,7 @@ fn push_names(place: &mut String<Global>, names: &[u8]) -> io::Result<()>
 }
 
 /// Fails where a directory on the way to a place, behind the first `start` octets, is none: so no link is followed there.
-pub(crate) fn check_way<R: Files>(files: &R, place: &str, start: usize) -> io::Result<()> {
+pub(crate) fn check_way<R: Disk>(files: &R, place: &str, start: usize) -> io::Result<()> {
     for end in start..place.len() {
         match place.split_at_checked(end) {
             Some((above, rest)) if end > start && rest.starts_with('/') => {
@@ -50,8 +50,8 @@ pub(crate) fn check_way<R: Files>(files: &R, place: &str, start: usize) -> io::R
 }
 
 /// Fails where what stands at a place is no directory; a link to one is none.
-fn check_dir<R: Files>(files: &R, place: &str) -> io::Result<()> {
-    if fs::symlink_metadata(files, place)?.is_dir() {
+fn check_dir<R: Disk>(files: &R, place: &str) -> io::Result<()> {
+    if files.found(place)?.is_dir() {
         Ok(())
     } else {
         Err(Error::from(ErrorKind::NotADirectory))
@@ -59,8 +59,8 @@ fn check_dir<R: Files>(files: &R, place: &str) -> io::Result<()> {
 }
 
 /// Fails where something stands at a place.
-pub(crate) fn check_free<R: Files>(files: &R, place: &str) -> io::Result<()> {
-    match fs::symlink_metadata(files, place) {
+pub(crate) fn check_free<R: Disk>(files: &R, place: &str) -> io::Result<()> {
+    match files.found(place) {
         Ok(_) => Err(Error::from(ErrorKind::AlreadyExists)),
         Err(error) if error.kind() == ErrorKind::NotFound => Ok(()),
         Err(error) => Err(error),

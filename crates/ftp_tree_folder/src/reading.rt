@@ -2,6 +2,7 @@
 ghost use Rattle.std.specs.Prelude.{◌≡◌};
 ghost use Rattle.ftp_tree_folder.specs.Moment.{nearest};
 
+use crate::Disk;
 use crate::fault::{LoadFault, Reason};
 use crate::place::check_free;
 use crate::writing::BESIDE;
@@ -10,9 +11,9 @@ use ftp_path::{Name, Path, PathFault, is_path_text};
 use ftp_tree::{Content, TreeFault};
 use std::alloc::Global;
 use std::fs::{File, Files, Metadata, OpenFile};
+use std::io;
 use std::io::{ErrorKind, Read};
 use std::os::unix::fs::MetadataExt;
-use std::{fs, io};
 
 /// The most parts that interrupted writes left in one directory and that are kept.
 const LEFT_LIMIT: u32 = 10_000;
@@ -29,17 +30,17 @@ pub(crate) fn is_left(name: &str) -> bool {
 }
 
 /// Keeps a part that an interrupted write left under a name of its own; one that has no octet is removed.
-pub(crate) fn leave<R: Files + AllocGlobal>(files: &R, place: &str, len: u64) -> io::Result<()> {
+pub(crate) fn leave<R: Disk>(files: &R, place: &str, len: u64) -> io::Result<()> {
     if len == 0 {
-        return fs::remove_file(files, place);
+        return files.take_file(place);
     }
     let Some(dir) = place.strip_suffix(BESIDE) else {
         return Ok(());
     };
     for number in 1..LEFT_LIMIT {
-        let free = format!(in files.alloc(); "{dir}{LEFT}{number}\x7f")?;
+        let free = format!(in files.memory(); "{dir}{LEFT}{number}\x7f")?;
         if check_free(files, free.as_str()).is_ok() {
-            return fs::rename(files, place, free.as_str());
+            return files.move_to(place, free.as_str());
         }
     }
     Err(io::Error::from(ErrorKind::AlreadyExists))
@@ -62,8 +63,24 @@ pub(crate) fn path_in(
     }
 }
 
+/// Reads the file that was found, and no other that has come in its place, to its end, or until it has more octets than there is room for.
+pub(crate) fn read_same<R: Files + AllocGlobal>(
+    files: &R,
+    place: &str,
+    found: &Metadata,
+    room: u64,
+    buffer: &mut [u8],
+    content: &mut Content<Global>,
+) -> Result<(), LoadFault> {
+    let mut file = open_same(files, place, found)?;
+    match read_all(&mut file, buffer, room, content) {
+        Ok(()) => Ok(()),
+        Err(why) => Err(LoadFault::at(files.alloc(), place, why)),
+    }
+}
+
 /// Opens the file that was found, and no other that has come in its place: so no link is followed.
-pub(crate) fn open_same<R: Files + AllocGlobal>(
+fn open_same<R: Files + AllocGlobal>(
     files: &R,
     place: &str,
     found: &Metadata,
@@ -81,7 +98,7 @@ pub(crate) fn open_same<R: Files + AllocGlobal>(
 }
 
 /// Reads a file to its end, or until it has more octets than there is room for.
-pub(crate) fn read_all<F: Read>(
+fn read_all<F: Read>(
     file: &mut F,
     buffer: &mut [u8],
     room: u64,

@@ -2,17 +2,16 @@
 ghost use Rattle.std.specs.Prelude.{◌≡◌, string_bytes};
 ghost use Rattle.ftp_tree_folder.specs.Place.{folder_text};
 
-use crate::Mirror;
 use crate::fault::LoadFault;
 use crate::folder::DiskFolder;
 use crate::loading::{Loading, Old, OnFault, dir_text};
 use crate::look::Seen;
 use crate::place::place_of;
 use crate::reading::path_in;
+use crate::{Disk, Mirror};
 use ftp_path::Path;
 use ftp_tree::{MemTree, NodeKind, Tree};
 use std::alloc::Global;
-use std::fs;
 use std::fs::Files;
 
 /// The most turns of a loop over directories or entries.
@@ -67,9 +66,10 @@ pub fn reloaded<'a, R: Files + AllocGlobal + Clone + Drop>(
     match Loading::new(files, dir_text(dir), roots, old, now) {
         Ok(mut loading) => {
             load_all(&mut loading, &mut left);
-            *seen = loading.seen;
+            let (tree, looks) = loading.into_parts();
+            *seen = looks;
             seen.sort();
-            (Mirror::new(loading.tree, folder), left)
+            (Mirror::new(tree, folder), left)
         }
         Err(old) => {
             *seen = old.seen;
@@ -98,7 +98,7 @@ fn load_all<R: Files + AllocGlobal + Clone + Drop>(
     }
 }
 
-impl<'a, R: Files + AllocGlobal + Clone + Drop> Loading<'a, R> {
+impl<'a, R: Disk> Loading<'a, R> {
     /// Takes out of the tree what does not stand directly in a directory of the folder any more, or is of another kind.
     fn prune(&mut self, here: &Path<Global>) -> Result<(), LoadFault> {
         let mut at = 0usize;
@@ -116,7 +116,7 @@ impl<'a, R: Files + AllocGlobal + Clone + Drop> Loading<'a, R> {
     /// The path of the name at a place in a directory of the tree.
     fn nth_path(&self, here: &Path<Global>, at: usize) -> Result<Option<Path<Global>>, LoadFault> {
         match self.tree.nth_name(&self.root, here, at) {
-            Some(name) => match path_in(self.files.alloc(), here, name.octets(), self.dir) {
+            Some(name) => match path_in(self.files.memory(), here, name.octets(), self.dir) {
                 Ok(path) => Ok(Some(path)),
                 Err(fault) => Err(fault),
             },
@@ -126,10 +126,10 @@ impl<'a, R: Files + AllocGlobal + Clone + Drop> Loading<'a, R> {
 
     /// Whether the folder has what the tree has at a path, of the same kind.
     fn is_there(&self, path: &Path<Global>) -> bool {
-        let Ok(place) = place_of(self.files.alloc(), self.dir, &self.root, path) else {
+        let Ok(place) = place_of(self.files.memory(), self.dir, &self.root, path) else {
             return true;
         };
-        let Ok(found) = fs::symlink_metadata(self.files, place.as_str()) else {
+        let Ok(found) = self.files.found(place.as_str()) else {
             return false;
         };
         match self.tree.kind(&self.root, path) {
@@ -159,7 +159,7 @@ impl<'a, R: Files + AllocGlobal + Clone + Drop> Loading<'a, R> {
 
     /// The first path below another at which nothing stands below.
     fn deepest(&self, path: &Path<Global>) -> Result<Path<Global>, LoadFault> {
-        let Ok(mut deepest) = path.copy(self.files.alloc()) else {
+        let Ok(mut deepest) = path.copy(self.files.memory()) else {
             return Err(LoadFault::Memory);
         };
         for _ in 0..TURNS {
