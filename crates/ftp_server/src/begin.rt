@@ -8,7 +8,7 @@ use ftp_endpoint::Host;
 use ftp_facts::Moment;
 use ftp_operation::Accounts;
 use ftp_server_model::FixedReply;
-use ftp_server_replies::Output;
+use ftp_server_parts::Output;
 use ftp_server_session::{Footing, ServerTransfer, Session};
 use ftp_tree::Tree;
 use std::alloc::Allocator;

@@ -9,7 +9,7 @@ ghost use Rattle.ftp_tree.specs.Tree.{Dir, size_at, under};
 use ftp_direct::is_file;
 use ftp_operation::is_number;
 use ftp_path::Path;
-use ftp_server_replies::Output;
+use ftp_server_parts::Output;
 use ftp_server_session::{ServerTransfer, Session};
 use ftp_tree::Tree;
 use std::alloc::Allocator;

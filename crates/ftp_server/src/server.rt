@@ -6,7 +6,7 @@ ghost use Rattle.ftp_server.specs.Busy.{HasRoom, MayWait, waiting_limit};
 use crate::reader::Reader;
 use ftp_command::Argument;
 use ftp_server_model::HeardLine;
-use ftp_server_replies::Output;
+use ftp_server_parts::Output;
 use ftp_server_session::{Footing, Session};
 use std::alloc::Allocator;
 

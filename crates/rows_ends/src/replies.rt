@@ -5,7 +5,7 @@ use ftp_endpoint::{Endpoint, Host};
 use ftp_facts::Moment;
 use ftp_path::Path;
 use ftp_server_model::{Facts, FixedReply};
-use ftp_server_replies::Output;
+use ftp_server_parts::Output;
 use ftp_server_transfer::{put_dir_line, put_file_line};
 use rows_base::{Paper, Refusing};
 use rows_tree::place;
