@@ -59,6 +59,40 @@ where
     }
 }
 
+/// Who drives a server over a control connection, as one trait without types of its own: what stands on it is proved for less.
+trait Drives {
+    /// Where memory is had.
+    fn heap(&self) -> Global;
+
+    /// Serves a control connection by a server.
+    fn drive<T: Tree<Global>, F: Far<Global, T>>(
+        &self,
+        server: &mut F,
+        stream: &TcpStream,
+        peer: SocketAddr,
+        service: Service<'_>,
+    ) -> Result<(), Failed>;
+}
+
+impl<R> Drives for R
+where
+    R: Net<Listener = TcpListener, Stream = TcpStream> + Clock + Eprint + AllocGlobal,
+{
+    fn heap(&self) -> Global {
+        self.alloc()
+    }
+
+    fn drive<T: Tree<Global>, F: Far<Global, T>>(
+        &self,
+        server: &mut F,
+        stream: &TcpStream,
+        peer: SocketAddr,
+        service: Service<'_>,
+    ) -> Result<(), Failed> {
+        with_journal(self, server, stream, peer, service)
+    }
+}
+
 /// Makes a server between two ends of a control connection, which serves it.
 fn session_between<R, T>(
     rt: &R,
@@ -69,11 +103,11 @@ fn session_between<R, T>(
     service: Service<'_>,
 ) -> (T, Result<(), Failed>)
 where
-    R: Net<Listener = TcpListener, Stream = TcpStream> + Clock + Eprint + AllocGlobal,
+    R: Drives,
     T: Tree<Global>,
 {
     let made: Result<Server<Global, T, TreeTransfer<Global>>, NotBegun<Global, T>> = Server::new(
-        rt.alloc(),
+        rt.heap(),
         tree,
         accounts,
         here,
@@ -85,21 +119,34 @@ where
     }
 }
 
+/// A server that gives its tree back. What serves by one is generic in it: only who makes one names it.
+trait GivesTree<T> {
+    /// Its tree, where nothing more is to be served.
+    fn give_tree(self) -> T;
+}
+
+impl<T: Tree<Global>> GivesTree<T> for Server<Global, T, TreeTransfer<Global>> {
+    fn give_tree(self) -> T {
+        self.into_tree()
+    }
+}
+
 /// Serves a control connection by a server, and gives its tree back.
-fn session_by<R, T>(
+fn session_by<R, T, F>(
     rt: &R,
-    server: Server<Global, T, TreeTransfer<Global>>,
+    server: F,
     stream: &TcpStream,
     peer: SocketAddr,
     service: Service<'_>,
 ) -> (T, Result<(), Failed>)
 where
-    R: Net<Listener = TcpListener, Stream = TcpStream> + Clock + Eprint + AllocGlobal,
+    R: Drives,
     T: Tree<Global>,
+    F: Far<Global, T> + GivesTree<T>,
 {
     let mut server = server;
-    let ended = with_journal(rt, &mut server, stream, peer, service);
-    (server.into_tree(), ended)
+    let ended = rt.drive(&mut server, stream, peer, service);
+    (server.give_tree(), ended)
 }
 
 /// Serves a control connection by a server, of which a journal tells.
@@ -115,7 +162,7 @@ where
     T: Tree<Global>,
     F: Far<Global, T>,
 {
-    match Journal::new(rt, peer, service) {
+    match Journal::new(rt, rt.alloc(), peer, service) {
         Ok(journal) => connected(rt, server, stream, &journal, service),
         Err(AllocError) => Err(Failed),
     }

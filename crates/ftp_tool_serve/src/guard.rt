@@ -1,21 +1,21 @@
 // The writing side of a control connection, which tells a client that its account may not do what it asked.
 use crate::heard::SaidWriter;
 use crate::mend::{Place, mend};
+use crate::tells::Tells;
 use std::alloc::{AllocError, Global};
 use std::io;
-use std::io::{Eprint, ErrorKind, Write};
-use std::time::Clock;
+use std::io::{ErrorKind, Write};
 
 /// Writes what a server says, and in the place of a 451 that answers a change which the account may not make a 550, however what is said is cut.
 #[derive(Drop)]
-pub(crate) struct Guard<'a, R: Clock + Eprint> {
+pub(crate) struct Guard<'a, R: Tells> {
     inner: SaidWriter<'a, R>,
     place: Place,
     /// What is to go out and did not yet.
     out: Vec<u8, Global>,
 }
 
-impl<'a, R: Clock + Eprint> Guard<'a, R> {
+impl<'a, R: Tells> Guard<'a, R> {
     pub(crate) fn new(inner: SaidWriter<'a, R>, alloc: Global) -> Guard<'a, R> {
         Guard {
             inner,
@@ -47,7 +47,7 @@ impl<'a, R: Clock + Eprint> Guard<'a, R> {
     }
 }
 
-impl<'a, R: Clock + Eprint> Write for Guard<'a, R> {
+impl<'a, R: Tells> Write for Guard<'a, R> {
     fn write(&mut self, octets: &[u8]) -> io::Result<usize> {
         for octet in octets {
             self.put(*octet)?;

@@ -2,7 +2,8 @@
 ghost use Rattle.std.specs.Prelude.{None};
 ghost use Rattle.ftp_control.specs.Asking.{Closes};
 
-use crate::journal::{Fate, Journal};
+use crate::journal::Journal;
+use crate::tells::{Fate, Tells};
 use ftp_control::{Accepted, For, Ports, Ready, Spoken, Whole};
 use ftp_endpoint::Endpoint;
 use ftp_tool_sockets::{ControlReader, ControlWriter, Link, SocketPorts};
@@ -13,12 +14,12 @@ use std::time::Clock;
 
 /// The reading side of a control connection.
 #[derive(Drop)]
-pub(crate) struct HeardReader<'a, R: Clock + Eprint> {
+pub(crate) struct HeardReader<'a, R: Tells> {
     pub(crate) inner: ControlReader<'a>,
     pub(crate) journal: &'a Journal<'a, R>,
 }
 
-impl<'a, R: Clock + Eprint> Read for HeardReader<'a, R> {
+impl<'a, R: Tells> Read for HeardReader<'a, R> {
     fn read(&mut self, room: &mut [u8]) -> io::Result<usize> {
         let count = self.inner.read(room)?;
         let (octets, _) = room.split_at(count);
@@ -30,14 +31,14 @@ impl<'a, R: Clock + Eprint> Read for HeardReader<'a, R> {
 /// The writing side of a control connection. The journal is told what is said before it is written; after refused logins that is slow, and behind the
 /// last of them nothing is written, also of what was read before.
 #[derive(Drop)]
-pub(crate) struct SaidWriter<'a, R: Clock + Eprint> {
+pub(crate) struct SaidWriter<'a, R: Tells> {
     inner: ControlWriter<'a>,
     journal: &'a Journal<'a, R>,
     /// How many octets at the front of the next write were told already.
     told: usize,
 }
 
-impl<'a, R: Clock + Eprint> SaidWriter<'a, R> {
+impl<'a, R: Tells> SaidWriter<'a, R> {
     pub(crate) fn new(inner: ControlWriter<'a>, journal: &'a Journal<'a, R>) -> SaidWriter<'a, R> {
         SaidWriter {
             inner,
@@ -51,7 +52,7 @@ impl<'a, R: Clock + Eprint> SaidWriter<'a, R> {
     }
 }
 
-impl<'a, R: Clock + Eprint> Write for SaidWriter<'a, R> {
+impl<'a, R: Tells> Write for SaidWriter<'a, R> {
     fn write(&mut self, octets: &[u8]) -> io::Result<usize> {
         if self.journal.is_over() {
             return Err(io::Error::from(ErrorKind::TimedOut));
@@ -74,12 +75,12 @@ impl<'a, R: Clock + Eprint> Write for SaidWriter<'a, R> {
 
 /// A data connection whose octets are counted.
 #[derive(Drop)]
-pub(crate) struct CountedLink<'a, R: Clock + Eprint> {
+pub(crate) struct CountedLink<'a, R: Tells> {
     inner: Link<'a>,
     journal: &'a Journal<'a, R>,
 }
 
-impl<'a, R: Clock + Eprint> CountedLink<'a, R> {
+impl<'a, R: Tells> CountedLink<'a, R> {
     /// Counts the octets of a read or a write, or notes that it failed.
     fn note(&self, moved: &io::Result<usize>) {
         match moved {
@@ -89,7 +90,7 @@ impl<'a, R: Clock + Eprint> CountedLink<'a, R> {
     }
 }
 
-impl<'a, R: Clock + Eprint> Read for CountedLink<'a, R> {
+impl<'a, R: Tells> Read for CountedLink<'a, R> {
     fn read(&mut self, room: &mut [u8]) -> io::Result<usize> {
         let read = self.inner.read(room);
         self.note(&read);
@@ -97,7 +98,7 @@ impl<'a, R: Clock + Eprint> Read for CountedLink<'a, R> {
     }
 }
 
-impl<'a, R: Clock + Eprint> Write for CountedLink<'a, R> {
+impl<'a, R: Tells> Write for CountedLink<'a, R> {
     fn write(&mut self, octets: &[u8]) -> io::Result<usize> {
         let written = self.inner.write(octets);
         self.note(&written);

@@ -5,19 +5,14 @@ use crate::connection::Service;
 use crate::line::Line;
 use crate::manner::{Manner, Pace};
 use crate::talk::{Answered, Talk, Told};
-use crate::telling::{Asked, Guest, Quoted, tells, touched_by};
-use ftp_control::Watch;
-use ftp_facts::moment_text;
+use crate::telling::{Asked, Guest, tells, touched_by};
+use crate::tells::{Entry, Fate, Note, Outcome, Tells};
 use ftp_operation::Rights;
-use ftp_tool_sockets::{Over, SystemWatch, pause};
+use ftp_tool_sockets::{Over, pause};
 use ftp_tree_folder::Touches;
-use std::alloc::AllocError;
+use std::alloc::{AllocError, Global};
 use std::cell::{Cell, RefCell};
-use std::fmt::{Display, Formatter};
-use std::io::Eprint;
 use std::net::SocketAddr;
-use std::time::Clock;
-use std::{fmt, io};
 
 /// How long an answer waits after refused logins, in milliseconds.
 const SLOW_MILLIS: u16 = 1_000;
@@ -27,14 +22,6 @@ const SLOW_MILLIS: u16 = 1_000;
 pub enum Log {
     Silent,
     Told,
-}
-
-/// How the last data connection was closed.
-#[derive(Clone, Copy)]
-pub(crate) enum Fate {
-    Ended,
-    /// By a reset, since octets that were to go did not.
-    Reset,
 }
 
 /// What is known of a session.
@@ -50,7 +37,7 @@ struct Known {
 ///
 /// As it hears who logs in, the folder is told what that account may change.
 #[derive(Drop)]
-pub(crate) struct Journal<'a, R: Clock + Eprint> {
+pub(crate) struct Journal<'a, R: Tells> {
     rt: &'a R,
     peer: SocketAddr,
     service: Service<'a>,
@@ -60,10 +47,11 @@ pub(crate) struct Journal<'a, R: Clock + Eprint> {
     fate: Cell<Fate>,
 }
 
-impl<'a, R: Clock + Eprint + AllocGlobal> Journal<'a, R> {
+impl<'a, R: Tells> Journal<'a, R> {
     /// Nobody is logged in, and nothing may be changed.
     pub(crate) fn new(
         rt: &'a R,
+        alloc: Global,
         peer: SocketAddr,
         service: Service<'a>,
     ) -> Result<Journal<'a, R>, AllocError> {
@@ -71,7 +59,7 @@ impl<'a, R: Clock + Eprint + AllocGlobal> Journal<'a, R> {
         let _content = service.reasons.take_barred(Touches::Content);
         let _names = service.reasons.take_barred(Touches::Names);
         let known = Known {
-            talk: Talk::new(rt.alloc())?,
+            talk: Talk::new(alloc)?,
             guest: Guest::nobody(),
         };
         Ok(Journal {
@@ -84,15 +72,12 @@ impl<'a, R: Clock + Eprint + AllocGlobal> Journal<'a, R> {
             fate: Cell::new(Fate::Ended),
         })
     }
-}
 
-impl<'a, R: Clock + Eprint> Journal<'a, R> {
     /// Tells how a session goes, in a word or two.
     pub(crate) fn note(&self, what: &str) {
         if self.service.log == Log::Told {
-            let now = moment_text(SystemWatch::new(self.rt).moment());
-            let now = str::from_utf8(&now).unwrap_or("-");
-            let _told = eprintln!(self.rt; "{now} {} {what}", self.peer);
+            let peer = self.peer;
+            self.rt.tell(&Note { peer, what });
         }
     }
 
@@ -256,53 +241,33 @@ impl<'a, R: Clock + Eprint> Journal<'a, R> {
         let Some((guest, names)) = named else {
             return;
         };
-        if answered
-            .code
-            .is_some_and(|code| !tells(&answered.asked, code))
-        {
-            return;
+        if is_told(answered) {
+            self.write(answered, &guest, &names);
         }
-        let moved = self.moved.replace(0);
-        let now = moment_text(SystemWatch::new(self.rt).moment());
-        let now = str::from_utf8(&now).unwrap_or("-");
-        let verb = match answered.asked.verb {
-            Some(verb) => str::from_utf8(verb.letters()).unwrap_or("-"),
-            None => "-",
-        };
-        let _told = eprintln!(self.rt;
-            "{now} {} {} {verb} {} {moved} {}",
-            self.peer,
-            Quoted(guest.user()),
-            Quoted(names.octets()),
-            Outcome {
+    }
+
+    /// Tells a line.
+    fn write(&self, answered: &Answered, guest: &Guest, names: &Line) {
+        let entry = Entry {
+            peer: self.peer,
+            user: guest.user(),
+            verb: answered.asked.verb,
+            names: names.octets(),
+            moved: self.moved.replace(0),
+            outcome: Outcome {
                 code: answered.code,
                 fate: self.fate.replace(Fate::Ended),
-                why: self.service.reasons.take()
-            }
-        );
+                why: self.service.reasons.take(),
+            },
+        };
+        self.rt.tell(&entry);
     }
 }
 
-/// How a line ended: the code of its last reply, `reset`, and the system's reason.
-#[derive(Drop)]
-struct Outcome {
-    code: Option<u16>,
-    fate: Fate,
-    why: Option<io::Error>,
-}
-
-impl Display for Outcome {
-    fn fmt<W: fmt::Write>(&self, formatter: &mut Formatter<W>) -> fmt::Result {
-        match self.code {
-            Some(code) => write!(formatter, "{code}")?,
-            None => write!(formatter, "unanswered")?,
-        }
-        if self.fate == Fate::Reset {
-            write!(formatter, " reset")?;
-        }
-        match &self.why {
-            Some(why) => write!(formatter, " {why}"),
-            None => Ok(()),
-        }
+/// Whether a line is one that is told.
+fn is_told(answered: &Answered) -> bool {
+    match answered.code {
+        Some(code) => tells(&answered.asked, code),
+        None => true,
     }
 }

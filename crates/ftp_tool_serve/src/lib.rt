@@ -12,6 +12,7 @@ mod mend;
 mod serving;
 mod talk;
 mod telling;
+mod tells;
 mod users;
 
 pub use connection::{Service, session};

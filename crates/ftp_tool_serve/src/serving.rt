@@ -12,6 +12,7 @@ use ftp_tool_status::Status;
 use ftp_tool_words::Sessions;
 use ftp_tree_folder::{DiskFolder, LeftOut, Mirror, Reasons, Seen, open, reloaded};
 use std::alloc::Global;
+use std::fmt::Display;
 use std::fs::Files;
 use std::io::{Eprint, Print};
 use std::net::{IpAddr, Net, SocketAddr, TcpListener, TcpStream};
@@ -82,15 +83,43 @@ where
         + Drop,
 {
     if !job.may_listen() {
-        eprintln!(rt;
-            "error: without a file of accounts only an address of the loopback is listened at"
-        )?;
-        return Ok(Status::BadWords);
+        return refuse_address(rt);
     }
     if users_told(rt, job.accounts).is_none() {
         return Ok(Status::Failed);
     }
     serve_dir(rt, &job)
+}
+
+/// Tells that an address is none to listen at.
+fn refuse_address<R: Eprint>(rt: &R) -> io::Result<Status> {
+    eprintln!(rt;
+        "error: without a file of accounts only an address of the loopback is listened at"
+    )?;
+    Ok(Status::BadWords)
+}
+
+/// Tells of what a fault is, and why nothing is served.
+fn refuse<R: Eprint, F: Display>(rt: &R, what: &str, fault: &F) -> io::Result<Status> {
+    eprintln!(rt; "error: {what}{fault}")?;
+    Ok(Status::Failed)
+}
+
+/// Tells why there is no port to listen at.
+fn tell_refusal<R: Eprint>(
+    rt: &R,
+    what: &str,
+    error: io::Error,
+) -> io::Result<Option<TcpListener>> {
+    eprintln!(rt; "error: {what}: {error}")?;
+    Ok(None)
+}
+
+/// Tells where is listened at.
+fn tell_address<R: Print>(rt: &R, listener: &TcpListener) -> io::Result<()> {
+    let address = listener.local_addr()?;
+    println!(rt; "listening on {address}")?;
+    Ok(())
 }
 
 /// Who may log in; where that can't be had, it is told why.
@@ -121,18 +150,12 @@ where
 {
     let roots = match roots_of(rt, job.accounts) {
         Ok(roots) => roots,
-        Err(fault) => {
-            eprintln!(rt; "error: accounts: {fault}")?;
-            return Ok(Status::Failed);
-        }
+        Err(fault) => return refuse(rt, "accounts: ", &fault),
     };
     let reasons = Reasons::new();
     match open(rt, job.dir, roots.as_slice(), &reasons) {
         Ok(mirror) => serve_mirror(rt, mirror, job, &reasons),
-        Err(fault) => {
-            eprintln!(rt; "error: {fault}")?;
-            Ok(Status::Failed)
-        }
+        Err(fault) => refuse(rt, "", &fault),
     }
 }
 
@@ -178,10 +201,7 @@ where
 {
     match try_writing(rt, job) {
         Ok(()) => listener_at(rt, job),
-        Err(error) => {
-            eprintln!(rt; "error: the folder can't be written: {error}")?;
-            Ok(None)
-        }
+        Err(error) => tell_refusal(rt, "the folder can't be written", error),
     }
 }
 
@@ -191,14 +211,11 @@ where
     R: Net<Listener = TcpListener, Stream = TcpStream> + Print + Eprint,
 {
     match TcpListener::bind(rt, SocketAddr::new(job.host, job.port)) {
-        Ok(listener) => {
-            println!(rt; "listening on {}", listener.local_addr()?)?;
-            Ok(Some(listener))
-        }
-        Err(error) => {
-            eprintln!(rt; "error: no port to listen at: {error}")?;
-            Ok(None)
-        }
+        Ok(listener) => match tell_address(rt, &listener) {
+            Ok(()) => Ok(Some(listener)),
+            Err(error) => Err(error),
+        },
+        Err(error) => tell_refusal(rt, "no port to listen at", error),
     }
 }
 

@@ -11,7 +11,7 @@ use std::alloc::{AllocError, Global};
 const REPLY_LIMIT: usize = 4096;
 
 /// What octets that are said do: how many of them are taken up to the next answer, and the line that they answer, if they do.
-#[derive(Drop)]
+#[derive(Clone, Copy)]
 pub(crate) struct Told {
     pub(crate) taken: usize,
     pub(crate) answered: Option<Answered>,

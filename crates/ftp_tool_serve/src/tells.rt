@@ -1,0 +1,103 @@
+// Who tells of sessions on standard error, and what a line of that says.
+use crate::telling::Quoted;
+use ftp_command::Verb;
+use ftp_control::Watch;
+use ftp_facts::moment_text;
+use ftp_tool_sockets::SystemWatch;
+use std::fmt::{Display, Formatter};
+use std::io::Eprint;
+use std::net::SocketAddr;
+use std::time::Clock;
+use std::{fmt, io};
+
+/// A clock and standard error as one trait without types of its own: what stands on it is proved for less.
+pub(crate) trait Tells {
+    /// Writes a line, behind the moment. What standard error refuses is dropped.
+    fn tell<T: Display>(&self, what: &T);
+}
+
+impl<R: Clock + Eprint> Tells for R {
+    fn tell<T: Display>(&self, what: &T) {
+        let now = moment_text(SystemWatch::new(self).moment());
+        let now = str::from_utf8(&now).unwrap_or("-");
+        let _told = eprintln!(self; "{now} {what}");
+    }
+}
+
+/// How the last data connection was closed.
+#[derive(Clone, Copy)]
+pub(crate) enum Fate {
+    Ended,
+    /// By a reset, since octets that were to go did not.
+    Reset,
+}
+
+/// How a session goes, in a word or two, and whose it is.
+#[derive(Clone, Copy)]
+pub(crate) struct Note<'a> {
+    pub(crate) peer: SocketAddr,
+    pub(crate) what: &'a str,
+}
+
+impl<'a> Display for Note<'a> {
+    fn fmt<W: fmt::Write>(&self, formatter: &mut Formatter<W>) -> fmt::Result {
+        write!(formatter, "{} {}", self.peer, self.what)
+    }
+}
+
+/// What is told of a line: whose it is, what it names, the octets that went over data connections for it, and how it ended.
+#[derive(Drop)]
+pub(crate) struct Entry<'a> {
+    pub(crate) peer: SocketAddr,
+    pub(crate) user: &'a [u8],
+    pub(crate) verb: Option<Verb>,
+    pub(crate) names: &'a [u8],
+    pub(crate) moved: u64,
+    pub(crate) outcome: Outcome,
+}
+
+impl<'a> Display for Entry<'a> {
+    fn fmt<W: fmt::Write>(&self, formatter: &mut Formatter<W>) -> fmt::Result {
+        let verb = verb_text(self.verb);
+        write!(formatter, "{} {} {verb} ", self.peer, Quoted(self.user))?;
+        write!(
+            formatter,
+            "{} {} {}",
+            Quoted(self.names),
+            self.moved,
+            self.outcome
+        )
+    }
+}
+
+/// The letters of a verb.
+fn verb_text(verb: Option<Verb>) -> &'static str {
+    match verb {
+        Some(verb) => str::from_utf8(verb.letters()).unwrap_or("-"),
+        None => "-",
+    }
+}
+
+/// How a line ended: the code of its last reply, `reset`, and the system's reason.
+#[derive(Drop)]
+pub(crate) struct Outcome {
+    pub(crate) code: Option<u16>,
+    pub(crate) fate: Fate,
+    pub(crate) why: Option<io::Error>,
+}
+
+impl Display for Outcome {
+    fn fmt<W: fmt::Write>(&self, formatter: &mut Formatter<W>) -> fmt::Result {
+        match self.code {
+            Some(code) => write!(formatter, "{code}")?,
+            None => write!(formatter, "unanswered")?,
+        }
+        if self.fate == Fate::Reset {
+            write!(formatter, " reset")?;
+        }
+        match &self.why {
+            Some(why) => write!(formatter, " {why}"),
+            None => Ok(()),
+        }
+    }
+}
