@@ -1,8 +1,8 @@
 //! Numbers, six numbers and extended addresses, as they are read and written.
 use crate::report::{put_printed, put_quoted};
 use ftp_endpoint::{
-    Endpoint, Host, after, extended_endpoint, is_delimiter, number, octet, octet_in_front, port,
-    port_in_front, six_in_front, six_numbers, split_digits, write_extended, write_six,
+    Endpoint, Host, extended_endpoint, number, octet, port, port_in_front, six_in_front,
+    six_numbers, write_extended,
 };
 use rows_base::Paper;
 use std::alloc::Global;
@@ -95,42 +95,4 @@ fn put_anew(alloc: Global, text: &[u8], paper: &mut Paper) {
         Ok(endpoint) => put_quoted(write_extended(endpoint).as_slice(), paper),
         Err(fault) => put_printed(alloc, &fault, paper),
     }
-}
-
-const LOCAL: Endpoint = Endpoint {
-    host: Host::V4([10, 0, 0, 9]),
-    port: 1930,
-};
-
-const LAST: Endpoint = Endpoint {
-    host: Host::V6([0, 0, 0, 0, 0, 0, 0, 0, 0, 0, 0, 0, 0, 0, 0, 1]),
-    port: 1930,
-};
-
-fn what_stands_in_front() -> bool {
-    let (digits, behind) = split_digits(b"10,0");
-    digits == b"10".as_slice()
-        && behind == b",0".as_slice()
-        && octet_in_front(b"10,0") == Some((10, b",0".as_slice()))
-        && after(b',', b",0") == Some(b"0".as_slice())
-        && is_delimiter(b'|')
-        && !is_delimiter(b'1')
-}
-
-/// Whether an endpoint is written as these six numbers.
-fn is_six(endpoint: Endpoint, expected: &[u8]) -> bool {
-    match write_six(endpoint) {
-        Some(text) => text.as_slice() == expected,
-        None => false,
-    }
-}
-
-fn are_written_as_six() -> bool {
-    is_six(LOCAL, b"10,0,0,9,7,138") & write_six(LAST).is_none()
-}
-
-/// What is tried here, and whether it holds.
-pub(crate) fn tried(report: &mut Paper) {
-    report.holds("what stands in front", what_stands_in_front());
-    report.holds("six numbers as they are written", are_written_as_six());
 }

@@ -1,8 +1,7 @@
 //! Lines of a listing, and what is written of the entries that they say.
 use crate::growing::put_behind;
-use crate::report::is_printed;
 use ftp_facts::laws::entry_comes_back;
-use ftp_facts::{Entry, FactFault, Text, read_entry, write_entry};
+use ftp_facts::{Entry, FactFault, read_entry, write_entry};
 use rows_base::{Paper, Refusing};
 use std::alloc::{Allocator, Global};
 
@@ -62,43 +61,4 @@ fn growth(alloc: Global, line: &[u8]) -> u64 {
 /// Writes how many growths the reading of a line asks for.
 pub(crate) fn show_growths(alloc: Global, line: &[u8], paper: &mut Paper) {
     paper.number(0u64.wrapping_sub(growth(alloc, line)));
-}
-
-const FAULTS: &[(FactFault, &str)] = &[
-    (FactFault::NoSpace, "F1 NoSpace"),
-    (FactFault::BadFact, "F2 BadFact"),
-    (FactFault::BadMoment, "F3 BadMoment"),
-    (FactFault::Memory, "F4 Memory"),
-    (FactFault::BadName, "F5 BadName"),
-];
-
-fn are_printed(alloc: Global) -> bool {
-    let mut all = true;
-    for (fault, text) in FAULTS {
-        all &= is_printed(alloc, fault, text) & (fault.text() == *text);
-    }
-    all
-}
-
-/// Whether these octets are kept; nothing where memory is refused.
-fn is_kept<A: Allocator + Copy>(alloc: A) -> Option<bool> {
-    match &Text::copy_of(alloc, b"kept") {
-        Ok(text) => Some(text.as_slice() == b"kept".as_slice()),
-        Err(_) => None,
-    }
-}
-
-/// Whether a text is kept, and its one growth is refused.
-fn is_kept_or_refused(alloc: Global) -> bool {
-    let heap = Refusing::new(alloc, 1);
-    is_kept(alloc) == Some(true) && is_kept(&heap).is_none()
-}
-
-/// What is tried here, and whether it holds.
-pub(crate) fn tried(alloc: Global, report: &mut Paper) {
-    report.holds("faults as they are printed", are_printed(alloc));
-    report.holds(
-        "a text is kept or memory is refused",
-        is_kept_or_refused(alloc),
-    );
 }

@@ -2,9 +2,6 @@
 use crate::report::put_quoted;
 use crate::row::{Row, form_of};
 use crate::wires::{encode, encoder, write};
-use ftp_mode::{Framer, Mode, Written};
-use ftp_repr::{Item, Structure};
-use ftp_wire::{Encoded, Encoder};
 use rows_base::{Paper, number, split};
 use std::alloc::Global;
 
@@ -47,59 +44,4 @@ fn start_of(digits: &[u8]) -> Option<u64> {
     } else {
         Some(number(digits))
     }
-}
-
-/// Whether an end is taken once all of it is out, and nothing goes behind it.
-fn takes_an_end_once(framer: &mut Framer) -> bool {
-    let mut room = [0; 2];
-    let (none, some) = room.split_at_mut(0);
-    framer.put(Item::EndFile, none) == Written { taken: 0, made: 0 }
-        && framer.put(Item::EndFile, some) == Written { taken: 1, made: 2 }
-        && framer.put(Item::Octets(b"x"), some) == Written { taken: 1, made: 0 }
-}
-
-fn takes_it_once() -> bool {
-    let mut framer = Framer::new(Mode::Stream, Structure::Record);
-    takes_an_end_once(&mut framer)
-}
-
-/// Whether an end that writes nothing is out before it is put, and no other.
-fn ends_are_out(stream: &Encoder, records: &Encoder) -> bool {
-    stream.is_out(true) & !stream.is_out(false) & !stream.is_done() & !records.is_out(true)
-}
-
-fn ends_of_both_are_out() -> bool {
-    let stream = encoder(form_of(b"IFS"), None);
-    let records = encoder(form_of(b"IRS"), None);
-    ends_are_out(&stream, &records)
-}
-
-/// Whether the second octet of a CR LF waits for room.
-fn keeps_a_half(encoder: &mut Encoder) -> bool {
-    let mut room = [0];
-    let first = Encoded { taken: 1, made: 1 };
-    let second = Encoded { taken: 0, made: 1 };
-    encoder.put(b"\n", true, &mut room) == first
-        && !encoder.is_out(true)
-        && encoder.put(b"", true, &mut room) == second
-        && room[0] == b'\n'
-        && encoder.is_out(true)
-}
-
-fn half_is_kept() -> bool {
-    let mut encoder = encoder(form_of(b"AFS"), None);
-    keeps_a_half(&mut encoder)
-}
-
-/// What is tried here, and whether it holds.
-pub(crate) fn tried(report: &mut Paper) {
-    report.holds("an end is taken once it is out", takes_it_once());
-    report.holds(
-        "encoder: an end that writes nothing is out before it is put",
-        ends_of_both_are_out(),
-    );
-    report.holds(
-        "encoder: the second octet of a pair waits for room",
-        half_is_kept(),
-    );
 }

@@ -144,3 +144,19 @@ fn put_whether(alloc: Global, heard: Result<bool, ReplyFault>, paper: &mut Paper
         Err(fault) => put_printed(alloc, &fault, paper),
     }
 }
+
+/// Whether a line behind that of a reply is joined to it by LF.
+fn is_joined(reply: &mut Reply<Global>) -> bool {
+    reply.lines.has_room(b"End")
+        && reply.push(b"End").is_ok()
+        && reply.text() == b"Listing\nEnd".as_slice()
+}
+
+/// Tries a reply that is made line by line.
+pub(crate) fn tried(alloc: Global, report: &mut Paper) {
+    let is_so = match Reply::new(alloc, 250, b"Listing") {
+        Ok(mut reply) => is_joined(&mut reply),
+        Err(_) => false,
+    };
+    report.holds("a reply by its parts", is_so);
+}

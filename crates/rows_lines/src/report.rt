@@ -64,10 +64,3 @@ pub(crate) fn put_printed<T: Display>(alloc: Global, value: &T, paper: &mut Pape
         Err(_) => paper.fill(),
     }
 }
-
-/// Whether a value is printed so.
-pub(crate) fn is_printed<T: Display>(alloc: Global, value: &T, text: &str) -> bool {
-    let mut paper = Paper::new(alloc);
-    put_printed(alloc, value, &mut paper);
-    paper.text() == text.as_bytes()
-}

@@ -3,8 +3,8 @@ use crate::report::fill;
 use crate::row::Row;
 use crate::word::{FileWord, LineWord, Word, word_of};
 use crate::{
-    both_ways, calendar, commands, cutting, decoding, deframing, endpoints, entries, growing,
-    moments, replies, sizes, values,
+    calendar, commands, cutting, decoding, deframing, endpoints, entries, growing, moments,
+    replies, sizes, values,
 };
 use rows_base::{Paper, cut, number, octets_of, split};
 use std::alloc::Global;
@@ -115,7 +115,6 @@ fn answer_file(alloc: Global, word: FileWord, row: &Row<'_>, paper: &mut Paper) 
         FileWord::Frame => cutting::show(alloc, cutting::Asked::Frame, row, paper),
         FileWord::Deframe => cutting::show(alloc, cutting::Asked::Deframe, row, paper),
         FileWord::Parts => deframing::show_parts(alloc, row, paper),
-        FileWord::BothWays => both_ways::show(alloc, row, paper),
         FileWord::Decode => cutting::show(alloc, cutting::Asked::Decode, row, paper),
         FileWord::Pieces => decoding::show_pieces(alloc, row, paper),
         FileWord::Break => decoding::show_broken(alloc, row, paper),

@@ -1,5 +1,5 @@
-//! Whole scripts: how many orders they have, or which line is refused; the reports of answers; each growth refused in turn.
-use ftp_facts::{Moment, Text};
+//! Whole scripts: how many orders they have, or which line is refused; a report; each growth refused in turn.
+use ftp_facts::Text;
 use ftp_operation::Answer;
 use ftp_tool_script::{ScriptFault, report_of, script_of};
 use rows_base::Paper;
@@ -38,46 +38,16 @@ fn is_reported(alloc: Global, answer: Answer<Global>, text: &[u8]) -> bool {
     is_so
 }
 
-fn octets_are_reported(alloc: Global, octets: &[u8], text: &[u8]) -> bool {
-    match Text::copy_of(alloc, octets) {
-        Ok(octets) => is_reported(alloc, Answer::Octets(octets), text),
-        Err(AllocError) => false,
-    }
-}
-
-fn break_is_reported(alloc: Global, mark: Option<u64>, text: &[u8]) -> bool {
+/// Whether a break behind a mark is reported with it.
+fn mark_is_reported(alloc: Global) -> bool {
+    let mark = Some(7);
     match Text::copy_of(alloc, b"0123") {
-        Ok(got) => is_reported(alloc, Answer::Broken { got, mark }, text),
+        Ok(got) => is_reported(alloc, Answer::Broken { got, mark }, b"broken 0123 mark 7\n"),
         Err(AllocError) => false,
     }
 }
 
-const NEW_CENTURY: Moment = Moment {
-    seconds: 946_684_800,
-};
-
-fn are_reported(alloc: Global) -> bool {
-    is_reported(alloc, Answer::Done, b"done\n")
-        & is_reported(alloc, Answer::Number(4), b"number 4\n")
-        & is_reported(
-            alloc,
-            Answer::Stamp(NEW_CENTURY),
-            b"moment 20000101000000\n",
-        )
-        & is_reported(alloc, Answer::Refused(550), b"refused 550\n")
-        & is_reported(alloc, Answer::Lost, b"lost\n")
-        & octets_are_reported(alloc, b"a\nb", b"octets a\\nb\n")
-        & octets_are_reported(alloc, b"", b"octets \\e\n")
-        & octets_are_reported(
-            alloc,
-            b" \r\\\x00\x7F\xFF~",
-            b"octets \\s\\r\\\\\\x00\\x7f\\xff~\n",
-        )
-        & break_is_reported(alloc, None, b"broken 0123\n")
-        & break_is_reported(alloc, Some(7), b"broken 0123 mark 7\n")
-}
-
-/// What is tried here, and whether it holds.
+/// Tries the one report that no script has.
 pub(crate) fn tried(alloc: Global, report: &mut Paper) {
-    report.holds("reports of answers", are_reported(alloc));
+    report.holds("a mark is reported", mark_is_reported(alloc));
 }

@@ -1,8 +1,6 @@
-use crate::report::is_printed;
 use crate::row::Row;
-use ftp_repr::{Kind, ReprFault, Structure, first_ff, plain_run, wire_size};
+use ftp_repr::{Kind, Structure, first_ff, plain_run, wire_size};
 use rows_base::Paper;
-use std::alloc::Global;
 
 /// Writes the sizes of octets in type A and in type I.
 pub(crate) fn show_sizes(octets: &[u8], paper: &mut Paper) {
@@ -22,12 +20,4 @@ pub(crate) fn show_run(row: &Row<'_>, paper: &mut Paper) {
     paper.number(plain_run(Kind::Image, structure, row.octets) as u64);
     paper.put(b" ");
     paper.number(first_ff(row.octets) as u64);
-}
-
-/// What is tried here, and whether it holds.
-pub(crate) fn tried(alloc: Global, report: &mut Paper) {
-    report.holds(
-        "the refusal prints its number and name",
-        is_printed(alloc, &ReprFault::Memory, "P1 Memory"),
-    );
 }

@@ -4,7 +4,6 @@ use ftp_repr::{Item, Receiver, ReprFault, Sender};
 use ftp_settings::Representation;
 use ftp_wire::Encoder;
 use rows_base::Paper;
-use std::alloc::Global;
 
 /// Puts an item until it is taken, into rooms of this size.
 fn put_item(framer: &mut Framer, item: Item<'_>, room: usize, wire: &mut Paper) {
@@ -184,33 +183,4 @@ pub fn read_in(
     let mut deframer = Deframer::new(form.mode, form.structure);
     let mut receiver = Receiver::new(form.kind, form.structure);
     read(&mut deframer, &mut receiver, wire, piece, file)
-}
-
-/// Whether a wire reads as this file, with this fault.
-pub fn reads_as(
-    alloc: Global,
-    form: Representation,
-    wire: &[u8],
-    (file, fault): (&[u8], Option<FrameFault>),
-    piece: usize,
-) -> bool {
-    let mut got = Vec::new(alloc);
-    match read_in(form, wire, piece, &mut got) {
-        Ok(met) => (met == fault) & (got.as_slice() == file),
-        Err(_) => false,
-    }
-}
-
-/// Whether a file is read again from its wire, by pieces and rooms of this size.
-fn comes_back_by(alloc: Global, form: Representation, file: &[u8], size: usize) -> bool {
-    let mut wire = Paper::new(alloc);
-    write(form, None, file, (size, size), &mut wire);
-    reads_as(alloc, form, wire.text(), (file, None), size)
-}
-
-/// Whether a file is read again from its wire, by pieces and rooms of several sizes.
-pub fn comes_back(alloc: Global, form: Representation, file: &[u8]) -> bool {
-    comes_back_by(alloc, form, file, 1)
-        & comes_back_by(alloc, form, file, 3)
-        & comes_back_by(alloc, form, file, 64)
 }
