@@ -1,4 +1,4 @@
-//! For tests alone: the rows of both ends: those of a script, on a server and on a client, and those of what the programs read and write
+//! For tests alone: the rows of both ends, on a server and on a client, and those of what the programs read and write
 //! (RFC 959; RFC 2389; RFC 2428; RFC 3659).
 #![tactic(auto)]
 
@@ -11,13 +11,13 @@ mod lines;
 mod peer;
 mod plays;
 mod programs;
-mod replies;
 mod row;
 mod server;
 mod stage;
 mod turn;
 mod verb;
 
+pub use plays::Holds;
 use rows_base::{Paper, row_in_front};
 use std::alloc::Global;
 use turn::{CLIENT, SERVER, Side};
@@ -29,7 +29,7 @@ enum On {
     Program,
 }
 
-/// Plays each row of a script, and then those that are no lines of it. Rows are paragraphs; they are a server's at first.
+/// Plays each row of a script. Rows are paragraphs; they are a server's at first.
 pub fn play_all(alloc: Global, script: &[u8]) -> Paper {
     let mut paper = Paper::new(alloc);
     let mut on = On::End(SERVER);
@@ -45,7 +45,6 @@ pub fn play_all(alloc: Global, script: &[u8]) -> Paper {
         }
         rest = behind;
     }
-    replies::try_all(alloc, &mut paper);
     paper
 }
 

@@ -1,5 +1,7 @@
 // A row of a script, and the end that it is played on.
+use crate::event::host_or;
 use ftp_endpoint::Host;
+use rows_base::said;
 use std::alloc::Global;
 
 /// How rows are played on an end.
@@ -42,4 +44,13 @@ pub struct Turn<'a> {
     pub side: Side,
     pub row: &'a [u8],
     pub whole: Option<&'a [u8]>,
+}
+
+impl Turn<'_> {
+    /// The hosts of both ends.
+    pub fn hosts(&self) -> (Host, Host) {
+        let here = said(self.row, b"here").unwrap_or(b"");
+        let peer = said(self.row, b"peer").unwrap_or(b"");
+        (host_or(here, self.side.here), host_or(peer, self.side.peer))
+    }
 }

@@ -1,7 +1,6 @@
 // A run of a row on a client.
 use crate::client::played::Played;
 use crate::desk::Desk;
-use crate::event::host_or;
 use crate::lines::play;
 use crate::plays::Holds;
 use crate::turn::Turn;
@@ -38,8 +37,7 @@ fn login<A: Allocator + Copy>(heap: A, row: &[u8]) -> Option<Login<A>> {
 
 /// Plays a row on a client before the greeting.
 fn enter<A: Allocator + Copy>(heap: A, login: Login<A>, turn: Turn<'_>, desk: &mut Desk) {
-    let here = host_or(said(turn.row, b"here").unwrap_or(b""), turn.side.here);
-    let peer = host_or(said(turn.row, b"peer").unwrap_or(b""), turn.side.peer);
+    let (here, peer) = turn.hosts();
     let begun: Result<Client<A, OperationTransfer<A>>, _> = Client::new(heap, login, here, peer);
     match begun {
         Ok(client) => play_on(client, heap, turn, desk),

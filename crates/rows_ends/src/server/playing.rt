@@ -1,6 +1,6 @@
 // A run of a row on a server.
 use crate::desk::Desk;
-use crate::event::{YEAR_2000, host_or};
+use crate::event::YEAR_2000;
 use crate::lines::play;
 use crate::plays::Holds;
 use crate::server::begun::{accounts, plants};
@@ -10,9 +10,10 @@ use crate::turn::Turn;
 use ftp_operation::Accounts;
 use ftp_server::Server;
 use ftp_server_model::Far;
+use ftp_server_parts::ServerTransfer;
 use ftp_server_play::play as play_list;
 use ftp_server_transfer::TreeTransfer;
-use ftp_tree::MemTree;
+use ftp_tree::{MemTree, Tree};
 use rows_base::{Refusing, said};
 use std::alloc::Allocator;
 
@@ -59,8 +60,7 @@ fn serve<A: Allocator + Copy>(
     turn: Turn<'_>,
     desk: &mut Desk,
 ) {
-    let here = host_or(said(turn.row, b"here").unwrap_or(b""), turn.side.here);
-    let peer = host_or(said(turn.row, b"peer").unwrap_or(b""), turn.side.peer);
+    let (here, peer) = turn.hosts();
     let begun: Result<Server<A, MemTree<A>, TreeTransfer<A>>, _> = Server::new(
         heap, tree, accounts, here, peer,
     );
@@ -70,21 +70,39 @@ fn serve<A: Allocator + Copy>(
     }
 }
 
-/// Makes the calls that a row lists, where it has some, and plays the lines behind them.
+/// Makes the calls that a row lists, and plays the lines behind them.
 fn begin<A: Allocator + Copy>(
     (heap, spare): (A, A),
     mut server: Server<A, MemTree<A>, TreeTransfer<A>>,
     turn: Turn<'_>,
     desk: &mut Desk,
 ) {
-    let mut row = turn.row;
-    if lists_calls(turn) {
-        match cues_of(heap, turn) {
-            Ok(cues) => row = tell(row, &play_list(spare, &mut server, cues.as_slice()), desk),
-            Err(_) => desk.paper.fill(),
+    let row = call_listed((heap, spare), &mut server, turn, desk);
+    play_on(server, Turn { row, ..turn }, desk);
+}
+
+/// Makes the calls that a row lists, and gives the lines behind them.
+fn call_listed<'a, A, T, J>(
+    (heap, spare): (A, A),
+    server: &mut Server<A, T, J>,
+    turn: Turn<'a>,
+    desk: &mut Desk,
+) -> &'a [u8]
+where
+    A: Allocator + Copy,
+    T: Tree<A>,
+    J: ServerTransfer<A, T>,
+{
+    if !lists_calls(turn) {
+        return turn.row;
+    }
+    match cues_of(heap, turn) {
+        Ok(cues) => tell(turn.row, &play_list(spare, server, cues.as_slice()), desk),
+        Err(_) => {
+            desk.paper.fill();
+            turn.row
         }
     }
-    play_on(server, Turn { row, ..turn }, desk);
 }
 
 /// Plays the lines of a row on a server, in the year 2000.
