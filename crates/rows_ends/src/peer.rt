@@ -6,7 +6,7 @@ ghost use Rattle.ftp_control.specs.Asking.{Closes};
 use crate::driven::Drive;
 use crate::embedded::sockets::Sockets;
 use crate::event::YEAR_2000;
-use ftp_control::{Accepted, For, Ports, Ready, Spoken, Watch, Whole};
+use ftp_control::{Accepted, Failed, For, Ports, Ready, Spoken, Watch, Whole, get, put};
 use ftp_endpoint::{Endpoint, Host};
 use ftp_ends::Wants;
 use ftp_facts::Moment;
@@ -106,6 +106,8 @@ pub struct Peer {
     taken: Tally,
     /// How many data connections were reset.
     resets: u64,
+    /// The one that is open for the program of a page.
+    opened: Option<Link>,
 }
 
 impl Peer {
@@ -115,6 +117,7 @@ impl Peer {
             drive,
             taken: Tally::new(),
             resets: 0,
+            opened: None,
         }
     }
 
@@ -201,14 +204,32 @@ impl Ports for Peer {
 }
 
 impl Sockets for Peer {
-    type Link = Link;
-
     fn listen(&mut self) -> Option<u16> {
         Some(1930)
     }
 
-    fn open(&mut self, _wanted: Wants) -> Option<(Link, Host)> {
-        Some((self.link(), PEER))
+    fn open(&mut self, _wanted: Wants) -> Option<Host> {
+        let link = self.link();
+        self.opened = Some(link);
+        Some(PEER)
+    }
+
+    fn read(&mut self, room: &mut [u8]) -> Result<usize, Failed> {
+        match &mut self.opened {
+            Some(link) => get(link, room),
+            None => Err(Failed),
+        }
+    }
+
+    fn write(&mut self, octets: &[u8]) -> Result<(), Failed> {
+        match &mut self.opened {
+            Some(link) => put(link, octets),
+            None => Err(Failed),
+        }
+    }
+
+    fn close(&mut self) {
+        self.opened = None;
     }
 
     fn now(&mut self) -> Moment {

@@ -17,13 +17,12 @@ pub fn perform<A: Allocator + Copy, N: Near<A>, R: Read, W: Write, S: Sockets>(
     let mut op = Some(op);
     client.start(&mut op);
     drop(op);
-    let mut link: Option<S::Link> = None;
     for _ in 0..TURNS {
         if let Some(answer) = client.report() {
             return Ok(answer);
         }
         if !owes(client, writer)? {
-            turn(client, reader, sockets, &mut link)?;
+            turn(client, reader, sockets)?;
         }
     }
     Err(Failed)
@@ -43,26 +42,22 @@ fn turn<A: Allocator + Copy, N: Near<A>, R: Read, S: Sockets>(
     client: &mut N,
     reader: &mut R,
     sockets: &mut S,
-    link: &mut Option<S::Link>,
 ) -> Result<(), Failed> {
-    match (client.wants(), &mut *link) {
-        (Wants::CloseAll, _) => return Err(Failed),
-        (Wants::Nothing, _) => hear(client, reader)?,
-        (Wants::Listen, _) => match sockets.listen() {
+    match client.wants() {
+        Wants::CloseAll => return Err(Failed),
+        Wants::Nothing => hear(client, reader)?,
+        Wants::Listen => match sockets.listen() {
             Some(port) => client.listening(port),
             None => client.listen_refused(),
         },
-        (Wants::Accept | Wants::Connect(_), _) => match sockets.open(client.wants()) {
-            Some((opened, host)) => {
-                *link = Some(opened);
-                client.data_opened(host);
-            }
+        Wants::Accept | Wants::Connect(_) => match sockets.open(client.wants()) {
+            Some(host) => client.data_opened(host),
             None => client.data_refused(),
         },
-        (Wants::Receive, Some(link)) => receive(client, link),
-        (Wants::Send, Some(link)) => send(client, link),
-        (Wants::CloseData | Wants::Receive | Wants::Send, _) => {
-            *link = None;
+        Wants::Receive => receive(client, sockets),
+        Wants::Send => send(client, sockets),
+        Wants::CloseData => {
+            sockets.close();
             client.data_closed();
         }
     }
@@ -81,19 +76,19 @@ fn hear<A: Allocator + Copy, N: Near<A>, R: Read>(
     Ok(())
 }
 
-fn receive<A: Allocator + Copy, N: Near<A>, L: Read>(client: &mut N, link: &mut L) {
+fn receive<A: Allocator + Copy, N: Near<A>, S: Sockets>(client: &mut N, sockets: &mut S) {
     let mut room = [0; 1];
-    match link.read(&mut room) {
+    match sockets.read(&mut room) {
         Ok(0) => client.data_end(),
         Ok(_) => drop(client.data_hear(&room)),
         Err(_) => client.data_fault(),
     }
 }
 
-fn send<A: Allocator + Copy, N: Near<A>, L: Write>(client: &mut N, link: &mut L) {
+fn send<A: Allocator + Copy, N: Near<A>, S: Sockets>(client: &mut N, sockets: &mut S) {
     let mut room = [0; 4096];
     let count = client.data_out(&mut room);
-    if put(link, &room[..count]).is_err() {
+    if sockets.write(&room[..count]).is_err() {
         client.data_fault();
     }
 }

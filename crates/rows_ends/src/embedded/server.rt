@@ -12,7 +12,6 @@ pub fn serve<A: Allocator + Copy, T: Tree<A>, F: Far<A, T>, R: Read, W: Write, S
     (reader, writer): (&mut R, &mut W),
     sockets: &mut S,
 ) -> Result<(), Failed> {
-    let mut link: Option<S::Link> = None;
     for _ in 0..TURNS {
         server.clock(sockets.now());
         if owes(server, writer)? {
@@ -21,7 +20,7 @@ pub fn serve<A: Allocator + Copy, T: Tree<A>, F: Far<A, T>, R: Read, W: Write, S
         if let Wants::CloseAll = server.wants() {
             return Ok(());
         }
-        turn(server, reader, sockets, &mut link)?;
+        turn(server, reader, sockets)?;
     }
     Err(Failed)
 }
@@ -40,25 +39,21 @@ fn turn<A: Allocator + Copy, T: Tree<A>, F: Far<A, T>, R: Read, S: Sockets>(
     server: &mut F,
     reader: &mut R,
     sockets: &mut S,
-    link: &mut Option<S::Link>,
 ) -> Result<(), Failed> {
-    match (server.wants(), &mut *link) {
-        (Wants::Nothing, _) => hear(server, reader)?,
-        (Wants::Listen, _) => match sockets.listen() {
+    match server.wants() {
+        Wants::Nothing => hear(server, reader)?,
+        Wants::Listen => match sockets.listen() {
             Some(port) => server.listening(port),
             None => server.listen_refused(),
         },
-        (Wants::Accept | Wants::Connect(_), _) => match sockets.open(server.wants()) {
-            Some((opened, host)) => {
-                *link = Some(opened);
-                server.data_opened(host);
-            }
+        Wants::Accept | Wants::Connect(_) => match sockets.open(server.wants()) {
+            Some(host) => server.data_opened(host),
             None => server.data_refused(),
         },
-        (Wants::Receive, Some(link)) => receive(server, link),
-        (Wants::Send, Some(link)) => send(server, link),
-        (Wants::CloseData | Wants::CloseAll | Wants::Receive | Wants::Send, _) => {
-            *link = None;
+        Wants::Receive => receive(server, sockets),
+        Wants::Send => send(server, sockets),
+        Wants::CloseData | Wants::CloseAll => {
+            sockets.close();
             server.data_closed();
         }
     }
@@ -77,19 +72,25 @@ fn hear<A: Allocator + Copy, T: Tree<A>, F: Far<A, T>, R: Read>(
     Ok(())
 }
 
-fn receive<A: Allocator + Copy, T: Tree<A>, F: Far<A, T>, L: Read>(server: &mut F, link: &mut L) {
+fn receive<A: Allocator + Copy, T: Tree<A>, F: Far<A, T>, S: Sockets>(
+    server: &mut F,
+    sockets: &mut S,
+) {
     let mut room = [0; 1];
-    match link.read(&mut room) {
+    match sockets.read(&mut room) {
         Ok(0) => server.data_end(),
         Ok(_) => drop(server.data_hear(&room)),
         Err(_) => server.data_fault(),
     }
 }
 
-fn send<A: Allocator + Copy, T: Tree<A>, F: Far<A, T>, L: Write>(server: &mut F, link: &mut L) {
+fn send<A: Allocator + Copy, T: Tree<A>, F: Far<A, T>, S: Sockets>(
+    server: &mut F,
+    sockets: &mut S,
+) {
     let mut room = [0; 4096];
     let count = server.data_out(&mut room);
-    if put(link, &room[..count]).is_err() {
+    if sockets.write(&room[..count]).is_err() {
         server.data_fault();
     }
 }

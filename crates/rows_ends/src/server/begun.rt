@@ -5,7 +5,7 @@ use ftp_facts::Text;
 use ftp_operation::{Account, Accounts};
 use ftp_path::Path;
 use ftp_tree::{Content, MemTree, Tree};
-use rows_base::{cut, number, octets_of, split};
+use rows_base::{cut, found, number, octets_of, split};
 use rows_tree::{make_dirs, place};
 use std::alloc::{AllocError, Allocator, Global};
 
@@ -58,21 +58,39 @@ pub fn plants<A: Allocator + Copy>(turn: Turn<'_>, heap: A, tree: &mut MemTree<A
     true
 }
 
+/// What a line puts into the tree.
+#[derive(Clone, Copy)]
+enum Plant {
+    Dir,
+    Dirs,
+    Full,
+    File,
+    Nothing,
+}
+
+const PLANTS: &[(&'static [u8], Plant)] = &[
+    (b"dir", Plant::Dir),
+    (b"dirs", Plant::Dirs),
+    (b"full", Plant::Full),
+    (b"file", Plant::File),
+];
+
 /// Puts what a line says into the tree.
 fn gives<A: Allocator + Copy>(own: Global, heap: A, tree: &mut MemTree<A>, line: &[u8]) -> bool {
     let (word, rest) = split(line);
-    if word == b"dir".as_slice() {
-        makes_dir(heap, tree, rest)
-    } else if word == b"dirs".as_slice() {
-        make_dirs(heap, tree, &Path::root(heap), number(rest));
-        true
-    } else if word == b"full".as_slice() {
-        makes_dir(heap, tree, rest) && makes_full(heap, tree, rest)
-    } else if word == b"file".as_slice() {
-        makes_file(own, heap, tree, split(rest))
-    } else {
-        true
+    match found(PLANTS, word, Plant::Nothing) {
+        Plant::Dir => makes_dir(heap, tree, rest),
+        Plant::Dirs => makes_dirs(heap, tree, number(rest)),
+        Plant::Full => makes_dir(heap, tree, rest) && makes_full(heap, tree, rest),
+        Plant::File => makes_file(own, heap, tree, split(rest)),
+        Plant::Nothing => true,
     }
+}
+
+/// Makes so many directories, or as many as it takes, which is well.
+fn makes_dirs<A: Allocator + Copy>(heap: A, tree: &mut MemTree<A>, count: u64) -> bool {
+    make_dirs(heap, tree, &Path::root(heap), count);
+    true
 }
 
 fn makes_dir<A: Allocator + Copy>(heap: A, tree: &mut MemTree<A>, text: &[u8]) -> bool {
@@ -128,13 +146,21 @@ fn makes_full<A: Allocator + Copy>(heap: A, tree: &mut MemTree<A>, text: &[u8]) 
 /// Puts a file of the most octets there.
 fn puts_most<A: Allocator + Copy>(heap: A, tree: &mut MemTree<A>, root: &Path<A>) -> bool {
     let mut content = Content::new(heap);
+    if !fills(heap, &mut content) {
+        return false;
+    }
+    match place(heap, b"most") {
+        Ok(path) => tree.install(root, &path, &mut content, YEAR_2000).is_ok(),
+        Err(_) => false,
+    }
+}
+
+/// Puts the most octets into a content.
+fn fills<A: Allocator + Copy>(heap: A, content: &mut Content<A>) -> bool {
     let mut block = Vec::new(heap);
     let mut is_whole = block.resize(BLOCK, 0).is_ok();
     for _ in 0..MOST_BLOCKS {
         is_whole = is_whole && content.push(block.as_slice()).is_ok();
     }
-    match place(heap, b"most") {
-        Ok(path) => is_whole && tree.install(root, &path, &mut content, YEAR_2000).is_ok(),
-        Err(_) => false,
-    }
+    is_whole
 }
