@@ -12,6 +12,7 @@ mod netrc_file;
 mod placing;
 mod private;
 mod rows;
+mod secrets;
 mod spot;
 mod url_place;
 mod words;

@@ -1,14 +1,15 @@
 // Who asks: a user name and the password, each from where it is said.
 use crate::entry::NetrcEntry;
 use crate::netrc_file::{no_password, suited};
-use crate::private::{NotPrivate, read_private};
+use crate::private::NotPrivate;
+use crate::secrets::Secrets;
 use ftp_facts::Text;
 use ftp_operation::Login;
 use std::alloc::Global;
-use std::env::{Env, VarError};
+use std::env::Env;
 use std::fs::Files;
+use std::io;
 use std::io::{Error, ErrorKind};
-use std::{env, io};
 
 /// Who asks, and where the password is, as far as it is said.
 #[derive(Clone, Copy)]
@@ -36,43 +37,75 @@ pub fn login_of<R>(rt: &R, host: &str, user: User<'_>) -> io::Result<Login<Globa
 where
     R: Files + Env + AllocGlobal,
 {
+    login_by(rt, rt.alloc(), host, user)
+}
+
+/// The same, of whoever has secrets.
+fn login_by<S: Secrets>(
+    rt: &S,
+    alloc: Global,
+    host: &str,
+    user: User<'_>,
+) -> io::Result<Login<Global>> {
     match user.name {
-        Some(name) => login_of_name(rt, host, user, name),
-        None => login_of_nobody(rt, host, user),
+        Some(name) => login_of_name(rt, alloc, host, user, name),
+        None => login_of_nobody(rt, alloc, host, user),
     }
 }
 
 /// The login of a user who is named; a `.netrc` is read where the password is nowhere else.
-fn login_of_name<R>(rt: &R, host: &str, user: User<'_>, name: &str) -> io::Result<Login<Global>>
-where
-    R: Files + Env + AllocGlobal,
-{
-    let name = name.as_bytes();
-    let pass = match password_said(rt, user, name)? {
+fn login_of_name<S: Secrets>(
+    rt: &S,
+    alloc: Global,
+    host: &str,
+    user: User<'_>,
+    name: &str,
+) -> io::Result<Login<Global>> {
+    let pass = match password_said(rt, alloc, user, name.as_bytes())? {
         Some(pass) => pass,
-        None => match suited(rt, host, name)? {
-            Some(entry) => password_kept(entry.password)?,
-            None => return Err(no_password()),
-        },
+        None => password_for(rt, alloc, host, name.as_bytes())?,
     };
-    login(Text::copy_of(rt.alloc(), name)?, pass)
+    login(Text::copy_of(alloc, name.as_bytes())?, pass)
+}
+
+/// The password that a `.netrc` has for a user at a host.
+fn password_for<S: Secrets>(
+    rt: &S,
+    alloc: Global,
+    host: &str,
+    name: &[u8],
+) -> io::Result<Text<Global>> {
+    match suited(rt, alloc, host, name)? {
+        Some(entry) => password_kept(entry.password),
+        None => Err(no_password()),
+    }
 }
 
 /// The login of whom a `.netrc` has for the host, and else of `anonymous`.
-fn login_of_nobody<R>(rt: &R, host: &str, user: User<'_>) -> io::Result<Login<Global>>
-where
-    R: Files + Env + AllocGlobal,
-{
-    let Some(
-        NetrcEntry {
-            login: name,
-            password,
-        },
-    ) = suited(rt, host, b"")?
-    else {
-        return login_of_name(rt, host, user, ANONYMOUS);
-    };
-    let pass = match password_said(rt, user, name.as_slice())? {
+fn login_of_nobody<S: Secrets>(
+    rt: &S,
+    alloc: Global,
+    host: &str,
+    user: User<'_>,
+) -> io::Result<Login<Global>> {
+    match suited(rt, alloc, host, b"")? {
+        Some(entry) => login_of_entry(rt, alloc, user, entry),
+        None => login_of_name(rt, alloc, host, user, ANONYMOUS),
+    }
+}
+
+/// The login of whom an entry of a `.netrc` names.
+fn login_of_entry<S: Secrets>(
+    rt: &S,
+    alloc: Global,
+    user: User<'_>,
+    entry: NetrcEntry<Text<Global>>,
+) -> io::Result<Login<Global>> {
+    let NetrcEntry {
+        login: name,
+        password,
+    } = entry;
+    let pass = match password_said(rt, alloc, user, name.as_slice())? {
         Some(pass) => pass,
         None => password_kept(password)?,
     };
@@ -99,39 +132,44 @@ fn password_kept(password: Option<Text<Global>>) -> io::Result<Text<Global>> {
 
 /// The password of a user, where it is said: in a file, in the environment, or in a URL; that of `anonymous` is not in the environment, and is
 /// what stands for none where no other is said.
-fn password_said<R>(rt: &R, user: User<'_>, name: &[u8]) -> io::Result<Option<Text<Global>>>
-where
-    R: Files + Env + AllocGlobal,
-{
-    let is_anonymous = name == ANONYMOUS.as_bytes();
+fn password_said<S: Secrets>(
+    rt: &S,
+    alloc: Global,
+    user: User<'_>,
+    name: &[u8],
+) -> io::Result<Option<Text<Global>>> {
     if let Some(file) = user.password_file {
-        return Ok(Some(password_in(rt, file)?));
+        return Ok(Some(password_in(rt, alloc, file)?));
     }
-    if !is_anonymous {
-        if let Some(pass) = password_around(rt)? {
-            return Ok(Some(pass));
-        }
+    if name == ANONYMOUS.as_bytes() {
+        return Ok(Some(Text::copy_of(alloc, guest_password(user))?));
     }
+    match rt.variable("FTP_PASSWORD")? {
+        Some(pass) => Ok(Some(Text::copy_of(alloc, pass.as_bytes())?)),
+        None => password_of_url(alloc, user),
+    }
+}
+
+/// The password of `anonymous`, where no file has it.
+fn guest_password<'a>(user: User<'a>) -> &'a [u8] {
     match user.password {
-        Some(pass) => Ok(Some(Text::copy_of(rt.alloc(), pass.as_bytes())?)),
-        None if is_anonymous => Ok(Some(Text::copy_of(rt.alloc(), GUEST)?)),
+        Some(pass) => pass.as_bytes(),
+        None => GUEST,
+    }
+}
+
+/// The password that a URL has, if it has one.
+fn password_of_url(alloc: Global, user: User<'_>) -> io::Result<Option<Text<Global>>> {
+    match user.password {
+        Some(pass) => Ok(Some(Text::copy_of(alloc, pass.as_bytes())?)),
         None => Ok(None),
     }
 }
 
-/// The password that the environment has, if it has one.
-fn password_around<R: Env + AllocGlobal>(rt: &R) -> io::Result<Option<Text<Global>>> {
-    match env::var(rt, "FTP_PASSWORD") {
-        Ok(password) => Ok(Some(Text::copy_of(rt.alloc(), password.as_bytes())?)),
-        Err(VarError::OutOfMemory) => Err(Error::from(ErrorKind::OutOfMemory)),
-        Err(_) => Ok(None),
-    }
-}
-
 /// The password that a file has: its octets up to the end of its first line.
-fn password_in<R: Files + AllocGlobal>(rt: &R, file: &str) -> io::Result<Text<Global>> {
-    match read_private(rt, file, FILE_LIMIT) {
-        Ok(octets) => Ok(Text::copy_of(rt.alloc(), first_line(octets.as_slice()))?),
+fn password_in<S: Secrets>(rt: &S, alloc: Global, file: &str) -> io::Result<Text<Global>> {
+    match rt.private(file, FILE_LIMIT) {
+        Ok(octets) => Ok(Text::copy_of(alloc, first_line(octets.as_slice()))?),
         Err(NotPrivate::Kind) => Err(Error::new(
             ErrorKind::InvalidInput,
             "a file of at most 1,024 octets is wanted for the password",

@@ -2,13 +2,12 @@
 use crate::entry::NetrcEntry;
 use crate::fault::NetrcFault;
 use crate::netrc::netrc_entry;
-use crate::private::{NotPrivate, read_private};
+use crate::private::NotPrivate;
+use crate::secrets::Secrets;
 use ftp_facts::Text;
 use std::alloc::Global;
-use std::env::{Env, VarError};
-use std::fs::Files;
+use std::io;
 use std::io::{Error, ErrorKind};
-use std::{env, io};
 
 /// The most octets of the file.
 const FILE_LIMIT: u64 = 65_536;
@@ -18,18 +17,26 @@ const NAME: &str = "/.netrc";
 
 /// The first entry of the file that is of a host and has a user, or anybody where the user is empty. The file is the one that NETRC in the environment
 /// names, and else `.netrc` in the directory that HOME names; there is no entry where that does not stand there. One that others may use is refused.
-pub(crate) fn suited<R>(
-    rt: &R,
+pub(crate) fn suited<S: Secrets>(
+    rt: &S,
+    alloc: Global,
     host: &str,
     user: &[u8],
-) -> io::Result<Option<NetrcEntry<Text<Global>>>>
-where
-    R: Files + Env + AllocGlobal,
-{
-    let Some(octets) = file(rt)? else {
-        return Ok(None);
-    };
-    match netrc_entry(rt.alloc(), octets.as_slice(), host.as_bytes(), user) {
+) -> io::Result<Option<NetrcEntry<Text<Global>>>> {
+    match &file(rt)? {
+        Some(octets) => suited_in(alloc, octets.as_slice(), host, user),
+        None => Ok(None),
+    }
+}
+
+/// The same, of the octets of the file.
+fn suited_in(
+    alloc: Global,
+    octets: &[u8],
+    host: &str,
+    user: &[u8],
+) -> io::Result<Option<NetrcEntry<Text<Global>>>> {
+    match netrc_entry(alloc, octets, host.as_bytes(), user) {
         Ok(entry) => Ok(entry),
         Err(NetrcFault::Quote) => Err(bad(".netrc: a word in quotes does not end on its line")),
         Err(NetrcFault::Memory) => Err(Error::from(ErrorKind::OutOfMemory)),
@@ -37,14 +44,16 @@ where
 }
 
 /// The octets of the file, where there is one.
-fn file<R>(rt: &R) -> io::Result<Option<Vec<u8, Global>>>
-where
-    R: Files + Env + AllocGlobal,
-{
-    if let Some(name) = around(rt, "NETRC")? {
-        return Ok(Some(octets_of(rt, name.as_str())?));
+fn file<S: Secrets>(rt: &S) -> io::Result<Option<Vec<u8, Global>>> {
+    match &rt.variable("NETRC")? {
+        Some(name) => Ok(Some(octets_of(rt, name.as_str())?)),
+        None => file_at_home(rt),
     }
-    let Some(mut name) = around(rt, "HOME")? else {
+}
+
+/// The octets of the file in the directory of who runs, where there is one.
+fn file_at_home<S: Secrets>(rt: &S) -> io::Result<Option<Vec<u8, Global>>> {
+    let Some(mut name) = rt.variable("HOME")? else {
         return Ok(None);
     };
     name.push_str(NAME)?;
@@ -55,18 +64,9 @@ where
     }
 }
 
-/// What the environment has under a name.
-fn around<R: Env + AllocGlobal>(rt: &R, name: &str) -> io::Result<Option<String<Global>>> {
-    match env::var(rt, name) {
-        Ok(value) => Ok(Some(value)),
-        Err(VarError::OutOfMemory) => Err(Error::from(ErrorKind::OutOfMemory)),
-        Err(_) => Ok(None),
-    }
-}
-
 /// The octets of a file that its owner alone may use.
-fn octets_of<R: Files + AllocGlobal>(rt: &R, name: &str) -> io::Result<Vec<u8, Global>> {
-    match read_private(rt, name, FILE_LIMIT) {
+fn octets_of<S: Secrets>(rt: &S, name: &str) -> io::Result<Vec<u8, Global>> {
+    match rt.private(name, FILE_LIMIT) {
         Ok(octets) => Ok(octets),
         Err(NotPrivate::Kind) => Err(bad("a file of at most 65,536 octets is wanted for .netrc")),
         Err(NotPrivate::Shared(_)) => Err(Error::new(

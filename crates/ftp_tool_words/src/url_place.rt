@@ -13,7 +13,6 @@ use url::{ParseError, Url};
 const CONTROL_PORT: u16 = 21;
 
 /// A file or a directory of a server, and who asks for it. Escapes are read.
-#[derive(Drop)]
 pub struct UrlPlace {
     /// Who logs in; empty where nobody is written.
     pub user: String<Global>,
@@ -24,6 +23,19 @@ pub struct UrlPlace {
     pub port: u16,
     /// What is sent to the server: all behind the first slash.
     pub path: String<Global>,
+}
+
+/// By hand: a derived drop is proved again, part by part, wherever a place is let go.
+impl Drop for UrlPlace {
+    fn drop(self) {
+        let Self {
+            user: _,
+            password: _,
+            host: _,
+            port: _,
+            path: _,
+        } = self;
+    }
 }
 
 /// Whether a text is a URL, and no HOST/PATH: its first slash stands between a colon and another slash.
