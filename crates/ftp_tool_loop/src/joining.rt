@@ -1,6 +1,7 @@
 // Connections of this process with itself, over the loopback.
 use crate::socket::Socket;
 use ftp_control::TURNS;
+use std::alloc::Global;
 use std::io;
 use std::io::{Error, ErrorKind};
 use std::net::{Net, SocketAddr, TcpListener, TcpStream};
@@ -8,16 +9,37 @@ use std::net::{Net, SocketAddr, TcpListener, TcpStream};
 /// The octets of the host of both ends.
 pub(crate) const LOOPBACK: [u8; 4] = [127, 0, 0, 1];
 
-/// Listens at a port of the loopback that the system chooses.
-pub(crate) fn bound<R>(net: &R) -> io::Result<TcpListener>
+/// Who joins sockets, as one trait without types of its own: what stands on it is proved for less.
+pub(crate) trait Joins {
+    /// Where memory is had.
+    fn heap(&self) -> Global;
+
+    /// Listens at a port of the loopback that the system chooses.
+    fn bound(&self) -> io::Result<TcpListener>;
+
+    /// Connects to a port that this process listens at: the socket that connects, and the one that comes.
+    fn joined(&self, listener: &TcpListener) -> io::Result<(Socket, Socket)>;
+}
+
+impl<R> Joins for R
 where
-    R: Net<Listener = TcpListener, Stream = TcpStream>,
+    R: Net<Listener = TcpListener, Stream = TcpStream> + AllocGlobal,
 {
-    TcpListener::bind(net, SocketAddr::from((LOOPBACK, 0)))
+    fn heap(&self) -> Global {
+        self.alloc()
+    }
+
+    fn bound(&self) -> io::Result<TcpListener> {
+        TcpListener::bind(self, SocketAddr::from((LOOPBACK, 0)))
+    }
+
+    fn joined(&self, listener: &TcpListener) -> io::Result<(Socket, Socket)> {
+        joined(self, listener)
+    }
 }
 
 /// Connects to a port that this process listens at: the socket that connects, and the one that comes.
-pub(crate) fn joined<R>(net: &R, listener: &TcpListener) -> io::Result<(Socket, Socket)>
+fn joined<R>(net: &R, listener: &TcpListener) -> io::Result<(Socket, Socket)>
 where
     R: Net<Listener = TcpListener, Stream = TcpStream>,
 {

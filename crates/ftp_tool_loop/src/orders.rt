@@ -1,6 +1,7 @@
 // The orders of a script, one after another, and the report of each.
 use crate::client::ClientEnd;
 use crate::end::End;
+use crate::joining::Joins;
 use crate::pair::Pair;
 use crate::server::ServerEnd;
 use ftp_client_model::Near;
@@ -12,7 +13,6 @@ use ftp_tree::MemTree;
 use std::alloc::Global;
 use std::io;
 use std::io::{Error, ErrorKind, Write};
-use std::net::{Net, TcpListener, TcpStream};
 
 /// Does orders, each once all that the one before moved has settled, and writes their reports; gives the worst of their statuses.
 pub(crate) fn obey<R, N, S, W>(
@@ -22,7 +22,7 @@ pub(crate) fn obey<R, N, S, W>(
     out: &mut W,
 ) -> io::Result<Status>
 where
-    R: Net<Listener = TcpListener, Stream = TcpStream> + AllocGlobal,
+    R: Joins,
     N: Near<Global>,
     S: Far<Global, MemTree<Global>>,
     W: Write,
@@ -33,7 +33,7 @@ where
         tell_time(pair.server(), number);
         begin(pair.client(), order);
         pair.settle(net)?;
-        worst = worst.worse(report(net.alloc(), pair.client(), out)?);
+        worst = worst.worse(report(net.heap(), pair.client(), out)?);
         number = number.saturating_add(1);
     }
     Ok(worst)

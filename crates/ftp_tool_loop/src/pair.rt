@@ -1,11 +1,10 @@
 // A client and a server, and the connections between them: turns, until nothing moves any more.
 use crate::end::End;
-use crate::joining::{bound, joined};
+use crate::joining::Joins;
 use crate::side::{Side, part, serve, speak, transfer};
 use ftp_control::TURNS;
 use std::io;
 use std::io::{Error, ErrorKind};
-use std::net::{Net, TcpListener, TcpStream};
 
 /// Both ends of a session.
 pub(crate) struct Pair<C: Drop, S: Drop> {
@@ -27,10 +26,10 @@ impl<C: End, S: End> Pair<C, S> {
     /// Both ends at a control connection that is opened for them.
     pub(crate) fn new<R>(net: &R, client: C, server: S) -> io::Result<Pair<C, S>>
     where
-        R: Net<Listener = TcpListener, Stream = TcpStream>,
+        R: Joins,
     {
-        let listener = bound(net)?;
-        let (own, came) = joined(net, &listener)?;
+        let listener = net.bound()?;
+        let (own, came) = net.joined(&listener)?;
         Ok(Pair {
             client: Side::new(client, own),
             server: Side::new(server, came),
@@ -48,7 +47,7 @@ impl<C: End, S: End> Pair<C, S> {
     /// Turns until nothing moves any more, or 1,099,511,627,776 of them.
     pub(crate) fn settle<R>(&mut self, net: &R) -> io::Result<()>
     where
-        R: Net<Listener = TcpListener, Stream = TcpStream>,
+        R: Joins,
     {
         for _ in 0..TURNS {
             if !self.turn(net)? {
@@ -62,7 +61,7 @@ impl<C: End, S: End> Pair<C, S> {
     /// says whether anything moved.
     fn turn<R>(&mut self, net: &R) -> io::Result<bool>
     where
-        R: Net<Listener = TcpListener, Stream = TcpStream>,
+        R: Joins,
     {
         let spoke = self.speak()?;
         let moved = self.transfer()?;
@@ -86,7 +85,7 @@ impl<C: End, S: End> Pair<C, S> {
 
     fn serve<R>(&mut self, net: &R) -> io::Result<bool>
     where
-        R: Net<Listener = TcpListener, Stream = TcpStream>,
+        R: Joins,
     {
         let one = serve(net, &mut self.client, &mut self.server)?;
         let other = serve(net, &mut self.server, &mut self.client)?;

@@ -1,5 +1,6 @@
 // A script between standard input and standard output.
 use crate::client::ClientEnd;
+use crate::joining::Joins;
 use crate::making::{client_of, server_of};
 use crate::orders::obey;
 use crate::pair::Pair;
@@ -38,7 +39,7 @@ where
 /// Plays a script, and tells what failed.
 fn played<R>(rt: &R, script: Script<Global>) -> io::Result<Status>
 where
-    R: Net<Listener = TcpListener, Stream = TcpStream> + Print + Eprint + AllocGlobal,
+    R: Joins + Print + Eprint,
 {
     match play_script(rt, script) {
         Ok(status) => Ok(status),
@@ -52,10 +53,10 @@ where
 /// Plays a script with a server of its own.
 fn play_script<R>(rt: &R, script: Script<Global>) -> io::Result<Status>
 where
-    R: Net<Listener = TcpListener, Stream = TcpStream> + Print + AllocGlobal,
+    R: Joins + Print,
 {
     let Script { login, orders } = script;
-    match server_of(rt.alloc()) {
+    match server_of(rt.heap()) {
         Some(server) => play_at(rt, server, login, orders),
         None => Err(Error::from(ErrorKind::OutOfMemory)),
     }
@@ -69,10 +70,10 @@ fn play_at<R, S>(
     orders: Vec<Order<Text<Global>>>,
 ) -> io::Result<Status>
 where
-    R: Net<Listener = TcpListener, Stream = TcpStream> + Print + AllocGlobal,
+    R: Joins + Print,
     S: Far<Global, MemTree<Global>>,
 {
-    match client_of(rt.alloc(), login) {
+    match client_of(rt.heap(), login) {
         Some(client) => play_between(rt, client, server, orders),
         None => Err(Error::from(ErrorKind::OutOfMemory)),
     }
@@ -86,7 +87,7 @@ fn play_between<R, N, S>(
     orders: Vec<Order<Text<Global>>>,
 ) -> io::Result<Status>
 where
-    R: Net<Listener = TcpListener, Stream = TcpStream> + Print + AllocGlobal,
+    R: Joins + Print,
     N: Near<Global>,
     S: Far<Global, MemTree<Global>>,
 {

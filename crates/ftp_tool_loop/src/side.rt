@@ -1,12 +1,12 @@
 // One end and its sockets: octets go from one side to the other, and what an end wants of its sockets is done.
 use crate::carrying::carry;
 use crate::end::{Connection, End, Event};
-use crate::joining::{LOOPBACK, bound, joined};
+use crate::joining::{Joins, LOOPBACK};
 use crate::socket::Socket;
 use ftp_endpoint::Host;
 use ftp_ends::Wants;
 use std::io;
-use std::net::{Net, TcpListener, TcpStream};
+use std::net::TcpListener;
 
 /// The host of both ends.
 pub(crate) const HERE: Host = Host::V4(LOOPBACK);
@@ -46,9 +46,9 @@ impl<E: End> Side<E> {
     /// Listens at a port, and tells the end which.
     fn listen<R>(&mut self, net: &R) -> io::Result<()>
     where
-        R: Net<Listener = TcpListener, Stream = TcpStream>,
+        R: Joins,
     {
-        let listener = bound(net)?;
+        let listener = net.bound()?;
         let port = listener.local_addr()?.port();
         self.port = Some(listener);
         self.end.tell(Event::Listening(port));
@@ -127,7 +127,7 @@ pub(crate) fn serve<R, E: End, O: End>(
     other: &mut Side<O>,
 ) -> io::Result<bool>
 where
-    R: Net<Listener = TcpListener, Stream = TcpStream>,
+    R: Joins,
 {
     match side.end.wants() {
         Wants::Listen => side.listen(net)?,
@@ -146,7 +146,7 @@ fn open<R, E: End, O: End>(
     other: &mut Side<O>,
 ) -> io::Result<bool>
 where
-    R: Net<Listener = TcpListener, Stream = TcpStream>,
+    R: Joins,
 {
     let Some(listener) = &other.port else {
         return Ok(false);
@@ -154,7 +154,7 @@ where
     if side.data.is_some() || !other.awaits() || listener.local_addr()?.port() != port {
         return Ok(false);
     }
-    let (own, came) = joined(net, listener)?;
+    let (own, came) = net.joined(listener)?;
     side.opened(own);
     other.opened(came);
     Ok(true)
