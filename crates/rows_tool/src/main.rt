@@ -1,7 +1,7 @@
 //! For tests alone: what `serve` answers where nobody is served, or a folder, a file of accounts, an address or a port is refused, and sessions
 //! over the loopback; which places texts say, and what `run`, `get`, `put` and `ls` answer where nobody listens, or where nothing can be asked; what
-//! uploads and downloads ask of a server that answers so; and scripts as `pair` and as `loop` play them (RFC 959; RFC 3659). Before them the rows of
-//! the crates below, since each program that stands above an end costs more to prove and to build than its rows.
+//! uploads and downloads ask of a server that answers so; scripts as `pair` and as `loop` play them; and rows of events in a world (RFC 959; RFC 3659).
+//! Before them the rows of the crates below, since what stands above an end costs more to prove and to build than its rows.
 #![tactic(auto)]
 
 mod downloads;
@@ -18,6 +18,7 @@ mod statuses;
 mod tries;
 mod typing;
 mod uploads;
+mod worlds;
 
 use ftp_tool_status::Status;
 use rows_base::{Paper, row_in_front};
@@ -67,7 +68,7 @@ fn others(rt: &HostRuntime) -> io::Result<()> {
     )?;
     write(
         rt,
-        &rows_world::play_all(alloc, fs::read(rt, "worlds")?.as_slice()),
+        &worlds::play_all(alloc, fs::read(rt, "worlds")?.as_slice()),
     )
 }
 

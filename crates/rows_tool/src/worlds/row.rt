@@ -1,10 +1,10 @@
 // Each row, as it is to be played.
-use crate::beside::play_drawn;
-use crate::desk::{Desk, Manner};
-use crate::each::play_each;
-use crate::making::{NO_WORLD, play};
-use crate::stage::NO_MEMORY;
-use crate::ways::play_ways;
+use crate::worlds::beside::play_drawn;
+use crate::worlds::desk::{Desk, Manner};
+use crate::worlds::each::play_each;
+use crate::worlds::making::{NO_WORLD, play};
+use crate::worlds::stage::NO_MEMORY;
+use crate::worlds::ways::play_ways;
 use rows_base::{Paper, first_other, row_in_front, said};
 use std::alloc::Global;
 

@@ -1,7 +1,7 @@
 // A world to which something happens, and what comes of it.
-use crate::desk::{Desk, Manner};
-use crate::plays::{Became, Plays};
-use crate::words::Happening;
+use crate::worlds::desk::{Desk, Manner};
+use crate::worlds::plays::{Became, Plays};
+use crate::worlds::words::Happening;
 
 /// More events than an order takes.
 const EVENTS: u64 = 1_000_000;

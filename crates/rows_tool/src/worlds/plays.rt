@@ -1,5 +1,5 @@
 // What rows are played on.
-use crate::words::Happening;
+use crate::worlds::words::Happening;
 use rows_base::Paper;
 use std::alloc::Global;
 

@@ -1,8 +1,8 @@
 // The events of a row in each order.
-use crate::desk::{Desk, Manner};
-use crate::making::play;
-use crate::plays::Plays;
-use crate::stage::{first_of, settle, tell_reports};
+use crate::worlds::desk::{Desk, Manner};
+use crate::worlds::making::play;
+use crate::worlds::plays::Plays;
+use crate::worlds::stage::{first_of, settle, tell_reports};
 use rows_base::Paper;
 use std::alloc::Global;
 use std::mem;

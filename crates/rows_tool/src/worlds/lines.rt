@@ -1,9 +1,9 @@
 // The lines of a row in one world.
-use crate::desk::{Desk, Manner};
-use crate::plays::Plays;
-use crate::stage::{begin, begin_heavy, happen, repeat, settle, tell, tell_reports};
-use crate::ways::follow;
-use crate::words::{Happening, Word, delivery_of, happening_of, word_of};
+use crate::worlds::desk::{Desk, Manner};
+use crate::worlds::plays::Plays;
+use crate::worlds::stage::{begin, begin_heavy, happen, repeat, settle, tell, tell_reports};
+use crate::worlds::ways::follow;
+use crate::worlds::words::{Happening, Word, delivery_of, happening_of, word_of};
 use ftp_pair::Queue;
 use rows_base::{cut, number, octets_of};
 use std::alloc::{AllocError, Global};

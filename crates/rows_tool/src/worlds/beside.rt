@@ -1,9 +1,9 @@
 // Orders in a world beside the same orders run directly on an equal tree.
-use crate::desk::{Desk, Manner};
-use crate::drawn::drawn_orders;
-use crate::making::{login_line, play};
-use crate::shown::put_reports;
-use crate::words::{Word, word_of};
+use crate::worlds::desk::{Desk, Manner};
+use crate::worlds::drawn::drawn_orders;
+use crate::worlds::making::{login_line, play};
+use crate::worlds::shown::put_reports;
+use crate::worlds::words::{Word, word_of};
 use ftp_direct::direct;
 use ftp_facts::{Moment, Text};
 use ftp_operation::{Accounts, Login, Op};

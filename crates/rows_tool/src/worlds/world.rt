@@ -1,8 +1,7 @@
 // A world as rows are played on it.
-use crate::holds::Holds;
-use crate::plays::{Became, Held, Plays};
-use crate::shown::{put_marks, put_reports};
-use crate::words::Happening;
+use crate::worlds::plays::{Became, Held, Plays};
+use crate::worlds::shown::{put_marks, put_reports};
+use crate::worlds::words::Happening;
 use ftp_client_model::Near;
 use ftp_facts::{Moment, Text};
 use ftp_operation::{How, Op};
@@ -12,6 +11,7 @@ use ftp_settings::{Kind, Mode, Representation, Structure};
 use ftp_tool_script::{Order, moment_of, order_of};
 use ftp_tree::Tree;
 use rows_base::Paper;
+use rows_ends::Holds;
 use rows_tree::show_tree;
 use std::alloc::{AllocError, Allocator, Global};
 

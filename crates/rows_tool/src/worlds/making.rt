@@ -1,8 +1,7 @@
 // The world that a row is played in.
-use crate::desk::Desk;
-use crate::holds::Holds;
-use crate::lines::play_in;
-use crate::world::Played;
+use crate::worlds::desk::Desk;
+use crate::worlds::lines::play_in;
+use crate::worlds::world::Played;
 use ftp_client_model::Near;
 use ftp_client_transfer::OperationTransfer;
 use ftp_operation::Login;
@@ -14,6 +13,7 @@ use ftp_tool_pair::beginning_of;
 use ftp_tool_script::login_of;
 use ftp_tree::{MemTree, Tree};
 use rows_base::{Refusing, cut};
+use rows_ends::Holds;
 use std::alloc::{Allocator, Global};
 
 /// The first line of a world that memory is refused for.

@@ -1,6 +1,6 @@
 // What stands beside a world that is played on.
-use crate::plays::Held;
-use crate::words::Happening;
+use crate::worlds::plays::Held;
+use crate::worlds::words::Happening;
 use rows_base::Paper;
 use std::alloc::Global;
 use std::mem;

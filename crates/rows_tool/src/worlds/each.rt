@@ -1,7 +1,7 @@
 // A row that is struck before each of its events in turn.
-use crate::desk::{Desk, Manner};
-use crate::making::play;
-use crate::words::{Happening, happening_of};
+use crate::worlds::desk::{Desk, Manner};
+use crate::worlds::making::play;
+use crate::worlds::words::{Happening, happening_of};
 use rows_base::Paper;
 use std::alloc::Global;
 use std::mem;
