@@ -3,86 +3,79 @@ use crate::seat::played;
 use crate::tries::Row;
 use ftp_facts::{Moment, Text};
 use ftp_operation::Answer;
+use ftp_tool_connection::SessionFault;
 use ftp_tool_status::Arrival;
 use ftp_tool_transfer::{Downloading, Stamp};
 use rows_base::Paper;
-use std::alloc::AllocError;
+use std::alloc::{AllocError, Global};
 use std::io;
-use std::io::Eprint;
 
 /// The most octets that the file may have.
 const LIMIT: u64 = 100;
 
-/// A download of which nothing came yet.
-fn begun<'a, R: Eprint + AllocGlobal>(
-    rt: &'a R,
-    row: Row<'_>,
-    stamp: Stamp,
-) -> Result<Downloading<'a, R>, AllocError> {
-    let mut downloading = Downloading::new(rt, rt.alloc(), "a", row.how)?;
-    downloading.put_terms(LIMIT, stamp);
-    Ok(downloading)
+/// How many octets the file had.
+const TOTAL: u64 = 10;
+
+/// What is known of the file before.
+#[derive(Clone, Copy)]
+pub(crate) enum Known {
+    /// Nothing, and its moment is not asked for.
+    Nothing,
+    /// Nothing, and its moment is asked for.
+    Untold,
+    /// Its octets 0123, of ten, and the fifth second of 1970.
+    Kept,
+    /// It was listed with ten octets and the fifth second of 1970.
+    Listed,
 }
 
-/// Puts what a download asks that doesn't ask for the moment.
-pub(crate) fn put<R: Eprint + AllocGlobal>(
-    rt: &R,
-    paper: &mut Paper,
-    row: Row<'_>,
-) -> io::Result<()> {
-    let mut downloading = begun(rt, row, Stamp::Unasked)?;
-    put_of(rt, paper, row, &mut downloading);
-    Ok(())
-}
-
-/// Puts what a download asks that asks for the moment.
-pub(crate) fn put_dated<R: Eprint + AllocGlobal>(
-    rt: &R,
-    paper: &mut Paper,
-    row: Row<'_>,
-) -> io::Result<()> {
-    let mut downloading = begun(rt, row, Stamp::Untold)?;
-    put_of(rt, paper, row, &mut downloading);
-    Ok(())
-}
-
-/// Puts what a download asks of which 0123 were kept, of ten octets and the fifth second of 1970.
-pub(crate) fn put_kept<R: Eprint + AllocGlobal>(
-    rt: &R,
-    paper: &mut Paper,
-    row: Row<'_>,
-) -> io::Result<()> {
-    let mut downloading = begun(rt, row, Stamp::Untold)?;
-    let octets = Text::copy_of(rt.alloc(), b"0123")?;
-    if let Some(moment) = Moment::new(5) {
-        downloading.begin_with(octets, 10, moment)?;
+fn stamp_of(known: Known) -> Stamp {
+    match known {
+        Known::Nothing | Known::Listed => Stamp::Unasked,
+        Known::Untold | Known::Kept => Stamp::Untold,
     }
-    put_of(rt, paper, row, &mut downloading);
-    Ok(())
 }
 
-/// Puts what a download asks of a file that was listed with ten octets and the fifth second of 1970.
-pub(crate) fn put_listed<R: Eprint + AllocGlobal>(
-    rt: &R,
-    paper: &mut Paper,
-    row: Row<'_>,
-) -> io::Result<()> {
-    let mut downloading = begun(rt, row, Stamp::Unasked)?;
-    downloading.expect(10, Moment::new(5));
-    put_of(rt, paper, row, &mut downloading);
+/// Tells a download what is known.
+fn tell(
+    rt: &HostRuntime,
+    downloading: &mut Downloading<'_, HostRuntime>,
+    known: Known,
+) -> Result<(), AllocError> {
+    match (known, Moment::new(5)) {
+        (Known::Listed, moment) => downloading.expect(TOTAL, moment),
+        (Known::Kept, Some(moment)) => {
+            let octets = Text::copy_of(rt.alloc(), b"0123")?;
+            downloading.begin_with(octets, TOTAL, moment)?;
+        }
+        _ => {}
+    }
     Ok(())
 }
 
 /// Puts what a download asks, and how it stands.
-fn put_of<R: Eprint + AllocGlobal>(
-    rt: &R,
+pub(crate) fn put(
+    rt: &HostRuntime,
     paper: &mut Paper,
     row: Row<'_>,
-    downloading: &mut Downloading<'_, R>,
+    known: Known,
+) -> io::Result<()> {
+    let mut downloading = Downloading::new(rt, rt.alloc(), "a", row.how)?;
+    downloading.put_terms(LIMIT, stamp_of(known));
+    tell(rt, &mut downloading, known)?;
+    let answer = played(rt.alloc(), paper, row, &mut downloading);
+    put_end(paper, &downloading, &answer);
+    Ok(())
+}
+
+/// Puts how a download stands that was answered so.
+fn put_end(
+    paper: &mut Paper,
+    downloading: &Downloading<'_, HostRuntime>,
+    answer: &Result<Answer<Global>, SessionFault>,
 ) {
-    let answer = played(rt.alloc(), paper, row, downloading);
     paper.put(b"; ");
-    match &answer {
+    match answer {
         Ok(Answer::Done) => put_arrival(paper, downloading.arrived()),
         Ok(Answer::Refused(_)) => paper.put(b"refused"),
         Ok(Answer::Broken { got: _, mark: _ }) => paper.put(b"broken"),

@@ -1,6 +1,6 @@
 // A session over the loopback, with both ends in one thread: the client says all its lines, and then the server serves them.
+use crate::handle::Handle;
 use crate::made::file;
-use crate::meeting::Meeting;
 use ftp_tool_serve::{Limits, Log, PassivePorts, Patience, Service, Users, session, users_of};
 use ftp_tree::Tree;
 use ftp_tree_folder::{DiskFolder, Mirror, Reasons, open};
@@ -131,7 +131,7 @@ where
         patience: &patience,
         passive: &passive,
     };
-    let (tree, ended) = session(&Meeting { rt }, tree, accounts, stream, service);
+    let (tree, ended) = session(&Handle::meeting(rt), tree, accounts, stream, service);
     (tree, ended.is_ok())
 }
 

@@ -5,9 +5,9 @@
 #![tactic(auto)]
 
 mod downloads;
+mod handle;
 mod loopback;
 mod made;
-mod meeting;
 mod places;
 mod refused;
 mod rights;
@@ -16,16 +16,15 @@ mod seat;
 mod soak;
 mod statuses;
 mod tries;
-mod typing;
 mod uploads;
 mod worlds;
 
 use ftp_tool_status::Status;
+use handle::Handle;
 use rows_base::{Paper, row_in_front};
 use std::io::{Read, Write};
 use std::process::ExitCode;
 use std::{fs, io};
-use typing::Typing;
 
 /// The directory in which the rows of `serve` make what they need; it is gone at the end.
 const PLACE: &str = "rows_of_serve";
@@ -48,7 +47,7 @@ fn played(rt: &HostRuntime) -> io::Result<Status> {
     let mut paper = fetched(rt, tries)?;
     paper.put(scripts::play_all(rt.alloc(), pairs).text());
     io::writer(rt).write_all(paper.text())?;
-    ftp_tool_loop::play(&Typing { rt, text })
+    ftp_tool_loop::play(&Handle::typing(rt, text))
 }
 
 /// Writes the rows of the crates below, each of which lie in a file.

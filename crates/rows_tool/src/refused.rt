@@ -1,7 +1,9 @@
 // What `serve` answers where nobody is served.
 use crate::made::{deep, file};
+use crate::statuses::put;
 use ftp_tool_serve::{Limits, Log, Others, Serving, Sessions, serve, users_of};
 use ftp_tree_folder::{LoadFault, Reasons, open};
+use rows_base::Paper;
 use std::net::{IpAddr, Ipv4Addr, Net, SocketAddr, TcpListener};
 use std::os::unix::fs::symlink;
 use std::{fs, io};
@@ -83,7 +85,9 @@ fn with_accounts<'a>(file: &'a str) -> Serving<'a> {
 /// Writes the status of a job.
 fn status_row(rt: &HostRuntime, name: &str, job: Serving<'_>) -> io::Result<()> {
     let status = serve(rt, job)?;
-    println!(rt; "{name}: {}", status.number())
+    let mut paper = Paper::new(rt.alloc());
+    put(&mut paper, name, status);
+    rt.write_all(paper.text())
 }
 
 /// Writes why a folder is refused; of a long place its length alone.
@@ -116,7 +120,10 @@ fn folder_rows(rt: &HostRuntime) -> io::Result<()> {
 /// Writes what the part of an upload has that is kept.
 fn kept_row(rt: &HostRuntime) -> io::Result<()> {
     let kept = fs::read_to_string(rt, "rows_of_serve/left/ftp-left-1\u{7f}")?;
-    println!(rt; "kept: {kept}")
+    let mut paper = Paper::new(rt.alloc());
+    paper.put(b"kept: ");
+    paper.line(kept.as_bytes());
+    rt.write_all(paper.text())
 }
 
 /// Writes why the file of accounts is refused, if it is.

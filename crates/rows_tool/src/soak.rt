@@ -1,5 +1,6 @@
 // An inbox under a mixed load, in short (at length: scripts/soak): clients one after another, of whom some are cut in the middle, and somebody who
 // takes away what came between them.
+use crate::handle::SENT;
 use crate::loopback::{join, served_over};
 use ftp_tree_folder::{DiskFolder, Mirror, Reasons, Seen, open, reloaded};
 use rows_base::Paper;
@@ -12,9 +13,6 @@ const DIR: &str = "rows_of_serve/inbox";
 
 /// What came, under its last name.
 const CAME: &str = "rows_of_serve/inbox/run";
-
-/// What each client sends over a data connection (`meeting`).
-const SENT: &str = "sent by the client\n";
 
 /// How a client ends.
 #[derive(Clone, Copy)]
@@ -77,20 +75,6 @@ fn served_anew<'a>(
     }
 }
 
-/// Serves a client that says these lines, which stays until it is served.
-fn visited<'a>(
-    rt: &'a HostRuntime,
-    (lines, ends): (&[u8], Ends),
-    mirror: Mirror<Global, DiskFolder<'a, HostRuntime>>,
-    seen: &mut Seen,
-    reasons: &'a Reasons,
-) -> io::Result<Mirror<Global, DiskFolder<'a, HostRuntime>>> {
-    match said(rt, lines, ends) {
-        Ok((_client, stream)) => served_anew(rt, &stream, mirror, seen, reasons),
-        Err(fault) => Err(fault),
-    }
-}
-
 /// Puts what is there behind each client.
 fn put_clients<'a>(
     rt: &'a HostRuntime,
@@ -101,7 +85,8 @@ fn put_clients<'a>(
     let mut mirror = mirror;
     let mut seen = Seen::nothing(rt.alloc());
     for (name, lines, ends) in CLIENTS {
-        mirror = visited(rt, (*lines, *ends), mirror, &mut seen, reasons)?;
+        let (_client, stream) = said(rt, *lines, *ends)?;
+        mirror = served_anew(rt, &stream, mirror, &mut seen, reasons)?;
         paper.holds(*name, taken(rt)? == matches!(ends, Ends::Whole));
     }
     Ok(())

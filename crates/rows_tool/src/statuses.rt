@@ -1,5 +1,5 @@
 // What the programs answer where nobody listens, or where nothing can be asked.
-use crate::typing::Typing;
+use crate::handle::Handle;
 use ftp_operation::How;
 use ftp_settings::{Kind, Mode, Representation, Structure};
 use ftp_tool_fetch::{Download, Lines, Parts, ServerAddress, Target, Task, fetch, run};
@@ -82,7 +82,7 @@ const TASKS: &[(&str, bool, Task<'static>)] = &[
 /// Puts the status of each script and of each task.
 pub(crate) fn rows(rt: &HostRuntime, paper: &mut Paper) -> io::Result<()> {
     for (what, text) in SCRIPTS {
-        let status = run(&Typing { rt, text }, ABSENT)?;
+        let status = run(&Handle::typing(rt, *text), ABSENT)?;
         put(paper, what, status);
     }
     for (what, has_password, task) in TASKS {
@@ -93,7 +93,8 @@ pub(crate) fn rows(rt: &HostRuntime, paper: &mut Paper) -> io::Result<()> {
     Ok(())
 }
 
-fn put(paper: &mut Paper, what: &str, status: Status) {
+/// Puts a status behind its name.
+pub(crate) fn put(paper: &mut Paper, what: &str, status: Status) {
     paper.put(what.as_bytes());
     paper.put(b": ");
     paper.number(u64::from(status.number()));

@@ -1,12 +1,11 @@
 // Uploads and downloads of `stdin`, a line each.
+use crate::downloads::Known;
 use crate::statuses::HOW;
 use crate::{downloads, uploads};
 use ftp_operation::How;
 use ftp_settings::{Kind, Representation};
-use rows_base::{Paper, cut, split};
-use std::fs::Files;
+use rows_base::{Paper, cut, found, split};
 use std::io;
-use std::io::Eprint;
 
 /// An upload or a download.
 #[derive(Clone, Copy)]
@@ -19,10 +18,7 @@ pub(crate) struct Row<'a> {
 }
 
 /// Puts what each line asks, and what comes of it.
-pub(crate) fn rows<R>(rt: &R, paper: &mut Paper, lines: &[u8]) -> io::Result<()>
-where
-    R: Files + Eprint + AllocGlobal,
-{
+pub(crate) fn rows(rt: &HostRuntime, paper: &mut Paper, lines: &[u8]) -> io::Result<()> {
     let mut rest = lines;
     for _ in 0..lines.len() {
         if rest.is_empty() {
@@ -35,8 +31,14 @@ where
     Ok(())
 }
 
-/// A line: `put`, `get`, `dated` or `kept`, the type, a name, and what the server answers.
-fn put<R: Files + Eprint + AllocGlobal>(rt: &R, paper: &mut Paper, line: &[u8]) -> io::Result<()> {
+const WORDS: &[(&'static [u8], Known)] = &[
+    (b"dated", Known::Untold),
+    (b"kept", Known::Kept),
+    (b"listed", Known::Listed),
+];
+
+/// A line: `put`, `get`, `dated`, `kept` or `listed`, the type, a name, and what the server answers.
+fn put(rt: &HostRuntime, paper: &mut Paper, line: &[u8]) -> io::Result<()> {
     let (verb, rest) = split(line);
     let (kind, rest) = split(rest);
     let (name, rest) = cut(rest, b':');
@@ -50,16 +52,9 @@ fn put<R: Files + Eprint + AllocGlobal>(rt: &R, paper: &mut Paper, line: &[u8]) 
     paper.put(name);
     paper.put(b":");
     if verb == b"put".as_slice() {
-        return uploads::put(rt, paper, row);
-    }
-    if verb == b"kept".as_slice() {
-        downloads::put_kept(rt, paper, row)
-    } else if verb == b"dated".as_slice() {
-        downloads::put_dated(rt, paper, row)
-    } else if verb == b"listed".as_slice() {
-        downloads::put_listed(rt, paper, row)
+        uploads::put(rt, paper, row)
     } else {
-        downloads::put(rt, paper, row)
+        downloads::put(rt, paper, row, found(WORDS, verb, Known::Nothing))
     }
 }
 

@@ -7,9 +7,8 @@ use ftp_tool_local::{Reading, read_from};
 use ftp_tool_transfer::{Source, Uploading};
 use rows_base::Paper;
 use std::alloc::Global;
-use std::fs::Files;
 use std::io;
-use std::io::{Eprint, Error, ErrorKind};
+use std::io::{Error, ErrorKind};
 
 /// A file of ten octets.
 const FILE: &str = "ten";
@@ -17,10 +16,7 @@ const FILE: &str = "ten";
 const LIMIT: u64 = 10;
 
 /// Puts what an upload asks, and its status.
-pub(crate) fn put<R>(rt: &R, paper: &mut Paper, row: Row<'_>) -> io::Result<()>
-where
-    R: Files + Eprint + AllocGlobal,
-{
+pub(crate) fn put(rt: &HostRuntime, paper: &mut Paper, row: Row<'_>) -> io::Result<()> {
     let Reading::Content(content) = read_from(rt, FILE, 0, LIMIT)? else {
         return Err(Error::from(ErrorKind::InvalidInput));
     };
@@ -33,14 +29,11 @@ where
 }
 
 /// Puts the status of an upload that was answered so.
-fn put_end<'a, R>(
+fn put_end(
     paper: &mut Paper,
-    uploading: &Uploading<'a, R>,
+    uploading: &Uploading<'_, HostRuntime>,
     answer: &Result<Answer<Global>, SessionFault>,
-) -> io::Result<()>
-where
-    R: Files + Eprint + AllocGlobal,
-{
+) -> io::Result<()> {
     let Ok(answer) = answer else {
         paper.put(b"stopped");
         return Ok(());

@@ -1,19 +1,43 @@
-// A handle whose standard input has a text.
+// A handle whose standard input has a text, and at whose ports a client may wait already.
 use std::alloc::{Allocator, Global};
 use std::fmt::Display;
 use std::io;
-use std::io::{BufRead, Eprint, Lines, Print};
+use std::io::{BufRead, Eprint, Lines, Print, Write};
 use std::net::{Net, SocketAddr, TcpListener, TcpStream};
 use std::time::{Clock, Duration};
 
-/// Gives what another handle gives, and this text as standard input.
+/// What a client sends over each data connection that it opens.
+pub(crate) const SENT: &str = "sent by the client\n";
+
+/// Gives what another handle gives.
 #[derive(Drop)]
-pub(crate) struct Typing<'a> {
-    pub(crate) rt: &'a HostRuntime,
-    pub(crate) text: &'a [u8],
+pub(crate) struct Handle<'a> {
+    rt: &'a HostRuntime,
+    text: &'a [u8],
+    meets: bool,
 }
 
-impl<'a> Input for Typing<'a> {
+impl<'a> Handle<'a> {
+    /// A handle whose standard input has this text.
+    pub(crate) fn typing(rt: &'a HostRuntime, text: &'a [u8]) -> Handle<'a> {
+        Handle {
+            rt,
+            text,
+            meets: false,
+        }
+    }
+
+    /// A handle to each of whose ports a client is connected at once, which has sent its octets and ended.
+    pub(crate) fn meeting(rt: &'a HostRuntime) -> Handle<'a> {
+        Handle {
+            rt,
+            text: b"",
+            meets: true,
+        }
+    }
+}
+
+impl<'a> Input for Handle<'a> {
     type Reader = &'a [u8];
 
     fn read_line<A: Allocator + Clone>(&self, _line: &mut String<A>) -> io::Result<usize> {
@@ -29,13 +53,18 @@ impl<'a> Input for Typing<'a> {
     }
 }
 
-impl<'a> Net for Typing<'a> {
+impl<'a> Net for Handle<'a> {
     type Stream = TcpStream;
 
     type Listener = TcpListener;
 
     fn bind(&self, addr: SocketAddr) -> io::Result<TcpListener> {
-        self.rt.bind(addr)
+        let listener = self.rt.bind(addr)?;
+        if self.meets {
+            let mut client = self.rt.connect(listener.local_addr()?)?;
+            client.write_all(SENT.as_bytes())?;
+        }
+        Ok(listener)
     }
 
     fn connect(&self, addr: SocketAddr) -> io::Result<TcpStream> {
@@ -43,7 +72,7 @@ impl<'a> Net for Typing<'a> {
     }
 }
 
-impl<'a> Clock for Typing<'a> {
+impl<'a> Clock for Handle<'a> {
     fn monotonic(&self) -> io::Result<Duration> {
         self.rt.monotonic()
     }
@@ -53,7 +82,7 @@ impl<'a> Clock for Typing<'a> {
     }
 }
 
-impl<'a> Print for Typing<'a> {
+impl<'a> Print for Handle<'a> {
     fn print<D: Display + Drop>(&self, value: D) -> io::Result<()> {
         self.rt.print(value)
     }
@@ -67,7 +96,7 @@ impl<'a> Print for Typing<'a> {
     }
 }
 
-impl<'a> Eprint for Typing<'a> {
+impl<'a> Eprint for Handle<'a> {
     fn eprint<D: Display + Drop>(&self, value: D) -> io::Result<()> {
         self.rt.eprint(value)
     }
@@ -77,7 +106,7 @@ impl<'a> Eprint for Typing<'a> {
     }
 }
 
-impl<'a> Alloc for Typing<'a> {
+impl<'a> Alloc for Handle<'a> {
     type A = Global;
 
     fn alloc(&self) -> Global {
