@@ -125,7 +125,7 @@ drove start off now r answer asked unwritten untold gave ends left closed same =
 -- one that broke off, and the client gave up
 pub broke_off : {A : Type 0} (start off now : Stand client_side) (r : Result (Answer A) Cause) (cause : Cause) (failed : Bool) (said : Option Said) → start.owner.lane.unwritten ≡ []
     → start.owner.lane.untold ≡ [] → r ≡ Err cause → Ends client_machine Reports start off r → off ≡ with_owner off.owner now → GivesUp said off.owner now.owner
-    → IfErr r (λ cause. IsCause cause failed off.owner.lane.asked now.unheard (wants off.owner.end.view) (may_hear off.owner.end.view) false) → BrokeOff failed start now said
+    → IfErr r (λ cause. IsCause cause failed off.owner.lane.asked now.unheard (wants off.owner.end.view) (may_hear off.owner.end.view) false) → BrokeOff cause failed start now said
 broke_off start off now r cause failed said unwritten untold gave ends same gave_up why =
     let fails : Fails start off = subst (λ r. Ends client_machine Reports start off r) gave ends in
     record {
@@ -137,6 +137,5 @@ broke_off start off now r cause failed said unwritten untold gave ends same gave
       carries = carries move_of (carrier client_machine) fails.leads.deeds start fails.mid fails.leads.led unwritten untold;
       lets = stood_so client_machine fails.octets fails.mid off fails.breaks;
       gave_up = gave_up;
-      cause = cause;
       why = subst (λ r. IfErr r (λ cause. IsCause cause failed off.owner.lane.asked now.unheard (wants off.owner.end.view) (may_hear off.owner.end.view) false)) gave why;
     }

@@ -1,5 +1,5 @@
 -- What a drive of a client beside its control connection did, whole or until it broke off.
-use Rattle.std.specs.Prelude.{◌≡◌, ◌⊎◌, ℕ, Bool, false, List, ◌∷◌, Option, Some, IsTrue}
+use Rattle.std.specs.Prelude.{◌≡◌, ℕ, Bool, false, List, ◌∷◌, Option, Some, None, IsTrue}
 use Rattle.ftp_control.specs.Asking.{Asked, Shut}
 use Rattle.ftp_control.specs.Cause.{IsCause}
 use Rattle.ftp_control.specs.Courses.{Carries}
@@ -47,7 +47,7 @@ pub record GivesUp (said : Option Said) (old new : Held Client) : Type 0 where
 
 -- the same deeds where the drive broke off, for this cause, whether a read or a write failed or not: a beginning of what the client said was
 -- written, what of a download it was not told is let go, and it gave up
-pub record BrokeOff (failed : Bool) (start now : Stand client_side) (said : Option Said) : Type 0 where
+pub record BrokeOff (cause : Cause) (failed : Bool) (start now : Stand client_side) (said : Option Said) : Type 0 where
   pub deeds : List (Deed client_side)
   pub last : List ℕ
   pub off : Held Client
@@ -56,9 +56,9 @@ pub record BrokeOff (failed : Bool) (start now : Stand client_side) (said : Opti
   pub carries : Carries {side = client_side} move_of deeds start.owner.lane stood
   pub lets : off.lane ≡ with_untold off.lane.untold stood
   pub gave_up : GivesUp said off now.owner
-  pub cause : Cause
   pub why : IsCause cause failed off.lane.asked now.unheard (wants off.end.view) (may_hear off.end.view) false
 
--- how a drive ends, with this report, where a read or a write of the control connection failed or not
-abbrev pub Drives : (failed : Bool) → (start now : Stand client_side) → Option Said → Type 0
-Drives failed start now said = Drove start now said ⊎ BrokeOff failed start now said
+-- how a drive ends, with this report: whole, or broken off for a cause, where a read or a write of the control connection failed or not
+abbrev pub Drives : (failed : Bool) → (start now : Stand client_side) → Option Cause → Option Said → Type 0
+Drives failed start now None said = Drove start now said
+Drives failed start now (Some cause) said = BrokeOff cause failed start now said

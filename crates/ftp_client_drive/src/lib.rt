@@ -5,5 +5,5 @@
 mod asks;
 mod drive;
 
-pub use drive::drive_client;
+pub use drive::{Driven, drive_client};
 pub use ftp_control::Control;

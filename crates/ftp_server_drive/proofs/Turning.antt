@@ -43,7 +43,7 @@ drove start off now r value asked unwritten untold gave ends left same =
 pub broke_off : {T : Type 0} (start off now : Stand server_side) (r : Result T Cause) (cause : Cause) (failed : Bool) (asked : Asked) (lane : Lane) → start.owner.lane.unwritten ≡ []
     → start.owner.lane.untold ≡ [] → r ≡ Err cause → Ended start off r → now.owner.end ≡ ended off.owner.end → lane ≡ off.owner.lane → IsLeft asked lane now.owner.lane
     → now ≡ with_owner now.owner off
-    → IfErr r (λ cause. IsCause cause failed off.owner.lane.asked off.unheard (wants off.owner.end.view) (may_hear off.owner.end.view) true) → BrokeOff failed start now
+    → IfErr r (λ cause. IsCause cause failed off.owner.lane.asked off.unheard (wants off.owner.end.view) (may_hear off.owner.end.view) true) → BrokeOff cause failed start now
 broke_off start off now r cause failed asked lane unwritten untold gave ends cut noted left same why =
     let fails : Fails start off = subst (λ r. Ended start off r) gave ends in
     record {
@@ -58,6 +58,5 @@ broke_off start off now r cause failed asked lane unwritten untold gave ends cut
       cut = cut;
       asked = asked;
       left = subst (λ l. IsLeft asked l now.owner.lane) noted left;
-      cause = cause;
       why = subst (λ r. IfErr r (λ cause. IsCause cause failed off.owner.lane.asked off.unheard (wants off.owner.end.view) (may_hear off.owner.end.view) true)) gave why;
     }

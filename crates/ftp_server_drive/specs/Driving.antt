@@ -10,7 +10,6 @@ use Rattle.ftp_control.specs.Deeds.{Deed, Other, Stand, with_owner}
 use Rattle.ftp_control.specs.Driving.{Cuts, Sums}
 use Rattle.ftp_control.specs.Lane.{IsLeft, Lane, with_untold}
 use Rattle.ftp_control.specs.declared.cause.Cause.{Cause}
-use Rattle.ftp_control.specs.declared.pieces.Failed.{Failed}
 use Rattle.ftp_server_model.specs.Calls.{wants}
 use Rattle.ftp_server_model.specs.Machine.{may_hear}
 use Rattle.ftp_server_model.specs.Far.{Server}
@@ -36,7 +35,7 @@ pub record Drove (start now : Stand server_side) : Type 0 where
 
 -- the same where the drive broke off, for this cause, whether a read or a write failed or not: a beginning of what it said was written, and what
 -- of an upload it was not told is let go; it was told that the control connection ended, and its data connection was left
-pub record BrokeOff (failed : Bool) (start now : Stand server_side) : Type 0 where
+pub record BrokeOff (cause : Cause) (failed : Bool) (start now : Stand server_side) : Type 0 where
   pub deeds : List (Deed server_side)
   pub last : List ℕ
   pub off : Stand server_side
@@ -48,10 +47,9 @@ pub record BrokeOff (failed : Bool) (start now : Stand server_side) : Type 0 whe
   pub cut : now.owner.end ≡ ended off.owner.end
   pub asked : Asked
   pub left : IsLeft asked off.owner.lane now.owner.lane
-  pub cause : Cause
   pub why : IsCause cause failed off.owner.lane.asked off.unheard (wants off.owner.end.view) (may_hear off.owner.end.view) true
 
 -- how a drive ends, where a read or a write of the control connection failed or not
-abbrev pub Drives : {T : Type 0} → (failed : Bool) → (start now : Stand server_side) → Result T Failed → Type 0
+abbrev pub Drives : {T : Type 0} → (failed : Bool) → (start now : Stand server_side) → Result T Cause → Type 0
 Drives failed start now (Ok value) = Drove start now
-Drives failed start now (Err error) = BrokeOff failed start now
+Drives failed start now (Err cause) = BrokeOff cause failed start now

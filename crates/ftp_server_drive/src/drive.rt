@@ -5,7 +5,7 @@ ghost use Rattle.ftp_server_drive.specs.Beside.{beside};
 ghost use Rattle.ftp_server_drive.specs.Driving.{Drives};
 
 use crate::serves::Serves;
-use ftp_control::{Control, Failed, Ports, Watch};
+use ftp_control::{Cause, Control, Ports, Watch};
 use ftp_control_drive::drive_end;
 use ftp_server_model::Far;
 use ftp_tree::Tree;
@@ -22,7 +22,7 @@ pub fn drive_server<A, T, F, R, W, P, C>(
     control: &mut Control<R, W>,
     ports: &mut P,
     watch: &mut C,
-) -> Result<(), Failed>
+) -> Result<(), Cause>
 where
     A: Allocator + Copy,
     T: Tree<A>,
@@ -39,12 +39,12 @@ where
             data.finish(ports);
             Ok(())
         }
-        Err(_) => {
+        Err(cause) => {
             let mut data = data;
             data.note::<Serves<A, T>, F, C>(server);
             server.control_end();
             data.finish(ports);
-            Err(Failed)
+            Err(cause)
         }
     }
 }

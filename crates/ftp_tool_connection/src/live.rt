@@ -2,7 +2,7 @@
 // the clauses of a client.
 use crate::course::{Course, Ending};
 use crate::request::{Request, begin};
-use ftp_client_drive::{Control, drive_client};
+use ftp_client_drive::{Control, Driven, drive_client};
 use ftp_client_model::Near;
 use ftp_control::Ports;
 use ftp_operation::Answer;
@@ -56,7 +56,8 @@ where
         let mut request = request;
         self.course.begin(&request);
         begin(&mut self.client, &mut request);
-        match drive_client(&mut self.client, self.control, self.ports) {
+        let Driven { report, off: _ } = drive_client(&mut self.client, self.control, self.ports);
+        match report {
             Some(answer) => answer,
             None => Answer::Lost,
         }

@@ -213,15 +213,15 @@ where
         journal,
     };
     let mut control = Control::new(reader, writer);
-    let ended = drive_server(server, &mut control, &mut ports, &mut SystemWatch::new(rt));
+    let ended = drive_server(server, &mut control, &mut ports, &mut SystemWatch::new(rt)).is_ok();
     ports.inner.finish();
-    if ended.is_ok() {
+    if ended {
         let _gone = say_goodbye(stream);
     }
     journal.finish();
-    journal.end(ended.is_ok());
-    match patience.over() {
-        Some(_) => Ok(()),
-        None => ended,
+    journal.end(ended);
+    if ended || patience.over().is_some() {
+        return Ok(());
     }
+    Err(Failed)
 }

@@ -90,11 +90,11 @@ impl<A: Allocator + Copy, S: Far<A, MemTree<A>> + Holds> Plays for Played<A, S> 
             Owner::Drive => {
                 let mut control = Control::new(reader, &mut writer);
                 let mut clock = peer.clock();
-                drive_server(&mut self.server, &mut control, peer, &mut clock)
+                drive_server(&mut self.server, &mut control, peer, &mut clock).is_ok()
             }
-            Owner::Page(_) => serve(&mut self.server, (&mut reader, &mut writer), peer),
+            Owner::Page(_) => serve(&mut self.server, (&mut reader, &mut writer), peer).is_ok(),
         };
-        if ended.is_ok() {
+        if ended {
             paper.put(b"= ended\n");
         }
         writer

@@ -18,5 +18,5 @@ returns-in-Err g c =
     let asked = g.P.Ports.history ended.new.ports in
     let lane = lane_at g.P.Stream.Read.remaining g.P.Stream.Write.contents asked ended.result.0 [] in
     let off = beside g.R.Read.remaining g.W.Write.contents (held (g.F.Far.server ended.new.end) lane) ended.new.control in
-    broke_off _ off _ ended.result.1 c.in-Err.field-0 ended.new.control.failed c.finish-in-Err.ensures.0 _ refl refl c.in-Err.is ended.ensures.ends c.control_end.ensures (c.note.ensures.same asked)
+    broke_off _ off _ ended.result.1 c.in-Err.cause ended.new.control.failed c.finish-in-Err.ensures.0 _ refl refl c.in-Err.is ended.ensures.ends c.control_end.ensures (c.note.ensures.same asked)
     c.finish-in-Err.ensures.1 refl ended.ensures.why
