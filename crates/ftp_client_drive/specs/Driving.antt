@@ -1,18 +1,15 @@
 -- What a drive of a client beside its control connection did, whole or until it broke off.
-use Rattle.std.specs.Prelude.{◌≡◌, ℕ, Bool, false, List, ◌∷◌, Option, Some, None, IsTrue}
+use Rattle.std.specs.Prelude.{◌≡◌, Bool, false, [], ◌∷◌, Option, Some, None, IsTrue}
 use Rattle.ftp_control.specs.Asking.{Asked, Shut}
-use Rattle.ftp_control.specs.Cause.{IsCause}
-use Rattle.ftp_control.specs.Courses.{Carries}
-use Rattle.ftp_control.specs.Deeds.{Deed, Other, Stand, with_owner}
-use Rattle.ftp_control.specs.Driving.{Cuts, Sums}
-use Rattle.ftp_control.specs.Lane.{Lane, with_untold}
+use Rattle.ftp_control.specs.Deeds.{Other, Stand, with_owner}
+use Rattle.ftp_control.specs.Machine.{Called, Closed, Held, IsCut, Left}
 use Rattle.ftp_control.specs.Outcome.{IsDropped}
 use Rattle.ftp_control.specs.declared.cause.Cause.{Cause}
+use Rattle.ftp_control_drive.specs.Driven.{BreaksOff, Did}
 use Rattle.ftp_operation.specs.Answer.{Said, Lost, said_of}
 use Rattle.ftp_operation.specs.declared.answer.Answer.{Answer}
-use Rattle.ftp_client_model.specs.Calls.{is_sound, may_hear, wants}
+use Rattle.ftp_client_model.specs.Calls.{is_sound}
 use Rattle.ftp_client_model.specs.Failing.{Client}
-use Rattle.ftp_control.specs.Machine.{Called, Closed, Held, IsCut, Left, move_of}
 use Rattle.ftp_client_drive.specs.Side.{Report, client_machine, client_side, is_under_way}
 
 -- the client is asked for its report, which is this answer
@@ -24,10 +21,8 @@ Reports answer old new = client_machine.Owns (Some (said_of answer)) old new
 pub record Drove (start now : Stand client_side) (said : Option Said) : Type 0 where
   pub answer : Said
   pub answered : said ≡ Some answer
-  pub deeds : List (Deed client_side)
   pub asked : Asked
-  pub sums : Sums {side = client_side} (Other Closed ∷ Other (Left asked) ∷ Other (Report said) ∷ deeds) start now
-  pub carries : Carries {side = client_side} move_of (Other Closed ∷ Other (Left asked) ∷ Other (Report said) ∷ deeds) start.owner.lane now.owner.lane
+  pub did : Did client_machine (Other Closed ∷ Other (Left asked) ∷ Other (Report said) ∷ []) start now
 
 -- the client is told that the control connection ended, its data connection is reset and then the port closed, it is told that the data
 -- connection is closed, and gives its report: an operation under way is lost
@@ -48,15 +43,9 @@ pub record GivesUp (said : Option Said) (old new : Held Client) : Type 0 where
 -- the same deeds where the drive broke off, for this cause, whether a read or a write failed or not: a beginning of what the client said was
 -- written, what of a download it was not told is let go, and it gave up
 pub record BrokeOff (cause : Cause) (failed : Bool) (start now : Stand client_side) (said : Option Said) : Type 0 where
-  pub deeds : List (Deed client_side)
-  pub last : List ℕ
   pub off : Held Client
-  pub cuts : Cuts deeds last start (with_owner off now)
-  pub stood : Lane
-  pub carries : Carries {side = client_side} move_of deeds start.owner.lane stood
-  pub lets : off.lane ≡ with_untold off.lane.untold stood
+  pub breaks : BreaksOff client_machine false cause failed start (with_owner off now)
   pub gave_up : GivesUp said off now.owner
-  pub why : IsCause cause failed off.lane.asked now.unheard (wants off.end.view) (may_hear off.end.view) false
 
 -- how a drive ends, with this report: whole, or broken off for a cause, where a read or a write of the control connection failed or not
 abbrev pub Drives : (failed : Bool) → (start now : Stand client_side) → Option Cause → Option Said → Type 0

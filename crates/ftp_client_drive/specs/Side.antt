@@ -1,7 +1,9 @@
 -- A client as the end of a session that is driven: what its calls do, as `Near` says it (RFC 959, section 2.3).
-use Rattle.std.specs.Prelude.{◌≡◌, Bool, true, false, IsTrue, length, Option}
-use Rattle.ftp_control.specs.Machine.{Machine, Call, Aside, side_of}
+use Rattle.std.specs.Prelude.{◌≡◌, ℕ, Bool, true, false, IsTrue, length, List, Option}
+use Rattle.ftp_control.specs.Deeds.{Stand}
+use Rattle.ftp_control.specs.Machine.{Machine, Call, Aside, Held, side_of, stand_of}
 use Rattle.ftp_control.specs.Side.{Side}
+use Rattle.ftp_control.specs.declared.control.Control.{Control}
 use Rattle.ftp_ends.specs.declared.link.Wants.TheVariants as Want
 use Rattle.ftp_operation.specs.Answer as Answers
 use Rattle.ftp_client_model.specs.Calls.{control_end, data_closed, data_end, data_fault, data_opened, data_refused, gives_control, gives_data, is_sound, listen_refused, listening, may_hear, report_of, reports, to_give, wants}
@@ -48,3 +50,7 @@ client_machine = record {
 
 abbrev pub client_side : Side
 client_side = side_of client_machine
+
+-- it and its data connection beside a control connection, by what its reader has left and what its writer holds
+abbrev pub beside : {R W : Type 0} → (R → Option (List ℕ)) → (W → Option (List ℕ)) → Held Client → Control R W → Stand client_side
+beside remaining contents owner control = stand_of client_machine remaining contents owner control

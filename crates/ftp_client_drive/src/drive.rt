@@ -3,8 +3,8 @@ ghost use Rattle.std.specs.Option.{option_map};
 ghost use Rattle.ftp_control.specs.Lane.{no_lane};
 ghost use Rattle.ftp_control.specs.Machine.{held};
 ghost use Rattle.ftp_operation.specs.Answer.{said_of};
-ghost use Rattle.ftp_client_drive.specs.Beside.{beside};
 ghost use Rattle.ftp_client_drive.specs.Driving.{Drives};
+ghost use Rattle.ftp_client_drive.specs.Side.{beside};
 
 use crate::asks::Asks;
 use ftp_client_model::Near;

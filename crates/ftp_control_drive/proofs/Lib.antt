@@ -1,2 +1,3 @@
-pub mod Reaching
+pub mod Driven
+pub mod Steps
 pub mod Words

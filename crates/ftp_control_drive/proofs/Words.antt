@@ -1,19 +1,19 @@
 -- What the proofs of most functions of this drive name.
-pub use Rattle.ftp_control.proofs.Causing.{has_lost, is_fault, is_spent, lost_unheard, passes}
-pub use Rattle.ftp_control.proofs.Going.{ends_here, flushes_err, goes_err, read_fails, reads_next, write_fails}
-pub use Rattle.ftp_control.proofs.Idling.{hears_first, idles_same, idles_wrote, leaves, lets_go}
+pub use Rattle.std.proofs.Common.{◌∙◌, ◌∷◌, [], refl, rules, subst, sym}
+pub use Rattle.ftp_control.proofs.Causing.{is_fault, is_spent, passes}
+pub use Rattle.ftp_control.proofs.Going.{ends_here, flushes_err, goes_err, goes_then, read_fails, reads_next, write_fails}
+pub use Rattle.ftp_control.proofs.Idling.{hears_first, idles_same, idles_waited, idles_wrote, leaves, lets_go}
 pub use Rattle.ftp_control.proofs.Lanes.{fills, none_had}
 pub use Rattle.ftp_control.proofs.Leading.{fails_here, fails_lets, fails_then, leads_by, leads_nowhere, leads_on, leads_then, settled_leads, settles_here}
 pub use Rattle.ftp_control.proofs.Meeting.{has_none, has_one, listens, listens_nowhere, none_answered, none_came, one_came}
 pub use Rattle.ftp_control.proofs.Outcomes.{gave_none, gave_some, given_more}
-pub use Rattle.ftp_control.specs.Asking.{Came, Connected, Connects, NotCame, NotConnected, is_lost, is_over}
+pub use Rattle.ftp_control.specs.Asking.{Came, Connected, Connects, NotCame, NotConnected, is_over}
 pub use Rattle.ftp_control.specs.Deeds.{Other, Said, with_owner}
 pub use Rattle.ftp_control.specs.Driving.{Fails, Leads, Quietly}
 pub use Rattle.ftp_control.specs.Lane.{Lane, no_lane, with_given, with_untold}
 pub use Rattle.ftp_control.specs.Machine.{Closed, held, side_of, stand_of}
 pub use Rattle.ftp_control.specs.Outcome.{in_hand}
-pub use Rattle.ftp_control_drive.proofs.Reaching.{aside_quietly, breaks_told, ends_err, ends_told, handing, hands_err, reached_fails, reached_goes, reached_then, reaches_asked, reaches_came, reaches_idle, reaches_settled, reaches_unheard, reaches_waited, receives, sends}
-pub use Rattle.ftp_control_drive.specs.Calling.{IsAsked}
-pub use Rattle.ftp_control_drive.specs.Reaching.{Ends}
+pub use Rattle.ftp_control_drive.proofs.Steps.{asks, aside_quietly, breaks_told, came, ends_err, ends_told, flushed, handing, receives}
+pub use Rattle.ftp_control_drive.specs.Calling.{Ends}
 pub use Rattle.ftp_control_drive.specs.Standing.{IsKept, Why, lane_at, standing}
-pub use Rattle.std.proofs.lemmas.List.{drop-drop, drop_all, take-append-le}
+pub use Rattle.std.proofs.lemmas.List.{nil_from_length, take-append-le}

@@ -1,3 +1,3 @@
 pub mod Calling
-pub mod Reaching
+pub mod Driven
 pub mod Standing

@@ -7,13 +7,12 @@ use Rattle.ftp_control.specs.Asking.{Asked}
 use Rattle.ftp_control.specs.Carrying.{left_of}
 use Rattle.ftp_control.specs.Cause.{IsCause}
 use Rattle.ftp_control.specs.Deeds.{Stand, with_owner}
-use Rattle.ftp_control.specs.Driving.{Leads}
+use Rattle.ftp_control.specs.Driving.{Goes, Leads}
 use Rattle.ftp_control.specs.Lane.{Lane, lane_of, with_asked}
 use Rattle.ftp_control.specs.Machine.{Machine, held, side_of, stand_of}
 use Rattle.ftp_control.specs.Unheard.{unheard_of}
 use Rattle.ftp_control.specs.declared.cause.Cause.{Cause}
 use Rattle.ftp_control.specs.declared.control.Control.{Control}
-use Rattle.ftp_control_drive.specs.Reaching.{GoesOn}
 use Rattle.ftp_control_drive.specs.declared.data.Data.{Data}
 use Rattle.ftp_control_drive.specs.declared.drive.Drive.{Drive}
 
@@ -37,14 +36,8 @@ Why machine serves here asked control result =
 -- by what its end holds, its reader has left, its writer holds, and `Ports` and a stream tell
 module _ (machine : Machine) {K E C R W P S : Type 0} (here : E → machine.Here) (left : R → Option (List ℕ)) (written : W → Option (List ℕ))
     (history : P → Option (List Asked)) (remaining contents : S → Option (List ℕ)) where
-  -- while these octets are in hand
-  abbrev pub standing_with : Drive K E C R W P S → (untold : List ℕ) → Stand (side_of machine)
-  standing_with drive untold =
-      stand_of machine left written (held (here drive.end.now) (lane_at remaining contents (history drive.ports.now) drive.data untold)) drive.control.now
-
-  -- while none are
   abbrev pub standing : Drive K E C R W P S → Stand (side_of machine)
-  standing drive = standing_with drive []
+  standing drive = stand_of machine left written (held (here drive.end.now) (lane_at remaining contents (history drive.ports.now) drive.data [])) drive.control.now
 
   -- it leads on
   abbrev pub LeadsOn : (old new : Drive K E C R W P S) → Type 0
@@ -52,7 +45,7 @@ module _ (machine : Machine) {K E C R W P S : Type 0} (here : E → machine.Here
 
   -- it leads on, or fails
   abbrev pub Follows : {T : Type 0} → (old new : Drive K E C R W P S) → Result T Cause → Type 0
-  Follows old new result = GoesOn (standing old) (standing new) result
+  Follows old new result = Goes (standing old) (standing new) result
 
 -- the same before what was asked last
 abbrev pub asked_before : {machine : Machine} → Option (List Asked) → Stand (side_of machine) → Stand (side_of machine)

@@ -3,11 +3,9 @@ ghost use Rattle.std.specs.Prelude.{◌≡◌, ◌≢◌, ◌<◌, IsTrue, false
 ghost use Rattle.ftp_control.specs.Asking.{Adds, is_over, told_lost};
 ghost use Rattle.ftp_control.specs.Cause.{HasLost};
 ghost use Rattle.ftp_control.specs.Unheard.{unheard_of};
-ghost use Rattle.ftp_control_drive.specs.Calling.{IsTold};
 ghost use Rattle.ftp_control_drive.specs.Standing.{Follows, HasEnded, IsKept, LeadsOn, Why};
 
 use crate::calls::EndCalls;
-use crate::control::flush;
 use crate::data::Data;
 use crate::drive::Drive;
 use crate::hand::hand;
@@ -23,18 +21,17 @@ where
     S: Read + Write,
 {
     /// Takes octets from an end that asks, which the turns behind it write; of one that serves sends them where there is room for them.
+    #[tactic(auto, using(ftp_control::proofs::Going::goes_then, ftp_control::proofs::Leading::leads_then))]
     pub(crate) fn carry(&mut self) -> Result<(), Cause>
         ensures goes { Follows K.machine K.here R.remaining W.contents P.history S.remaining S.contents self.old self.new result }
         ensures why { Why K.machine K.serves (K.here self.new.end.now) (P.history self.new.ports.now) self.new.control.now result }
         ensures kept { IsKept self.old self.new }
     {
         if !K::serves() {
-            self.data.fill::<K, E, C>(self.end);
+            self.fill();
             return Ok(());
         }
-        self.data.note::<K, E, C>(self.end);
-        let hears = !self.control.has_unheard();
-        match self.data.wait(self.ports, For::Room, hears) {
+        match self.wait(For::Room) {
             Ready::Control => return self.heed(),
             Ready::Data => self.send_more(),
             Ready::Lost => return Err(Cause::Lost),
@@ -43,21 +40,33 @@ where
     }
 
     /// Receives octets where there are any, and reads the control connection where it has some first.
+    #[tactic(auto, using(ftp_control::proofs::Going::goes_then))]
     pub(crate) fn receive(&mut self) -> Result<(), Cause>
         ensures goes { Follows K.machine K.here R.remaining W.contents P.history S.remaining S.contents self.old self.new result }
         ensures why { Why K.machine K.serves (K.here self.new.end.now) (P.history self.new.ports.now) self.new.control.now result }
         ensures kept { IsKept self.old self.new }
     {
-        self.data.note::<K, E, C>(self.end);
-        let hears = !self.control.has_unheard();
-        match self.data.wait(self.ports, For::Octets, hears) {
+        match self.wait(For::Octets) {
             Ready::Control => self.heed(),
             Ready::Data => self.take(),
             Ready::Lost => self.lost(),
         }
     }
 
+    /// Waits until octets can go over the data connection, or where all that was read was heard until the control connection is to be served.
+    fn wait(&mut self, what: For) -> Ready
+        ensures leads { LeadsOn K.machine K.here R.remaining W.contents P.history S.remaining S.contents self.old self.new }
+        ensures first { result ≡ Ready.Control → 0 < length (unheard_of self.new.control.now) → HasLost (P.history self.new.ports.now) }
+        ensures lost { result ≡ Ready.Lost → HasLost (P.history self.new.ports.now) }
+        ensures kept { IsKept self.old self.new }
+    {
+        self.data.note::<K, E, C>(self.end);
+        let hears = !self.control.has_unheard();
+        self.data.wait(self.ports, what, hears)
+    }
+
     /// The waiting failed: an end that serves gives up, one that asks may still receive what came before.
+    #[tactic(auto, using(crate::proofs::Steps::fails_at))]
     fn lost(&mut self) -> Result<(), Cause>
         requires { HasLost (P.history self.old.ports.now) }
         ensures goes { Follows K.machine K.here R.remaining W.contents P.history S.remaining S.contents self.old self.new result }
@@ -85,27 +94,45 @@ where
     }
 
     /// Takes octets from the end, where all before were written, and writes them; where that fails, the data connection is lost.
+    #[tactic(auto, using(ftp_control::proofs::Leading::leads_then))]
     fn send_more(&mut self)
         ensures leads { LeadsOn K.machine K.here R.remaining W.contents P.history S.remaining S.contents self.old self.new }
         ensures kept { IsKept self.old self.new }
     {
-        self.data.fill::<K, E, C>(self.end);
-        match self.data.write::<K, E, C>() {
+        self.fill();
+        match self.write() {
             Err(Halt::Broken) => self.lose(),
             _ => {}
         }
     }
 
     /// Writes octets that are on their way, as many as one write takes.
+    #[tactic(auto, using(ftp_control::proofs::Going::goes_then))]
     pub(crate) fn send(&mut self) -> Result<(), Cause>
         ensures goes { Follows K.machine K.here R.remaining W.contents P.history S.remaining S.contents self.old self.new result }
         ensures why { Why K.machine K.serves (K.here self.new.end.now) (P.history self.new.ports.now) self.new.control.now result }
         ensures kept { IsKept self.old self.new }
     {
-        match self.data.write::<K, E, C>() {
+        match self.write() {
             Ok(()) => Ok(()),
             Err(halt) => self.halted(halt),
         }
+    }
+
+    /// Takes octets from the end, where all before were written.
+    fn fill(&mut self)
+        ensures leads { LeadsOn K.machine K.here R.remaining W.contents P.history S.remaining S.contents self.old self.new }
+        ensures kept { IsKept self.old self.new }
+    {
+        self.data.fill::<K, E, C>(self.end);
+    }
+
+    /// Writes octets that are not written yet.
+    fn write(&mut self) -> Result<(), Halt>
+        ensures leads { LeadsOn K.machine K.here R.remaining W.contents P.history S.remaining S.contents self.old self.new }
+        ensures kept { IsKept self.old self.new }
+    {
+        self.data.write::<K, E, C>()
     }
 
     /// Follows a read or a write of the data connection that moved no octet: one that asks reads what goes first, where all before was heard, and
@@ -138,7 +165,7 @@ where
         ensures why { Why K.machine K.serves (K.here self.new.end.now) (P.history self.new.ports.now) self.new.control.now result }
         ensures kept { IsKept self.old self.new }
     {
-        let spoken = look::<K, E, C, P>(self.ports);
+        let spoken = self.look();
         if self.goes_first(spoken) {
             return self.heed();
         }
@@ -146,12 +173,13 @@ where
     }
 
     /// The data connection broke: that is told, unless the control connection goes first.
+    #[tactic(auto, using(ftp_control::proofs::Leading::leads_then))]
     fn broke(&mut self) -> Result<(), Cause>
         ensures goes { Follows K.machine K.here R.remaining W.contents P.history S.remaining S.contents self.old self.new result }
         ensures why { Why K.machine K.serves (K.here self.new.end.now) (P.history self.new.ports.now) self.new.control.now result }
         ensures kept { IsKept self.old self.new }
     {
-        let spoken = look::<K, E, C, P>(self.ports);
+        let spoken = self.look();
         if self.goes_first(spoken) {
             return self.heed();
         }
@@ -173,6 +201,7 @@ where
 
     /// The data connection ended: the end is told, what it owes then is written, and only then is it closed: its peer, which ended it, waits for
     /// the reply alone.
+    #[tactic(auto, using(ftp_control::proofs::Causing::passes))]
     fn over(&mut self, spoken: Spoken) -> Result<(), Cause>
         requires before { spoken ≢ Spoken.Ended }
         requires ended { HasEnded S.remaining self.old.data }
@@ -180,10 +209,29 @@ where
         ensures why { Why K.machine K.serves (K.here self.new.end.now) (P.history self.new.ports.now) self.new.control.now result }
         ensures kept { IsKept self.old self.new }
     {
-        end::<K, E, C, S>(self.end, self.watch, &self.data, spoken);
-        flush::<K, E, C, R, W>(self.end, self.control)?;
-        self.data.leave(self.ports);
+        self.tell_end(spoken);
+        self.flush()?;
+        self.leave();
         Ok(())
+    }
+
+    /// The data connection ended now, and the control connection, as far as it was looked at, has not: the end is told.
+    fn tell_end(&mut self, _spoken: Spoken)
+        requires before { _spoken ≢ Spoken.Ended }
+        requires ended { HasEnded S.remaining self.old.data }
+        ensures leads { LeadsOn K.machine K.here R.remaining W.contents P.history S.remaining S.contents self.old self.new }
+        ensures kept { IsKept self.old self.new }
+    {
+        K::tell_time(self.end, self.watch);
+        K::data_end(self.end);
+    }
+
+    /// Closes what stands of the data connection.
+    fn leave(&mut self)
+        ensures leads { LeadsOn K.machine K.here R.remaining W.contents P.history S.remaining S.contents self.old self.new }
+        ensures kept { IsKept self.old self.new }
+    {
+        self.data.leave(self.ports);
     }
 
     /// The data connection is lost: the end is told, and it is reset.
@@ -191,38 +239,22 @@ where
         ensures leads { LeadsOn K.machine K.here R.remaining W.contents P.history S.remaining S.contents self.old self.new }
         ensures kept { IsKept self.old self.new }
     {
-        fault::<K, E, C>(self.end, self.watch);
+        K::tell_time(self.end, self.watch);
+        K::data_fault(self.end);
         self.data.reset(self.ports);
     }
-}
 
-/// The data connection ended now, and the control connection, as far as it was looked at, has not.
-fn end<K, E, C, S>(end: &mut E, watch: &mut C, _ended: &Data<S>, _spoken: Spoken)
-where
-    K: EndCalls<E, C>,
-    S: Read + Write,
-    requires ended { HasEnded S.remaining _ended.now }
-    requires before { _spoken ≢ Spoken.Ended }
-    ensures { IsTold K.machine K.machine.End (K.here end.old) (K.here end.new) }
-{
-    K::tell_time(end, watch);
-    K::data_end(end);
-}
-
-/// The data connection broke now.
-fn fault<K: EndCalls<E, C>, E, C>(end: &mut E, watch: &mut C)
-    ensures { IsTold K.machine K.machine.Break (K.here end.old) (K.here end.new) }
-{
-    K::tell_time(end, watch);
-    K::data_fault(end);
-}
-
-/// What the control connection has, where an end that serves looks at it before its data connection is over; one that asks has looked already.
-fn look<K: EndCalls<E, C>, E, C, P: Ports>(ports: &mut P) -> Spoken
-    ensures { Adds (P.history ports.old) (P.history ports.new) (told_lost (is_over result)) }
-{
-    if K::serves() {
-        return ports.spoken();
+    /// What the control connection has, where an end that serves looks at it before its data connection is over; one that asks has looked already.
+    #[tactic(auto, using(ftp_control::proofs::Leading::leads_nowhere))]
+    fn look(&mut self) -> Spoken
+        ensures leads { LeadsOn K.machine K.here R.remaining W.contents P.history S.remaining S.contents self.old self.new }
+        ensures asked { Adds (P.history self.old.ports.now) (P.history self.new.ports.now) (told_lost (is_over result)) }
+        ensures data { self.new.data ≡ self.old.data }
+        ensures kept { IsKept self.old self.new }
+    {
+        if K::serves() {
+            return self.ports.spoken();
+        }
+        Spoken::Nothing
     }
-    Spoken::Nothing
 }

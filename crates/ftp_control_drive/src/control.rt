@@ -6,7 +6,7 @@ ghost use Rattle.ftp_control.specs.Driving.{Flushes};
 ghost use Rattle.ftp_control.specs.Lane.{Lane};
 ghost use Rattle.ftp_control.specs.Machine.{held, stand_of};
 ghost use Rattle.ftp_control.specs.Unheard.{unheard_of};
-ghost use Rattle.ftp_control_drive.specs.Standing.{Follows, IsKept, LeadsOn, Why};
+ghost use Rattle.ftp_control_drive.specs.Standing.{Follows, IsKept, LeadsOn, Why, standing};
 
 use crate::calls::EndCalls;
 use crate::drive::Drive;
@@ -14,12 +14,14 @@ use ftp_control::{Cause, Control, Ports, Turns};
 use std::io::{Read, Write};
 
 /// Writes all control octets that the end owes.
+#[tactic(auto, using(ftp_control::proofs::Causing::passes, ftp_control::proofs::Causing::is_fault, ftp_control::proofs::Causing::is_spent))]
 pub(crate) fn flush<K, E, C, R, W>(end: &mut E, control: &mut Control<R, W>) -> Result<(), Cause>
 where
     K: EndCalls<E, C>,
     R: Read + Drop,
     W: Write + Drop,
     ensures flushes { (lane : Lane) → Flushes (stand_of K.machine R.remaining W.contents (held (K.here end.old) lane) control.old) (stand_of K.machine R.remaining W.contents (held (K.here end.new) lane) control.new) result }
+    ensures unheard { unheard_of control.new ≡ unheard_of control.old }
     ensures why { (asked : Option (List Asked)) → Why K.machine K.serves (K.here end.new) asked control.new result }
 {
     let mut room = [0u8; 1024];
@@ -43,6 +45,17 @@ where
     P: Ports<Stream = S>,
     S: Read + Write,
 {
+    /// Writes all control octets that the end owes.
+    pub(crate) fn flush(&mut self) -> Result<(), Cause>
+        ensures goes { Follows K.machine K.here R.remaining W.contents P.history S.remaining S.contents self.old self.new result }
+        ensures flushes { Flushes (standing K.machine K.here R.remaining W.contents P.history S.remaining S.contents self.old) (standing K.machine K.here R.remaining W.contents P.history S.remaining S.contents self.new) result }
+        ensures unheard { unheard_of self.new.control.now ≡ unheard_of self.old.control.now }
+        ensures why { Why K.machine K.serves (K.here self.new.end.now) (P.history self.new.ports.now) self.new.control.now result }
+        ensures kept { IsKept self.old self.new }
+    {
+        flush::<K, E, C, R, W>(self.end, self.control)
+    }
+
     /// Hears the first octets that were read, and gives whether the end took any.
     pub(crate) fn hear(&mut self) -> bool
         ensures leads { LeadsOn K.machine K.here R.remaining W.contents P.history S.remaining S.contents self.old self.new }
@@ -56,6 +69,7 @@ where
     }
 
     /// Serves the control connection, of which `Ports` told: reads it; where octets stand unheard its end was told, and the drive breaks off.
+    #[tactic(auto, using(crate::proofs::Steps::fails_at))]
     pub(crate) fn heed(&mut self) -> Result<(), Cause>
         requires { 0 < length (unheard_of self.old.control.now) → HasLost (P.history self.old.ports.now) }
         ensures goes { Follows K.machine K.here R.remaining W.contents P.history S.remaining S.contents self.old self.new result }
@@ -68,13 +82,16 @@ where
         self.read()
     }
 
-    /// Reads from the control connection, where all octets before were heard, and tells the end the moment, or that the connection ended.
+    /// Writes what the end owes and reads from the control connection, where all octets before were heard; tells the end the moment, or that the
+    /// connection ended.
+    #[tactic(auto, using(ftp_control::proofs::Going::goes_err, ftp_control::proofs::Causing::passes, ftp_control::proofs::Causing::is_fault))]
     pub(crate) fn read(&mut self) -> Result<(), Cause>
         requires { unheard_of self.old.control.now ≡ [] }
         ensures goes { Follows K.machine K.here R.remaining W.contents P.history S.remaining S.contents self.old self.new result }
         ensures why { Why K.machine K.serves (K.here self.new.end.now) (P.history self.new.ports.now) self.new.control.now result }
         ensures kept { IsKept self.old self.new }
     {
+        self.flush()?;
         let count = self.control.read()?;
         if count == 0 {
             K::control_end(self.end);

@@ -1,14 +1,12 @@
 // The drive: what an end wants is done, turn by turn, until that is over.
 ghost use Rattle.std.specs.Prelude.{◌≡◌, []};
 ghost use Rattle.ftp_control.specs.Cause.{is_still};
-ghost use Rattle.ftp_control.specs.Driving.{Goes};
 ghost use Rattle.ftp_control.specs.Lane.{no_lane};
 ghost use Rattle.ftp_control.specs.Machine.{held, stand_of};
-ghost use Rattle.ftp_control_drive.specs.Reaching.{Ends};
+ghost use Rattle.ftp_control_drive.specs.Calling.{Ends};
 ghost use Rattle.ftp_control_drive.specs.Standing.{Follows, IsKept, Why, lane_at, standing};
 
 use crate::calls::EndCalls;
-use crate::control::flush;
 use crate::data::Data;
 use ftp_control::{Cause, Control, Ports, Turns};
 use ftp_ends::Wants;
@@ -73,6 +71,7 @@ where
     S: Read + Write,
 {
     /// The turns of a drive.
+    #[tactic(auto, using(ftp_control::proofs::Causing::passes, ftp_control::proofs::Causing::is_spent))]
     fn turns(&mut self) -> Result<K::Over, Cause>
         ensures ends { Ends K.machine K.last (standing K.machine K.here R.remaining W.contents P.history S.remaining S.contents self.old) (standing K.machine K.here R.remaining W.contents P.history S.remaining S.contents self.new) result }
         ensures why { Why K.machine K.serves (K.here self.new.end.now) (P.history self.new.ports.now) self.new.control.now result }
@@ -91,12 +90,13 @@ where
 
     /// One turn: what the end owes is written; then of one that asks what was read is heard, or octets that are on their way are written; or what
     /// the end wants is done.
+    #[tactic(auto, using(ftp_control::proofs::Going::goes_err, ftp_control::proofs::Going::goes_then, ftp_control::proofs::Causing::passes))]
     fn turn(&mut self) -> Result<(), Cause>
-        ensures goes { Goes (standing K.machine K.here R.remaining W.contents P.history S.remaining S.contents self.old) (standing K.machine K.here R.remaining W.contents P.history S.remaining S.contents self.new) result }
+        ensures goes { Follows K.machine K.here R.remaining W.contents P.history S.remaining S.contents self.old self.new result }
         ensures why { Why K.machine K.serves (K.here self.new.end.now) (P.history self.new.ports.now) self.new.control.now result }
         ensures kept { IsKept self.old self.new }
     {
-        flush::<K, E, C, R, W>(self.end, self.control)?;
+        self.flush()?;
         if K::serves() {
             return self.act();
         }
@@ -110,6 +110,7 @@ where
     }
 
     /// Does what the end wants.
+    #[tactic(auto, using(crate::proofs::Steps::fails_at))]
     fn act(&mut self) -> Result<(), Cause>
         ensures goes { Follows K.machine K.here R.remaining W.contents P.history S.remaining S.contents self.old self.new result }
         ensures why { Why K.machine K.serves (K.here self.new.end.now) (P.history self.new.ports.now) self.new.control.now result }
@@ -130,6 +131,7 @@ where
     }
 
     /// Hears octets that were read, where the end takes any, and else does what it wants with its data connection.
+    #[tactic(auto, using(ftp_control::proofs::Going::goes_then))]
     fn attend(&mut self) -> Result<(), Cause>
         ensures goes { Follows K.machine K.here R.remaining W.contents P.history S.remaining S.contents self.old self.new result }
         ensures why { Why K.machine K.serves (K.here self.new.end.now) (P.history self.new.ports.now) self.new.control.now result }
@@ -160,6 +162,7 @@ where
 
     /// Reads where nothing is wanted and all octets before were heard. The drive breaks off where octets stand that the end may not hear, and it
     /// wants nothing that goes on beside them; else the next turn goes on.
+    #[tactic(auto, using(crate::proofs::Steps::fails_at))]
     fn stay(&mut self, wants: Wants) -> Result<(), Cause>
         requires { wants ≡ K.machine.wants (K.here self.old.end.now) }
         ensures goes { Follows K.machine K.here R.remaining W.contents P.history S.remaining S.contents self.old self.new result }

@@ -1,10 +1,9 @@
 // Octets that go from the end into a room, and those that come and are handed to it.
-ghost use Rattle.std.specs.Prelude.{◌≤◌, [], IfOk, List, Option, length, take};
+ghost use Rattle.std.specs.Prelude.{◌≤◌, [], List, Option, length, take};
 ghost use Rattle.ftp_control.specs.Asking.{Asked};
 ghost use Rattle.ftp_control.specs.Driving.{Goes, Quietly};
 ghost use Rattle.ftp_control.specs.Lane.{Lane, with_given, with_untold};
 ghost use Rattle.ftp_control.specs.Machine.{held, side_of, stand_of};
-ghost use Rattle.ftp_control_drive.specs.Calling.{untaken};
 ghost use Rattle.ftp_control_drive.specs.Standing.{Why};
 
 use crate::calls::EndCalls;
@@ -37,15 +36,16 @@ fn fill<K: EndCalls<E, C>, E, C>(end: &mut E, room: &mut [u8]) -> usize
         }
         let (_, rest) = room.split_at_mut(at);
         let count = K::data_out(end, rest);
+        at += count;
         if count == 0 {
             return at;
         }
-        at += count;
     }
     at
 }
 
-/// Hands octets that came to the end until it has taken them all or wants no more, which drops the rest.
+/// Hands octets that came to the end until it has taken them all or wants no more, which drops the rest; what it owes is written behind each call.
+#[tactic(auto, using(ftp_control::proofs::Causing::passes, ftp_control::proofs::Causing::is_spent))]
 pub(crate) fn hand<K, E, C, R, W>(
     end: &mut E,
     control: &mut Control<R, W>,
@@ -58,34 +58,17 @@ where
     ensures goes { (lane : Lane) → Goes (stand_of K.machine R.remaining W.contents (held (K.here end.old) (with_untold octets.now lane)) control.old) (stand_of K.machine R.remaining W.contents (held (K.here end.new) (with_untold [] lane)) control.new) result }
     ensures why { (asked : Option (List Asked)) → Why K.machine K.serves (K.here end.new) asked control.new result }
 {
-    let mut at = 0;
+    let mut rest = octets;
     let mut turns = Turns::new();
-    while at < octets.len() {
+    while !rest.is_empty() {
         if K::wants(end) != Wants::Receive {
             return Ok(());
         }
         turns.next()?;
-        let (_, rest) = octets.split_at(at);
-        at += hand_some::<K, E, C, R, W>(end, control, rest)?;
+        let taken = K::data_hear(end, rest);
+        flush::<K, E, C, R, W>(end, control)?;
+        let (_, behind) = rest.split_at(taken);
+        rest = behind;
     }
     Ok(())
-}
-
-/// Hands octets to the end once, and writes what it owes then; gives how many it took.
-fn hand_some<K, E, C, R, W>(
-    end: &mut E,
-    control: &mut Control<R, W>,
-    octets: &[u8],
-) -> Result<usize, Cause>
-where
-    K: EndCalls<E, C>,
-    R: Read + Drop,
-    W: Write + Drop,
-    ensures within { IfOk result (λ taken. taken ≤ length octets.now) }
-    ensures goes { (lane : Lane) → Goes (stand_of K.machine R.remaining W.contents (held (K.here end.old) (with_untold octets.now lane)) control.old) (stand_of K.machine R.remaining W.contents (held (K.here end.new) (with_untold (untaken octets.now result) lane)) control.new) result }
-    ensures why { (asked : Option (List Asked)) → Why K.machine K.serves (K.here end.new) asked control.new result }
-{
-    let taken = K::data_hear(end, octets);
-    flush::<K, E, C, R, W>(end, control)?;
-    Ok(taken)
 }

@@ -1,20 +1,17 @@
 -- What a drive of a server beside its control connection did, whole or until it broke off.
-use Rattle.std.specs.Prelude.{◌≡◌, Bool, true, List, ◌∷◌, ℕ}
+use Rattle.std.specs.Prelude.{◌≡◌, Bool, true, [], ◌∷◌}
 use Rattle.std.specs.declared.result.Result.{Result}
 use Rattle.std.specs.declared.result.Result.TheVariants.{Ok, Err}
 use Rattle.ftp_ends.specs.declared.link.Wants.TheVariants.{CloseAll}
 use Rattle.ftp_control.specs.Asking.{Asked}
-use Rattle.ftp_control.specs.Cause.{IsCause}
-use Rattle.ftp_control.specs.Courses.{Carries}
-use Rattle.ftp_control.specs.Deeds.{Deed, Other, Stand, with_owner}
-use Rattle.ftp_control.specs.Driving.{Cuts, Sums}
-use Rattle.ftp_control.specs.Lane.{IsLeft, Lane, with_untold}
+use Rattle.ftp_control.specs.Deeds.{Other, Stand, with_owner}
+use Rattle.ftp_control.specs.Lane.{IsLeft}
+use Rattle.ftp_control.specs.Machine.{Left}
 use Rattle.ftp_control.specs.declared.cause.Cause.{Cause}
+use Rattle.ftp_control_drive.specs.Driven.{BreaksOff, Did}
 use Rattle.ftp_server_model.specs.Calls.{wants}
-use Rattle.ftp_server_model.specs.Machine.{may_hear}
 use Rattle.ftp_server_model.specs.Far.{Server}
-use Rattle.ftp_control.specs.Machine.{Left, move_of}
-use Rattle.ftp_server_drive.specs.Side.{ended, server_side}
+use Rattle.ftp_server_drive.specs.Side.{ended, server_machine, server_side}
 
 -- the server is done with the control connection
 abbrev pub IsOver : Stand server_side → Type 0
@@ -27,27 +24,19 @@ IsDone old new = (new ≡ old) × (wants old.view ≡ CloseAll)
 -- all that the server said was written, and it heard all that was read but for what is not heard yet; it is done with the control
 -- connection, and its data connection was left last
 pub record Drove (start now : Stand server_side) : Type 0 where
-  pub deeds : List (Deed server_side)
   pub asked : Asked
-  pub sums : Sums {side = server_side} (Other (Left asked) ∷ deeds) start now
-  pub carries : Carries {side = server_side} move_of (Other (Left asked) ∷ deeds) start.owner.lane now.owner.lane
+  pub did : Did server_machine (Other (Left asked) ∷ []) start now
   pub over : IsOver now
 
 -- the same where the drive broke off, for this cause, whether a read or a write failed or not: a beginning of what it said was written, and what
 -- of an upload it was not told is let go; it was told that the control connection ended, and its data connection was left
 pub record BrokeOff (cause : Cause) (failed : Bool) (start now : Stand server_side) : Type 0 where
-  pub deeds : List (Deed server_side)
-  pub last : List ℕ
   pub off : Stand server_side
-  pub cuts : Cuts deeds last start off
-  pub stood : Lane
-  pub carries : Carries {side = server_side} move_of deeds start.owner.lane stood
-  pub lets : off.owner.lane ≡ with_untold off.owner.lane.untold stood
+  pub breaks : BreaksOff server_machine true cause failed start off
   pub stays : now ≡ with_owner now.owner off
   pub cut : now.owner.end ≡ ended off.owner.end
   pub asked : Asked
   pub left : IsLeft asked off.owner.lane now.owner.lane
-  pub why : IsCause cause failed off.owner.lane.asked off.unheard (wants off.owner.end.view) (may_hear off.owner.end.view) true
 
 -- how a drive ends, where a read or a write of the control connection failed or not
 abbrev pub Drives : {T : Type 0} → (failed : Bool) → (start now : Stand server_side) → Result T Cause → Type 0

@@ -1,3 +1,2 @@
 pub mod Side
-pub mod Beside
 pub mod Driving

@@ -1,16 +1,14 @@
 -- A server as the end of a session that is driven: what its calls do, as `Far` says it (RFC 959, section 2.3).
-use Rattle.std.specs.Prelude.{◌≡◌, ℕ, take}
-use Rattle.ftp_control.specs.Machine.{Machine, Call, Aside, side_of}
+use Rattle.std.specs.Prelude.{◌≡◌, ℕ, List, Option, take}
+use Rattle.ftp_control.specs.Deeds.{Stand}
+use Rattle.ftp_control.specs.Machine.{Machine, Held, side_of, stand_of}
 use Rattle.ftp_control.specs.Side.{Side}
+use Rattle.ftp_control.specs.declared.control.Control.{Control}
 use Rattle.ftp_ends.specs.declared.link.Wants.TheVariants as Want
 use Rattle.ftp_server_model.specs.Calls.{break_step, clock_step, close_step, control_end, control_step, end_step, given_step, listening_step, no_port_step, opened_step, refused_step, to_give, wants}
 use Rattle.ftp_server_model.specs.Machine.{may_hear}
 use Rattle.ftp_server_model.specs.Failing.{EndFails, GiveFails}
 use Rattle.ftp_server_model.specs.Far.{Acts, Hears, Receives, Server, Steps}
-
--- it is told the moment
-abbrev pub Clock : (moment : ℕ) → Call ℕ
-Clock moment = Aside moment
 
 -- the control connection ends, as the server sees it: what it owes is dropped with all else
 abbrev pub ended : Server → Server
@@ -44,3 +42,7 @@ server_machine = record {
 
 abbrev pub server_side : Side
 server_side = side_of server_machine
+
+-- it and its data connection beside a control connection, by what its reader has left and what its writer holds
+abbrev pub beside : {R W : Type 0} → (R → Option (List ℕ)) → (W → Option (List ℕ)) → Held Server → Control R W → Stand server_side
+beside remaining contents owner control = stand_of server_machine remaining contents owner control

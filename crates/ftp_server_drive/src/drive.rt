@@ -1,8 +1,8 @@
 // The drive: what the server wants is done, turn by turn.
 ghost use Rattle.ftp_control.specs.Lane.{no_lane};
 ghost use Rattle.ftp_control.specs.Machine.{held};
-ghost use Rattle.ftp_server_drive.specs.Beside.{beside};
 ghost use Rattle.ftp_server_drive.specs.Driving.{Drives};
+ghost use Rattle.ftp_server_drive.specs.Side.{beside};
 
 use crate::serves::Serves;
 use ftp_control::{Cause, Control, Ports, Watch};

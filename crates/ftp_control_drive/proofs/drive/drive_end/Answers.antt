@@ -1,5 +1,5 @@
-use Rattle.std.proofs.Common.{◌≡◌, [], rules, subst}
-use Rattle.ftp_control_drive.proofs.Words.{Ends, Why, held, lane_at, no_lane, none_had, stand_of, standing, with_owner}
+use Rattle.std.proofs.Common.{◌≡◌, rules, subst, sym}
+use Rattle.ftp_control_drive.proofs.Words.{Ends, held, no_lane, none_had, stand_of, standing, with_owner}
 use Rattle.ftp_control_drive.proofs.drive.drive_end.Goals as goal
 
 pub returns : goal.returns
@@ -18,12 +18,8 @@ returns g c =
     let ports : drive.ports.now ≡ c.ports-1.given.0 = search rules in
     let control : drive.control.now ≡ c.control-1.given.0 = search rules in
     record {
-      ends = subst (λ e. Ends calls.machine calls.last start (stand (held (calls.here e) (lane_at remaining contents (history c.ports-1.given.0) drive.data [])) c.control-1.given.0) over.result) end
-          (subst (λ p. Ends calls.machine calls.last start (stand (held (calls.here drive.end.now) (lane_at remaining contents (history p) drive.data [])) c.control-1.given.0) over.result) ports
-          (subst (λ k. Ends calls.machine calls.last start (stand (held (calls.here drive.end.now) (lane_at remaining contents (history drive.ports.now) drive.data [])) k) over.result) control
+      ends = rw (sym end) (rw (sym ports) (rw (sym control)
           (subst (λ lane. Ends calls.machine calls.last (with_owner (held (calls.here c.args.end.now) lane) start) mid over.result)
           (none_had remaining contents none.result.connection (history c.args.ports.now) none.result.room none.ensures.none none.ensures.all) over.ensures.ends)));
-      why = subst (λ e. Why calls.machine calls.serves (calls.here e) (history c.ports-1.given.0) c.control-1.given.0 over.result) end
-          (subst (λ p. Why calls.machine calls.serves (calls.here drive.end.now) (history p) c.control-1.given.0 over.result) ports
-          (subst (λ k. Why calls.machine calls.serves (calls.here drive.end.now) (history drive.ports.now) k over.result) control over.ensures.why));
+      why = rw (sym end) (rw (sym ports) (rw (sym control) over.ensures.why));
     }

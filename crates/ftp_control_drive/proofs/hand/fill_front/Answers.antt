@@ -1,5 +1,4 @@
-use Rattle.std.proofs.Common.{sym, subst}
-use Rattle.ftp_control_drive.proofs.Words.{Quietly, held, side_of, take-append-le, with_given}
+use Rattle.ftp_control_drive.proofs.Words.{Quietly, held, side_of, subst, sym, take-append-le, with_given}
 use Rattle.ftp_control_drive.proofs.hand.fill_front.Goals as goal
 
 pub returns-clause-quiet : goal.returns-clause-quiet

@@ -1,16 +1,40 @@
-use Rattle.std.proofs.Common.{[], refl}
-use Rattle.ftp_control.specs.Machine.{held}
+use Rattle.std.proofs.Common.{◌≡◌, ◌∙◌, [], ◌∷◌, ap, refl, subst, sym, Result, Ok}
+use Rattle.std.specs.Prelude.{true}
+use Rattle.ftp_control.specs.Asking.{Asked}
+use Rattle.ftp_control.specs.Deeds.{Other, Stand, with_owner}
+use Rattle.ftp_control.specs.Driving.{Leads}
+use Rattle.ftp_control.specs.Lane.{IsLeft, Lane}
+use Rattle.ftp_control.specs.Machine.{Left, held}
+use Rattle.ftp_control.specs.declared.cause.Cause.{Cause}
+use Rattle.ftp_control_drive.proofs.Driven.{breaks_off, did}
+use Rattle.ftp_control_drive.specs.Calling.{Ends}
 use Rattle.ftp_control_drive.specs.Standing.{lane_at}
-use Rattle.ftp_server_drive.specs.Beside.{beside}
-use Rattle.ftp_server_drive.proofs.Turning.{broke_off, drove}
+use Rattle.ftp_server_drive.specs.Driving.{Drove, IsDone, IsOver}
+use Rattle.ftp_server_drive.specs.Side.{beside, server_machine, server_side}
 use Rattle.ftp_server_drive.proofs.drive.drive_server.Goals as goal
+
+-- one that came to its end
+drove : {T : Type 0} (start off : Stand server_side) (lane : Lane) (r : Result T Cause) (value : T) (asked : Asked) → start.owner.lane.unwritten ≡ [] → start.owner.lane.untold ≡ []
+    → r ≡ Ok value → Ends server_machine (λ over old new. IsDone old new) start off r → IsLeft asked off.owner.lane lane → Drove start (with_owner (held off.owner.end lane) off)
+drove start off lane r value asked unwritten untold gave ends left =
+    let over : Ends server_machine (λ over old new. IsDone old new) start off (Ok value) =
+    subst (λ r. Ends server_machine (λ over old new. IsDone old new) start off r) gave ends in
+    let mid = over.0 in
+    let done : IsDone mid.owner.end off.owner.end = over.2 in
+    let still : off ≡ mid = over.3 ∙ ap (λ e. with_owner (held e mid.owner.lane) mid) done.0 in
+    let leads : Leads start off = subst (λ s. Leads start s) (sym still) over.1 in
+    record {
+      asked = asked;
+      did = did server_machine start unwritten untold (Other (Left asked) ∷ []) leads.deeds _ (off, leads.led, ((refl, left, tt), refl));
+      over = subst (λ s. IsOver s) (sym still) done.1;
+    }
 
 pub returns-in-Ok : goal.returns-in-Ok
 returns-in-Ok g c =
     let ended = c.drive_end-data in
     let lane = lane_at g.P.Stream.Read.remaining g.P.Stream.Write.contents (g.P.Ports.history ended.new.ports) ended.result.0 [] in
     let off = beside g.R.Read.remaining g.W.Write.contents (held (g.F.Far.server ended.new.end) lane) ended.new.control in
-    drove _ off _ ended.result.1 c.in-Ok.field-0 c.finish.ensures.0 refl refl c.in-Ok.is ended.ensures.ends c.finish.ensures.1 refl
+    drove _ off _ ended.result.1 c.in-Ok.field-0 c.finish.ensures.0 refl refl c.in-Ok.is ended.ensures.ends c.finish.ensures.1
 
 pub returns-in-Err : goal.returns-in-Err
 returns-in-Err g c =
@@ -18,5 +42,12 @@ returns-in-Err g c =
     let asked = g.P.Ports.history ended.new.ports in
     let lane = lane_at g.P.Stream.Read.remaining g.P.Stream.Write.contents asked ended.result.0 [] in
     let off = beside g.R.Read.remaining g.W.Write.contents (held (g.F.Far.server ended.new.end) lane) ended.new.control in
-    broke_off _ off _ ended.result.1 c.in-Err.cause ended.new.control.failed c.finish-in-Err.ensures.0 _ refl refl c.in-Err.is ended.ensures.ends c.control_end.ensures (c.note.ensures.same asked)
-    c.finish-in-Err.ensures.1 refl ended.ensures.why
+    record {
+      off = off;
+      breaks = breaks_off server_machine _ refl refl (λ over old new. IsDone old new) true ended.new.control.failed off ended.result.1 c.in-Err.cause
+          c.in-Err.is ended.ensures.ends ended.ensures.why;
+      stays = refl;
+      cut = c.control_end.ensures;
+      asked = c.finish-in-Err.ensures.0;
+      left = rw (c.note.ensures.same asked) at c.finish-in-Err.ensures.1;
+    }

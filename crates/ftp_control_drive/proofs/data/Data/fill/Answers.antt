@@ -1,5 +1,4 @@
-use Rattle.std.proofs.Common.{◌∙◌, [], sym, subst}
-use Rattle.ftp_control_drive.proofs.Words.{Quietly, fills, held, idles_same, lane_at, side_of}
+use Rattle.ftp_control_drive.proofs.Words.{[], ◌∙◌, Quietly, fills, held, idles_same, lane_at, side_of, subst, sym}
 use Rattle.ftp_control_drive.proofs.data.Data.fill.Goals as goal
 
 pub returns-then-has_unwritten-clause-quiet : goal.returns-then-has_unwritten-clause-quiet

@@ -1,8 +1,5 @@
-use Rattle.ftp_control_drive.proofs.Words.{is_over, reached_then, reaches_asked}
+use Rattle.ftp_control_drive.proofs.Words.{goes_then}
 use Rattle.ftp_control_drive.proofs.drive.Drive.broke.Goals as goal
 
 pub returns-then-goes_first-clause-goes : goal.returns-then-goes_first-clause-goes
-returns-then-goes_first-clause-goes g c start reaches = c.heed.ensures.goes start (reaches_asked g.K.EndCalls.machine (is_over c.look-spoken.result) start _ _ reaches c.look-spoken.ensures)
-
-pub returns-clause-goes : goal.returns-clause-goes
-returns-clause-goes g c start reaches = reached_then start _ _ (reaches_asked g.K.EndCalls.machine (is_over c.look-spoken.result) start _ _ reaches c.look-spoken.ensures) c.lose.ensures.leads
+returns-then-goes_first-clause-goes g c = goes_then _ _ _ c.heed.result c.look-spoken.ensures.leads c.heed.ensures.goes

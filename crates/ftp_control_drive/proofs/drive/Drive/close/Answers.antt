@@ -1,5 +1,4 @@
-use Rattle.std.proofs.Common.{refl}
-use Rattle.ftp_control_drive.proofs.Words.{Closed, Other, leads_by, leads_then, leaves}
+use Rattle.ftp_control_drive.proofs.Words.{Closed, Other, leads_by, leads_then, leaves, refl}
 use Rattle.ftp_control_drive.proofs.drive.Drive.close.Goals as goal
 
 pub returns-clause-leads : goal.returns-clause-leads

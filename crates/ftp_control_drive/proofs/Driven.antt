@@ -1,0 +1,37 @@
+-- What a drive did, from what its turns lead to.
+use Rattle.std.proofs.Common.{◌≡◌, List, [], ◌++◌, subst, Result, Err}
+use Rattle.std.specs.Prelude.{Bool, IfErr}
+use Rattle.ftp_control.specs.Cause.{IsCause}
+use Rattle.ftp_control.specs.Deeds.{Deed, Led, Stand}
+use Rattle.ftp_control.specs.Driving.{Fails}
+use Rattle.ftp_control.specs.Machine.{Machine, move_of, side_of}
+use Rattle.ftp_control.specs.declared.cause.Cause.{Cause}
+use Rattle.ftp_control.proofs.Courses.{carries}
+use Rattle.ftp_control.proofs.Idling.{carrier, stood_so}
+use Rattle.ftp_control.proofs.Totals.{cuts, sums}
+use Rattle.ftp_control_drive.specs.Calling.{Ends}
+use Rattle.ftp_control_drive.specs.Driven.{BreaksOff, Did}
+
+module _ (machine : Machine) (start : Stand (side_of machine)) (unwritten : start.owner.lane.unwritten ≡ []) (untold : start.owner.lane.untold ≡ []) where
+  pub did : (last deeds : List (Deed (side_of machine))) (now : Stand (side_of machine)) → Led (last ++ deeds) start now → Did machine last start now
+  did last deeds now led = record {
+    deeds = deeds;
+    sums = sums (last ++ deeds) start now led;
+    carries = carries move_of (carrier machine) (last ++ deeds) start now led unwritten untold;
+  }
+
+  pub breaks_off : {Over : Type 0} (last : Over → (old new : machine.Here) → Type 0) (serves failed : Bool) (off : Stand (side_of machine)) (r : Result Over Cause) (cause : Cause)
+      → r ≡ Err cause → Ends machine last start off r
+      → IfErr r (λ cause. IsCause cause failed off.owner.lane.asked off.unheard (machine.wants off.owner.end) (machine.may_hear off.owner.end) serves)
+      → BreaksOff machine serves cause failed start off
+  breaks_off last serves failed off r cause is ends why =
+      let fails : Fails start off = subst (λ r. Ends machine last start off r) is ends in
+      record {
+        deeds = fails.leads.deeds;
+        last = fails.octets;
+        cuts = cuts start off fails;
+        stood = fails.mid.owner.lane;
+        carries = carries move_of (carrier machine) fails.leads.deeds start fails.mid fails.leads.led unwritten untold;
+        lets = stood_so machine fails.octets fails.mid off fails.breaks;
+        why = subst (λ r. IfErr r (λ cause. IsCause cause failed off.owner.lane.asked off.unheard (machine.wants off.owner.end) (machine.may_hear off.owner.end) serves)) is why;
+      }
