@@ -9,7 +9,7 @@ use ftp_tree::Content;
 use std::alloc::Allocator;
 
 /// A call on a folder failed; what the folder keeps is as it was.
-#[derive(Clone, Copy, Debug, PartialEq, Eq)]
+#[derive(Clone, Copy)]
 pub struct FolderFault;
 
 /// A folder that keeps directories and files outside memory. A path is one below a root, as it is of a `Tree`.

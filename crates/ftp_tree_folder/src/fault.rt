@@ -1,37 +1,50 @@
 // Why a folder is not loaded.
 use ftp_tree::TreeFault;
 use std::alloc::Global;
-use std::io;
-use thiserror::Error;
+use std::fmt::{Display, Formatter};
+use std::{fmt, io};
 
 /// What is wrong with what stands at a place.
-#[derive(Debug, Drop, Error)]
+#[derive(Drop)]
 pub enum Reason {
     /// Its name is none of a tree: octets 0 to 31 or 127, or over 255 octets.
-    #[error("its name is no name of a tree")]
     Name,
     /// A link, a device, a pipe or a socket.
-    #[error("neither a file nor a directory")]
     Kind,
     /// It was another file when it was opened.
-    #[error("it was exchanged while it was loaded")]
     Exchanged,
     /// A limit is passed: of a path, of a file, of all files or of their number.
-    #[error("{0}")]
     Tree(TreeFault),
     /// The system refused to read it.
-    #[error("{0}")]
     System(io::Error),
 }
 
+impl Display for Reason {
+    fn fmt<W: fmt::Write>(&self, formatter: &mut Formatter<W>) -> fmt::Result {
+        match self {
+            Reason::Name => write!(formatter, "its name is no name of a tree"),
+            Reason::Kind => write!(formatter, "neither a file nor a directory"),
+            Reason::Exchanged => write!(formatter, "it was exchanged while it was loaded"),
+            Reason::Tree(fault) => write!(formatter, "{fault}"),
+            Reason::System(error) => write!(formatter, "{error}"),
+        }
+    }
+}
+
 /// Why a folder is not loaded: which file or directory, and what is wrong with it.
-#[derive(Debug, Error)]
 pub enum LoadFault {
-    #[error("{place:?}: {why}")]
     Refused { place: String<Global>, why: Reason },
     /// The allocator refused a growth.
-    #[error("out of memory")]
     Memory,
+}
+
+impl Display for LoadFault {
+    fn fmt<W: fmt::Write>(&self, formatter: &mut Formatter<W>) -> fmt::Result {
+        match self {
+            LoadFault::Refused { place, why } => write!(formatter, "{place:?}: {why}"),
+            LoadFault::Memory => write!(formatter, "out of memory"),
+        }
+    }
 }
 
 /// By hand: a derived drop is proved again wherever a fault is let go.

@@ -3,6 +3,7 @@ ghost use Rattle.std.specs.Prelude.{◌≡◌, None, IfOk, OnOk, OnErr, string_b
 ghost use Rattle.ftp_tree.specs.Change.{next_count};
 ghost use Rattle.ftp_tree_folder.specs.Place.{folder_text};
 
+use crate::loading::dir_text;
 use crate::place::{check_free, check_way, place_of};
 use crate::reasons::{Reasons, Touches};
 use crate::{Disk, Folder, FolderFault};
@@ -45,7 +46,7 @@ impl<'a, R: Disk> DiskFolder<'a, R> {
         ensures dir { IfOk result (λ folder. string_bytes folder.dir ≡ folder_text dir.now) }
         ensures failures { IfOk result (λ folder. folder.failures ≡ 0) }
     {
-        let dir = String::from_str(files.memory(), if dir.is_empty() { "." } else { dir })?;
+        let dir = String::from_str(files.memory(), dir_text(dir))?;
         Ok(DiskFolder {
             files,
             reasons,
@@ -76,35 +77,14 @@ impl<'a, R: Disk> DiskFolder<'a, R> {
         self.place(root, path)
     }
 
-    fn made<B: Allocator + Copy, C: Allocator + Copy>(
+    fn changed<B: Allocator + Copy, C: Allocator + Copy>(
         &self,
+        change: Change,
         root: &Path<B>,
         path: &Path<C>,
     ) -> io::Result<()> {
-        match self.place_to(Deed::Make, root, path) {
-            Ok(place) => make_at(self.files, place.as_str()),
-            Err(error) => Err(error),
-        }
-    }
-
-    fn removed<B: Allocator + Copy, C: Allocator + Copy>(
-        &self,
-        root: &Path<B>,
-        path: &Path<C>,
-    ) -> io::Result<()> {
-        match self.place_to(Deed::Change, root, path) {
-            Ok(place) => remove_at(self.files, place.as_str()),
-            Err(error) => Err(error),
-        }
-    }
-
-    fn deleted<B: Allocator + Copy, C: Allocator + Copy>(
-        &self,
-        root: &Path<B>,
-        path: &Path<C>,
-    ) -> io::Result<()> {
-        match self.place_to(Deed::Change, root, path) {
-            Ok(place) => delete_at(self.files, place.as_str()),
+        match self.place_to(change.deed(), root, path) {
+            Ok(place) => change_at(self.files, change, place.as_str()),
             Err(error) => Err(error),
         }
     }
@@ -175,7 +155,7 @@ impl<'a, R: Disk> Folder for DiskFolder<'a, R> {
         root: &Path<B>,
         path: &Path<C>,
     ) -> Result<(), FolderFault> {
-        let done = self.made(root, path);
+        let done = self.changed(Change::Made, root, path);
         self.counted(done)
     }
 
@@ -184,7 +164,7 @@ impl<'a, R: Disk> Folder for DiskFolder<'a, R> {
         root: &Path<B>,
         path: &Path<C>,
     ) -> Result<(), FolderFault> {
-        let done = self.removed(root, path);
+        let done = self.changed(Change::Removed, root, path);
         self.counted(done)
     }
 
@@ -193,7 +173,7 @@ impl<'a, R: Disk> Folder for DiskFolder<'a, R> {
         root: &Path<B>,
         path: &Path<C>,
     ) -> Result<(), FolderFault> {
-        let done = self.deleted(root, path);
+        let done = self.changed(Change::Deleted, root, path);
         self.counted(done)
     }
 
@@ -219,7 +199,34 @@ impl<'a, R: Disk> Folder for DiskFolder<'a, R> {
     }
 }
 
-/// Makes a directory whose name is on the disk, or none.
+/// What is done with one name: a directory is made or removed, or a file is deleted.
+#[derive(Clone, Copy)]
+enum Change {
+    Made,
+    Removed,
+    Deleted,
+}
+
+impl Change {
+    /// What whoever makes it has to be allowed.
+    fn deed(self) -> Deed {
+        match self {
+            Change::Made => Deed::Make,
+            Change::Removed | Change::Deleted => Deed::Change,
+        }
+    }
+}
+
+/// Changes a name, and then it is on the disk, or that it is gone; of a directory that is made, or there is none.
+fn change_at<R: Disk>(files: &R, change: Change, place: &str) -> io::Result<()> {
+    match change {
+        Change::Made => return make_at(files, place),
+        Change::Removed => files.take_dir(place)?,
+        Change::Deleted => files.take_file(place)?,
+    }
+    files.sync_above(place)
+}
+
 fn make_at<R: Disk>(files: &R, place: &str) -> io::Result<()> {
     files.put_dir(place)?;
     let synced = files.sync_above(place);
@@ -227,16 +234,6 @@ fn make_at<R: Disk>(files: &R, place: &str) -> io::Result<()> {
         let _gone = files.take_dir(place);
     }
     synced
-}
-
-fn remove_at<R: Disk>(files: &R, place: &str) -> io::Result<()> {
-    files.take_dir(place)?;
-    files.sync_above(place)
-}
-
-fn delete_at<R: Disk>(files: &R, place: &str) -> io::Result<()> {
-    files.take_file(place)?;
-    files.sync_above(place)
 }
 
 /// Moves to a place where nothing stands, or not at all.

@@ -12,9 +12,9 @@ use crate::{Disk, Mirror};
 use ftp_path::Path;
 use ftp_tree::{Content, MemTree, NodeKind, Tree, TreeFault};
 use std::alloc::{AllocError, Global};
-use std::fs;
 use std::fs::{DirEntry, Files, Metadata};
 use std::os::unix::fs::MetadataExt;
+use std::{fs, io};
 
 /// The loop over directories ends, as at a limit, once it has made so many turns.
 const DIR_TURNS: u64 = 1_099_511_627_776;
@@ -55,32 +55,28 @@ pub fn load<'a, R: Files + AllocGlobal + Clone + Drop>(
     dir: &'a str,
     roots: &'a [Path<Global>],
 ) -> Result<MemTree<Global>, LoadFault> {
-    let dir = dir_text(dir);
     let alloc = files.alloc();
-    let old = Old {
+    let nothing = Loaded {
         tree: MemTree::new(alloc),
         seen: Seen::nothing(alloc),
     };
-    let Ok(mut loading) = Loading::new(files, dir, roots, old, 0) else {
+    let Ok(mut loading) = Loading::new(files, dir_text(dir), roots, nothing, 0) else {
         return Err(LoadFault::Memory);
     };
-    for _ in 0..DIR_TURNS {
-        let Some(here) = loading.next_dir() else {
-            return Ok(loading.into_parts().0);
-        };
-        loading.load_dir(&here, &mut Refusing)?;
-    }
-    Err(LoadFault::of_tree(files.alloc(), dir, TreeFault::Full))
+    loading.load_all(&mut Refusing)?;
+    Ok(loading.into_loaded().tree)
 }
 
 /// The text of a directory: an empty one is the current one.
-pub(crate) fn dir_text(dir: &str) -> &str {
+pub(crate) fn dir_text(dir: &str) -> &str
+    ensures { result.now ≡ folder_text dir.now }
+{
     if dir.is_empty() { "." } else { dir }
 }
 
-/// A tree as it was, and how its files looked when they were read.
+/// A tree, and how its files looked when they were read.
 #[derive(Drop)]
-pub(crate) struct Old {
+pub(crate) struct Loaded {
     pub(crate) tree: MemTree<Global>,
     pub(crate) seen: Seen,
 }
@@ -151,9 +147,9 @@ impl<'a, R: Disk> Loading<'a, R> {
         files: &'a R,
         dir: &'a str,
         roots: &'a [Path<Global>],
-        old: Old,
+        old: Loaded,
         now: u64,
-    ) -> Result<Loading<'a, R>, Old> {
+    ) -> Result<Loading<'a, R>, Loaded> {
         let alloc = files.memory();
         let mut waiting = Vec::new(alloc);
         let Ok(()) = waiting.push(Path::root(alloc)) else {
@@ -178,7 +174,7 @@ impl<'a, R: Disk> Loading<'a, R> {
     }
 
     /// The tree that was loaded, and how its files look.
-    pub(crate) fn into_parts(self) -> (MemTree<Global>, Seen) {
+    pub(crate) fn into_loaded(self) -> Loaded {
         let Self {
             files: _,
             dir: _,
@@ -192,7 +188,7 @@ impl<'a, R: Disk> Loading<'a, R> {
             later: _,
             buffer: _,
         } = self;
-        (tree, seen)
+        Loaded { tree, seen }
     }
 
     /// The next directory, below the root that is being loaded; where none waits there, the next root is.
@@ -217,21 +213,32 @@ impl<'a, R: Disk> Loading<'a, R> {
         place: &str,
         found: &Metadata,
     ) -> Result<(), LoadFault> {
-        let alloc = self.files.memory();
         if found.is_file() && is_left(name) {
-            return match leave(self.files, place, found.len()) {
-                Ok(()) => Ok(()),
-                Err(error) => Err(LoadFault::of_system(alloc, place, error)),
-            };
+            return self.leave(place, found.len());
         }
-        let path = path_in(alloc, here, name.as_bytes(), place)?;
+        match path_in(self.files.memory(), here, name.as_bytes(), place) {
+            Ok(path) => self.add(path, place, found),
+            Err(fault) => Err(fault),
+        }
+    }
+
+    /// Keeps a part that an interrupted write left, which is no part of the tree.
+    fn leave(&self, place: &str, len: u64) -> Result<(), LoadFault> {
+        match leave(self.files, place, len) {
+            Ok(()) => Ok(()),
+            Err(error) => Err(LoadFault::of_system(self.files.memory(), place, error)),
+        }
+    }
+
+    /// Adds what was found at a path.
+    fn add(&mut self, path: Path<Global>, place: &str, found: &Metadata) -> Result<(), LoadFault> {
         if found.is_dir() {
-            return self.add_dir(path, place);
+            self.add_dir(path, place)
+        } else if found.is_file() {
+            self.add_file(&path, place, found)
+        } else {
+            Err(LoadFault::at(self.files.memory(), place, Reason::Kind))
         }
-        if !found.is_file() {
-            return Err(LoadFault::at(alloc, place, Reason::Kind));
-        }
-        self.add_file(&path, place, found)
     }
 
     /// Adds a directory, which then waits.
@@ -307,35 +314,76 @@ impl<'a, R: Disk> Loading<'a, R> {
 }
 
 impl<'a, R: Files + AllocGlobal + Clone + Drop> Loading<'a, R> {
+    /// Loads each directory, without what it has no more.
+    pub(crate) fn load_all<F: OnFault>(&mut self, on_fault: &mut F) -> Result<(), LoadFault> {
+        for _ in 0..DIR_TURNS {
+            let Some(here) = self.next_dir() else {
+                return Ok(());
+            };
+            self.load_anew(&here, on_fault)?;
+        }
+        Err(LoadFault::of_tree(self.files.memory(), self.dir, TreeFault::Full))
+    }
+
+    fn load_anew<F: OnFault>(
+        &mut self,
+        here: &Path<Global>,
+        on_fault: &mut F,
+    ) -> Result<(), LoadFault> {
+        match self.prune(here) {
+            Ok(()) => self.load_dir(here, on_fault),
+            Err(fault) => on_fault.meet(fault),
+        }
+    }
+
     /// Loads what stands directly in a directory; the directories in it wait.
-    pub(crate) fn load_dir<F: OnFault>(
+    fn load_dir<F: OnFault>(
         &mut self,
         here: &Path<Global>,
         on_fault: &mut F,
     ) -> Result<(), LoadFault> {
         let alloc = self.files.memory();
-        let place = match place_of(alloc, self.dir, &self.root, here) {
-            Ok(place) => place,
-            Err(error) => return on_fault.meet(LoadFault::of_system(alloc, self.dir, error)),
-        };
-        let entries = match fs::read_dir(self.files, place.as_str()) {
+        match place_of(alloc, self.dir, &self.root, here) {
+            Ok(place) => self.load_at(here, place.as_str(), on_fault),
+            Err(error) => on_fault.meet(LoadFault::of_system(alloc, self.dir, error)),
+        }
+    }
+
+    /// The same of a directory that lies at a place.
+    fn load_at<F: OnFault>(
+        &mut self,
+        here: &Path<Global>,
+        place: &str,
+        on_fault: &mut F,
+    ) -> Result<(), LoadFault> {
+        let entries = match fs::read_dir(self.files, place) {
             Ok(entries) => entries,
-            Err(error) => return on_fault.meet(LoadFault::of_system(alloc, place.as_str(), error)),
+            Err(error) => {
+                return on_fault.meet(LoadFault::of_system(self.files.memory(), place, error));
+            }
         };
         for entry in entries {
-            let loaded = match entry {
-                Ok(entry) => self.load_entry(here, &entry),
-                Err(error) => Err(LoadFault::of_system(alloc, place.as_str(), error)),
-            };
-            if let Err(fault) = loaded {
+            if let Err(fault) = self.load_entry(here, place, entry) {
                 on_fault.meet(fault)?;
             }
         }
         Ok(())
     }
 
-    /// Loads one entry of a directory.
+    /// Loads one entry of a directory that lies at a place.
     fn load_entry(
+        &mut self,
+        here: &Path<Global>,
+        above: &str,
+        entry: io::Result<DirEntry<R, Global>>,
+    ) -> Result<(), LoadFault> {
+        match entry {
+            Ok(entry) => self.load_listed(here, &entry),
+            Err(error) => Err(LoadFault::of_system(self.files.memory(), above, error)),
+        }
+    }
+
+    fn load_listed(
         &mut self,
         here: &Path<Global>,
         entry: &DirEntry<R, Global>,

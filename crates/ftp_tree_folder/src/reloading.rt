@@ -4,13 +4,13 @@ ghost use Rattle.ftp_tree_folder.specs.Place.{folder_text};
 
 use crate::fault::LoadFault;
 use crate::folder::DiskFolder;
-use crate::loading::{Loading, Old, OnFault, dir_text};
+use crate::loading::{Loaded, Loading, OnFault, dir_text};
 use crate::look::Seen;
 use crate::place::place_of;
 use crate::reading::path_in;
 use crate::{Disk, Mirror};
 use ftp_path::Path;
-use ftp_tree::{MemTree, NodeKind, Tree};
+use ftp_tree::{NodeKind, Tree};
 use std::alloc::Global;
 use std::fs::Files;
 
@@ -56,57 +56,50 @@ pub fn reloaded<'a, R: Files + AllocGlobal + Clone + Drop>(
     seen: &mut Seen,
     now: u64,
 ) -> (Mirror<Global, DiskFolder<'a, R>>, LeftOut) {
-    let alloc = files.alloc();
     let (tree, folder) = mirror.into_parts();
-    let old = Old {
+    let seen_before = std::mem::replace(seen, Seen::nothing(files.alloc()));
+    let old = Loaded {
         tree,
-        seen: std::mem::replace(seen, Seen::nothing(alloc)),
+        seen: seen_before,
     };
     let mut left = LeftOut::nothing();
-    match Loading::new(files, dir_text(dir), roots, old, now) {
-        Ok(mut loading) => {
-            load_all(&mut loading, &mut left);
-            let (tree, looks) = loading.into_parts();
-            *seen = looks;
-            seen.sort();
-            (Mirror::new(tree, folder), left)
-        }
-        Err(old) => {
-            *seen = old.seen;
-            let _met = left.meet(LoadFault::Memory);
-            (Mirror::new(old.tree, folder), left)
-        }
-    }
+    let new = loaded_anew(files, dir, roots, old, now, &mut left);
+    *seen = new.seen;
+    (Mirror::new(new.tree, folder), left)
 }
 
-/// Loads each directory, without what it has no more.
-fn load_all<R: Files + AllocGlobal + Clone + Drop>(
-    loading: &mut Loading<'_, R>,
+/// A tree with what changed loaded anew, and how its files look now; where memory is refused, as it was.
+fn loaded_anew<R: Files + AllocGlobal + Clone + Drop>(
+    files: &R,
+    dir: &str,
+    roots: &[Path<Global>],
+    old: Loaded,
+    now: u64,
     left: &mut LeftOut,
-) {
-    for _ in 0..TURNS {
-        let Some(here) = loading.next_dir() else {
-            return;
-        };
-        let loaded = match loading.prune(&here) {
-            Ok(()) => loading.load_dir(&here, left),
-            Err(fault) => Err(fault),
-        };
-        if let Err(fault) = loaded {
-            let _met = left.meet(fault);
+) -> Loaded {
+    match Loading::new(files, dir_text(dir), roots, old, now) {
+        Ok(mut loading) => {
+            let _met = loading.load_all(left);
+            let mut new = loading.into_loaded();
+            new.seen.sort();
+            new
+        }
+        Err(old) => {
+            let _met = left.meet(LoadFault::Memory);
+            old
         }
     }
 }
 
 impl<'a, R: Disk> Loading<'a, R> {
     /// Takes out of the tree what does not stand directly in a directory of the folder any more, or is of another kind.
-    fn prune(&mut self, here: &Path<Global>) -> Result<(), LoadFault> {
+    pub(crate) fn prune(&mut self, here: &Path<Global>) -> Result<(), LoadFault> {
         let mut at = 0usize;
         for _ in 0..TURNS {
             let Some(path) = self.nth_path(here, at)? else {
                 return Ok(());
             };
-            if self.is_there(&path) || !self.take_out(path)? {
+            if self.is_there(&path) || !self.take_out(&path)? {
                 at = at.saturating_add(1);
             }
         }
@@ -140,14 +133,10 @@ impl<'a, R: Disk> Loading<'a, R> {
     }
 
     /// Takes out of the tree what stands at a path, with all below it; gives whether it could.
-    fn take_out(&mut self, path: Path<Global>) -> Result<bool, LoadFault> {
+    fn take_out(&mut self, path: &Path<Global>) -> Result<bool, LoadFault> {
         for _ in 0..TURNS {
-            let deepest = self.deepest(&path)?;
-            let gone = match self.tree.kind(&self.root, &deepest) {
-                Some(NodeKind::File) => self.tree.delete(&self.root, &deepest),
-                _ => self.tree.remove_dir(&self.root, &deepest),
-            };
-            if gone.is_err() {
+            let deepest = self.deepest(path)?;
+            if !self.take_one(&deepest) {
                 return Ok(false);
             }
             if deepest.key() == path.key() {
@@ -155,6 +144,14 @@ impl<'a, R: Disk> Loading<'a, R> {
             }
         }
         Ok(false)
+    }
+
+    /// Takes out of the tree what stands at a path, where nothing stands below it; gives whether it could.
+    fn take_one(&mut self, path: &Path<Global>) -> bool {
+        match self.tree.kind(&self.root, path) {
+            Some(NodeKind::File) => self.tree.delete(&self.root, path).is_ok(),
+            _ => self.tree.remove_dir(&self.root, path).is_ok(),
+        }
     }
 
     /// The first path below another at which nothing stands below.

@@ -31,11 +31,10 @@ pub(crate) fn write_over<R: Files + AllocGlobal, A: Allocator + Copy>(
     moment: Moment,
 ) -> io::Result<()> {
     let beside = beside(files.alloc(), place)?;
-    let written = write_beside(files, place, beside.as_str(), content, moment);
-    if written.is_err() {
+    if let Err(error) = write_beside(files, place, beside.as_str(), content, moment) {
         let _gone = fs::remove_file(files, beside.as_str());
+        return Err(error);
     }
-    written?;
     sync_above(files, place)
 }
 
@@ -75,12 +74,18 @@ fn write_beside<R: Files + AllocGlobal, A: Allocator + Copy>(
     let mode = if kept.is_some() { OWN_MODE } else { NEW_MODE };
     let file = create(files, beside, mode)?;
     let file = put_gathered(files.alloc(), file, content)?;
+    settle(&file, kept, moment)?;
+    fs::rename(files, beside, place)
+}
+
+/// Gives a file that is written its permissions, where they are known, and its moment, and flushes it.
+fn settle<F: OpenFile>(file: &F, kept: Option<u32>, moment: Moment) -> io::Result<()> {
     if let Some(mode) = kept {
         file.set_permissions(Permissions::from_mode(mode))?;
     }
-    file.set_times(FileTimes::new().set_modified(time_of(moment)?))?;
-    file.sync_all()?;
-    fs::rename(files, beside, place)
+    let modified = time_of(moment)?;
+    file.set_times(FileTimes::new().set_modified(modified))?;
+    file.sync_all()
 }
 
 /// The permissions of the file that is replaced, if there is one.
