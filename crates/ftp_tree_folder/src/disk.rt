@@ -1,7 +1,7 @@
 // The files of a system as one trait without types of its own: what stands on it is proved for less than on the system's, which has two types and
 // their bounds.
 use crate::fault::LoadFault;
-use crate::reading::read_same;
+use crate::reading::{read_same, tell_entries};
 use crate::writing::{sync_above, write_over};
 use ftp_facts::Moment;
 use ftp_tree::Content;
@@ -49,9 +49,21 @@ pub trait Disk {
         buffer: &mut [u8],
         content: &mut Content<Global>,
     ) -> Result<(), LoadFault>;
+
+    /// Tells of each entry of a directory, in the order in which the system lists them, until one ends that.
+    fn tell_entries<E: Entries>(&self, place: &str, to: &mut E) -> Result<(), LoadFault>;
 }
 
-impl<R: Files + AllocGlobal> Disk for R {
+/// Who is told of the entries of a directory; `Err` ends that.
+pub trait Entries {
+    /// One has this name, lies at this place, and is this.
+    fn found(&mut self, name: &str, place: &str, found: &Metadata) -> Result<(), LoadFault>;
+
+    /// The directory or one of its entries can't be read.
+    fn meet(&mut self, fault: LoadFault) -> Result<(), LoadFault>;
+}
+
+impl<R: Files + AllocGlobal + Clone + Drop> Disk for R {
     fn memory(&self) -> Global {
         self.alloc()
     }
@@ -98,5 +110,9 @@ impl<R: Files + AllocGlobal> Disk for R {
         content: &mut Content<Global>,
     ) -> Result<(), LoadFault> {
         read_same(self, place, found, room, buffer, content)
+    }
+
+    fn tell_entries<E: Entries>(&self, place: &str, to: &mut E) -> Result<(), LoadFault> {
+        tell_entries(self, place, to)
     }
 }

@@ -15,7 +15,7 @@ mod reloading;
 mod writing;
 
 pub use device::{Folder, FolderFault};
-pub use disk::Disk;
+pub use disk::{Disk, Entries};
 pub use fault::{LoadFault, Reason};
 pub use folder::DiskFolder;
 pub use loading::{load, open};

@@ -8,13 +8,13 @@ use crate::look::{Look, Seen};
 use crate::place::place_of;
 use crate::reading::{is_left, leave, moment_of, path_in};
 use crate::reasons::Reasons;
-use crate::{Disk, Mirror};
+use crate::reloading::LeftOut;
+use crate::{Disk, Entries, Mirror};
 use ftp_path::Path;
 use ftp_tree::{Content, MemTree, NodeKind, Tree, TreeFault};
 use std::alloc::{AllocError, Global};
-use std::fs::{DirEntry, Files, Metadata};
+use std::fs::Metadata;
 use std::os::unix::fs::MetadataExt;
-use std::{fs, io};
 
 /// The loop over directories ends, as at a limit, once it has made so many turns.
 const DIR_TURNS: u64 = 1_099_511_627_776;
@@ -24,7 +24,7 @@ const PIECE: usize = 65_536;
 
 /// Loads the folder below a directory, and mirrors it: the changes of the tree that it gives go there. What fails of them is told by `reasons`.
 /// Limits are counted as `load` says.
-pub fn open<'a, R: Files + AllocGlobal + Clone + Drop>(
+pub fn open<'a, R: Disk>(
     files: &'a R,
     dir: &str,
     roots: &[Path<Global>],
@@ -50,21 +50,22 @@ pub fn open<'a, R: Files + AllocGlobal + Clone + Drop>(
 ///
 /// Refused: what is neither a file nor a directory, a name that is none of a tree, a limit of a tree that is passed, and what the
 /// system refuses to read; the first that is met is told, in the order in which the system lists.
-pub fn load<'a, R: Files + AllocGlobal + Clone + Drop>(
+pub fn load<'a, R: Disk>(
     files: &'a R,
     dir: &'a str,
     roots: &'a [Path<Global>],
 ) -> Result<MemTree<Global>, LoadFault> {
-    let alloc = files.alloc();
+    let alloc = files.memory();
     let nothing = Loaded {
         tree: MemTree::new(alloc),
         seen: Seen::nothing(alloc),
     };
-    let Ok(mut loading) = Loading::new(files, dir_text(dir), roots, nothing, 0) else {
+    let Ok(mut loading) = Loading::new(files, dir_text(dir), roots, nothing, None, 0) else {
         return Err(LoadFault::Memory);
     };
-    loading.load_all(&mut Refusing)?;
-    Ok(loading.into_loaded().tree)
+    loading.load_all()?;
+    let (loaded, _) = loading.into_parts();
+    Ok(loaded.tree)
 }
 
 /// The text of a directory: an empty one is the current one.
@@ -87,22 +88,6 @@ fn piece(alloc: Global) -> Result<Vec<u8, Global>, AllocError> {
     Ok(room)
 }
 
-/// What is done with an entry that can't be loaded.
-pub(crate) trait OnFault {
-    /// It can't; `Err` ends the loading.
-    fn meet(&mut self, fault: LoadFault) -> Result<(), LoadFault>;
-}
-
-/// It ends the loading.
-#[derive(Drop)]
-pub(crate) struct Refusing;
-
-impl OnFault for Refusing {
-    fn meet(&mut self, fault: LoadFault) -> Result<(), LoadFault> {
-        Err(fault)
-    }
-}
-
 /// A tree that is being loaded, and the directories that are still to be read: those below the root that is being loaded now, and the roots
 /// that come behind it.
 pub(crate) struct Loading<'a, R: Disk> {
@@ -110,11 +95,15 @@ pub(crate) struct Loading<'a, R: Disk> {
     pub(crate) dir: &'a str,
     roots: &'a [Path<Global>],
     pub(crate) root: Path<Global>,
+    /// The directory below that root that is being read.
+    pub(crate) here: Path<Global>,
     pub(crate) tree: MemTree<Global>,
     /// How the files of the tree looked that need not be read anew where they look so still.
     old: Seen,
     /// How files look that were read, or need not be.
     pub(crate) seen: Seen,
+    /// What could not be loaded; with none the first fault ends the loading.
+    left: Option<LeftOut>,
     /// The second since 1970 in which the loading began.
     now: u64,
     waiting: Vec<Path<Global>, Global>,
@@ -130,9 +119,11 @@ impl<'a, R: Disk> Drop for Loading<'a, R> {
             dir: _,
             roots: _,
             root: _,
+            here: _,
             tree: _,
             old: _,
             seen: _,
+            left: _,
             now: _,
             waiting: _,
             later: _,
@@ -148,6 +139,7 @@ impl<'a, R: Disk> Loading<'a, R> {
         dir: &'a str,
         roots: &'a [Path<Global>],
         old: Loaded,
+        left: Option<LeftOut>,
         now: u64,
     ) -> Result<Loading<'a, R>, Loaded> {
         let alloc = files.memory();
@@ -163,9 +155,11 @@ impl<'a, R: Disk> Loading<'a, R> {
             dir,
             roots,
             root: Path::root(alloc),
+            here: Path::root(alloc),
             tree: old.tree,
             old: old.seen,
             seen: Seen::nothing(alloc),
+            left,
             now,
             waiting,
             later: Vec::new(alloc),
@@ -173,31 +167,63 @@ impl<'a, R: Disk> Loading<'a, R> {
         })
     }
 
-    /// The tree that was loaded, and how its files look.
-    pub(crate) fn into_loaded(self) -> Loaded {
+    /// The tree that was loaded, how its files look, and what could not be loaded.
+    pub(crate) fn into_parts(self) -> (Loaded, Option<LeftOut>) {
         let Self {
             files: _,
             dir: _,
             roots: _,
             root: _,
+            here: _,
             tree,
             old: _,
             seen,
+            left,
             now: _,
             waiting: _,
             later: _,
             buffer: _,
         } = self;
-        Loaded { tree, seen }
+        (Loaded { tree, seen }, left)
     }
 
-    /// The next directory, below the root that is being loaded; where none waits there, the next root is.
-    pub(crate) fn next_dir(&mut self) -> Option<Path<Global>> {
-        if let Some(here) = self.waiting.pop() {
-            return Some(here);
+    /// Loads each directory, without what it has no more.
+    pub(crate) fn load_all(&mut self) -> Result<(), LoadFault> {
+        for _ in 0..DIR_TURNS {
+            if !self.goes_on() {
+                return Ok(());
+            }
+            match self.prune() {
+                Ok(()) => self.load_dir()?,
+                Err(fault) => self.meet(fault)?,
+            }
         }
-        self.root = self.later.pop()?;
-        Some(Path::root(self.files.memory()))
+        Err(LoadFault::of_tree(self.files.memory(), self.dir, TreeFault::Full))
+    }
+
+    /// Goes on to the next directory below the root that is being loaded, and where none waits there, to the next root; says whether there is one.
+    fn goes_on(&mut self) -> bool {
+        if let Some(here) = self.waiting.pop() {
+            self.here = here;
+            return true;
+        }
+        match self.later.pop() {
+            Some(root) => {
+                self.root = root;
+                self.here = Path::root(self.files.memory());
+                true
+            }
+            None => false,
+        }
+    }
+
+    /// Loads what stands directly in the directory; the directories in it wait.
+    fn load_dir(&mut self) -> Result<(), LoadFault> {
+        let files = self.files;
+        match place_of(files.memory(), self.dir, &self.root, &self.here) {
+            Ok(place) => files.tell_entries(place.as_str(), self),
+            Err(error) => self.meet(LoadFault::of_system(files.memory(), self.dir, error)),
+        }
     }
 
     /// Whether a path is one of the roots, which is loaded behind what is below none.
@@ -205,18 +231,12 @@ impl<'a, R: Disk> Loading<'a, R> {
         self.root.key().is_empty() && self.roots.iter().any(|root| root.key() == path.key())
     }
 
-    /// Loads one entry of a directory, which was found at a place.
-    fn load_found(
-        &mut self,
-        here: &Path<Global>,
-        name: &str,
-        place: &str,
-        found: &Metadata,
-    ) -> Result<(), LoadFault> {
+    /// Loads one entry of the directory, which was found at a place.
+    fn load_found(&mut self, name: &str, place: &str, found: &Metadata) -> Result<(), LoadFault> {
         if found.is_file() && is_left(name) {
             return self.leave(place, found.len());
         }
-        match path_in(self.files.memory(), here, name.as_bytes(), place) {
+        match path_in(self.files.memory(), &self.here, name.as_bytes(), place) {
             Ok(path) => self.add(path, place, found),
             Err(fault) => Err(fault),
         }
@@ -313,85 +333,21 @@ impl<'a, R: Disk> Loading<'a, R> {
     }
 }
 
-impl<'a, R: Files + AllocGlobal + Clone + Drop> Loading<'a, R> {
-    /// Loads each directory, without what it has no more.
-    pub(crate) fn load_all<F: OnFault>(&mut self, on_fault: &mut F) -> Result<(), LoadFault> {
-        for _ in 0..DIR_TURNS {
-            let Some(here) = self.next_dir() else {
-                return Ok(());
-            };
-            self.load_anew(&here, on_fault)?;
-        }
-        Err(LoadFault::of_tree(self.files.memory(), self.dir, TreeFault::Full))
-    }
-
-    fn load_anew<F: OnFault>(
-        &mut self,
-        here: &Path<Global>,
-        on_fault: &mut F,
-    ) -> Result<(), LoadFault> {
-        match self.prune(here) {
-            Ok(()) => self.load_dir(here, on_fault),
-            Err(fault) => on_fault.meet(fault),
+impl<'a, R: Disk> Entries for Loading<'a, R> {
+    fn found(&mut self, name: &str, place: &str, found: &Metadata) -> Result<(), LoadFault> {
+        match self.load_found(name, place, found) {
+            Ok(()) => Ok(()),
+            Err(fault) => self.meet(fault),
         }
     }
 
-    /// Loads what stands directly in a directory; the directories in it wait.
-    fn load_dir<F: OnFault>(
-        &mut self,
-        here: &Path<Global>,
-        on_fault: &mut F,
-    ) -> Result<(), LoadFault> {
-        let alloc = self.files.memory();
-        match place_of(alloc, self.dir, &self.root, here) {
-            Ok(place) => self.load_at(here, place.as_str(), on_fault),
-            Err(error) => on_fault.meet(LoadFault::of_system(alloc, self.dir, error)),
-        }
-    }
-
-    /// The same of a directory that lies at a place.
-    fn load_at<F: OnFault>(
-        &mut self,
-        here: &Path<Global>,
-        place: &str,
-        on_fault: &mut F,
-    ) -> Result<(), LoadFault> {
-        let entries = match fs::read_dir(self.files, place) {
-            Ok(entries) => entries,
-            Err(error) => {
-                return on_fault.meet(LoadFault::of_system(self.files.memory(), place, error));
+    fn meet(&mut self, fault: LoadFault) -> Result<(), LoadFault> {
+        match &mut self.left {
+            Some(left) => {
+                left.put(fault);
+                Ok(())
             }
-        };
-        for entry in entries {
-            if let Err(fault) = self.load_entry(here, place, entry) {
-                on_fault.meet(fault)?;
-            }
-        }
-        Ok(())
-    }
-
-    /// Loads one entry of a directory that lies at a place.
-    fn load_entry(
-        &mut self,
-        here: &Path<Global>,
-        above: &str,
-        entry: io::Result<DirEntry<R, Global>>,
-    ) -> Result<(), LoadFault> {
-        match entry {
-            Ok(entry) => self.load_listed(here, &entry),
-            Err(error) => Err(LoadFault::of_system(self.files.memory(), above, error)),
-        }
-    }
-
-    fn load_listed(
-        &mut self,
-        here: &Path<Global>,
-        entry: &DirEntry<R, Global>,
-    ) -> Result<(), LoadFault> {
-        let place = entry.path().as_os_str();
-        match entry.metadata() {
-            Ok(found) => self.load_found(here, entry.file_name(), place, &found),
-            Err(error) => Err(LoadFault::of_system(self.files.memory(), place, error)),
+            None => Err(fault),
         }
     }
 }

@@ -2,18 +2,18 @@
 ghost use Rattle.std.specs.Prelude.{◌≡◌};
 ghost use Rattle.ftp_tree_folder.specs.Moment.{nearest};
 
-use crate::Disk;
 use crate::fault::{LoadFault, Reason};
 use crate::place::check_free;
 use crate::writing::BESIDE;
+use crate::{Disk, Entries};
 use ftp_facts::Moment;
 use ftp_path::{Name, Path, PathFault, is_path_text};
 use ftp_tree::{Content, TreeFault};
 use std::alloc::Global;
-use std::fs::{File, Files, Metadata, OpenFile};
-use std::io;
+use std::fs::{DirEntry, File, Files, Metadata, OpenFile};
 use std::io::{ErrorKind, Read};
 use std::os::unix::fs::MetadataExt;
+use std::{fs, io};
 
 /// The most parts that interrupted writes left in one directory and that are kept.
 const LEFT_LIMIT: u32 = 10_000;
@@ -60,6 +60,38 @@ pub(crate) fn path_in(
         Ok(path) => Ok(path),
         Err(PathFault::TooBig) => Err(LoadFault::of_tree(alloc, place, TreeFault::TooBig)),
         Err(PathFault::Memory) => Err(LoadFault::Memory),
+    }
+}
+
+/// Tells of each entry of a directory, in the order in which the system lists them, until one ends that.
+pub(crate) fn tell_entries<R: Files + AllocGlobal + Clone + Drop, E: Entries>(
+    files: &R,
+    place: &str,
+    to: &mut E,
+) -> Result<(), LoadFault> {
+    let alloc = files.alloc();
+    let entries = match fs::read_dir(files, place) {
+        Ok(entries) => entries,
+        Err(error) => return to.meet(LoadFault::of_system(alloc, place, error)),
+    };
+    for entry in entries {
+        match entry {
+            Ok(entry) => tell_entry(alloc, &entry, to)?,
+            Err(error) => to.meet(LoadFault::of_system(alloc, place, error))?,
+        }
+    }
+    Ok(())
+}
+
+fn tell_entry<R: Files + Clone + Drop, E: Entries>(
+    alloc: Global,
+    entry: &DirEntry<R, Global>,
+    to: &mut E,
+) -> Result<(), LoadFault> {
+    let place = entry.path().as_os_str();
+    match entry.metadata() {
+        Ok(found) => to.found(entry.file_name(), place, &found),
+        Err(error) => to.meet(LoadFault::of_system(alloc, place, error)),
     }
 }
 

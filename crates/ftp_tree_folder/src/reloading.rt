@@ -4,7 +4,7 @@ ghost use Rattle.ftp_tree_folder.specs.Place.{folder_text};
 
 use crate::fault::LoadFault;
 use crate::folder::DiskFolder;
-use crate::loading::{Loaded, Loading, OnFault, dir_text};
+use crate::loading::{Loaded, Loading, dir_text};
 use crate::look::Seen;
 use crate::place::place_of;
 use crate::reading::path_in;
@@ -12,7 +12,6 @@ use crate::{Disk, Mirror};
 use ftp_path::Path;
 use ftp_tree::{NodeKind, Tree};
 use std::alloc::Global;
-use std::fs::Files;
 
 /// The most turns of a loop over directories or entries.
 const TURNS: u64 = 1_099_511_627_776;
@@ -27,28 +26,26 @@ pub struct LeftOut {
 }
 
 impl LeftOut {
-    fn nothing() -> LeftOut {
+    pub(crate) fn nothing() -> LeftOut {
         LeftOut {
             count: 0,
             first: None,
         }
     }
-}
 
-impl OnFault for LeftOut {
-    fn meet(&mut self, fault: LoadFault) -> Result<(), LoadFault> {
+    /// One more can't be loaded.
+    pub(crate) fn put(&mut self, fault: LoadFault) {
         self.count = self.count.saturating_add(1);
         if self.first.is_none() {
             self.first = Some(fault);
         }
-        Ok(())
     }
 }
 
 /// The mirror of a folder that others may have changed: what changed is loaded anew, and of each other file what was read before stays.
 /// `seen` is how files looked when they were read, and becomes how they look now; `now` is the second since 1970. What can't be loaded is no part of
 /// the tree, and is told.
-pub fn reloaded<'a, R: Files + AllocGlobal + Clone + Drop>(
+pub fn reloaded<'a, R: Disk>(
     files: &R,
     dir: &str,
     roots: &[Path<Global>],
@@ -57,46 +54,43 @@ pub fn reloaded<'a, R: Files + AllocGlobal + Clone + Drop>(
     now: u64,
 ) -> (Mirror<Global, DiskFolder<'a, R>>, LeftOut) {
     let (tree, folder) = mirror.into_parts();
-    let seen_before = std::mem::replace(seen, Seen::nothing(files.alloc()));
-    let old = Loaded {
-        tree,
-        seen: seen_before,
-    };
-    let mut left = LeftOut::nothing();
-    let new = loaded_anew(files, dir, roots, old, now, &mut left);
+    let before = std::mem::replace(seen, Seen::nothing(files.memory()));
+    let old = Loaded { tree, seen: before };
+    let (new, left) = loaded_anew(files, dir, roots, old, now);
     *seen = new.seen;
     (Mirror::new(new.tree, folder), left)
 }
 
-/// A tree with what changed loaded anew, and how its files look now; where memory is refused, as it was.
-fn loaded_anew<R: Files + AllocGlobal + Clone + Drop>(
+/// A tree with what changed loaded anew, how its files look now, and what is left out; where memory is refused, all is as it was.
+fn loaded_anew<R: Disk>(
     files: &R,
     dir: &str,
     roots: &[Path<Global>],
     old: Loaded,
     now: u64,
-    left: &mut LeftOut,
-) -> Loaded {
-    match Loading::new(files, dir_text(dir), roots, old, now) {
+) -> (Loaded, LeftOut) {
+    let nothing = Some(LeftOut::nothing());
+    match Loading::new(files, dir_text(dir), roots, old, nothing, now) {
         Ok(mut loading) => {
-            let _met = loading.load_all(left);
-            let mut new = loading.into_loaded();
+            let _met = loading.load_all();
+            let (mut new, left) = loading.into_parts();
             new.seen.sort();
-            new
+            (new, left.unwrap_or(LeftOut::nothing()))
         }
         Err(old) => {
-            let _met = left.meet(LoadFault::Memory);
-            old
+            let mut left = LeftOut::nothing();
+            left.put(LoadFault::Memory);
+            (old, left)
         }
     }
 }
 
 impl<'a, R: Disk> Loading<'a, R> {
-    /// Takes out of the tree what does not stand directly in a directory of the folder any more, or is of another kind.
-    pub(crate) fn prune(&mut self, here: &Path<Global>) -> Result<(), LoadFault> {
+    /// Takes out of the tree what does not stand directly in the directory any more, or is of another kind.
+    pub(crate) fn prune(&mut self) -> Result<(), LoadFault> {
         let mut at = 0usize;
         for _ in 0..TURNS {
-            let Some(path) = self.nth_path(here, at)? else {
+            let Some(path) = self.nth_path(&self.here, at)? else {
                 return Ok(());
             };
             if self.is_there(&path) || !self.take_out(&path)? {
