@@ -9,6 +9,7 @@ mod options;
 mod passive;
 mod patience;
 mod ports;
+mod sockets;
 mod wait;
 mod watch;
 
@@ -19,5 +20,6 @@ pub use options::keep_alive;
 pub use passive::PassivePorts;
 pub use patience::{Limits, Over, Patience};
 pub use ports::SocketPorts;
+pub use sockets::Sockets;
 pub use wait::pause;
 pub use watch::SystemWatch;

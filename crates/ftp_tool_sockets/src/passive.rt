@@ -2,10 +2,11 @@
 ghost use Rattle.std.specs.Prelude.{◌≡◌};
 ghost use Rattle.ftp_tool_sockets.specs.Waiting.{next_port};
 
+use crate::sockets::Sockets;
 use std::cell::Cell;
 use std::io;
 use std::io::ErrorKind;
-use std::net::{IpAddr, Net, SocketAddr, TcpListener, TcpStream};
+use std::net::{IpAddr, SocketAddr, TcpListener};
 
 /// The ports from `first` to `last`, each tried in turn after the one that was listened at last; 0 to 0 is a port that the system chooses.
 #[derive(Drop)]
@@ -27,10 +28,11 @@ impl PassivePorts {
     }
 
     /// Listens at the next of the ports that is free, and says which.
-    pub(crate) fn listen<R>(&self, net: &R, here: IpAddr) -> io::Result<(TcpListener, u16)>
-    where
-        R: Net<Listener = TcpListener, Stream = TcpStream>,
-    {
+    pub(crate) fn listen<R: Sockets>(
+        &self,
+        net: &R,
+        here: IpAddr,
+    ) -> io::Result<(TcpListener, u16)> {
         for _ in self.first..=self.last {
             let port = self.next.get();
             self.next.set(port_after(self.first, self.last, port));
@@ -44,11 +46,12 @@ impl PassivePorts {
 }
 
 /// Listens at a port, and says which: the system is asked only where it chooses one, as of port 0.
-pub(crate) fn listen_at<R>(net: &R, here: IpAddr, port: u16) -> io::Result<(TcpListener, u16)>
-where
-    R: Net<Listener = TcpListener, Stream = TcpStream>,
-{
-    let listener = TcpListener::bind(net, SocketAddr::new(here, port))?;
+pub(crate) fn listen_at<R: Sockets>(
+    net: &R,
+    here: IpAddr,
+    port: u16,
+) -> io::Result<(TcpListener, u16)> {
+    let listener = net.listener(SocketAddr::new(here, port))?;
     if port != 0 {
         return Ok((listener, port));
     }

@@ -6,12 +6,13 @@ use crate::host::{addr_of, host_of};
 use crate::link::Link;
 use crate::passive::{PassivePorts, listen_at};
 use crate::patience::Patience;
+use crate::sockets::Sockets;
 use crate::wait::{Heeds, Woke, look_at, wait, wait_millis};
 use ftp_control::{Accepted, For, Ports, Ready, Spoken, TURNS, Whole};
 use ftp_endpoint::{Endpoint, Host};
 use std::io;
 use std::io::ErrorKind;
-use std::net::{IpAddr, Net, SocketAddr, TcpListener, TcpStream};
+use std::net::{IpAddr, SocketAddr, TcpListener, TcpStream};
 
 /// How long an opening may take, in milliseconds.
 const OPENING_MILLIS: i32 = 30_000;
@@ -21,7 +22,7 @@ const LEAVING_MILLIS: u64 = 500;
 
 /// Data connections beside one control connection.
 #[derive(Drop)]
-pub struct SocketPorts<'a, R: Net<Listener = TcpListener, Stream = TcpStream>> {
+pub struct SocketPorts<'a, R: Sockets> {
     net: &'a R,
     control: &'a TcpStream,
     /// The address of this end.
@@ -39,7 +40,7 @@ pub struct SocketPorts<'a, R: Net<Listener = TcpListener, Stream = TcpStream>> {
     opened: u32,
 }
 
-impl<'a, R: Net<Listener = TcpListener, Stream = TcpStream>> SocketPorts<'a, R> {
+impl<'a, R: Sockets> SocketPorts<'a, R> {
     /// Data connections of a server, at the address that its client reached: they wait as long as its patience lasts, a passive one listens at one
     /// of these ports, and no host but the client's is accepted there.
     pub fn new(
@@ -125,7 +126,7 @@ impl<'a, R: Net<Listener = TcpListener, Stream = TcpStream>> SocketPorts<'a, R> 
 
     /// Opens a connection; ends as failed where the control connection does.
     fn open(&self, addr: SocketAddr) -> io::Result<Option<TcpStream>> {
-        let begun = mio::net::TcpStream::connect(self.net, addr)?;
+        let begun = self.net.connecting(addr)?;
         if wait_millis(self.control, &begun, For::Room, Heeds::End, OPENING_MILLIS) != Woke::Ready {
             return Ok(None);
         }
@@ -202,7 +203,7 @@ fn wait_at(
     Waited::Refused
 }
 
-impl<'a, R: Net<Listener = TcpListener, Stream = TcpStream>> Ports for SocketPorts<'a, R> {
+impl<'a, R: Sockets> Ports for SocketPorts<'a, R> {
     type Stream = Link<'a>;
 
     fn listen(&mut self) -> Option<u16> {
