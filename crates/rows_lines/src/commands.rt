@@ -1,57 +1,46 @@
 //! Rows of the table of verbs, of RFC 959, RFC 2428 and RFC 3659.
 use crate::endpoints::put_endpoint;
 use crate::report::{put_printed, put_quoted};
-use ftp_command::{Argument, Command, CommandFault, Endpoint, read, write};
+use ftp_command::{Argument, Command, CommandFault, read, write};
 use rows_base::Paper;
 use std::alloc::{Allocator, Global};
 
-/// Writes the line of what is said.
-fn write_said<A: Allocator + Copy, B: Allocator + Copy>(
-    said: &Result<Command<Argument<A>>, CommandFault>,
-    out: &mut Vec<u8, B>,
-) -> Result<(), CommandFault> {
-    match said {
-        Ok(command) => write(command, out),
-        Err(fault) => Err(*fault),
+/// Puts the line that is written for what a line says, or its endpoint; or its fault. A command is let go here and nowhere
+/// else, since that is dear to prove.
+pub(crate) fn put<A: Allocator + Copy>(
+    heap: A,
+    alloc: Global,
+    asks_endpoint: bool,
+    line: &[u8],
+    paper: &mut Paper,
+) {
+    let said = read(heap, line);
+    match &said {
+        Ok(command) if asks_endpoint => put_endpoint_of(command, paper),
+        Ok(command) => put_line(heap, alloc, command, paper),
+        Err(fault) => put_printed(alloc, fault, paper),
     }
-}
-
-/// The endpoint of PORT or EPRT.
-fn endpoint_of<A: Allocator + Copy>(
-    said: &Result<Command<Argument<A>>, CommandFault>,
-) -> Option<Endpoint> {
-    match said {
-        Ok(Command::Port(endpoint)) => Some(*endpoint),
-        Ok(Command::Eprt(endpoint)) => Some(*endpoint),
-        _ => None,
-    }
-}
-
-/// Writes the line of what is said and is needed no longer, and gives the endpoint of PORT or EPRT. A command is let go here
-/// and nowhere else, since that is dear to prove.
-fn written<A: Allocator + Copy, B: Allocator + Copy>(
-    said: Result<Command<Argument<A>>, CommandFault>,
-    out: &mut Vec<u8, B>,
-) -> (Result<(), CommandFault>, Option<Endpoint>) {
-    let all = (write_said(&said, out), endpoint_of(&said));
     drop(said);
-    all
 }
 
-/// Puts the line that is written for what a line says, or its fault.
-pub(crate) fn put<A: Allocator + Copy>(heap: A, alloc: Global, line: &[u8], paper: &mut Paper) {
+/// Puts the endpoint of PORT or EPRT.
+fn put_endpoint_of<A: Allocator + Copy>(command: &Command<Argument<A>>, paper: &mut Paper) {
+    match command {
+        Command::Port(endpoint) => put_endpoint(*endpoint, paper),
+        Command::Eprt(endpoint) => put_endpoint(*endpoint, paper),
+        _ => paper.put(b"none"),
+    }
+}
+
+fn put_line<A: Allocator + Copy>(
+    heap: A,
+    alloc: Global,
+    command: &Command<Argument<A>>,
+    paper: &mut Paper,
+) {
     let mut out = Vec::new(heap);
-    match written(read(heap, line), &mut out).0 {
+    match write(command, &mut out) {
         Ok(()) => put_quoted(out.as_slice(), paper),
         Err(fault) => put_printed(alloc, &fault, paper),
-    }
-}
-
-/// Writes the endpoint of PORT or EPRT.
-pub(crate) fn show_endpoint(alloc: Global, line: &[u8], paper: &mut Paper) {
-    let mut out = Vec::new(alloc);
-    match written(read(alloc, line), &mut out).1 {
-        Some(endpoint) => put_endpoint(endpoint, paper),
-        None => paper.put(b"none"),
     }
 }

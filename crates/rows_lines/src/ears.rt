@@ -1,4 +1,4 @@
-//! What octets of a control connection say, in every cutting, and the memory that an ear asks for.
+//! What octets of a control connection say, and the memory that an ear asks for.
 use crate::caller::events_in;
 use crate::report::put_quoted;
 use crate::row::Row;
@@ -32,45 +32,29 @@ fn put_between(front: &[u8], text: &[u8], back: &[u8], said: &mut Paper) {
     said.put(back);
 }
 
-/// Sizes of pieces.
-const SIZES: [usize; 4] = [64, 1, 2, 3];
-
-/// Puts the events of octets, cut into pieces of this size behind the first `at`.
-fn put_cut(ear: &mut Ear<Global>, octets: &[u8], at: usize, size: usize, said: &mut Paper) {
-    let (front, back) = octets.split_at(at.min(octets.len()));
-    put_events(ear, front, said);
-    for piece in back.chunks(size.max(1)) {
-        put_events(ear, piece, said);
-    }
-}
-
-/// Puts what octets say to an ear of the row's limit: in pieces of 64 octets, or cut once at a place, and then into pieces of one size.
-pub(crate) fn put(alloc: Global, row: &Row<'_>, cutting: usize, paper: &mut Paper) {
+/// Writes what octets say to an ear of the row's limit.
+pub(crate) fn show(alloc: Global, row: &Row<'_>, paper: &mut Paper) {
     let mut said = Paper::new(alloc);
-    let (at, size) = (cutting.saturating_sub(1) / 4, SIZES[cutting % 4]);
     match Ear::new(alloc, number(split(row.head).0) as usize) {
-        Ok(mut ear) => put_cut(&mut ear, row.octets, at, size, &mut said),
+        Ok(mut ear) => put_events(&mut ear, row.octets, &mut said),
         Err(_) => said.fill(),
     }
     put_quoted(said.text(), paper);
 }
 
-/// Whether an ear for eight octets tells how long its unfinished line is: three octets, none behind its end, none past the limit.
-fn is_measured(ear: &mut Ear<Global>) -> bool {
-    leaves(ear, b"abc", 3) & leaves(ear, b"\r\n", 0) & leaves(ear, b"123456789", 0)
-}
-
-/// Whether behind a piece an ear has so many octets of an unfinished line.
-fn leaves(ear: &mut Ear<Global>, piece: &[u8], octets: usize) -> bool {
-    let _events = events_in(ear, piece);
-    ear.unfinished() == octets
-}
+/// Pieces for an ear of eight octets, and how long its unfinished line is then: three octets, none behind its end, none past the limit.
+const MEASURED: [(&[u8], usize); 3] = [(b"abc", 3), (b"\r\n", 0), (b"123456789", 0)];
 
 fn measures(alloc: Global) -> bool {
-    match Ear::new(alloc, 8) {
-        Ok(mut ear) => is_measured(&mut ear),
-        Err(_) => false,
+    let Ok(mut ear) = Ear::new(alloc, 8) else {
+        return false;
+    };
+    let mut all = true;
+    for (piece, octets) in MEASURED {
+        let _events = events_in(&mut ear, piece);
+        all &= ear.unfinished() == octets;
     }
+    all
 }
 
 /// How many events an ear for eight octets gives, or that it wants memory.

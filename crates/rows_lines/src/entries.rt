@@ -34,31 +34,21 @@ pub(crate) fn put<A: Allocator + Copy>(heap: A, line: &[u8], paper: &mut Paper) 
     drop(read);
 }
 
-/// Puts the line of what comes back of an entry.
-pub(crate) fn put_back(alloc: Global, entry: &Entry<Global>, paper: &mut Paper) {
-    let back = entry_comes_back(alloc, entry);
-    put_answer(alloc, &back, paper);
-    drop(back);
-}
-
 /// Writes the line of what comes back of the entry that a line says.
 pub(crate) fn show_back(alloc: Global, line: &[u8], paper: &mut Paper) {
     let read = read_entry(alloc, line);
-    match &read {
-        Ok(entry) => put_back(alloc, entry, paper),
-        Err(fault) => paper.put(fault.text().as_bytes()),
-    }
+    let back = match &read {
+        Ok(entry) => entry_comes_back(alloc, entry),
+        Err(fault) => Err(*fault),
+    };
+    put_answer(alloc, &back, paper);
+    drop(back);
     drop(read);
-}
-
-/// How many growths are left behind the reading of a line, of which none is refused.
-fn growth(alloc: Global, line: &[u8]) -> u64 {
-    let heap = Refusing::new(alloc, 0);
-    drop(read_entry(&heap, line));
-    heap.left()
 }
 
 /// Writes how many growths the reading of a line asks for.
 pub(crate) fn show_growths(alloc: Global, line: &[u8], paper: &mut Paper) {
-    paper.number(0u64.wrapping_sub(growth(alloc, line)));
+    let heap = Refusing::new(alloc, 0);
+    drop(read_entry(&heap, line));
+    paper.number(0u64.wrapping_sub(heap.left()));
 }

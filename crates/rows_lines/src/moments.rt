@@ -13,9 +13,8 @@ pub(crate) fn show_text(seconds: &[u8], paper: &mut Paper) {
 }
 
 fn put_text(moment: Moment, paper: &mut Paper) {
-    let text = moment_text(moment);
-    put_quoted(&text, paper);
-    if moment_of_text(&text) == Ok(moment) && moment_comes_back(moment) == Ok(moment) {
+    put_quoted(&moment_text(moment), paper);
+    if moment_comes_back(moment) == Ok(moment) {
         paper.put(b" and back");
     }
 }

@@ -1,45 +1,22 @@
 //! Lines and the replies that they are (RFC 959, section 4.2), and the limits.
-use crate::common::hears;
 use crate::report::{fill, put_printed, put_quoted};
-use crate::script::put_octets;
+use crate::row::octets_in;
 use ftp_reply::{Reader, Reply, ReplyFault};
-use rows_base::{Paper, Refusing, number, quoted, split};
+use rows_base::{Paper, number, quoted, split};
 use std::alloc::{Allocator, Global};
 
-/// Writes what one reader answers to each of these quoted lines, and whether it is otherwise with a growth refused.
-pub(crate) fn show(alloc: Global, lines: &[u8], paper: &mut Paper) {
-    let mut said = Paper::new(alloc);
-    let (none, left) = growth(alloc, lines, 0, &mut said);
-    let growths = 0u64.wrapping_sub(left);
-    let mut all = none == 0 && growths > 0;
-    for refused in 1..=growths {
-        all &= is_wanted_once(alloc, lines, refused, said.text());
-    }
-    paper.put(said.text());
-    if !all {
-        paper.put(b", but otherwise with a growth refused");
-    }
-}
+/// What is put behind all answers where memory was wanted once.
+pub(crate) const WANTED: &[u8] = b"; and memory was wanted";
 
-/// Whether memory is wanted once where this growth is refused, and all is answered as here.
-fn is_wanted_once(alloc: Global, lines: &[u8], refused: u64, expected: &[u8]) -> bool {
-    let mut said = Paper::new(alloc);
-    let (wanted, _) = growth(alloc, lines, refused, &mut said);
-    wanted == 1 && said.text() == expected
-}
-
-/// Puts what is answered where this growth is refused. Gives how often memory was wanted, and how many growths are left.
-fn growth(alloc: Global, lines: &[u8], refused: u64, said: &mut Paper) -> (u64, u64) {
-    let heap = Refusing::new(alloc, refused);
-    let wanted = hear(&heap, alloc, lines, said);
-    (wanted, heap.left())
-}
-
-fn hear<A: Allocator + Copy>(heap: A, alloc: Global, lines: &[u8], said: &mut Paper) -> u64 {
+/// Puts what one reader answers to each of these quoted lines, and how often memory was wanted.
+pub(crate) fn put<A: Allocator + Copy>(heap: A, alloc: Global, lines: &[u8], said: &mut Paper) {
     let mut reader = Reader::new(heap);
-    hear_each(alloc, &mut reader, lines, said)
+    for _ in 0..hear_each(alloc, &mut reader, lines, said) {
+        said.put(WANTED);
+    }
 }
 
+/// Puts what a reader answers to each of these lines, and gives how often memory was wanted.
 fn hear_each<A: Allocator + Copy>(
     alloc: Global,
     reader: &mut Reader<A>,
@@ -69,8 +46,7 @@ fn hear_line<A: Allocator + Copy>(
     line: &[u8],
     said: &mut Paper,
 ) -> u64 {
-    let mut octets = Paper::new(alloc);
-    put_octets(alloc, line, &mut octets);
+    let octets = octets_in(alloc, line);
     for wanted in 0..2u64 {
         if put_heard(alloc, &reader.line(octets.text()), said) {
             return wanted;
@@ -101,6 +77,14 @@ fn put_reply<A: Allocator + Copy>(reply: &Reply<A>, said: &mut Paper) {
             said.put(b" ");
             put_quoted(text, said);
         }
+    }
+}
+
+/// Whether a reply ends with the line.
+fn hears(reader: &mut Reader<Global>, line: &[u8]) -> Result<bool, ReplyFault> {
+    match reader.line(line) {
+        Ok(reply) => Ok(reply.is_some()),
+        Err(fault) => Err(fault),
     }
 }
 

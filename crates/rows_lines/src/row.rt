@@ -1,5 +1,8 @@
 //! What stands on a line of the script.
+use crate::report::fill;
 use ftp_settings::{Kind, Mode, Representation, Structure};
+use rows_base::{Paper, cut, number, octets_of};
+use std::alloc::Global;
 
 /// What stands behind the word of a line: small words, and then octets between double quotes.
 #[derive(Drop)]
@@ -10,6 +13,27 @@ pub(crate) struct Row<'a> {
     pub head: &'a [u8],
     /// The first octets that are quoted.
     pub octets: &'a [u8],
+}
+
+/// The octets of a text, in which `[8192x]` is so many of one.
+pub(crate) fn octets_in(alloc: Global, text: &[u8]) -> Paper {
+    let mut octets = Paper::new(alloc);
+    let mut rest = text;
+    for _ in 0..text.len() {
+        if rest.is_empty() {
+            break;
+        }
+        let (written, run) = cut(rest, b'[');
+        if let Ok(some) = octets_of(alloc, written) {
+            octets.put(some.as_slice());
+        }
+        let (run, behind) = cut(run, b']');
+        if let [digits @ .., octet] = run {
+            fill(&mut octets, *octet, number(digits) as usize);
+        }
+        rest = behind;
+    }
+    octets
 }
 
 /// The representation of up to three letters: A or I, F or R, S or B.

@@ -1,12 +1,10 @@
 //! Rows of the script: a word for what is tried, and behind it small words and octets.
-use crate::report::fill;
-use crate::row::Row;
-use crate::word::{FileWord, LineWord, Word, word_of};
+use crate::row::{Row, octets_in};
+use crate::word::{FactWord, FileWord, Word, word_of};
 use crate::{
-    calendar, commands, cutting, decoding, deframing, endpoints, entries, growing, moments,
-    replies, sizes, values,
+    calendar, ears, endpoints, entries, growing, items, moments, pieces, replies, sizes, wires,
 };
-use rows_base::{Paper, cut, number, octets_of, split};
+use rows_base::{Paper, cut, split};
 use std::alloc::Global;
 
 /// Writes each line of a script, and behind it what is said of it. A line of no such word is a remark.
@@ -26,78 +24,38 @@ pub(crate) fn play_all(alloc: Global, script: &[u8], paper: &mut Paper) {
 
 fn play(alloc: Global, line: &[u8], paper: &mut Paper) {
     let (word, text) = split(line);
+    let Some(word) = word_of(word) else {
+        return;
+    };
     let (head, quoted) = cut(text, b'"');
-    let mut octets = Paper::new(alloc);
-    put_octets(alloc, cut(quoted, b'"').0, &mut octets);
-    let octets = octets.text();
-    answer(alloc, word_of(word), &Row { text, head, octets }, paper);
-}
-
-/// Puts the octets of a text, in which `[8192x]` is so many of one.
-pub(crate) fn put_octets(alloc: Global, text: &[u8], octets: &mut Paper) {
-    let mut rest = text;
-    for _ in 0..text.len() {
-        if rest.is_empty() {
-            break;
-        }
-        let (written, run) = cut(rest, b'[');
-        if let Ok(some) = octets_of(alloc, written) {
-            octets.put(some.as_slice());
-        }
-        let (run, behind) = cut(run, b']');
-        if let [digits @ .., octet] = run {
-            fill(octets, *octet, number(digits) as usize);
-        }
-        rest = behind;
-    }
+    let octets = octets_in(alloc, cut(quoted, b'"').0);
+    let row = Row {
+        text,
+        head,
+        octets: octets.text(),
+    };
+    paper.put(b" => ");
+    answer(alloc, word, &row, paper);
 }
 
 fn answer(alloc: Global, word: Word, row: &Row<'_>, paper: &mut Paper) {
     match word {
-        Word::Remark => {}
-        Word::Line(word) => {
-            paper.put(b" => ");
-            answer_line(alloc, word, row, paper);
-        }
-        Word::File(word) => {
-            paper.put(b" => ");
-            answer_file(alloc, word, row, paper);
-        }
+        Word::Ear => ears::show(alloc, row, paper),
+        Word::Growing(asked) => growing::show(alloc, asked, row, paper),
+        Word::Endpoint(asked) => endpoints::show(alloc, asked, row.octets, paper),
+        Word::ReplyLimit => replies::show_limit(alloc, row.head, paper),
+        Word::Fact(word) => answer_fact(alloc, word, row, paper),
+        Word::File(word) => answer_file(alloc, word, row, paper),
     }
 }
 
-fn answer_line(alloc: Global, word: LineWord, row: &Row<'_>, paper: &mut Paper) {
+fn answer_fact(alloc: Global, word: FactWord, row: &Row<'_>, paper: &mut Paper) {
     match word {
-        LineWord::Ear => cutting::show(alloc, cutting::Asked::Ear, row, paper),
-        LineWord::Line => growing::show(alloc, &growing::Asked::Line(row.octets), row.head, paper),
-        LineWord::Endpoint(asked) => endpoints::show(alloc, asked, row.octets, paper),
-        LineWord::Command => growing::show(
-            alloc,
-            &growing::Asked::Command(row.octets),
-            row.head,
-            paper,
-        ),
-        LineWord::CommandEndpoint => commands::show_endpoint(alloc, row.octets, paper),
-        LineWord::Reply => replies::show(alloc, row.text, paper),
-        LineWord::ReplyLimit => replies::show_limit(alloc, row.head, paper),
-        LineWord::Value(asked) => values::show(alloc, asked, row, paper),
-        LineWord::Entry => growing::show(
-            alloc,
-            &growing::Asked::Entry(row.octets),
-            row.head,
-            paper,
-        ),
-        LineWord::EntryBack => entries::show_back(alloc, row.octets, paper),
-        LineWord::EntryGrowths => entries::show_growths(alloc, row.octets, paper),
-        LineWord::Seconds => moments::show_text(row.head, paper),
-        LineWord::Moment => moments::show_seconds(row.octets, paper),
-        LineWord::Years => calendar::show_years(alloc, row.head, paper),
-        LineWord::Script => growing::show(
-            alloc,
-            &growing::Asked::Script(row.octets),
-            row.head,
-            paper,
-        ),
+        FactWord::EntryBack => entries::show_back(alloc, row.octets, paper),
+        FactWord::EntryGrowths => entries::show_growths(alloc, row.octets, paper),
+        FactWord::Seconds => moments::show_text(row.head, paper),
+        FactWord::Moment => moments::show_seconds(row.octets, paper),
+        FactWord::Years => calendar::show_years(alloc, row.head, paper),
     }
 }
 
@@ -105,18 +63,13 @@ fn answer_file(alloc: Global, word: FileWord, row: &Row<'_>, paper: &mut Paper) 
     match word {
         FileWord::Sizes => sizes::show_sizes(row.octets, paper),
         FileWord::Run => sizes::show_run(row, paper),
-        FileWord::Skip => cutting::show(alloc, cutting::Asked::Skip, row, paper),
-        FileWord::Send => cutting::show(alloc, cutting::Asked::Send, row, paper),
-        FileWord::Receive => {
-            cutting::show(alloc, cutting::Asked::Receive { breaks: false }, row, paper);
-            paper.put(b" broken ");
-            cutting::show(alloc, cutting::Asked::Receive { breaks: true }, row, paper);
-        }
-        FileWord::Frame => cutting::show(alloc, cutting::Asked::Frame, row, paper),
-        FileWord::Deframe => cutting::show(alloc, cutting::Asked::Deframe, row, paper),
-        FileWord::Parts => deframing::show_parts(alloc, row, paper),
-        FileWord::Decode => cutting::show(alloc, cutting::Asked::Decode, row, paper),
-        FileWord::Pieces => decoding::show_pieces(alloc, row, paper),
-        FileWord::Break => decoding::show_broken(alloc, row, paper),
+        FileWord::Skip => sizes::show_skipped(row.head, paper),
+        FileWord::Send => items::show_sent(alloc, row, paper),
+        FileWord::Receive => items::show_received(alloc, row, paper),
+        FileWord::Frame => wires::show_wire(alloc, row, paper),
+        FileWord::Deframe => wires::show_file(alloc, row, paper),
+        FileWord::Break => wires::show_broken(alloc, row, paper),
+        FileWord::Parts => pieces::show_parts(alloc, row, paper),
+        FileWord::Pieces => pieces::show_told(alloc, row, paper),
     }
 }

@@ -1,14 +1,13 @@
 //! The values of replies, and how replies are written.
-use crate::common::{reply_of, reply_with};
 use crate::endpoints::put_endpoint;
-use crate::growing;
 use crate::growing::put_behind;
 use crate::report::{put_printed, put_quoted};
-use crate::row::Row;
+use crate::row::{Row, octets_in};
 use ftp_reply::{
-    Reply, ReplyFault, extended_of, mark_of, moment_of, passive_of, quoted_of, size_of, write,
+    Lines, Reader, Reply, ReplyFault, extended_of, mark_of, moment_of, passive_of, quoted_of,
+    size_of, write,
 };
-use rows_base::Paper;
+use rows_base::{Paper, number, quoted, split};
 use std::alloc::{Allocator, Global};
 
 /// What is asked of a reply.
@@ -33,62 +32,111 @@ fn reply_in(alloc: Global, row: &Row<'_>) -> Option<Reply<Global>> {
     }
 }
 
-/// Writes the value that a reply says, or why it says none.
-pub(crate) fn show(alloc: Global, asked: Asked, row: &Row<'_>, paper: &mut Paper) {
+fn reply_of(alloc: Global, line: &[u8]) -> Option<Reply<Global>> {
+    match Reader::new(alloc).line(line) {
+        Ok(reply) => reply,
+        Err(_) => None,
+    }
+}
+
+fn reply_with(alloc: Global, text: &[u8]) -> Option<Reply<Global>> {
+    let (code, texts) = split(text);
+    let Ok(code @ 100..=599) = u16::try_from(number(code)) else {
+        return None;
+    };
+    let lines = lines_of(alloc, texts);
+    if lines.len() == 0 {
+        return None;
+    }
+    Some(Reply { code, lines })
+}
+
+/// The quoted lines of a text.
+fn lines_of(alloc: Global, texts: &[u8]) -> Lines<Global> {
+    let mut lines = Lines::new(alloc);
+    let mut rest = texts;
+    for _ in 0..texts.len() {
+        if rest.is_empty() {
+            break;
+        }
+        let (text, behind) = quoted(rest);
+        add_line(octets_in(alloc, text).text(), &mut lines);
+        rest = behind;
+    }
+    lines
+}
+
+/// Puts a line where it has room.
+fn add_line(line: &[u8], lines: &mut Lines<Global>) {
+    if lines.has_room(line) {
+        let _pushed = lines.push(line);
+    }
+}
+
+/// Puts the value that a reply says, or why it says none.
+pub(crate) fn put<A: Allocator + Copy>(
+    heap: A,
+    alloc: Global,
+    asked: Asked,
+    row: &Row<'_>,
+    paper: &mut Paper,
+) {
     match &reply_in(alloc, row) {
-        Some(reply) => show_asked(alloc, asked, reply, paper),
+        Some(reply) => put_asked(heap, alloc, asked, reply, paper),
         None => paper.put(b"no reply"),
     }
 }
 
-fn show_asked(alloc: Global, asked: Asked, reply: &Reply<Global>, paper: &mut Paper) {
-    match asked {
-        Asked::Endpoint => put_passive(alloc, reply, paper),
-        Asked::Path => growing::show(alloc, &growing::Asked::Path(reply), b"", paper),
-        Asked::Written => growing::show(alloc, &growing::Asked::Written(reply), b"", paper),
-        _ => put_number(alloc, number_of(asked, reply), paper),
-    }
-}
-
-fn put_passive(alloc: Global, reply: &Reply<Global>, paper: &mut Paper) {
-    match passive_of(reply) {
-        Ok(endpoint) => put_endpoint(endpoint, paper),
-        Err(fault) => put_printed(alloc, &fault, paper),
-    }
-}
-
-/// Puts the path that a reply quotes, or why there is none.
-pub(crate) fn put_path<A: Allocator + Copy>(
+fn put_asked<A: Allocator + Copy>(
     heap: A,
     alloc: Global,
+    asked: Asked,
     reply: &Reply<Global>,
     paper: &mut Paper,
 ) {
-    match &quoted_of(heap, reply) {
-        Ok(path) => put_quoted(path.as_slice(), paper),
-        Err(fault) => put_printed(alloc, fault, paper),
+    let put = match asked {
+        Asked::Endpoint => put_passive(reply, paper),
+        Asked::Path => put_path(heap, reply, paper),
+        Asked::Written => put_written(heap, reply, paper),
+        _ => put_number(asked, reply, paper),
+    };
+    if let Err(fault) = put {
+        put_printed(alloc, &fault, paper);
     }
 }
 
-/// Puts the octets of a reply.
-pub(crate) fn put_written<A: Allocator + Copy>(heap: A, reply: &Reply<Global>, paper: &mut Paper) {
+fn put_passive(reply: &Reply<Global>, paper: &mut Paper) -> Result<(), ReplyFault> {
+    put_endpoint(passive_of(reply)?, paper);
+    Ok(())
+}
+
+fn put_path<A: Allocator + Copy>(
+    heap: A,
+    reply: &Reply<Global>,
+    paper: &mut Paper,
+) -> Result<(), ReplyFault> {
+    let path = quoted_of(heap, reply)?;
+    put_quoted(path.as_slice(), paper);
+    Ok(())
+}
+
+fn put_written<A: Allocator + Copy>(
+    heap: A,
+    reply: &Reply<Global>,
+    paper: &mut Paper,
+) -> Result<(), ReplyFault> {
     let mut out = Vec::new(heap);
     let goes = write(reply, &mut out).is_ok();
     put_behind(b"", out.as_slice(), goes, paper);
+    Ok(())
 }
 
-fn put_number(alloc: Global, number: Result<u64, ReplyFault>, paper: &mut Paper) {
-    match number {
-        Ok(number) => paper.number(number),
-        Err(fault) => put_printed(alloc, &fault, paper),
-    }
-}
-
-fn number_of(asked: Asked, reply: &Reply<Global>) -> Result<u64, ReplyFault> {
-    match asked {
-        Asked::Port => Ok(u64::from(extended_of(reply)?)),
-        Asked::Moment => Ok(moment_of(reply)?.seconds),
-        Asked::Mark => mark_of(reply),
-        _ => size_of(reply),
-    }
+fn put_number(asked: Asked, reply: &Reply<Global>, paper: &mut Paper) -> Result<(), ReplyFault> {
+    paper.number(match asked {
+        Asked::Port => u64::from(extended_of(reply)?),
+        Asked::Moment => moment_of(reply)?.seconds,
+        Asked::Mark => mark_of(reply)?,
+        _ => size_of(reply)?,
+    });
+    Ok(())
 }

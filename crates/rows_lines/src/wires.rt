@@ -1,186 +1,82 @@
-//! Files to wires, in pieces and rooms, and wires to files.
-use ftp_mode::{Deframer, FrameFault, Framer, Part, Step};
-use ftp_repr::{Item, Receiver, ReprFault, Sender};
+//! Files to wires, and wires to files.
+use crate::report::{put_printed, put_quoted};
+use crate::row::{Row, form_of};
+use ftp_mode::FrameFault;
 use ftp_settings::Representation;
-use ftp_wire::Encoder;
-use rows_base::Paper;
+use ftp_wire::{Decoded, Decoder, Encoder};
+use rows_base::{Paper, number, split};
+use std::alloc::Global;
 
-/// Puts an item until it is taken, into rooms of this size.
-fn put_item(framer: &mut Framer, item: Item<'_>, room: usize, wire: &mut Paper) {
-    let mut space = [0; 4096];
-    let mut rest = item;
-    for _ in 0..100_000 {
-        let (front, _) = space.split_at_mut(room.min(4096));
-        let written = framer.put(rest, front);
-        let (made, _) = front.split_at(written.made);
-        wire.put(made);
-        match written.rest(rest) {
-            Some(left) => rest = left,
-            None => return,
-        }
+/// Writes the wire of the row's file in a representation; markers are counted from a start where the row has one.
+pub(crate) fn show_wire(alloc: Global, row: &Row<'_>, paper: &mut Paper) {
+    let (letters, start) = split(row.head);
+    let mut wire = Paper::new(alloc);
+    let mut encoder = encoder(form_of(letters), split(start).0);
+    if !encode(&mut encoder, row.octets, &mut wire) {
+        wire.put(b" and more");
+    }
+    put_quoted(wire.text(), paper);
+}
+
+fn encoder(form: Representation, start: &[u8]) -> Encoder {
+    if start.is_empty() {
+        Encoder::new(form)
+    } else {
+        Encoder::marked(form, number(start))
     }
 }
 
-/// Writes a file by a sender and a framer.
-fn put_file(
-    sender: &mut Sender,
-    framer: &mut Framer,
-    file: &[u8],
-    (piece, room): (usize, usize),
-    wire: &mut Paper,
-) {
+/// Puts the wire of a file. Whether all of it is out.
+fn encode(encoder: &mut Encoder, file: &[u8], wire: &mut Paper) -> bool {
+    let mut room = [0; 4_096];
     let mut rest = file;
-    for _ in 0..500_000 {
-        let (front, behind) = rest.split_at(piece.min(rest.len()));
-        let (taken, item) = sender.next(front, behind.is_empty());
-        match item {
-            Some(item) => put_item(framer, item, room, wire),
-            None => return,
-        }
-        let (_, left) = rest.split_at(taken);
-        rest = left;
+    for _ in 0..100 {
+        let encoded = encoder.put(rest, true, &mut room);
+        wire.put(room.split_at(encoded.made).0);
+        rest = rest.split_at(encoded.taken).1;
+    }
+    rest.is_empty() && encoder.is_done() && encoder.is_out(true)
+}
+
+/// Writes the file that the row's wire gives once it has ended, and its fault.
+pub(crate) fn show_file(alloc: Global, row: &Row<'_>, paper: &mut Paper) {
+    let mut decoder = Decoder::new(form_of(row.head), Vec::new(alloc));
+    let fault = match hear(&mut decoder, row.octets) {
+        None => end(&mut decoder),
+        met => met,
+    };
+    put_quoted(decoder.sink().as_slice(), paper);
+    if let Some(fault) = fault {
+        paper.put(b" ");
+        put_printed(alloc, &fault, paper);
     }
 }
 
-/// Puts the wire of a file that comes in pieces of one size, by rooms of another, with own markers counted from a start.
-pub fn write(
-    form: Representation,
-    start: Option<u64>,
-    file: &[u8],
-    sizes: (usize, usize),
-    wire: &mut Paper,
-) {
-    let mut sender = Sender::new(form.kind, form.structure);
-    let mut framer = Framer::new(form.mode, form.structure);
-    if let Some(start) = start {
-        framer.mark(start);
-    }
-    put_file(&mut sender, &mut framer, file, sizes, wire);
+/// Writes the file that it gives where it broke.
+pub(crate) fn show_broken(alloc: Global, row: &Row<'_>, paper: &mut Paper) {
+    let mut decoder = Decoder::new(form_of(row.head), Vec::new(alloc));
+    let _fault = hear(&mut decoder, row.octets);
+    put_quoted(decoder.sink().as_slice(), paper);
 }
 
-pub fn encoder(form: Representation, start: Option<u64>) -> Encoder {
-    match start {
-        None => Encoder::new(form),
-        Some(start) => Encoder::marked(form, start),
-    }
-}
-
-/// Puts what an encoder makes of a piece in one room, and gives how many octets it took.
-fn encode_piece(
-    encoder: &mut Encoder,
-    rest: &[u8],
-    (piece, room): (usize, usize),
-    wire: &mut Paper,
-) -> usize {
-    let mut space = [0; 64];
-    let (front, behind) = rest.split_at(piece.min(rest.len()));
-    let (free, _) = space.split_at_mut(room.min(64));
-    let encoded = encoder.put(front, behind.is_empty(), free);
-    wire.put(free.split_at(encoded.made).0);
-    encoded.taken
-}
-
-/// Puts the wire of a file by an encoder. Whether all of it is out.
-pub fn encode(encoder: &mut Encoder, file: &[u8], sizes: (usize, usize), wire: &mut Paper) -> bool {
-    let mut rest = file;
-    for _ in 0..file.len().saturating_mul(3).saturating_add(200) {
-        let taken = encode_piece(encoder, rest, sizes, wire);
-        rest = rest.split_at(taken.min(rest.len())).1;
-    }
-    rest.is_empty() & encoder.is_done() & encoder.is_out(true)
-}
-
-fn take_part(receiver: &mut Receiver, part: Part<'_>, file: &mut Vec<u8>) -> Result<(), ReprFault> {
-    match part {
-        Part::Need | Part::Marker => Ok(()),
-        Part::Data(octets) => receiver.take(Item::Octets(octets), file),
-        Part::EndRecord => receiver.take(Item::EndRecord, file),
-        Part::EndFile => receiver.take(Item::EndFile, file),
-    }
-}
-
-/// What came of a piece of a wire.
-#[derive(Clone, Copy)]
-enum Came {
-    /// So many octets were read.
-    Read(usize),
-    /// There was none, and no part of it is left.
-    Nothing,
-    Faulty(FrameFault),
-}
-
-fn take_step(
-    receiver: &mut Receiver,
-    step: Step<'_>,
-    is_last: bool,
-    file: &mut Vec<u8>,
-) -> Result<Came, ReprFault> {
-    if is_last && matches!(step.part, Part::Need) {
-        return Ok(Came::Nothing);
-    }
-    take_part(receiver, step.part, file)?;
-    Ok(Came::Read(step.taken))
-}
-
-/// Reads a part of a piece.
-fn read_part(
-    deframer: &mut Deframer,
-    receiver: &mut Receiver,
-    piece: &[u8],
-    file: &mut Vec<u8>,
-) -> Result<Came, ReprFault> {
-    match deframer.feed(piece) {
-        Ok(step) => take_step(receiver, step, piece.is_empty(), file),
-        Err(met) => Ok(Came::Faulty(met.fault)),
-    }
-}
-
-/// Reads the parts of a wire that comes in pieces of this size, and gives its fault.
-fn read_parts(
-    deframer: &mut Deframer,
-    receiver: &mut Receiver,
-    wire: &[u8],
-    size: usize,
-    file: &mut Vec<u8>,
-) -> Result<Option<FrameFault>, ReprFault> {
+/// Hands a decoder a wire up to its fault, which it gives.
+fn hear(decoder: &mut Decoder<Vec<u8>>, wire: &[u8]) -> Option<FrameFault> {
     let mut rest = wire;
-    for _ in 0..500_000 {
-        let (piece, _) = rest.split_at(size.min(rest.len()));
-        match read_part(deframer, receiver, piece, file)? {
-            Came::Read(count) => rest = rest.split_at(count.min(rest.len())).1,
-            Came::Nothing => break,
-            Came::Faulty(fault) => return Ok(Some(fault)),
+    for _ in 0..wire.len() {
+        let taken = decoder.hear(rest, 1_000_000);
+        if let Decoded::Faulty(fault) = taken.heard {
+            return Some(fault);
         }
+        rest = rest.split_at(taken.count).1;
     }
-    Ok(None)
+    None
 }
 
-/// Reads a wire that comes in pieces of this size and then ends, and gives its fault.
-fn read(
-    deframer: &mut Deframer,
-    receiver: &mut Receiver,
-    wire: &[u8],
-    piece: usize,
-    file: &mut Vec<u8>,
-) -> Result<Option<FrameFault>, ReprFault> {
-    if let Some(fault) = read_parts(deframer, receiver, wire, piece, file)? {
-        return Ok(Some(fault));
+/// Ends a file that is whole, or gives the fault that it is not.
+fn end(decoder: &mut Decoder<Vec<u8>>) -> Option<FrameFault> {
+    if decoder.is_whole() && decoder.end().is_ok() {
+        None
+    } else {
+        Some(FrameFault::EndedEarly)
     }
-    if let Err(fault) = deframer.end() {
-        return Ok(Some(fault));
-    }
-    receiver.end(file)?;
-    Ok(None)
-}
-
-/// Reads a wire in this representation, and gives its fault.
-pub fn read_in(
-    form: Representation,
-    wire: &[u8],
-    piece: usize,
-    file: &mut Vec<u8>,
-) -> Result<Option<FrameFault>, ReprFault> {
-    let mut deframer = Deframer::new(form.mode, form.structure);
-    let mut receiver = Receiver::new(form.kind, form.structure);
-    read(&mut deframer, &mut receiver, wire, piece, file)
 }

@@ -1,32 +1,25 @@
 //! The words that a line of the script begins with.
-use crate::{endpoints, values};
+use crate::{endpoints, growing, values};
 use rows_base::found;
 
-/// What is tried on a line of the script: something of a control connection, of a data connection, or nothing.
+/// What is tried on a line of the script.
 #[derive(Clone, Copy)]
 pub(crate) enum Word {
-    Line(LineWord),
+    Ear,
+    Growing(growing::Asked),
+    Endpoint(endpoints::Asked),
+    ReplyLimit,
+    Fact(FactWord),
     File(FileWord),
-    Remark,
 }
 
 #[derive(Clone, Copy)]
-pub(crate) enum LineWord {
-    Ear,
-    Line,
-    Endpoint(endpoints::Asked),
-    Command,
-    CommandEndpoint,
-    Reply,
-    ReplyLimit,
-    Value(values::Asked),
-    Entry,
+pub(crate) enum FactWord {
     EntryBack,
     EntryGrowths,
     Seconds,
     Moment,
     Years,
-    Script,
 }
 
 #[derive(Clone, Copy)]
@@ -37,89 +30,93 @@ pub(crate) enum FileWord {
     Send,
     Receive,
     Frame,
+    /// The file of a wire that has ended.
     Deframe,
-    Parts,
-    Decode,
-    Pieces,
+    /// The file of a wire that broke.
     Break,
+    Parts,
+    Pieces,
 }
 
-const WORDS: &[(&'static [u8], Word)] = &[
-    (b"ear", Word::Line(LineWord::Ear)),
-    (b"line", Word::Line(LineWord::Line)),
-    (b"command", Word::Line(LineWord::Command)),
-    (b"command-endpoint", Word::Line(LineWord::CommandEndpoint)),
-    (b"reply", Word::Line(LineWord::Reply)),
-    (b"reply-limit", Word::Line(LineWord::ReplyLimit)),
-    (b"entry", Word::Line(LineWord::Entry)),
-    (b"entry-back", Word::Line(LineWord::EntryBack)),
-    (b"entry-growths", Word::Line(LineWord::EntryGrowths)),
-    (b"seconds", Word::Line(LineWord::Seconds)),
-    (b"moment", Word::Line(LineWord::Moment)),
-    (b"years", Word::Line(LineWord::Years)),
-    (b"script", Word::Line(LineWord::Script)),
+const WORDS: &[(&'static [u8], Option<Word>)] = &[
+    (b"ear", Some(Word::Ear)),
+    (b"reply-limit", Some(Word::ReplyLimit)),
+    (b"line", Some(Word::Growing(growing::Asked::Line))),
+    (b"command", Some(Word::Growing(growing::Asked::Command))),
     (
-        b"number",
-        Word::Line(LineWord::Endpoint(endpoints::Asked::Number)),
+        b"command-endpoint",
+        Some(Word::Growing(growing::Asked::CommandEndpoint)),
+    ),
+    (b"entry", Some(Word::Growing(growing::Asked::Entry))),
+    (b"reply", Some(Word::Growing(growing::Asked::Reply))),
+    (b"script", Some(Word::Growing(growing::Asked::Script))),
+    (
+        b"endpoint-of",
+        Some(Word::Growing(growing::Asked::Value(values::Asked::Endpoint))),
     ),
     (
-        b"octet",
-        Word::Line(LineWord::Endpoint(endpoints::Asked::Octet)),
+        b"port-of",
+        Some(Word::Growing(growing::Asked::Value(values::Asked::Port))),
     ),
     (
-        b"port",
-        Word::Line(LineWord::Endpoint(endpoints::Asked::Port)),
+        b"size-of",
+        Some(Word::Growing(growing::Asked::Value(values::Asked::Size))),
     ),
+    (
+        b"moment-of",
+        Some(Word::Growing(growing::Asked::Value(values::Asked::Moment))),
+    ),
+    (
+        b"mark-of",
+        Some(Word::Growing(growing::Asked::Value(values::Asked::Mark))),
+    ),
+    (
+        b"path-of",
+        Some(Word::Growing(growing::Asked::Value(values::Asked::Path))),
+    ),
+    (
+        b"reply-written",
+        Some(Word::Growing(growing::Asked::Value(values::Asked::Written))),
+    ),
+    (b"number", Some(Word::Endpoint(endpoints::Asked::Number))),
+    (b"octet", Some(Word::Endpoint(endpoints::Asked::Octet))),
+    (b"port", Some(Word::Endpoint(endpoints::Asked::Port))),
     (
         b"port-in-front",
-        Word::Line(LineWord::Endpoint(endpoints::Asked::PortInFront)),
+        Some(Word::Endpoint(endpoints::Asked::PortInFront)),
     ),
-    (
-        b"six",
-        Word::Line(LineWord::Endpoint(endpoints::Asked::Six)),
-    ),
+    (b"six", Some(Word::Endpoint(endpoints::Asked::Six))),
     (
         b"six-in-front",
-        Word::Line(LineWord::Endpoint(endpoints::Asked::SixInFront)),
+        Some(Word::Endpoint(endpoints::Asked::SixInFront)),
     ),
     (
         b"extended",
-        Word::Line(LineWord::Endpoint(endpoints::Asked::Extended)),
+        Some(Word::Endpoint(endpoints::Asked::Extended)),
     ),
     (
         b"extended-anew",
-        Word::Line(LineWord::Endpoint(endpoints::Asked::Anew)),
+        Some(Word::Endpoint(endpoints::Asked::Anew)),
     ),
-    (
-        b"endpoint-of",
-        Word::Line(LineWord::Value(values::Asked::Endpoint)),
-    ),
-    (b"port-of", Word::Line(LineWord::Value(values::Asked::Port))),
-    (b"size-of", Word::Line(LineWord::Value(values::Asked::Size))),
-    (
-        b"moment-of",
-        Word::Line(LineWord::Value(values::Asked::Moment)),
-    ),
-    (b"mark-of", Word::Line(LineWord::Value(values::Asked::Mark))),
-    (b"path-of", Word::Line(LineWord::Value(values::Asked::Path))),
-    (
-        b"reply-written",
-        Word::Line(LineWord::Value(values::Asked::Written)),
-    ),
-    (b"sizes", Word::File(FileWord::Sizes)),
-    (b"run", Word::File(FileWord::Run)),
-    (b"skip", Word::File(FileWord::Skip)),
-    (b"send", Word::File(FileWord::Send)),
-    (b"receive", Word::File(FileWord::Receive)),
-    (b"frame", Word::File(FileWord::Frame)),
-    (b"deframe", Word::File(FileWord::Deframe)),
-    (b"parts", Word::File(FileWord::Parts)),
-    (b"decode", Word::File(FileWord::Decode)),
-    (b"pieces", Word::File(FileWord::Pieces)),
-    (b"break", Word::File(FileWord::Break)),
+    (b"entry-back", Some(Word::Fact(FactWord::EntryBack))),
+    (b"entry-growths", Some(Word::Fact(FactWord::EntryGrowths))),
+    (b"seconds", Some(Word::Fact(FactWord::Seconds))),
+    (b"moment", Some(Word::Fact(FactWord::Moment))),
+    (b"years", Some(Word::Fact(FactWord::Years))),
+    (b"sizes", Some(Word::File(FileWord::Sizes))),
+    (b"run", Some(Word::File(FileWord::Run))),
+    (b"skip", Some(Word::File(FileWord::Skip))),
+    (b"send", Some(Word::File(FileWord::Send))),
+    (b"receive", Some(Word::File(FileWord::Receive))),
+    (b"frame", Some(Word::File(FileWord::Frame))),
+    (b"deframe", Some(Word::File(FileWord::Deframe))),
+    (b"decode", Some(Word::File(FileWord::Deframe))),
+    (b"break", Some(Word::File(FileWord::Break))),
+    (b"parts", Some(Word::File(FileWord::Parts))),
+    (b"pieces", Some(Word::File(FileWord::Pieces))),
 ];
 
-/// What a word stands for.
-pub(crate) fn word_of(word: &[u8]) -> Word {
-    found(WORDS, word, Word::Remark)
+/// What a word stands for; nothing where the line is a remark.
+pub(crate) fn word_of(word: &[u8]) -> Option<Word> {
+    found(WORDS, word, None)
 }
