@@ -1,2 +1,3 @@
 mod ShownLemmas
 mod LinesLemmas
+mod PlanLemmas

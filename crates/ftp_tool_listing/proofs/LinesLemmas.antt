@@ -4,7 +4,7 @@ use Rattle.std.proofs.lemmas.List.{flat_map_more, take_more}
 use Rattle.std.proofs.lemmas.List.Sums.{count_by_more_no, count_by_more_yes}
 
 -- one more of a list is written
-pub one_written : {X : Type 0} (f : X → List ℕ) (xs : List X) (i : ℕ) (d x : X) (front old new : List ℕ) → i < length xs → x ≡ get_or xs i d
+pub one_written : {X Y : Type 0} (f : X → List Y) (xs : List X) (i : ℕ) (d x : X) (front old new : List Y) → i < length xs → x ≡ get_or xs i d
     → old ≡ front ++ flat_map f (take i xs) → new ≡ old ++ f x
     → new ≡ front ++ flat_map f (take (i + 1) xs)
 one_written f xs i d x front old new inside is so more =

@@ -4,7 +4,7 @@ ghost use Rattle.ftp_tool_listing.specs.Deeds.{alone, deeds_for, differ, differs
 
 use crate::item::{Facts, Item, Kind};
 use crate::name::is_name;
-use std::alloc::Allocator;
+use std::alloc::Global;
 
 /// Which way a tree is copied.
 #[derive(Clone, Copy)]
@@ -99,7 +99,7 @@ pub enum Deeds {
 }
 
 /// What is done of an entry of the source, where this stands under its name in the target.
-pub fn deeds_for<A: Allocator + Copy>(rules: Rules, item: &Item<A>, target: Option<Kind>) -> Deeds
+pub fn deeds_for(rules: Rules, item: &Item<Global>, target: Option<Kind>) -> Deeds
     ensures { result ≡ deeds_for rules item.now target }
 {
     if is_name(item.name.as_slice()) {
@@ -221,7 +221,7 @@ fn is_untold(facts: Facts) -> bool
 }
 
 /// What is done of an entry of the target, where this stands under its name in the source.
-pub fn removal_for<A: Allocator + Copy>(rules: Rules, item: &Item<A>, source: Option<Kind>) -> Deeds
+pub fn removal_for(rules: Rules, item: &Item<Global>, source: Option<Kind>) -> Deeds
     ensures { result ≡ removal_for rules item.now source }
 {
     match source {
@@ -231,7 +231,7 @@ pub fn removal_for<A: Allocator + Copy>(rules: Rules, item: &Item<A>, source: Op
 }
 
 /// An entry that the target has alone.
-fn alone<A: Allocator + Copy>(extra: Extra, item: &Item<A>) -> Deeds
+fn alone(extra: Extra, item: &Item<Global>) -> Deeds
     ensures { result ≡ alone extra item.now }
 {
     match extra {

@@ -5,16 +5,16 @@ ghost use Rattle.ftp_tool_listing.specs.Lines.{entry_text, is_below, is_listed, 
 
 use crate::{is_name, put_shown};
 use ftp_facts::{Entry, Text, write_entry};
-use std::alloc::{AllocError, Allocator};
+use std::alloc::{AllocError, Global};
 
 /// Appends the lines of entries, as a terminal is to show them: the facts, a space and the name (RFC 3659, section 7.2), each with LF at its end. One
 /// whose name is none of a single file is left out.
 ///
 /// Refused memory, a part of them may stand there.
-pub fn put_entries<A: Allocator + Copy, B: Allocator + Copy>(
-    alloc: B,
-    entries: &[Entry<A>],
-    out: &mut Vec<u8, B>,
+pub fn put_entries(
+    alloc: Global,
+    entries: &[Entry<Global>],
+    out: &mut Vec<u8, Global>,
 ) -> Result<(), AllocError>
     ensures { OnOk result (out.new.items ≡ out.old.items ++ flat_map entry_text entries.now) }
 {
@@ -24,10 +24,10 @@ pub fn put_entries<A: Allocator + Copy, B: Allocator + Copy>(
     Ok(())
 }
 
-fn put_entry<A: Allocator + Copy, B: Allocator + Copy>(
-    alloc: B,
-    entry: &Entry<A>,
-    out: &mut Vec<u8, B>,
+fn put_entry(
+    alloc: Global,
+    entry: &Entry<Global>,
+    out: &mut Vec<u8, Global>,
 ) -> Result<(), AllocError>
     ensures { OnOk result (out.new.items ≡ out.old.items ++ entry_text entry.now) }
 {
@@ -38,10 +38,10 @@ fn put_entry<A: Allocator + Copy, B: Allocator + Copy>(
     }
 }
 
-fn put_entry_line<A: Allocator + Copy, B: Allocator + Copy>(
-    alloc: B,
-    entry: &Entry<A>,
-    out: &mut Vec<u8, B>,
+fn put_entry_line(
+    alloc: Global,
+    entry: &Entry<Global>,
+    out: &mut Vec<u8, Global>,
 ) -> Result<(), AllocError>
     ensures { OnOk result (out.new.items ≡ out.old.items ++ line (entry_line entry.now)) }
 {
@@ -53,10 +53,7 @@ fn put_entry_line<A: Allocator + Copy, B: Allocator + Copy>(
 }
 
 /// Appends octets as a terminal is to show them, and LF.
-pub(crate) fn put_line<B: Allocator + Copy>(
-    octets: &[u8],
-    out: &mut Vec<u8, B>,
-) -> Result<(), AllocError>
+pub(crate) fn put_line(octets: &[u8], out: &mut Vec<u8, Global>) -> Result<(), AllocError>
     ensures { OnOk result (out.new.items ≡ out.old.items ++ line octets.now) }
 {
     put_shown(octets, out)?;
@@ -64,7 +61,7 @@ pub(crate) fn put_line<B: Allocator + Copy>(
 }
 
 /// How many entries are left out.
-pub fn strange_entries<A: Allocator + Copy>(entries: &[Entry<A>]) -> usize
+pub fn strange_entries(entries: &[Entry<Global>]) -> usize
     ensures { result ≡ count_by is_strange_entry entries.now }
 {
     let mut count = 0;
@@ -76,7 +73,7 @@ pub fn strange_entries<A: Allocator + Copy>(entries: &[Entry<A>]) -> usize
     count
 }
 
-fn is_strange_entry<A: Allocator + Copy>(entry: &Entry<A>) -> bool
+fn is_strange_entry(entry: &Entry<Global>) -> bool
     ensures { result ≡ is_strange_entry entry.now }
 {
     !is_name(entry.name.as_slice())
@@ -86,10 +83,10 @@ fn is_strange_entry<A: Allocator + Copy>(entry: &Entry<A>) -> bool
 /// file, alone or behind that path, is left out.
 ///
 /// Refused memory, a part of them may stand there.
-pub fn put_names<A: Allocator + Copy, B: Allocator + Copy>(
+pub fn put_names(
     path: &[u8],
-    names: &[Text<A>],
-    out: &mut Vec<u8, B>,
+    names: &[Text<Global>],
+    out: &mut Vec<u8, Global>,
 ) -> Result<(), AllocError>
     ensures { OnOk result (out.new.items ≡ out.old.items ++ flat_map (name_text path.now) names.now) }
 {
@@ -99,11 +96,7 @@ pub fn put_names<A: Allocator + Copy, B: Allocator + Copy>(
     Ok(())
 }
 
-fn put_name<B: Allocator + Copy>(
-    path: &[u8],
-    name: &[u8],
-    out: &mut Vec<u8, B>,
-) -> Result<(), AllocError>
+fn put_name(path: &[u8], name: &[u8], out: &mut Vec<u8, Global>) -> Result<(), AllocError>
     ensures { OnOk result (out.new.items ≡ out.old.items ++ name_text path.now name.now) }
 {
     if is_listed(path, name) {
@@ -114,7 +107,7 @@ fn put_name<B: Allocator + Copy>(
 }
 
 /// How many names are left out.
-pub fn strange_names<A: Allocator + Copy>(path: &[u8], names: &[Text<A>]) -> usize
+pub fn strange_names(path: &[u8], names: &[Text<Global>]) -> usize
     ensures { result ≡ count_by (is_strange_name path.now) names.now }
 {
     let mut count = 0;

@@ -8,7 +8,7 @@ use crate::is_name;
 use crate::lines::put_line;
 use ftp_facts::{Entry, EntryKind, Moment, moment_text};
 use itoa::Buffer;
-use std::alloc::{AllocError, Allocator};
+use std::alloc::{AllocError, Global};
 
 /// As wide as the column of a size, and as that of a moment.
 const SIZE_BLANKS: &[u8] = b"               ";
@@ -22,10 +22,7 @@ const BETWEEN: &[u8] = b"  ";
 /// name is none of a single file is left out.
 ///
 /// Refused memory, a part of them may stand there.
-pub fn put_long<A: Allocator + Copy, B: Allocator + Copy>(
-    entries: &[Entry<A>],
-    out: &mut Vec<u8, B>,
-) -> Result<(), AllocError>
+pub fn put_long(entries: &[Entry<Global>], out: &mut Vec<u8, Global>) -> Result<(), AllocError>
     ensures { OnOk result (out.new.items ≡ out.old.items ++ flat_map long_text entries.now) }
 {
     for entry in entries {
@@ -34,10 +31,7 @@ pub fn put_long<A: Allocator + Copy, B: Allocator + Copy>(
     Ok(())
 }
 
-fn put_entry<A: Allocator + Copy, B: Allocator + Copy>(
-    entry: &Entry<A>,
-    out: &mut Vec<u8, B>,
-) -> Result<(), AllocError>
+fn put_entry(entry: &Entry<Global>, out: &mut Vec<u8, Global>) -> Result<(), AllocError>
     ensures { OnOk result (out.new.items ≡ out.old.items ++ long_text entry.now) }
 {
     if is_name(entry.name.as_slice()) {
@@ -47,10 +41,7 @@ fn put_entry<A: Allocator + Copy, B: Allocator + Copy>(
     }
 }
 
-fn put_long_line<A: Allocator + Copy, B: Allocator + Copy>(
-    entry: &Entry<A>,
-    out: &mut Vec<u8, B>,
-) -> Result<(), AllocError>
+fn put_long_line(entry: &Entry<Global>, out: &mut Vec<u8, Global>) -> Result<(), AllocError>
     ensures { OnOk result (out.new.items ≡ out.old.items ++ long_line entry.now) }
 {
     put_columns(entry, out)?;
@@ -58,10 +49,7 @@ fn put_long_line<A: Allocator + Copy, B: Allocator + Copy>(
 }
 
 /// Appends what stands before the name.
-fn put_columns<A: Allocator + Copy, B: Allocator + Copy>(
-    entry: &Entry<A>,
-    out: &mut Vec<u8, B>,
-) -> Result<(), AllocError>
+fn put_columns(entry: &Entry<Global>, out: &mut Vec<u8, Global>) -> Result<(), AllocError>
     ensures { OnOk result (out.new.items ≡ out.old.items ++ columns entry.now) }
 {
     out.extend_from_slice(&[kind_letter(&entry.kind)])?;
@@ -72,7 +60,7 @@ fn put_columns<A: Allocator + Copy, B: Allocator + Copy>(
 }
 
 /// The letter of a kind.
-fn kind_letter<A: Allocator + Copy>(kind: &Option<EntryKind<A>>) -> u8
+fn kind_letter(kind: &Option<EntryKind<Global>>) -> u8
     ensures { result ≡ kind_letter kind.now }
 {
     match kind {
@@ -82,7 +70,7 @@ fn kind_letter<A: Allocator + Copy>(kind: &Option<EntryKind<A>>) -> u8
     }
 }
 
-fn put_size<B: Allocator + Copy>(size: Option<u64>, out: &mut Vec<u8, B>) -> Result<(), AllocError>
+fn put_size(size: Option<u64>, out: &mut Vec<u8, Global>) -> Result<(), AllocError>
     ensures { OnOk result (out.new.items ≡ out.old.items ++ column (codes "               ") (size_text size)) }
 {
     match size {
@@ -91,10 +79,7 @@ fn put_size<B: Allocator + Copy>(size: Option<u64>, out: &mut Vec<u8, B>) -> Res
     }
 }
 
-fn put_moment<B: Allocator + Copy>(
-    moment: Option<Moment>,
-    out: &mut Vec<u8, B>,
-) -> Result<(), AllocError>
+fn put_moment(moment: Option<Moment>, out: &mut Vec<u8, Global>) -> Result<(), AllocError>
     ensures { OnOk result (out.new.items ≡ out.old.items ++ column (codes "                   ") (moment_column moment)) }
 {
     match moment {
@@ -114,11 +99,7 @@ fn dated(digits: [u8; 14]) -> [u8; 19]
 }
 
 /// Appends a text at the right end of a column that is as wide as these blanks.
-fn put_column<B: Allocator + Copy>(
-    blanks: &[u8],
-    text: &[u8],
-    out: &mut Vec<u8, B>,
-) -> Result<(), AllocError>
+fn put_column(blanks: &[u8], text: &[u8], out: &mut Vec<u8, Global>) -> Result<(), AllocError>
     ensures { OnOk result (out.new.items ≡ out.old.items ++ column blanks.now text.now) }
 {
     let (_, left) = blanks.split_at(blanks.len().min(text.len()));

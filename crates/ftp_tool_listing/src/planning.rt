@@ -5,7 +5,7 @@ ghost use Rattle.ftp_tool_listing.specs.Plan.{clearing, copying, is_named, plan,
 use crate::deeds::{Deed, Deeds, Reason, Rules, deeds_for, removal_for};
 use crate::item::{Item, Kind, Listing};
 use ftp_facts::Text;
-use std::alloc::{AllocError, Allocator};
+use std::alloc::{AllocError, Allocator, Global};
 
 /// Something that is done of a name.
 #[derive(Drop)]
@@ -16,12 +16,12 @@ pub struct Step<A: Allocator + Copy> {
 
 /// What a mirror does of a directory, by the listing of the source and that of the target: first of each entry of the source, and then of each of
 /// the target, both in their orders. Where one of both is cut off, nothing is done.
-pub fn plan<A: Allocator + Copy>(
-    alloc: A,
+pub fn plan(
+    alloc: Global,
     rules: Rules,
-    source: &Listing<A>,
-    target: &Listing<A>,
-) -> Result<Vec<Step<A>, A>, AllocError>
+    source: &Listing<Global>,
+    target: &Listing<Global>,
+) -> Result<Vec<Step<Global>, Global>, AllocError>
     ensures { IfOk result (λ planned. planned.items ≡ plan rules source.now target.now) }
 {
     let mut planned = Vec::new(alloc);
@@ -47,43 +47,45 @@ pub fn plan<A: Allocator + Copy>(
     Ok(planned)
 }
 
-fn put_copying<A: Allocator + Copy>(
-    alloc: A,
+fn put_copying(
+    alloc: Global,
     rules: Rules,
-    source: &[Item<A>],
-    target: &[Item<A>],
-    planned: &mut Vec<Step<A>, A>,
+    source: &[Item<Global>],
+    target: &[Item<Global>],
+    planned: &mut Vec<Step<Global>, Global>,
 ) -> Result<(), AllocError>
     ensures { OnOk result (planned.new.items ≡ planned.old.items ++ flat_map (copying rules target.now) source.now) }
 {
     for item in source {
-        let deeds = deeds_for(rules, item, stands(target, item.name.as_slice()));
-        put_steps(alloc, item.name.as_slice(), deeds, planned)?;
+        let name = item.name.as_slice();
+        let deeds = deeds_for(rules, item, stands(target, name));
+        put_steps(alloc, name, deeds, planned)?;
     }
     Ok(())
 }
 
-fn put_clearing<A: Allocator + Copy>(
-    alloc: A,
+fn put_clearing(
+    alloc: Global,
     rules: Rules,
-    source: &[Item<A>],
-    target: &[Item<A>],
-    planned: &mut Vec<Step<A>, A>,
+    source: &[Item<Global>],
+    target: &[Item<Global>],
+    planned: &mut Vec<Step<Global>, Global>,
 ) -> Result<(), AllocError>
     ensures { OnOk result (planned.new.items ≡ planned.old.items ++ flat_map (clearing rules source.now) target.now) }
 {
     for item in target {
-        let deeds = removal_for(rules, item, stands(source, item.name.as_slice()));
-        put_steps(alloc, item.name.as_slice(), deeds, planned)?;
+        let name = item.name.as_slice();
+        let deeds = removal_for(rules, item, stands(source, name));
+        put_steps(alloc, name, deeds, planned)?;
     }
     Ok(())
 }
 
-fn put_steps<A: Allocator + Copy>(
-    alloc: A,
+fn put_steps(
+    alloc: Global,
     name: &[u8],
     deeds: Deeds,
-    planned: &mut Vec<Step<A>, A>,
+    planned: &mut Vec<Step<Global>, Global>,
 ) -> Result<(), AllocError>
     ensures { OnOk result (planned.new.items ≡ planned.old.items ++ steps name.now deeds) }
 {
@@ -97,11 +99,11 @@ fn put_steps<A: Allocator + Copy>(
     }
 }
 
-fn put_step<A: Allocator + Copy>(
-    alloc: A,
+fn put_step(
+    alloc: Global,
     name: &[u8],
     deed: Deed,
-    planned: &mut Vec<Step<A>, A>,
+    planned: &mut Vec<Step<Global>, Global>,
 ) -> Result<(), AllocError>
     ensures { OnOk result (planned.new.items ≡ planned.old.items ++ steps name.now (Deeds.One deed)) }
 {
@@ -111,7 +113,7 @@ fn put_step<A: Allocator + Copy>(
 }
 
 /// What stands under a name among entries: the first that has it.
-fn stands<A: Allocator + Copy>(items: &[Item<A>], name: &[u8]) -> Option<Kind>
+fn stands(items: &[Item<Global>], name: &[u8]) -> Option<Kind>
     ensures { result ≡ stands items.now name.now }
 {
     items
@@ -120,7 +122,7 @@ fn stands<A: Allocator + Copy>(items: &[Item<A>], name: &[u8]) -> Option<Kind>
         .map(|item| item.kind)
 }
 
-fn is_named<A: Allocator + Copy>(name: &[u8], item: &Item<A>) -> bool
+fn is_named(name: &[u8], item: &Item<Global>) -> bool
     ensures { result ≡ is_named name.now item.now }
 {
     item.name.as_slice() == name

@@ -3,13 +3,13 @@ ghost use Rattle.std.specs.Prelude.{◌≡◌, ◌<◌, ◌≤◌, ◌++◌, ◌
 ghost use Rattle.ftp_tool_listing.specs.Shown.{is_four, is_from, is_hidden_80, is_hidden_81, is_hidden_three, is_hidden_two, is_plain, is_second_of_four, is_second_of_three, is_tail, is_three};
 ghost use Rattle.ftp_tool_listing.specs.Shown.{digit, escaped, kept_of, len_four, len_three, len_two, octet_shown, shown, shown_len};
 
-use std::alloc::{AllocError, Allocator};
+use std::alloc::{AllocError, Global};
 
 /// Appends octets of a server as a terminal is to show them: characters of UTF-8 as they stand, but for control characters, marks of direction and a
 /// backslash; for each octet of these, and for each that is of no character, `\xHH`, and `\\` for a backslash.
 ///
 /// Refused memory, a part of it may stand there.
-pub fn put_shown<A: Allocator + Copy>(octets: &[u8], out: &mut Vec<u8, A>) -> Result<(), AllocError>
+pub fn put_shown(octets: &[u8], out: &mut Vec<u8, Global>) -> Result<(), AllocError>
     ensures { OnOk result (out.new.items ≡ out.old.items ++ shown octets.now) }
 {
     let mut kept = 0;
@@ -20,11 +20,7 @@ pub fn put_shown<A: Allocator + Copy>(octets: &[u8], out: &mut Vec<u8, A>) -> Re
 }
 
 /// Appends the first octet, where of so many at the front it is known that they stand as they are; gives how many these are behind it.
-fn put_next<A: Allocator + Copy>(
-    kept: u8,
-    octets: &[u8],
-    out: &mut Vec<u8, A>,
-) -> Result<u8, AllocError>
+fn put_next(kept: u8, octets: &[u8], out: &mut Vec<u8, Global>) -> Result<u8, AllocError>
     requires { 0 < length octets.now }
     ensures kept { IfOk result (λ left. left ≡ kept_of kept octets.now - 1) }
     ensures shown { OnOk result (out.new.items ≡ out.old.items ++ octet_shown (kept_of kept octets.now) (get_or octets.now 0 0)) }
@@ -35,11 +31,7 @@ fn put_next<A: Allocator + Copy>(
 }
 
 /// Appends an octet at the front of a row of which so many stand as they are.
-fn put_octet<A: Allocator + Copy>(
-    kept: u8,
-    octet: u8,
-    out: &mut Vec<u8, A>,
-) -> Result<(), AllocError>
+fn put_octet(kept: u8, octet: u8, out: &mut Vec<u8, Global>) -> Result<(), AllocError>
     ensures { OnOk result (out.new.items ≡ out.old.items ++ octet_shown kept octet) }
 {
     if kept == 0 {
@@ -50,7 +42,7 @@ fn put_octet<A: Allocator + Copy>(
 }
 
 /// Appends an octet as an escape.
-fn put_escaped<A: Allocator + Copy>(octet: u8, out: &mut Vec<u8, A>) -> Result<(), AllocError>
+fn put_escaped(octet: u8, out: &mut Vec<u8, Global>) -> Result<(), AllocError>
     ensures { OnOk result (out.new.items ≡ out.old.items ++ escaped octet) }
 {
     if octet == b'\\' {

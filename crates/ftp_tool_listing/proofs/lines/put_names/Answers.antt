@@ -4,7 +4,7 @@ use Rattle.ftp_tool_listing.proofs.LinesLemmas.{one_written}
 use Rattle.ftp_tool_listing.proofs.lines.put_names.Goals as goal
 
 pub loop-name-preserved : goal.loop-name-preserved
-loop-name-preserved g c =
+loop-name-preserved c =
     let old = c.loop-name.out.items in
     one_written (name_text c.args.path.now) c.args.names.now c.loop-name.name-index c.name-item.result c.name-item.result c.args.out.now.items old
     c.put_name.new.out.items c.loop-name-test.true c.name-item.is c.loop-name.invariant

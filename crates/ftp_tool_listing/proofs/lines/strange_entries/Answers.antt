@@ -5,8 +5,8 @@ use Rattle.ftp_tool_listing.proofs.lines.strange_entries.Goals.{then-is_strange_
 use Rattle.ftp_tool_listing.proofs.lines.strange_entries.Goals as goal
 
 pub loop-entry-preserved : goal.loop-entry-preserved
-loop-entry-preserved g c =
-    let p = is_strange_entry {A = g.row.A.Denot} in
+loop-entry-preserved c =
+    let p = is_strange_entry in
     elim c.if-is_strange_entry.branch [
       | then-is_strange_entry w ↦ one_counted p c.args.entries.now c.loop-entry.entry-index c.entry-item.result c.loop-entry.count
           c.if-is_strange_entry.count c.loop-entry-test.true c.entry-item.is (sym c.is_strange_entry.ensures ∙ w.if-is_strange_entry.true)

@@ -3,4 +3,4 @@ use Rattle.ftp_tool_listing.specs.Plan.{copying}
 use Rattle.ftp_tool_listing.proofs.planning.put_copying.Given as goal
 
 abbrev pub invariant-loop-item : goal.invariant-loop-item
-invariant-loop-item g l = l.planned.items ≡ l.fn.planned.items ++ flat_map (copying l.rules l.target) (take l.item-index l.source)
+invariant-loop-item l = l.planned.items ≡ l.fn.planned.items ++ flat_map (copying l.rules l.target) (take l.item-index l.source)

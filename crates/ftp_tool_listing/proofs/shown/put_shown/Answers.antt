@@ -3,12 +3,12 @@ use Rattle.ftp_tool_listing.proofs.ShownLemmas.{all_put, one_more, tail_is}
 use Rattle.ftp_tool_listing.proofs.shown.put_shown.Goals as goal
 
 pub loop-place-preserved : goal.loop-place-preserved
-loop-place-preserved g c =
+loop-place-preserved c =
     one_more c.args.octets.now _ c.loop-place.place c.loop-place.kept c.in_ok-kept.kept c.loop-place.out.items c.put_next.new.out.items
     c.loop-place-test.true (tail_is c.args.octets.now c.loop-place.place) c.in_ok-kept.ensures.kept c.in_ok-kept.ensures.shown
     ∙ c.loop-place.invariant
 
 pub returns : goal.returns
-returns g c =
+returns c =
     let past : length c.args.octets.now ≤ c.loop-place.place = omega arith in
     all_put c.args.octets.now c.loop-place.place c.loop-place.kept c.loop-place.out.items _ past c.loop-place.invariant
