@@ -9,7 +9,7 @@ use Rattle.ftp_control.specs.declared.cause.Cause.{Cause}
 use Rattle.ftp_control.specs.Side.{Side}
 use Rattle.ftp_control.specs.Deeds.{Read, Ended, Stand}
 use Rattle.ftp_control.specs.Driving.{Fails, Flushes, Goes, Leads, Settles}
-use Rattle.ftp_control.proofs.Leading.{fails_here, fails_then, leads_on, leads_then, settled_leads}
+use Rattle.ftp_control.proofs.Leading.{fails_then, leads_on, leads_then, settled_leads}
 
 -- where none was given into room, none was owed
 pub none_owed : (n room : ℕ) (owed : List ℕ) → n ≡ 0 → 0 < room → (0 < room → 0 < length owed → 0 < n) → owed ≡ []
@@ -30,14 +30,6 @@ module _ {side : Side} where
   pub goes_then : {T : Type 0} (a b c : Stand side) (r : Result T Cause) → Leads a b → Goes b c r → Goes a c r
   goes_then a b c (Ok value) first goes = leads_then a b c first goes
   goes_then a b c (Err e) first fails = fails_then a b c first fails
-
-  pub goes_settled : {T : Type 0} (start a b : Stand side) (r : Result T Cause) → Settles start a → Goes a b r → Goes start b r
-  goes_settled start a b r settles goes = goes_then start a b r (settled_leads start a settles) goes
-
-  -- a part that calls the end alone and then gives up, or not
-  pub goes_either : {T : Type 0} (a b : Stand side) (r : Result T Cause) → Leads a b → Goes a b r
-  goes_either a b (Ok value) leads = leads
-  goes_either a b (Err e) leads = fails_here a b leads
 
   -- ---- reads
 

@@ -32,9 +32,6 @@ module _ {side : Side} where
   pub fails_then : (a b c : Stand side) → Leads a b → Fails b c → Fails a c
   fails_then a b c first fails = record { mid = fails.mid; leads = leads_then a b fails.mid first fails.leads; octets = fails.octets; breaks = fails.breaks }
 
-  pub settles_then : (a b c : Stand side) → Leads a b → Settles b c → Settles a c
-  settles_then a b c first settles = record { mid = settles.mid; leads = leads_then a b settles.mid first settles.leads; owes = settles.owes }
-
   -- it gives up where it stands
   pub gives_up : (a : Stand side) → Breaks [] a a
   gives_up a = record { given = a.owner; gives = inl (refl, refl); lets = side.lets_none a.owner; left = Keeps-refl a.left; unheard = refl; wrote = AppendsFront-none a.written [] }
@@ -75,11 +72,6 @@ module _ {side : Side} where
   -- it was asked what it owes, and that is nothing
   pub settles_here : (start mid : Stand side) (owner : side.End) → Leads start mid → side.OwesNone mid.owner owner → Settles start (with_owner owner mid)
   settles_here start mid owner leads owes = record { mid = mid; leads = leads; owes = (owes, refl) }
-
-  -- ---- calls of the end alone
-
-  pub call_leads : (stand : Stand side) (call : side.Call) (new : side.End) → side.Called call stand.owner new → Leads stand (with_owner new stand)
-  call_leads stand call new called = leads_by (Other call) stand (with_owner new stand) (called, refl)
 
 pub quiet_nothing : (side : Side) (s : side.End) → Quietly side s s
 quiet_nothing side s left unheard written = leads_nowhere _

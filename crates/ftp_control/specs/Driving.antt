@@ -43,10 +43,6 @@ module _ {side : Side} where
   Goes old new (Ok value) = Leads old new
   Goes old new (Err cause) = Fails old new
 
-  -- the same of a part that is begun where the end owes nothing, from wherever that was led to
-  abbrev pub GoesSettled : {T : Type 0} → (old new : Stand side) → Result T Cause → Type 0
-  GoesSettled old new result = (start : Stand side) → Settles start old → Goes start new result
-
   -- all that is owed is written, or that fails
   abbrev pub Flushes : {T : Type 0} → (old new : Stand side) → Result T Cause → Type 0
   Flushes old new (Ok value) = Settles old new
