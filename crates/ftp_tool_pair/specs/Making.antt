@@ -3,7 +3,7 @@ use Rattle.std.specs.Prelude.{ℕ, Bool, true, false, List, [], ◌∷◌, Some,
 use Rattle.ftp_endpoint.specs.declared.host.Host.{Host}
 use Rattle.ftp_endpoint.specs.declared.host.Host.TheVariants.{V4}
 use Rattle.ftp_operation.specs.Account.{Account}
-use Rattle.ftp_pair_ends.specs.Begun.{begun}
+use Rattle.ftp_tool_pair.specs.Begun.{begun}
 use Rattle.ftp_pair_world.specs.Claims.{Beginning}
 use Rattle.ftp_path.specs.Path.{Names, resolved}
 use Rattle.ftp_tree.specs.Tree.{made, root_alone}

@@ -1,14 +1,14 @@
 // What a script begins with: a new tree, and who may log in.
 ghost use Rattle.std.specs.Prelude.{◌≡◌, [], true, IfOk};
-ghost use Rattle.ftp_pair_ends.specs.Begun.{begun};
+ghost use Rattle.ftp_tool_pair.specs.Begun.{begun};
 ghost use Rattle.ftp_path.specs.Path.{resolved};
 ghost use Rattle.ftp_tree.specs.Tree.{made};
 ghost use Rattle.ftp_tool_pair.specs.Making.{own_accounts, own_beginning, own_host};
 
+use crate::beginning::Beginning;
 use ftp_endpoint::Host;
 use ftp_facts::Text;
 use ftp_operation::{Account, Login};
-use ftp_pair_ends::Beginning;
 use ftp_path::{Path, is_path_text};
 use ftp_tree::{MemTree, Tree};
 use std::alloc::{AllocError, Allocator};

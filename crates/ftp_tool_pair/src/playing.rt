@@ -1,12 +1,14 @@
 // A script between a reader and a writer.
 ghost use Rattle.std.specs.Prelude.{◌≡◌, true, IfOk, OnOk};
-ghost use Rattle.ftp_pair_ends.specs.Begun.{begun};
+ghost use Rattle.ftp_tool_pair.specs.Begun.{begun};
 ghost use Rattle.ftp_tool_status.specs.declared.status.Status.TheVariants.{Done, Failed};
 ghost use Rattle.ftp_tool_pair.specs.Leading.{LeadsTo, Rests, first_second, orders_at};
 ghost use Rattle.ftp_tool_pair.specs.Making.{own_beginning};
 ghost use Rattle.ftp_tool_script.specs.Status.{status_without};
 ghost use Rattle.ftp_tool_pair.specs.Played.{Plays, Reports, Tells};
 
+use crate::beginning::Beginning;
+use crate::ends::world_of;
 use crate::making::beginning_of;
 use crate::orders::obey;
 use crate::transcript::Transcript;
@@ -14,7 +16,6 @@ use ftp_client_model::Near;
 use ftp_client_transfer::OperationTransfer;
 use ftp_facts::Text;
 use ftp_pair::World;
-use ftp_pair_ends::{Beginning, world_of};
 use ftp_server_model::Far;
 use ftp_server_transfer::TreeTransfer;
 use ftp_tool_script::{NoScript, Order, Script, read_script, write_reports};

@@ -1,8 +1,8 @@
 use Rattle.ftp_client.specs.Calls.{client_of}
 use Rattle.ftp_server.specs.Server.{view_of}
-use Rattle.ftp_pair_ends.specs.Begun.{begun}
-use Rattle.ftp_pair_ends.proofs.Starting.{starts}
-use Rattle.ftp_pair_ends.proofs.ends.world_of.Goals as goal
+use Rattle.ftp_tool_pair.specs.Begun.{begun}
+use Rattle.ftp_tool_pair.proofs.Starting.{starts}
+use Rattle.ftp_tool_pair.proofs.ends.world_of.Goals as goal
 
 pub new-requires-3 : goal.new-requires-3
 new-requires-3 g c = record {

@@ -6,8 +6,8 @@ ghost use Rattle.ftp_tree.specs.Sound.{IsSoundTree};
 ghost use Rattle.ftp_tree.specs.Tree.{octets_in, total_limit};
 ghost use Rattle.ftp_pair_world.specs.Claims.{AreRelated, IsFair};
 ghost use Rattle.std.proofs.Props.{props};
-ghost use Rattle.ftp_pair_ends.specs.Begun.{begun};
-ghost use Rattle.ftp_pair_ends.specs.Known.{AreRelated-prop, IsTypedHost-prop};
+ghost use Rattle.ftp_tool_pair.specs.Begun.{begun};
+ghost use Rattle.ftp_tool_pair.specs.Known.{AreRelated-prop, IsTypedHost-prop};
 
 use crate::typed::{are_paths, is_typed};
 use ftp_endpoint::Host;

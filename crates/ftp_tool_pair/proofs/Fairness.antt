@@ -13,7 +13,7 @@ use Rattle.ftp_server_model.specs.Told.{is_path}
 use Rattle.ftp_tree.specs.Sound.{IsSoundTree}
 use Rattle.ftp_tree.specs.Tree.{Table, octets_in, total_limit, under}
 use Rattle.ftp_pair_world.specs.Claims.{AreRelated, IsFair}
-use Rattle.ftp_pair_ends.specs.Begun.{begun}
+use Rattle.ftp_tool_pair.specs.Begun.{begun}
 
 -- ---- the part that a login sees
 

@@ -1,7 +1,7 @@
 use Rattle.std.proofs.Common.{◌≡◌, true, take}
 use Rattle.std.specs.List.{list_all}
 use Rattle.ftp_server_model.specs.Told.{is_path}
-use Rattle.ftp_pair_ends.proofs.typed.are_paths.Given as goal
+use Rattle.ftp_tool_pair.proofs.typed.are_paths.Given as goal
 
 -- the roots so far are paths
 abbrev pub invariant-loop-account : goal.invariant-loop-account

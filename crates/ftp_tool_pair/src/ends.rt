@@ -1,7 +1,7 @@
 // A client and a server in one world.
 ghost use Rattle.std.specs.Prelude.{◌≡◌, IfOk, true};
 ghost use Rattle.ftp_pair_world.specs.Claims.{world_of};
-ghost use Rattle.ftp_pair_ends.specs.Begun.{begun};
+ghost use Rattle.ftp_tool_pair.specs.Begun.{begun};
 
 use crate::beginning::Beginning;
 use ftp_client::Client;

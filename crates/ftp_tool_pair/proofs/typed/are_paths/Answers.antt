@@ -1,6 +1,6 @@
 use Rattle.ftp_server_model.specs.Told.{is_path}
-use Rattle.ftp_pair_ends.proofs.Paths.{one_more_passes}
-use Rattle.ftp_pair_ends.proofs.typed.are_paths.Goals as goal
+use Rattle.ftp_tool_pair.proofs.Paths.{one_more_passes}
+use Rattle.ftp_tool_pair.proofs.typed.are_paths.Goals as goal
 
 pub loop-account-preserved : goal.loop-account-preserved
 loop-account-preserved g c =
