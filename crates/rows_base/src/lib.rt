@@ -9,8 +9,8 @@ mod tally;
 mod words;
 
 pub use failing::{FailingReader, FailingWriter};
-pub use octets::{number, octets_of};
+pub use octets::{number, octet_in_front, octets_of};
 pub use paper::Paper;
 pub use refusing::Refusing;
 pub use tally::{Tally, fixed};
-pub use words::{cut, first_other, found, last_line, quoted, row_in_front, said, split};
+pub use words::{cut, first_other, found, quoted, row_in_front, said, split};

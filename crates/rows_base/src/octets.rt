@@ -9,7 +9,7 @@ const STEP: u32 = 12_345;
 
 const MODULUS: u32 = 1 << 31;
 
-/// The octets of a text, in which `\r`, `\n`, `\0`, `\\` and `\x` with two hexadecimal digits in capitals are one octet each; `@` and a
+/// The octets of a text, in which `\r`, `\n`, `\0`, `\s` (a space), `\\` and `\x` with two hexadecimal digits in capitals are one octet each; `@` and a
 /// count of one to six digits are so many octets of the fixed sequence, `%` and such a count so many of the drawn one.
 pub fn octets_of(alloc: Global, text: &[u8]) -> Result<Vec<u8>, AllocError> {
     match text {
@@ -67,7 +67,8 @@ fn written_octets(alloc: Global, text: &[u8]) -> Result<Vec<u8>, AllocError> {
     Ok(octets)
 }
 
-fn octet_in_front(text: &[u8]) -> (u8, &[u8]) {
+/// The octet that a text begins with, `\s` a space too, and what stands behind it.
+pub fn octet_in_front(text: &[u8]) -> (u8, &[u8]) {
     match text {
         [b'\\', b'x', high, low, behind @ ..] => (
             digit(*high).wrapping_mul(16) | digit(*low),
@@ -91,6 +92,7 @@ fn control(letter: u8) -> u8 {
     match letter {
         b'r' => b'\r',
         b'n' => b'\n',
+        b's' => b' ',
         b'0' => 0,
         other => other,
     }

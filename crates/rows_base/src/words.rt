@@ -77,19 +77,6 @@ pub fn found<V: Copy>(table: &[(&'static [u8], V)], word: &[u8], other: V) -> V 
     other
 }
 
-/// The last line of a text.
-pub fn last_line(text: &[u8]) -> &[u8] {
-    let mut last = text;
-    let mut rest = text;
-    for _ in 0..text.len() {
-        if rest.is_empty() {
-            break;
-        }
-        (last, rest) = cut(rest, b'\n');
-    }
-    last
-}
-
 /// The first line of a text that is not that of another one; none where it goes on as that.
 pub fn first_other<'a>(text: &'a [u8], whole: &[u8]) -> Option<&'a [u8]> {
     let mut rest = text;

@@ -1,11 +1,10 @@
 // Lines that change a tree.
-use crate::octets::number;
 use crate::paths::place;
 use crate::step::{Line, Step};
 use ftp_facts::Moment;
 use ftp_path::Path;
 use ftp_tree::{Content, Tree, TreeFault};
-use rows_base::Paper;
+use rows_base::{Paper, number};
 use std::alloc::Allocator;
 
 /// Does what a line says, and writes `done`.

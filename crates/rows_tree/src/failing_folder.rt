@@ -33,13 +33,6 @@ impl<A: Allocator + Copy> FailingFolder<A> {
         }
     }
 
-    /// What it keeps.
-    pub fn tree(&self) -> &MemTree<A>
-        ensures { result.now ≡ self.now.tree }
-    {
-        &self.tree
-    }
-
     /// Counts a call; whether the folder fails at it.
     fn fails(&mut self) -> bool
         ensures tree { self.new.tree ≡ self.old.tree }

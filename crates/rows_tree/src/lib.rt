@@ -6,7 +6,6 @@ mod accounts;
 mod change;
 mod failing_folder;
 mod keys;
-mod mirrored;
 mod octets;
 mod operation;
 mod paths;

@@ -1,6 +1,8 @@
 // Octets as a script writes them.
+ghost use Rattle.std.specs.Prelude.{◌≤◌, length};
+
 use crate::words::BETWEEN;
-use rows_base::{cut, fixed};
+use rows_base::{cut, fixed, number, octet_in_front};
 use std::alloc::Global;
 
 /// The octets of a line, in which `\r`, `\n`, `\0`, `\s` (a space), `\\` and `\x` with two hexadecimal digits in capitals are one octet each and
@@ -14,87 +16,41 @@ pub fn octets_of(alloc: Global, line: &[u8]) -> Vec<u8> {
             [] => break,
             [b'[', inner @ ..] => repeated(alloc, inner, &mut octets),
             [b'{', inner @ ..] => in_sequence(inner, &mut octets),
-            [b' ', behind @ ..] => pushed(&[BETWEEN], behind, &mut octets),
+            [b'\\', b'e', behind @ ..] => behind,
             _ => one(rest, &mut octets),
         };
     }
     octets
 }
 
-fn pushed<'a>(piece: &[u8], behind: &'a [u8], octets: &mut Vec<u8>) -> &'a [u8] {
-    let _ = octets.extend_from_slice(piece);
+fn one<'a>(text: &'a [u8], octets: &mut Vec<u8>) -> &'a [u8] {
+    let (octet, behind) = match text {
+        [b' ', behind @ ..] => (BETWEEN, behind),
+        _ => octet_in_front(text),
+    };
+    let _ = octets.push(octet);
     behind
 }
 
-fn one<'a>(text: &'a [u8], octets: &mut Vec<u8>) -> &'a [u8] {
-    match text {
-        [b'\\', b'e', behind @ ..] => behind,
-        [b'\\', b'x', high, low, behind @ ..] => pushed(
-            &[digit(*high).wrapping_mul(16) | digit(*low)],
-            behind,
-            octets,
-        ),
-        [b'\\', letter, behind @ ..] => pushed(&[control(*letter)], behind, octets),
-        [octet, behind @ ..] => pushed(&[*octet], behind, octets),
-        [] => text,
+/// How many decimal digits a text begins with.
+fn digits_in_front(text: &[u8]) -> usize
+    ensures { result ≤ length text.now }
+{
+    for (at, octet) in text.iter().enumerate() {
+        if !octet.is_ascii_digit() {
+            return at;
+        }
     }
-}
-
-fn digit(octet: u8) -> u8 {
-    match octet {
-        b'0'..=b'9' => octet - b'0',
-        b'A'..=b'F' => octet - b'A' + 10,
-        _ => 0,
-    }
-}
-
-fn control(letter: u8) -> u8 {
-    match letter {
-        b'r' => b'\r',
-        b'n' => b'\n',
-        b's' => b' ',
-        b'0' => 0,
-        other => other,
-    }
-}
-
-/// The decimal digits that a text begins with, and what stands behind them.
-fn count_in_front(text: &[u8]) -> (u64, &[u8]) {
-    let mut value = 0u64;
-    let mut rest = text;
-    for _ in 0..text.len() {
-        let [octet @ b'0'..=b'9', behind @ ..] = rest else {
-            break;
-        };
-        value = value
-            .saturating_mul(10)
-            .saturating_add(u64::from(digit(*octet)));
-        rest = behind;
-    }
-    (value, rest)
-}
-
-/// The number of decimal digits; past 2^64 it is the greatest of 64 bits.
-pub fn number(text: &[u8]) -> u64 {
-    let (value, _) = count_in_front(text);
-    value
+    text.len()
 }
 
 fn repeated<'a>(alloc: Global, inner: &'a [u8], octets: &mut Vec<u8>) -> &'a [u8] {
     let (inner, behind) = cut(inner, b']');
-    let (count, written) = count_in_front(inner);
-    let piece = written_octets(alloc, written);
-    push_times(piece.as_slice(), count, octets);
-    behind
-}
-
-fn written_octets(alloc: Global, text: &[u8]) -> Vec<u8> {
-    let mut octets = Vec::new(alloc);
-    let mut rest = text;
-    for _ in 0..text.len() {
-        rest = one(rest, &mut octets);
+    let (count, written) = inner.split_at(digits_in_front(inner));
+    if let Ok(piece) = rows_base::octets_of(alloc, written) {
+        push_times(piece.as_slice(), number(count), octets);
     }
-    octets
+    behind
 }
 
 fn push_times(piece: &[u8], count: u64, octets: &mut Vec<u8>) {

@@ -1,11 +1,10 @@
 // Lines of texts and of paths.
 use crate::keys::{show_below, show_keys, show_moved, show_order};
-use crate::octets::number;
 use crate::step::{Line, Step};
 use ftp_operation::is_number;
 use ftp_path::{Name, Path, PathFault, is_listed_text, is_path_text};
 use ftp_tree::TreeFault;
-use rows_base::Paper;
+use rows_base::{Paper, number};
 use std::alloc::Allocator;
 
 /// A path from another by a text, which has to be a path text.

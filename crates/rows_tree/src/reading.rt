@@ -1,10 +1,9 @@
 // Lines that read a tree.
-use crate::octets::number;
 use crate::paths::place;
 use crate::step::{Line, Step};
 use ftp_path::Path;
 use ftp_tree::{NodeKind, Tree, TreeFault};
-use rows_base::{Paper, cut};
+use rows_base::{Paper, cut, number};
 use std::alloc::{Allocator, Global};
 
 /// More than the names of a directory that are shown.

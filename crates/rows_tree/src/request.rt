@@ -1,11 +1,11 @@
 // The line of an operation.
 use crate::accounts::text;
-use crate::octets::number;
 use crate::verb::Verb;
 use crate::words::split;
 use ftp_facts::Text;
 use ftp_operation::{How, Op};
 use ftp_settings::{Kind, Mode, Representation, Structure};
+use rows_base::number;
 use std::alloc::Allocator;
 
 /// What stands behind a verb: a path, a number, a second text, and how octets go.

@@ -1,10 +1,8 @@
 // A row: played whole, and again with each of its growths refused, or each call of its folder failing, in turn.
-use crate::mirrored::play_over_folder;
-use crate::octets::number;
-use crate::run::play_tree;
+use crate::run::{play_over_folder, play_tree};
 use crate::told::Told;
 use crate::words::heading;
-use rows_base::{Paper, Refusing, cut, last_line, row_in_front};
+use rows_base::{Paper, Refusing, cut, number, row_in_front};
 use std::alloc::Global;
 
 /// Plays each row of a script. Rows are paragraphs.
@@ -64,7 +62,7 @@ fn play<'a>(
     let is_mirrored = !heading(row, b"mirrored").is_empty();
     if is_mirrored || !fails.is_empty() {
         let fails_at = if is_mirrored { fails_at } else { number(fails) };
-        play_over_folder(ample, heap, alloc, row, (is_mirrored, fails_at), told);
+        play_over_folder(ample, heap, alloc, row, fails_at, told);
     } else {
         play_tree(ample, heap, alloc, row, told);
     }
@@ -118,33 +116,11 @@ fn compare_failures(alloc: Global, row: &[u8], whole: &[u8], calls: u64, paper: 
     }
 }
 
-/// Says which refused growth is not one at which the run gives up, with a beginning of the operations done.
+/// Says which refused growth is not one at which the run gives up.
 fn compare_given_up(alloc: Global, row: &[u8], growths: u64, paper: &mut Paper) {
     for refused in 1..=growths {
-        if !gives_up(alloc, row, refused) {
+        if run(alloc, row, refused, 0).memory != 1 {
             differs(b"growth ", refused, paper);
         }
     }
-}
-
-/// Whether it gives up at this growth, and what stands at the places then does so behind a beginning of the row.
-fn gives_up(alloc: Global, row: &[u8], refused: u64) -> bool {
-    let other = run(alloc, row, refused, 0);
-    other.memory == 1 && is_front(alloc, row, last_line(other.paper.text()))
-}
-
-fn is_front(alloc: Global, row: &[u8], left: &[u8]) -> bool {
-    for at in 0..row.len() {
-        let (front, rest) = row.split_at(at);
-        if rest.starts_with(b"\n") && leaves(alloc, front, left) {
-            return true;
-        }
-    }
-    false
-}
-
-/// Whether this stands at the places behind a row.
-fn leaves(alloc: Global, row: &[u8], left: &[u8]) -> bool {
-    let whole = run(alloc, row, 0, 0);
-    last_line(whole.paper.text()) == left
 }

@@ -1,7 +1,8 @@
 // The lines of a row on one tree.
 use crate::accounts::show_login;
 use crate::change::{make_dirs, show_change};
-use crate::octets::{number, octets_of};
+use crate::failing_folder::FailingFolder;
+use crate::octets::octets_of;
 use crate::operation::play_user;
 use crate::paths::{place, show_path, show_text};
 use crate::reading::{show_places, show_reading};
@@ -9,7 +10,8 @@ use crate::step::{Line, Step, line_of};
 use crate::told::Told;
 use crate::words::{cut_before, heading};
 use ftp_tree::{MemTree, Tree, TreeFault};
-use rows_base::{Paper, cut};
+use ftp_tree_folder::Mirror;
+use rows_base::{Paper, cut, number};
 use std::alloc::{Allocator, Global};
 
 /// What a refusal is called.
@@ -34,13 +36,6 @@ fn tell(answer: Result<(), TreeFault>, paper: &mut Paper) {
     }
 }
 
-/// What stands at some places.
-pub fn places_of<A: Allocator + Copy, T: Tree<A>>(alloc: Global, tree: &T, places: &[u8]) -> Paper {
-    let mut paper = Paper::new(alloc);
-    show_places(alloc, tree, places, &mut paper);
-    paper
-}
-
 /// A line that may be refused for want of memory, or by a device: it wrote nothing then.
 fn call<A: Allocator + Copy, T: Tree<A>>(
     heap: A,
@@ -55,49 +50,30 @@ fn call<A: Allocator + Copy, T: Tree<A>>(
     }
 }
 
-/// Makes a call. Where it was refused for want of memory, or by a device, it is to be made again, and says where all is not as it was.
+/// Makes a call. Says whether it was refused for want of memory, or by a device, and is to be made again: then all is as it was.
 fn play_call<A: Allocator + Copy, T: Tree<A>>(
     heap: A,
-    alloc: Global,
     tree: &mut T,
-    places: &[u8],
     line: &Line<'_>,
     told: &mut Told,
 ) -> bool {
-    let before = places_of(alloc, tree, places);
-    let failures = tree.device_failures();
-    let is_device = match call(heap, tree, line, &mut told.paper) {
-        Err(TreeFault::Memory) => false,
-        Err(TreeFault::Device) => true,
-        answer => {
+    let answer = call(heap, tree, line, &mut told.paper);
+    match answer {
+        Err(TreeFault::Memory) => told.count(false),
+        Err(TreeFault::Device) => told.count(true),
+        _ => {
             tell(answer, &mut told.paper);
             return false;
         }
-    };
-    told.count(is_device);
-    let failures = failures.wrapping_add(u64::from(is_device));
-    if tree.device_failures() != failures || !is_so(alloc, tree, places, before.text()) {
-        told.paper.put(b"! not as before, ");
     }
     true
 }
 
-/// Whether this stands at some places.
-pub fn is_so<A: Allocator + Copy, T: Tree<A>>(
-    alloc: Global,
-    tree: &T,
-    places: &[u8],
-    before: &[u8],
-) -> bool {
-    places_of(alloc, tree, places).text() == before
-}
-
 /// Plays a line, and writes what it answers. Says whether it is to be made again.
-pub fn play_line<A: Allocator + Copy, T: Tree<A>>(
+fn play_line<A: Allocator + Copy, T: Tree<A>>(
     heap: A,
     alloc: Global,
     tree: &mut T,
-    places: &[u8],
     line: &Line<'_>,
     told: &mut Told,
 ) -> bool {
@@ -115,7 +91,7 @@ pub fn play_line<A: Allocator + Copy, T: Tree<A>>(
         | Step::Piece
         | Step::Read => tell(show_reading(alloc, tree, line, paper), paper),
         Step::Dirs => show_dirs(heap, tree, line, paper),
-        _ => return play_call(heap, alloc, tree, places, line, told),
+        _ => return play_call(heap, tree, line, told),
     }
     false
 }
@@ -134,27 +110,31 @@ fn show_dirs<A: Allocator + Copy, T: Tree<A>>(
 }
 
 /// Writes a line, before its answer. A heading has none.
-pub fn begin(text: &[u8], line: &Line<'_>, paper: &mut Paper) {
+fn begin(text: &[u8], line: &Line<'_>, paper: &mut Paper) {
     paper.put(text);
     if !line.is_heading() {
         paper.put(b" = ");
     }
 }
 
-/// Plays a line, again where it was refused so.
+/// Plays a line, again where it was refused so; writes what it answers, and what then stands at the places that are shown.
 fn play_text<A: Allocator + Copy, T: Tree<A>>(
     heap: A,
     alloc: Global,
     tree: &mut T,
-    places: &[u8],
+    shown: &[u8],
     text: &[u8],
     told: &mut Told,
 ) {
     let octets = octets_of(alloc, text);
     let line = line_of(octets.as_slice());
     begin(text, &line, &mut told.paper);
-    if play_line(heap, alloc, tree, places, &line, told) {
-        let _ = play_line(heap, alloc, tree, places, &line, told);
+    if play_line(heap, alloc, tree, &line, told) {
+        let _ = play_line(heap, alloc, tree, &line, told);
+    }
+    if !shown.is_empty() && !line.is_heading() {
+        told.paper.put(b" | ");
+        show_places(alloc, tree, shown, &mut told.paper);
     }
     told.paper.put(b"\n");
 }
@@ -164,7 +144,7 @@ fn play_lines<A: Allocator + Copy, T: Tree<A>>(
     heap: A,
     alloc: Global,
     tree: &mut T,
-    places: &[u8],
+    shown: &[u8],
     lines: &[u8],
     told: &mut Told,
 ) {
@@ -174,7 +154,7 @@ fn play_lines<A: Allocator + Copy, T: Tree<A>>(
             break;
         }
         let (text, behind) = cut(rest, b'\n');
-        play_text(heap, alloc, tree, places, text, told);
+        play_text(heap, alloc, tree, shown, text, told);
         rest = behind;
     }
 }
@@ -199,8 +179,9 @@ fn play_users<A: Allocator + Copy, T: Tree<A>>(
     }
 }
 
-/// Plays a row on a tree: lines, and then operations of users. Writes what then stands at its places, and how often the device failed.
-pub fn play_on<A: Allocator + Copy, T: Tree<A>>(
+/// Plays a row on a tree: lines, and then operations of users. Writes what then stands at its places, and how often the device failed. A
+/// mirrored row writes what stands there behind each line instead.
+fn play_on<A: Allocator + Copy, T: Tree<A>>(
     ample: A,
     heap: A,
     alloc: Global,
@@ -209,8 +190,12 @@ pub fn play_on<A: Allocator + Copy, T: Tree<A>>(
     told: &mut Told,
 ) {
     let places = heading(row, b"places");
+    if !heading(row, b"mirrored").is_empty() {
+        play_lines(heap, alloc, tree, places, row, told);
+        return;
+    }
     let (lines, users) = cut_before(row, b"\nas ");
-    play_lines(heap, alloc, tree, places, lines, told);
+    play_lines(heap, alloc, tree, b"", lines, told);
     play_users(ample, heap, alloc, tree, users, told);
     let paper = &mut told.paper;
     if !heading(row, b"fails").is_empty() {
@@ -234,4 +219,17 @@ pub fn play_tree<A: Allocator + Copy>(
 ) {
     let mut tree = MemTree::new(heap);
     play_on(ample, heap, alloc, &mut tree, row, told);
+}
+
+/// Plays a row on a mirrored tree of its own, whose folder fails at that call.
+pub fn play_over_folder<A: Allocator + Copy>(
+    ample: A,
+    heap: A,
+    alloc: Global,
+    row: &[u8],
+    fails_at: u64,
+    told: &mut Told,
+) {
+    let mut mirror = Mirror::new(MemTree::new(heap), FailingFolder::new(alloc, fails_at));
+    play_on(ample, heap, alloc, &mut mirror, row, told);
 }
