@@ -1,14 +1,15 @@
 // The subcommands of a client that ask at one place: their words.
 use crate::help;
 use crate::place::{location_in, user_in};
-use crate::refusal::{BadValue, Refusal};
+use crate::refusal::Refusal;
 use crate::words::{
     ACTIVE, EXTENDED, Form, LIMIT, MODE, PASSWORD_FILE, STRU, Subcommand, TIMEOUT, TYPE, USER,
-    Value, Word, bad_timeout, chosen, how_of, limit_in, number_in, representation_in,
+    Value, Word, chosen, how_of, limit_in, representation_in, text_in, timeout_in,
 };
 use clap::ArgMatches;
+use ftp_operation::How;
 use ftp_tool_fetch::{Download, Lines, Parts, Simple, Target, Task};
-use ftp_tool_words::UrlPlace;
+use ftp_tool_words::{Location, UrlPlace};
 
 pub const GET: Subcommand<'static> = Subcommand {
     name: "get",
@@ -158,22 +159,6 @@ const OPTIONS: &[Word<'static>] = &[
     },
 ];
 
-/// Why nothing is asked at a place: it is none, or the seconds are no number.
-fn refusal_of<'a>(
-    words: &'a ArgMatches<'_>,
-    place: &'a str,
-    url: Option<&'a UrlPlace>,
-) -> Refusal<'a> {
-    if location_in(place, url).is_none() {
-        return Refusal::Value(BadValue {
-            option: PLACE_OPTION,
-            value: place,
-            wanted: "an address or a name, a port from 1 to 65535 and a path are wanted",
-        });
-    }
-    Refusal::of_value(bad_timeout(words))
-}
-
 /// What is asked at a place, which is this URL, if it is one. At a terminal progress is told.
 pub fn asked_of<'a>(
     words: &'a ArgMatches<'_>,
@@ -181,26 +166,37 @@ pub fn asked_of<'a>(
     url: Option<&'a UrlPlace>,
     is_terminal: bool,
 ) -> Result<Target<'a>, Refusal<'a>> {
-    match target_of(words, place, url, is_terminal) {
-        Some(asked) => Ok(asked),
-        None => Err(refusal_of(words, place, url)),
+    let location = asked_at(place, url)?;
+    let timeout = timeout_in(words)?;
+    let (how, limit) = terms_in(words)?;
+    Ok(Target {
+        place: location,
+        user: user_in(words, url),
+        how,
+        timeout,
+        progress: is_terminal || words.get_flag("progress"),
+        limit,
+    })
+}
+
+/// The place that is asked at; refused where it is none.
+fn asked_at<'a>(place: &'a str, url: Option<&'a UrlPlace>) -> Result<Location<'a>, Refusal<'a>> {
+    match location_in(place, url) {
+        Some(location) => Ok(location),
+        None => Err(Refusal::of(
+            PLACE_OPTION,
+            place,
+            "an address or a name, a port from 1 to 65535 and a path are wanted",
+        )),
     }
 }
 
-fn target_of<'a>(
-    words: &'a ArgMatches<'_>,
-    place: &'a str,
-    url: Option<&'a UrlPlace>,
-    is_terminal: bool,
-) -> Option<Target<'a>> {
-    Some(Target {
-        place: location_in(place, url)?,
-        user: user_in(words, url),
-        how: how_of(words, representation_in(words)?),
-        timeout: number_in(words, "timeout")?,
-        progress: is_terminal || words.get_flag("progress"),
-        limit: limit_in(words)?,
-    })
+/// How a transfer goes, and the most octets of its file; refused where a number has a sign.
+fn terms_in<'a>(words: &ArgMatches<'_>) -> Result<(How, u64), Refusal<'a>> {
+    match (representation_in(words), limit_in(words)) {
+        (Some(form), Some(limit)) => Ok((how_of(words, form), limit)),
+        _ => Err(Refusal::Number),
+    }
 }
 
 /// What is done at the one place that a subcommand of this name asks at.
@@ -212,15 +208,9 @@ pub fn fetch_task_of<'a>(name: &str, words: &'a ArgMatches<'_>) -> Option<Task<'
         "rm" => Some(Task::Simple(Simple::Remove)),
         "mkdir" => Some(Task::Simple(Simple::MakeDirectory)),
         "rmdir" => Some(Task::Simple(Simple::RemoveDirectory)),
-        "mv" => move_of(words),
+        "mv" => Some(Task::Simple(Simple::Move(text_in(words, "path")))),
         _ => None,
     }
-}
-
-/// The move to another path of the server.
-fn move_of<'a>(words: &'a ArgMatches<'_>) -> Option<Task<'a>> {
-    let path = words.get_str("path")?;
-    Some(Task::Simple(Simple::Move(path)))
 }
 
 /// A download that goes to standard output.

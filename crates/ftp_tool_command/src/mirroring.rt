@@ -1,16 +1,16 @@
 // The subcommand `mirror`: its words.
 use crate::place::{location_in, user_in};
-use crate::refusal::{BadValue, Refusal};
+use crate::refusal::Refusal;
 use crate::words::{
-    ACTIVE, EXTENDED, Form, LIMIT, PASSWORD_FILE, Subcommand, TIMEOUT, USER, Value, Word,
-    bad_timeout, chosen, how_of, limit_in, number_in,
+    ACTIVE, EXTENDED, Form, LIMIT, PASSWORD_FILE, Subcommand, TIMEOUT, USER, Value, Word, chosen,
+    how_of, limit_in, text_in, timeout_in,
 };
 use clap::ArgMatches;
 use ftp_tool_connection::ServerAddress;
 use ftp_tool_files::representation_of;
 use ftp_tool_local::Flush;
 use ftp_tool_mirror::{Check, Doing, Extra, Mirror, Rules, Way};
-use ftp_tool_words::{Location, UrlPlace, User};
+use ftp_tool_words::{Location, UrlPlace};
 
 const HELP: &str = "\
 Copies what is missing in TARGET or differs there, with all directories below SOURCE. One of both is HOST:PORT/PATH or a URL, as with get; the other
@@ -102,23 +102,13 @@ pub fn mirror_of<'a>(
     from: Option<&'a UrlPlace>,
     to: Option<&'a UrlPlace>,
 ) -> Result<Mirror<'a>, Refusal<'a>> {
-    match mirrored_by(words, from, to) {
-        Some(mirror) => Ok(mirror),
-        None => Err(Refusal::of_value(bad_value(words))),
-    }
-}
-
-fn mirrored_by<'a>(
-    words: &'a ArgMatches<'_>,
-    from: Option<&'a UrlPlace>,
-    to: Option<&'a UrlPlace>,
-) -> Option<Mirror<'a>> {
-    let source = words.get_str("source")?;
-    let target = words.get_str("target")?;
+    let timeout = timeout_in(words)?;
+    let source = text_in(words, "source");
+    let target = text_in(words, "target");
     match (server_of(source, from), server_of(target, to)) {
-        (Some(place), None) => asked_of(words, place, user_in(words, from), target, Way::Down),
-        (None, Some(place)) => asked_of(words, place, user_in(words, to), source, Way::Up),
-        _ => None,
+        (Some(place), None) => mirrored(words, place, from, target, timeout, Way::Down),
+        (None, Some(place)) => mirrored(words, place, to, source, timeout, Way::Up),
+        _ => Err(bad_target(target)),
     }
 }
 
@@ -130,37 +120,33 @@ fn server_of<'a>(word: &'a str, url: Option<&'a UrlPlace>) -> Option<Location<'a
     location_in(word, url)
 }
 
-fn asked_of<'a>(
+fn mirrored<'a>(
     words: &'a ArgMatches<'_>,
     place: Location<'a>,
-    user: User<'a>,
+    url: Option<&'a UrlPlace>,
     folder: &'a str,
+    timeout: u32,
     way: Way,
-) -> Option<Mirror<'a>> {
-    let server = server_at(words, place)?;
-    let limit = limit_in(words)?;
-    let how = how_of(words, representation_of("I", "F", "S")?);
-    Some(Mirror {
-        server,
-        user,
+) -> Result<Mirror<'a>, Refusal<'a>> {
+    let (Some(form), Some(limit)) = (representation_of("I", "F", "S"), limit_in(words)) else {
+        return Err(Refusal::Number);
+    };
+    Ok(Mirror {
+        server: ServerAddress {
+            host: place.host,
+            port: place.port,
+            timeout,
+            progress: words.get_flag("progress"),
+        },
+        user: user_in(words, url),
         path: place.path,
         folder,
-        how,
+        how: how_of(words, form),
         rules: rules_of(words, way),
         excluded: words.get_strs("exclude").unwrap_or(&[]),
         flush: chosen(words, "no-flush", Flush::Later, Flush::First),
         limit,
         doing: chosen(words, "dry-run", Doing::Nothing, Doing::All),
-    })
-}
-
-fn server_at<'a>(words: &ArgMatches<'_>, place: Location<'a>) -> Option<ServerAddress<'a>> {
-    let timeout = number_in(words, "timeout")?;
-    Some(ServerAddress {
-        host: place.host,
-        port: place.port,
-        timeout,
-        progress: words.get_flag("progress"),
     })
 }
 
@@ -172,18 +158,11 @@ fn rules_of(words: &ArgMatches<'_>, way: Way) -> Rules {
     }
 }
 
-/// The value that is none.
-fn bad_value<'a>(words: &'a ArgMatches<'_>) -> Option<BadValue<'a>> {
-    match bad_timeout(words) {
-        Some(bad) => Some(bad),
-        None => bad_target(words.get_str("target")?),
-    }
-}
-
-fn bad_target(target: &str) -> Option<BadValue<'_>> {
-    Some(BadValue {
-        option: "<TARGET>",
-        value: target,
-        wanted: "one of SOURCE and TARGET is HOST:PORT/PATH, the other a folder, with / or ./ before it where it has a slash",
-    })
+/// Why neither place, or each, is a server's.
+fn bad_target(target: &str) -> Refusal<'_> {
+    Refusal::of(
+        "<TARGET>",
+        target,
+        "one of SOURCE and TARGET is HOST:PORT/PATH, the other a folder, with / or ./ before it where it has a slash",
+    )
 }

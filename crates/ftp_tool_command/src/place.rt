@@ -49,25 +49,27 @@ pub fn location_in<'a>(word: &'a str, url: Option<&'a UrlPlace>) -> Option<Locat
 /// Who asks: whom `--user` names, and else whom the URL does; the password of a URL is that of the user whom it names.
 pub fn user_in<'a>(words: &'a ArgMatches<'_>, url: Option<&'a UrlPlace>) -> User<'a> {
     let named = words.get_str("user");
-    let (user, password) = match url {
-        Some(url) => named_by(named, url),
-        None => (named, None),
-    };
     User {
-        name: user,
+        name: match named {
+            Some(_) => named,
+            None => user_of(url),
+        },
         password_file: words.get_str("password-file"),
-        password,
+        password: password_of(url, named),
     }
 }
 
-/// Who asks at a URL, where perhaps another is named, and the password that it has of whom it names.
-fn named_by<'a>(named: Option<&'a str>, url: &'a UrlPlace) -> (Option<&'a str>, Option<&'a str>) {
-    let user = filled(url.user.as_str());
-    let password = filled(url.password.as_str());
+/// Whom a URL names.
+fn user_of<'a>(url: Option<&'a UrlPlace>) -> Option<&'a str> {
+    filled(url?.user.as_str())
+}
+
+/// The password of a URL, where nobody else is named than whom it names.
+fn password_of<'a>(url: Option<&'a UrlPlace>, named: Option<&str>) -> Option<&'a str> {
+    let url = url?;
     match named {
-        None => (user, password),
-        Some(name) if user == Some(name) => (named, password),
-        Some(_) => (named, None),
+        Some(name) if name.is_empty() || name != url.user.as_str() => None,
+        _ => filled(url.password.as_str()),
     }
 }
 

@@ -22,12 +22,13 @@ pub enum Refusal<'a> {
 }
 
 impl<'a> Refusal<'a> {
-    /// A value that is none of its option, or, where all are, a number that has a sign.
-    pub fn of_value(bad: Option<BadValue<'a>>) -> Refusal<'a> {
-        match bad {
-            Some(bad) => Refusal::Value(bad),
-            None => Refusal::Number,
-        }
+    /// A value that is none of its option, and what is wanted there.
+    pub(crate) fn of(option: &'a str, value: &'a str, wanted: &'a str) -> Refusal<'a> {
+        Refusal::Value(BadValue {
+            option,
+            value,
+            wanted,
+        })
     }
 
     /// A word that is a URL names no place.

@@ -1,7 +1,7 @@
 // The subcommand `run`: its words.
 use crate::help;
-use crate::refusal::{BadValue, Refusal};
-use crate::words::{Form, PASSWORD_FILE, Subcommand, TIMEOUT, Value, Word, number_in};
+use crate::refusal::Refusal;
+use crate::words::{Form, PASSWORD_FILE, Subcommand, TIMEOUT, Value, Word, number_in, text_in};
 use clap::ArgMatches;
 use ftp_tool_fetch::ServerAddress;
 use ftp_tool_words::{User, server_port_of};
@@ -34,14 +34,13 @@ pub const RUN: Subcommand<'static> = Subcommand {
 
 /// The server that is asked; none where a value is none of its option.
 pub fn script_server_of<'a>(words: &'a ArgMatches<'_>) -> Option<ServerAddress<'a>> {
-    let host = words.get_str("host")?;
-    let port = server_port_of(words.get_str("port")?)?;
+    let host = text_in(words, "host");
     if host.is_empty() {
         return None;
     }
     Some(ServerAddress {
         host,
-        port,
+        port: server_port_of(text_in(words, "port"))?,
         timeout: number_in(words, "timeout")?,
         progress: false,
     })
@@ -52,11 +51,11 @@ pub fn script_user_of<'a>(words: &'a ArgMatches<'_>) -> Result<Option<User<'a>>,
     let password_file = words.get_str("password-file");
     match (words.get_str("user"), password_file) {
         (None, None) => Ok(None),
-        (None, Some(value)) => Err(Refusal::Value(BadValue {
-            option: "--password-file <F>",
-            value,
-            wanted: "--user is wanted too, which names whose password it is",
-        })),
+        (None, Some(file)) => Err(Refusal::of(
+            "--password-file <F>",
+            file,
+            "--user is wanted too, which names whose password it is",
+        )),
         (name, password_file) => Ok(Some(User {
             name,
             password_file,

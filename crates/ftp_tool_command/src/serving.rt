@@ -1,7 +1,7 @@
 // The subcommand `serve`: its words.
 use crate::help;
-use crate::refusal::{BadValue, Refusal};
-use crate::words::{Form, MOST, Subcommand, Value, Word, chosen, number_in};
+use crate::refusal::Refusal;
+use crate::words::{Form, MOST, Subcommand, Value, Word, chosen, number_in, text_in};
 use clap::ArgMatches;
 use ftp_tool_serve::{Limits, Log, Others, Serving, Sessions};
 use ftp_tool_words::{port_of, ports_of, sessions_of};
@@ -82,42 +82,57 @@ const OPTIONS: &[Word<'static>] = &[
     },
 ];
 
-/// What is to be served; none where a value is none of its option.
+/// What is to be served; refused where a value is none of its option.
 pub fn serving_of<'a>(words: &'a ArgMatches<'_>) -> Result<Serving<'a>, Refusal<'a>> {
-    match served_by(words) {
-        Some(serving) => Ok(serving),
-        None => Err(Refusal::of_value(bad_value(words))),
-    }
-}
-
-fn served_by<'a>(words: &'a ArgMatches<'_>) -> Option<Serving<'a>> {
-    Some(Serving {
-        host: host_of(words)?,
-        port: listened_of(words)?,
-        dir: words.get_str("dir")?,
-        sessions: count_of(words)?,
+    let host = host_in(words)?;
+    let sessions = sessions_in(words)?;
+    let passive = passive_in(words)?;
+    let (Some(port), Some(limits)) = (port_of(text_in(words, "port")), limits_of(words)) else {
+        return Err(Refusal::Number);
+    };
+    Ok(Serving {
+        host,
+        port,
+        dir: text_in(words, "dir"),
+        sessions,
         accounts: words.get_str("accounts"),
         log: chosen(words, "log", Log::Told, Log::Silent),
-        limits: limits_of(words)?,
-        passive: passive_of(words)?,
+        limits,
+        passive,
         others: chosen(words, "keep", Others::Keep, Others::Change),
     })
 }
 
-fn host_of(words: &ArgMatches<'_>) -> Option<IpAddr> {
-    words.get_str("host")?.parse().ok()
+fn host_in<'a>(words: &'a ArgMatches<'_>) -> Result<IpAddr, Refusal<'a>> {
+    let host = text_in(words, "host");
+    match host.parse() {
+        Ok(address) => Ok(address),
+        Err(_) => Err(Refusal::of("--host <A>", host, "an address in numbers is wanted")),
+    }
 }
 
-fn listened_of(words: &ArgMatches<'_>) -> Option<u16> {
-    port_of(words.get_str("port")?)
+fn sessions_in<'a>(words: &'a ArgMatches<'_>) -> Result<Sessions, Refusal<'a>> {
+    let sessions = text_in(words, "sessions");
+    match sessions_of(sessions) {
+        Some(sessions) => Ok(sessions),
+        None => Err(Refusal::of(
+            "--sessions <K|forever>",
+            sessions,
+            "a number or forever is wanted",
+        )),
+    }
 }
 
-fn count_of(words: &ArgMatches<'_>) -> Option<Sessions> {
-    sessions_of(words.get_str("sessions")?)
-}
-
-fn passive_of(words: &ArgMatches<'_>) -> Option<(u16, u16)> {
-    ports_of(words.get_str("passive-ports")?)
+fn passive_in<'a>(words: &'a ArgMatches<'_>) -> Result<(u16, u16), Refusal<'a>> {
+    let ports = text_in(words, "passive-ports");
+    match ports_of(ports) {
+        Some(ports) => Ok(ports),
+        None => Err(Refusal::of(
+            "--passive-ports <A-B>",
+            ports,
+            "two ports from 1 on are wanted, the first not behind the last",
+        )),
+    }
 }
 
 fn limits_of(words: &ArgMatches<'_>) -> Option<Limits> {
@@ -126,33 +141,4 @@ fn limits_of(words: &ArgMatches<'_>) -> Option<Limits> {
         idle: number_in(words, "idle")?,
         idle_while_waited: number_in(words, "idle-while-waited")?,
     })
-}
-
-/// The first value that is none of its option, of those that `clap` takes as they are.
-fn bad_value<'a>(words: &'a ArgMatches<'_>) -> Option<BadValue<'a>> {
-    let host = words.get_str("host")?;
-    let sessions = words.get_str("sessions")?;
-    let ports = words.get_str("passive-ports")?;
-    if host.parse::<IpAddr>().is_err() {
-        return Some(BadValue {
-            option: "--host <A>",
-            value: host,
-            wanted: "an address in numbers is wanted",
-        });
-    }
-    if sessions_of(sessions).is_none() {
-        return Some(BadValue {
-            option: "--sessions <K|forever>",
-            value: sessions,
-            wanted: "a number or forever is wanted",
-        });
-    }
-    if ports_of(ports).is_none() {
-        return Some(BadValue {
-            option: "--passive-ports <A-B>",
-            value: ports,
-            wanted: "two ports from 1 on are wanted, the first not behind the last",
-        });
-    }
-    None
 }

@@ -1,5 +1,5 @@
 // Words of a command line, as tables, and what `clap` makes of them.
-use crate::refusal::BadValue;
+use crate::refusal::Refusal;
 use clap::builder::{ValueParser, ValueRange};
 use clap::{Arg, ArgAction, ArgMatches, Command};
 use ftp_operation::How;
@@ -110,6 +110,23 @@ pub enum Form<'a> {
     NeededPlaces(Value<'a>),
 }
 
+impl<'a> Form<'a> {
+    /// What becomes of a value.
+    fn action(self) -> ArgAction {
+        match self {
+            Form::Many(_) => ArgAction::Append,
+            _ => ArgAction::Set,
+        }
+    }
+
+    fn is_needed(self) -> bool {
+        match self {
+            Form::Needed(_) | Form::NeededPlace(_) | Form::NeededPlaces(_) => true,
+            _ => false,
+        }
+    }
+}
+
 /// A word of a command line.
 #[derive(Clone, Copy)]
 pub struct Word<'a> {
@@ -157,19 +174,21 @@ fn put_args<'a>(
 
 fn arg_of<'a>(alloc: Global, word: Word<'a>) -> Arg<'a> {
     match word.form {
-        Form::Flag => Arg::new(alloc, word.name)
-            .help(word.help)
-            .long(word.name)
-            .action(ArgAction::SetTrue),
-        Form::Given(value) => option(alloc, word, value),
-        Form::Many(value) => option(alloc, word, value).action(ArgAction::Append),
-        Form::Needed(value) => option(alloc, word, value).required(true),
+        Form::Flag => flag(alloc, word),
+        Form::Given(value) | Form::Many(value) | Form::Needed(value) => option(alloc, word, value),
         Form::Else(value, other) => option(alloc, word, value).default_value(other),
-        Form::NeededPlace(value) => place(alloc, word, value).required(true),
-        Form::NeededPlaces(value) => place(alloc, word, value)
-            .required(true)
-            .num_args(ValueRange::from(1usize..)),
+        Form::NeededPlace(value) => place(alloc, word, value),
+        Form::NeededPlaces(value) => {
+            place(alloc, word, value).num_args(ValueRange::from(1usize..))
+        }
     }
+}
+
+fn flag<'a>(alloc: Global, word: Word<'a>) -> Arg<'a> {
+    Arg::new(alloc, word.name)
+        .help(word.help)
+        .long(word.name)
+        .action(ArgAction::SetTrue)
 }
 
 fn option<'a>(alloc: Global, word: Word<'a>, value: Value<'a>) -> Arg<'a> {
@@ -181,7 +200,8 @@ fn place<'a>(alloc: Global, word: Word<'a>, value: Value<'a>) -> Arg<'a> {
         .help(word.help)
         .value_name(value.name())
         .value_parser(value.parser())
-        .action(ArgAction::Set)
+        .action(word.form.action())
+        .required(word.form.is_needed())
 }
 
 /// The first where an option without a value is there, and else the second.
@@ -193,22 +213,30 @@ pub fn chosen<T: Copy>(matches: &ArgMatches<'_>, option: &str, given: T, other: 
     }
 }
 
-/// The number that an option has.
-pub fn number_in(matches: &ArgMatches<'_>, option: &str) -> Option<u32> {
-    number_of(matches.get_str(option)?)
+/// The text that an option has; empty where it is not there.
+pub fn text_in<'a>(matches: &'a ArgMatches<'_>, option: &str) -> &'a str {
+    match matches.get_str(option) {
+        Some(text) => text,
+        None => "",
+    }
 }
 
-/// The seconds of `--timeout`, where they are no number.
-pub fn bad_timeout<'a>(matches: &'a ArgMatches<'_>) -> Option<BadValue<'a>> {
-    let timeout = matches.get_str("timeout")?;
-    if number_of(timeout).is_some() {
-        return None;
+/// The number that an option has.
+pub fn number_in(matches: &ArgMatches<'_>, option: &str) -> Option<u32> {
+    number_of(text_in(matches, option))
+}
+
+/// The seconds of `--timeout`; refused where they are no number.
+pub fn timeout_in<'a>(matches: &'a ArgMatches<'_>) -> Result<u32, Refusal<'a>> {
+    let timeout = text_in(matches, "timeout");
+    match number_of(timeout) {
+        Some(seconds) => Ok(seconds),
+        None => Err(Refusal::of(
+            "--timeout <SECONDS>",
+            timeout,
+            "decimal digits alone are wanted",
+        )),
     }
-    Some(BadValue {
-        option: "--timeout <SECONDS>",
-        value: timeout,
-        wanted: "decimal digits alone are wanted",
-    })
 }
 
 /// How a transfer of this representation goes.
@@ -223,14 +251,14 @@ pub fn how_of(matches: &ArgMatches<'_>, representation: Representation) -> How {
 
 /// The most octets that a file may have.
 pub fn limit_in(matches: &ArgMatches<'_>) -> Option<u64> {
-    matches.get_str("limit")?.parse().ok()
+    matches.get_one("limit")
 }
 
 /// Type, structure and mode, each by its letter.
 pub fn representation_in(matches: &ArgMatches<'_>) -> Option<Representation> {
     representation_of(
-        matches.get_str("type")?,
-        matches.get_str("stru")?,
-        matches.get_str("mode")?,
+        text_in(matches, "type"),
+        text_in(matches, "stru"),
+        text_in(matches, "mode"),
     )
 }
