@@ -1,7 +1,13 @@
-use Rattle.std.proofs.Common.{length, ◌∙◌}
+use Rattle.std.proofs.Common.{List, length, ℕ, ap, subst, sym, ◌∙◌}
 use Rattle.ftp_server_model.specs.Act.{decided}
+use Rattle.ftp_server_model.specs.Failing.{LineFails}
+use Rattle.ftp_server_model.specs.Machine.{completed, obeyed, replied, turned, with_session}
 use Rattle.ftp_server_model.specs.View.{Session, View}
+use Rattle.ftp_server_model.specs.declared.heard.HeardLine.{HeardLine}
+use Rattle.ftp_server_model.specs.declared.heard.HeardLine.TheVariants.{TooLong, Bad, Asks}
+use Rattle.ftp_server_model.specs.declared.reply.FixedReply.TheVariants.{LocalFault}
 use Rattle.ftp_server_model.specs.declared.session.Pending.TheVariants as Pendings
+use Rattle.ftp_server_session.specs.Line.{LineLost}
 use Rattle.ftp_server_session.specs.Session.{session_of}
 use Rattle.ftp_tree.specs.Tree.{under}
 use Rattle.ftp_server.proofs.BusyLemmas.{busy_seen, idle_calm, idle_room, said_room, short_decided}
@@ -25,3 +31,24 @@ invariant_of-self g c =
       paths = c.args.self.now.paths;
       named = decided_named (session_of table view new, c.in-Ok.kind) v.footing c.args.heard v.session.pending s c.in-Ok.ensures.0 c.args.self.now.named c.requires.short;
     }
+
+pub returns-in-Ok-clause-done : goal.returns-in-Ok-clause-done
+unfolding obeyed
+returns-in-Ok-clause-done g c =
+    let v : View = view_of g.T.Tree.table g.J.ServerTransfer.view c.args.self.now in
+    let session = session_of g.T.Tree.table g.J.ServerTransfer.view c.decide.new.self in
+    c.complete.ensures.done ∙ ap (λ owed. completed (record (with_session session v) { owed = owed })) c.say.ensures.said
+    ∙ ap (λ turn. completed (turned turn v)) c.in-Ok.ensures.0
+
+-- a line that could not be done leaves its session, and is answered 451
+line_fails : (heard : HeardLine (List ℕ)) (v : View) (session : Session) → LineLost heard v.session session → LineFails heard v (replied LocalFault session v)
+line_fails TooLong v session lost = lost
+line_fails (Bad fault) v session lost = lost
+line_fails (Asks command) v session lost = (lost.0, lost.1, ap (λ s. replied LocalFault s v) lost.2)
+
+pub returns-in-Err-clause-lost : goal.returns-in-Err-clause-lost
+returns-in-Err-clause-lost g c =
+    let v : View = view_of g.T.Tree.table g.J.ServerTransfer.view c.args.self.now in
+    let session = session_of g.T.Tree.table g.J.ServerTransfer.view c.decide.new.self in
+    subst (λ owed. LineFails c.args.heard v (record (with_session session v) { owed = owed })) (sym c.put_fixed.ensures.octets)
+    (line_fails c.args.heard v session c.in-Err.ensures.0)
