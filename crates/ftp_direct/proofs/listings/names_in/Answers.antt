@@ -26,3 +26,13 @@ returns-clause-names g c =
     let n = vec_len c.loop-name.names in
     let none : None ≡ slice_get all n = c.in_default.ensures ∙ ap (slice_get all) c.len.ensures in
     c.loop-name.invariant.so_far ∙ take_all n all (names_end all n none)
+
+pub returns-clause-named : goal.returns-clause-named
+returns-clause-named g c = c.loop-name.invariant.named
+
+pub loop-name-smaller : goal.loop-name-smaller
+loop-name-smaller g c =
+    let all = children (under (g.T.Tree.table c.args.tree.now) c.args.root.now) c.args.path.now in
+    let n = vec_len c.loop-name.names in
+    let some : Some c.in-Some.name.octets.now ≡ slice_get all n = c.in-Some.ensures ∙ ap (slice_get all) c.len.ensures in
+    omega (arith, names_within all n c.in-Some.name.octets.now some, c.in_ok-push.ensures.len)
