@@ -6,6 +6,7 @@ use crate::plays::Holds;
 use crate::turn::Turn;
 use ftp_client::Client;
 use ftp_client_model::Near;
+use ftp_client_steps::ClientTransfer;
 use ftp_client_transfer::OperationTransfer;
 use ftp_facts::Text;
 use ftp_operation::Login;
@@ -35,10 +36,20 @@ fn login<A: Allocator + Copy>(heap: A, row: &[u8]) -> Option<Login<A>> {
     }
 }
 
-/// Plays a row on a client before the greeting.
+/// Plays a row on a client before the greeting, with the transfers of the product.
 fn enter<A: Allocator + Copy>(heap: A, login: Login<A>, turn: Turn<'_>, desk: &mut Desk) {
+    enter_by::<A, OperationTransfer<A>>(heap, login, turn, desk);
+}
+
+/// The same with such transfers: who names a client does not name them.
+fn enter_by<A: Allocator + Copy, J: ClientTransfer<A>>(
+    heap: A,
+    login: Login<A>,
+    turn: Turn<'_>,
+    desk: &mut Desk,
+) {
     let (here, peer) = turn.hosts();
-    let begun: Result<Client<A, OperationTransfer<A>>, _> = Client::new(heap, login, here, peer);
+    let begun: Result<Client<A, J>, _> = Client::new(heap, login, here, peer);
     match begun {
         Ok(client) => play_on(client, heap, turn, desk),
         Err(_) => desk.paper.line(NO_CLIENT),

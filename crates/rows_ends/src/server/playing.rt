@@ -10,12 +10,12 @@ use crate::turn::Turn;
 use ftp_operation::Accounts;
 use ftp_server::Server;
 use ftp_server_model::Far;
-use ftp_server_parts::ServerTransfer;
-use ftp_server_play::play as play_list;
+use ftp_server_parts::{Counted, ServerTransfer};
+use ftp_server_play::{Cue, Gift, play as play_list};
 use ftp_server_transfer::TreeTransfer;
 use ftp_tree::{MemTree, Tree};
 use rows_base::{Refusing, said};
-use std::alloc::Allocator;
+use std::alloc::{AllocError, Allocator};
 
 /// What is written where the server was not had.
 const NOT_BEGUN: &[u8] = b"= not begun";
@@ -45,7 +45,7 @@ fn plant<A: Allocator + Copy>(
 ) {
     let mut tree = MemTree::new(heap);
     if plants(turn, heap, &mut tree) {
-        serve((heap, spare), tree, accounts, turn, desk);
+        serve::<A, TreeTransfer<A>>((heap, spare), tree, accounts, turn, desk);
     } else {
         drop(tree);
         drop(accounts);
@@ -53,7 +53,8 @@ fn plant<A: Allocator + Copy>(
     }
 }
 
-fn serve<A: Allocator + Copy>(
+/// Plays a row on a server with such transfers: who names a server does not name them.
+fn serve<A: Allocator + Copy, J: Counted<A, MemTree<A>>>(
     (heap, spare): (A, A),
     tree: MemTree<A>,
     accounts: Accounts<A>,
@@ -61,57 +62,53 @@ fn serve<A: Allocator + Copy>(
     desk: &mut Desk,
 ) {
     let (here, peer) = turn.hosts();
-    let begun: Result<Server<A, MemTree<A>, TreeTransfer<A>>, _> = Server::new(
-        heap, tree, accounts, here, peer,
-    );
+    let begun: Result<Server<A, MemTree<A>, J>, _> = Server::new(heap, tree, accounts, here, peer);
     match begun {
         Ok(server) => begin((heap, spare), server, turn, desk),
         Err(_) => desk.paper.line(NOT_BEGUN),
     }
 }
 
-/// Makes the calls that a row lists, and plays the lines behind them.
-fn begin<A: Allocator + Copy>(
+/// A server that makes calls by a list. What plays rows on one is generic in it: only who makes one names it.
+trait Lists<A: Allocator + Copy> {
+    /// Makes these calls, and gives what they gave.
+    fn make(&mut self, heap: A, cues: &[Cue<A>]) -> Result<Vec<Gift<A>, A>, AllocError>;
+}
+
+impl<A: Allocator + Copy, T: Tree<A>, J: ServerTransfer<A, T>> Lists<A> for Server<A, T, J> {
+    fn make(&mut self, heap: A, cues: &[Cue<A>]) -> Result<Vec<Gift<A>, A>, AllocError> {
+        play_list(heap, self, cues)
+    }
+}
+
+/// Makes the calls that a row lists, and plays the lines behind them in the year 2000.
+fn begin<A: Allocator + Copy, S: Far<A, MemTree<A>> + Holds + Lists<A>>(
     (heap, spare): (A, A),
-    mut server: Server<A, MemTree<A>, TreeTransfer<A>>,
+    mut server: S,
     turn: Turn<'_>,
     desk: &mut Desk,
 ) {
     let row = call_listed((heap, spare), &mut server, turn, desk);
-    play_on(server, Turn { row, ..turn }, desk);
+    server.clock(YEAR_2000);
+    let mut end: Played<A, S> = Played::new(server);
+    play(&mut end, desk, Turn { row, ..turn });
 }
 
 /// Makes the calls that a row lists, and gives the lines behind them.
-fn call_listed<'a, A, T, J>(
+fn call_listed<'a, A: Allocator + Copy, S: Lists<A>>(
     (heap, spare): (A, A),
-    server: &mut Server<A, T, J>,
+    server: &mut S,
     turn: Turn<'a>,
     desk: &mut Desk,
-) -> &'a [u8]
-where
-    A: Allocator + Copy,
-    T: Tree<A>,
-    J: ServerTransfer<A, T>,
-{
+) -> &'a [u8] {
     if !lists_calls(turn) {
         return turn.row;
     }
     match cues_of(heap, turn) {
-        Ok(cues) => tell(turn.row, &play_list(spare, server, cues.as_slice()), desk),
+        Ok(cues) => tell(turn.row, &server.make(spare, cues.as_slice()), desk),
         Err(_) => {
             desk.paper.fill();
             turn.row
         }
     }
-}
-
-/// Plays the lines of a row on a server, in the year 2000.
-fn play_on<A: Allocator + Copy, S: Far<A, MemTree<A>> + Holds>(
-    mut server: S,
-    turn: Turn<'_>,
-    desk: &mut Desk,
-) {
-    server.clock(YEAR_2000);
-    let mut end: Played<A, S> = Played::new(server);
-    play(&mut end, desk, turn);
 }
