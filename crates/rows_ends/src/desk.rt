@@ -1,6 +1,6 @@
 // The control octets of a row, how its end is played on, and what it writes.
 use crate::driven::{Drive, Try};
-use crate::turn::{Side, Turn};
+use crate::turn::{Manner, Side, Turn};
 use ftp_ends::Wants;
 use rows_base::{Paper, octets_of, quoted};
 use std::alloc::Global;
@@ -33,22 +33,44 @@ pub struct Desk {
     pub is_broken: bool,
 }
 
+/// What a row wrote.
+#[derive(Drop)]
+pub struct Seen {
+    pub paper: Paper,
+    /// The tree behind each line.
+    pub trees: Vec<Paper>,
+    /// How many growths were asked for.
+    pub growths: u64,
+    /// Whether connections broke off that drive the end.
+    pub is_broken: bool,
+}
+
 impl Desk {
-    pub fn new(turn: Turn<'_>, size: usize) -> Desk {
+    pub fn new(turn: Turn<'_>, manner: Manner) -> Desk {
         Desk {
             alloc: turn.alloc,
             side: turn.side,
             paper: Paper::new(turn.alloc),
             octets: Vec::new(turn.alloc),
             heard: 0,
-            size,
+            size: manner.size,
             wanted: Wants::Nothing,
             trees: Vec::new(turn.alloc),
             left: 0,
             weighs: false,
             drive: None,
-            tried: Try::Whole,
+            tried: manner.tried,
             is_broken: false,
+        }
+    }
+
+    /// What was written, where so many growths were asked for.
+    pub fn seen(self, growths: u64) -> Seen {
+        Seen {
+            paper: self.paper,
+            trees: self.trees,
+            growths,
+            is_broken: self.is_broken,
         }
     }
 

@@ -3,8 +3,8 @@
 use crate::desk::Desk;
 use crate::peer::Peer;
 use crate::plays::Plays;
-use crate::row::play_once;
-use crate::turn::Turn;
+use crate::row::played;
+use crate::turn::{Manner, Turn};
 use rows_base::{FailingReader, FailingWriter, Paper, number, said, split};
 
 /// The number of no call, and more waits than there are.
@@ -101,10 +101,13 @@ fn limits(drive: Drive, tried: Try) -> (usize, u32, u32) {
 /// Drives an end by the control octets so far, and writes the lines that it sends; where it was not broken off, what it reports and what came
 /// over data connections too.
 pub fn run<P: Plays>(end: &mut P, desk: &mut Desk, owner: Owner<'_>) {
-    let Some(drive) = desk.drive else {
-        desk.paper.line(b"= nothing drives it");
-        return;
-    };
+    match desk.drive {
+        Some(drive) => run_by(drive, end, desk, owner),
+        None => desk.paper.line(b"= nothing drives it"),
+    }
+}
+
+fn run_by<P: Plays>(drive: Drive, end: &mut P, desk: &mut Desk, owner: Owner<'_>) {
     let (moves, read, write) = limits(drive, desk.tried);
     let writer = FailingWriter::new(desk.alloc, moves, write);
     let mut peer = Peer::new(desk.alloc, drive);
@@ -112,10 +115,15 @@ pub fn run<P: Plays>(end: &mut P, desk: &mut Desk, owner: Owner<'_>) {
     let reader = FailingReader::new(desk.octets.as_slice(), moves, read);
     let writer = end.drive(desk.alloc, owner, (reader, writer), &mut peer, &mut told);
     desk.paper.lines(desk.side.mark, writer.taken());
-    desk.is_broken = told.text().is_empty();
+    tell_run(desk, told.text(), &peer);
+}
+
+/// What an end reports that was driven, nothing where it was broken off, and what came over data connections.
+fn tell_run(desk: &mut Desk, told: &[u8], peer: &Peer) {
+    desk.is_broken = told.is_empty();
     if !desk.is_broken {
         desk.paper.end_line();
-        desk.paper.put(told.text());
+        desk.paper.put(told);
         peer.show(&mut desk.paper);
     }
 }
@@ -131,17 +139,20 @@ enum Outcome {
 }
 
 fn came_of(turn: Turn<'_>, whole: &[u8], tried: Try) -> Outcome {
-    let mut desk = Desk::new(turn, turn.side.size);
-    desk.tried = tried;
-    play_once(turn, 0, &mut desk);
-    outcome_of(&desk, whole)
+    let seen = played(
+        turn,
+        Manner {
+            tried,
+            ..turn.side.whole()
+        },
+    );
+    outcome_of(seen.is_broken, seen.paper.text(), whole)
 }
 
-fn outcome_of(desk: &Desk, whole: &[u8]) -> Outcome {
-    let text = desk.paper.text();
-    if !desk.is_broken && text == whole {
+fn outcome_of(is_broken: bool, text: &[u8], whole: &[u8]) -> Outcome {
+    if !is_broken && text == whole {
         Outcome::Same
-    } else if desk.is_broken && whole.starts_with(text) {
+    } else if is_broken && whole.starts_with(text) {
         Outcome::Broken
     } else {
         Outcome::Other

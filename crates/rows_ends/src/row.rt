@@ -1,18 +1,31 @@
 // A row: played whole, in pieces, and with each of its growths refused in turn.
-use crate::desk::Desk;
+use crate::desk::{Desk, Seen};
 use crate::driven::again;
-use crate::turn::{Side, Turn};
+use crate::turn::{Manner, Side, Turn};
 use crate::{client, server};
-use rows_base::{Paper, cut, first_other, number, said};
+use rows_base::{Paper, cut, first_other, found, number, said};
 use std::alloc::Global;
 
-/// Plays a row on its end with this growth refused, none at 0, and says how many growths were asked for.
-pub fn play_once(turn: Turn<'_>, refused: u64, desk: &mut Desk) -> u64 {
-    if turn.side.is_client {
-        client::run(turn, refused, desk)
+/// Plays a row on its end in this manner.
+pub fn played(turn: Turn<'_>, manner: Manner) -> Seen {
+    let mut desk = Desk::new(turn, manner);
+    let growths = if turn.side.is_client {
+        client::run(turn, manner.refused, &mut desk)
     } else {
-        server::run(turn, refused, desk)
-    }
+        server::run(turn, manner.refused, &mut desk)
+    };
+    desk.seen(growths)
+}
+
+/// With this growth refused, none at 0.
+fn refused(turn: Turn<'_>, growth: u64) -> Seen {
+    played(
+        turn,
+        Manner {
+            refused: growth,
+            ..turn.side.whole()
+        },
+    )
 }
 
 /// What a row writes; behind it stands where it goes otherwise as it is played again.
@@ -23,13 +36,17 @@ pub fn play_row(alloc: Global, side: Side, row: &[u8], paper: &mut Paper) {
         row,
         whole: None,
     };
-    let mut desk = Desk::new(turn, turn.side.size);
-    let growths = play_once(turn, 0, &mut desk);
-    let whole = desk.paper.text();
-    paper.put(whole);
-    if desk.paper.is_full() {
+    let seen = refused(turn, 0);
+    paper.put(seen.paper.text());
+    if seen.paper.is_full() {
         paper.line(b"= no memory");
     }
+    play_again(turn, seen.paper.text(), seen.growths, paper);
+    paper.put(b"\n");
+}
+
+/// Plays a row again that wrote this and asked for so many growths, in each way that there is for it.
+fn play_again(turn: Turn<'_>, whole: &[u8], growths: u64, paper: &mut Paper) {
     in_pieces(turn, whole, paper);
     again(turn, whole, paper);
     if turn.side.is_client || said(turn.row, b"growths").is_some() {
@@ -38,26 +55,33 @@ pub fn play_row(alloc: Global, side: Side, row: &[u8], paper: &mut Paper) {
     if said(turn.row, b"refusals").is_some() {
         each_refusal(turn, growths, paper);
     }
-    paper.put(b"\n");
 }
 
 /// What is written with each of so many growths of a list's memory refused.
 fn each_refusal(turn: Turn<'_>, growths: u64, paper: &mut Paper) {
     for growth in 1..=growths {
-        let mut desk = Desk::new(turn, turn.side.size);
-        play_once(turn, growth, &mut desk);
-        put_other(b"= at growth ", growth, &desk, paper);
+        let seen = refused(turn, growth);
+        put_other(b"= at growth ", growth, seen.paper.text(), paper);
     }
 }
 
 /// In pieces of each size.
 fn in_pieces(turn: Turn<'_>, whole: &[u8], paper: &mut Paper) {
     for size in 1..=pieces(turn).min(1_000) {
-        let mut desk = Desk::new(turn, size as usize);
-        play_once(turn, 0, &mut desk);
-        if desk.paper.text() != whole {
-            put_other(b"= otherwise in pieces of ", size, &desk, paper);
-        }
+        in_piece(turn, size, whole, paper);
+    }
+}
+
+fn in_piece(turn: Turn<'_>, size: u64, whole: &[u8], paper: &mut Paper) {
+    let seen = played(
+        turn,
+        Manner {
+            size: size as usize,
+            ..turn.side.whole()
+        },
+    );
+    if seen.paper.text() != whole {
+        put_other(b"= otherwise in pieces of ", size, seen.paper.text(), paper);
     }
 }
 
@@ -70,57 +94,63 @@ fn pieces(turn: Turn<'_>) -> u64 {
 }
 
 /// What was played otherwise, and how.
-fn put_other(mark: &[u8], number: u64, desk: &Desk, paper: &mut Paper) {
+fn put_other(mark: &[u8], number: u64, text: &[u8], paper: &mut Paper) {
     paper.put(mark);
     paper.number(number);
     paper.put(b"\n");
-    paper.put(desk.paper.text());
+    paper.put(text);
 }
 
 /// Says where a refused growth is not told, or leaves another tree than one of the row's.
 fn each_growth(turn: Turn<'_>, whole: &[u8], paper: &mut Paper) {
     let turn = Turn {
-        alloc: turn.alloc,
-        side: turn.side,
-        row: turn.row,
         whole: Some(whole),
+        ..turn
     };
-    let mut desk = Desk::new(turn, turn.side.size);
-    let growths = play_once(turn, 0, &mut desk);
-    if growths < 2 {
+    let seen = refused(turn, 0);
+    if seen.growths < 2 {
         paper.line(b"= no growths");
     }
-    for growth in 1..=growths {
-        let mut seen = Desk::new(turn, turn.side.size);
-        play_once(turn, growth, &mut seen);
-        if !is_told(turn, seen.paper.text(), whole) || !ends_among(&seen, desk.trees.as_slice()) {
-            put_other(b"= otherwise at growth ", growth, &seen, paper);
-        }
+    for growth in 1..=seen.growths {
+        at_growth(turn, growth, (whole, seen.trees.as_slice()), paper);
+    }
+}
+
+fn at_growth(turn: Turn<'_>, growth: u64, (whole, trees): (&[u8], &[Paper]), paper: &mut Paper) {
+    let seen = refused(turn, growth);
+    let is_told = is_told(turn.side.is_client, seen.paper.text(), whole);
+    if !is_told || !ends_among(seen.trees.last(), trees) {
+        put_other(b"= otherwise at growth ", growth, seen.paper.text(), paper);
     }
 }
 
 /// Lines by which a client tells that memory was refused.
-const TOLD: &[&'static [u8]] = &[b"= memory", b"! no memory", b"! no client", b"? close all"];
+const TOLD: &[(&'static [u8], bool)] = &[
+    (b"= memory", true),
+    (b"! no memory", true),
+    (b"! no client", true),
+    (b"? close all", true),
+];
 
 /// Whether the first line of a text that is another one tells it.
-fn is_told(turn: Turn<'_>, text: &[u8], whole: &[u8]) -> bool {
-    let Some(line) = first_other(text, whole) else {
-        return true;
-    };
-    if !turn.side.is_client {
-        return line.starts_with(b"< 451 ") || line.starts_with(b"= not begun");
+fn is_told(is_client: bool, text: &[u8], whole: &[u8]) -> bool {
+    match first_other(text, whole) {
+        Some(line) => tells(is_client, line),
+        None => true,
     }
-    for told in TOLD {
-        if *told == line {
-            return true;
-        }
+}
+
+fn tells(is_client: bool, line: &[u8]) -> bool {
+    if is_client {
+        found(TOLD, line, false)
+    } else {
+        line.starts_with(b"< 451 ") || line.starts_with(b"= not begun")
     }
-    false
 }
 
 /// Whether the last tree, where there is one, is one of these.
-fn ends_among(seen: &Desk, trees: &[Paper]) -> bool {
-    let Some(last) = seen.trees.last() else {
+fn ends_among(last: Option<&Paper>, trees: &[Paper]) -> bool {
+    let Some(last) = last else {
         return true;
     };
     for other in trees {

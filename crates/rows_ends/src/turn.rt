@@ -1,4 +1,5 @@
 // A row of a script, and the end that it is played on.
+use crate::driven::Try;
 use crate::event::host_or;
 use ftp_endpoint::Host;
 use rows_base::said;
@@ -44,6 +45,28 @@ pub struct Turn<'a> {
     pub side: Side,
     pub row: &'a [u8],
     pub whole: Option<&'a [u8]>,
+}
+
+/// How a row is played.
+#[derive(Clone, Copy)]
+pub struct Manner {
+    /// The most octets of one call.
+    pub size: usize,
+    /// The growth that is refused; none at 0.
+    pub refused: u64,
+    /// What is tried of connections that drive the end.
+    pub tried: Try,
+}
+
+impl Side {
+    /// How a row is played first.
+    pub fn whole(&self) -> Manner {
+        Manner {
+            size: self.size,
+            refused: 0,
+            tried: Try::Whole,
+        }
+    }
 }
 
 impl Turn<'_> {

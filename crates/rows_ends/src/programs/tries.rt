@@ -110,17 +110,37 @@ fn each_failed(
     let (size, count) = split(words);
     let mut broken = 0;
     for at in 0..number(count).min(1_000) {
-        let came = run(alloc, row, failing(call, number(size), at));
-        if broken == at && is_left(row, &came, call) {
-            broken += 1;
-        } else if !is_whole(row, &came) {
-            paper.line(b"WRONG: where a call fails");
+        match failed(alloc, row, call, number(size), at) {
+            Outcome::Left if broken == at => broken += 1,
+            Outcome::Whole => {}
+            _ => paper.line(b"WRONG: where a call fails"),
         }
     }
     paper.put(b"  ");
     paper.number(broken);
     paper.put(b" ");
     paper.line(word);
+}
+
+/// What came of a row in which a call fails.
+#[derive(Clone, Copy)]
+enum Outcome {
+    /// All that has to.
+    Whole,
+    /// It was broken off behind a beginning of that.
+    Left,
+    Wrong,
+}
+
+fn failed(alloc: Global, row: &Row, call: Call, size: u64, at: u64) -> Outcome {
+    let came = run(alloc, row, failing(call, size, at));
+    if is_whole(row, &came) {
+        Outcome::Whole
+    } else if is_left(row, &came, call) {
+        Outcome::Left
+    } else {
+        Outcome::Wrong
+    }
 }
 
 /// This call fails, and those like it move so many octets at most; at 0 all.
@@ -150,12 +170,9 @@ fn each_refused(alloc: Global, row: &Row, size: u64, paper: &mut Paper) {
         paper.line(b"WRONG: where no growth is refused");
     }
     for at in 1..=growths {
-        if !is_left(
-            row,
-            &run(alloc, row, failing(Call::Growth, size, at)),
-            Call::Growth,
-        ) {
-            paper.line(b"WRONG: where a growth is refused");
+        match failed(alloc, row, Call::Growth, size, at) {
+            Outcome::Left => {}
+            _ => paper.line(b"WRONG: where a growth is refused"),
         }
     }
     paper.line(b"  each growth");

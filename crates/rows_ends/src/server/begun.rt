@@ -106,30 +106,26 @@ fn makes_file<A: Allocator + Copy>(
     tree: &mut MemTree<A>,
     (text, octets): (&[u8], &[u8]),
 ) -> bool {
+    let mut content = Content::new(heap);
     match octets_of(own, octets) {
-        Ok(octets) => puts(heap, tree, text, octets.as_slice()),
+        Ok(octets) => content.push(octets.as_slice()).is_ok()
+            && installs(heap, tree, &Path::root(heap), text, &mut content),
         Err(_) => false,
     }
 }
 
-fn puts<A: Allocator + Copy>(heap: A, tree: &mut MemTree<A>, text: &[u8], octets: &[u8]) -> bool {
-    match place(heap, text) {
-        Ok(path) => installs(heap, tree, &path, octets),
-        Err(_) => false,
-    }
-}
-
+/// Puts a file there, below a root.
 fn installs<A: Allocator + Copy>(
     heap: A,
     tree: &mut MemTree<A>,
-    path: &Path<A>,
-    octets: &[u8],
+    root: &Path<A>,
+    text: &[u8],
+    content: &mut Content<A>,
 ) -> bool {
-    let mut content = Content::new(heap);
-    content.push(octets).is_ok()
-        && tree
-            .install(&Path::root(heap), path, &mut content, YEAR_2000)
-            .is_ok()
+    match place(heap, text) {
+        Ok(path) => tree.install(root, &path, content, YEAR_2000).is_ok(),
+        Err(_) => false,
+    }
 }
 
 /// Fills the part of the tree at a directory: a file of the most octets, and as many directories as it takes; whether there is an end of them.
@@ -146,13 +142,7 @@ fn makes_full<A: Allocator + Copy>(heap: A, tree: &mut MemTree<A>, text: &[u8]) 
 /// Puts a file of the most octets there.
 fn puts_most<A: Allocator + Copy>(heap: A, tree: &mut MemTree<A>, root: &Path<A>) -> bool {
     let mut content = Content::new(heap);
-    if !fills(heap, &mut content) {
-        return false;
-    }
-    match place(heap, b"most") {
-        Ok(path) => tree.install(root, &path, &mut content, YEAR_2000).is_ok(),
-        Err(_) => false,
-    }
+    fills(heap, &mut content) && installs(heap, tree, root, b"most", &mut content)
 }
 
 /// Puts the most octets into a content.
