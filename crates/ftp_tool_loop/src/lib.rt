@@ -5,7 +5,6 @@ mod carrying;
 mod client;
 mod end;
 mod joining;
-mod making;
 mod orders;
 mod pair;
 mod playing;

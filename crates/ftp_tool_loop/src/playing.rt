@@ -1,14 +1,18 @@
 // A script between standard input and standard output.
 use crate::client::ClientEnd;
 use crate::joining::Joins;
-use crate::making::{client_of, server_of};
 use crate::orders::obey;
 use crate::pair::Pair;
 use crate::server::ServerEnd;
+use crate::side::HERE;
+use ftp_client::Client;
 use ftp_client_model::Near;
+use ftp_client_transfer::OperationTransfer;
 use ftp_facts::Text;
-use ftp_operation::Login;
+use ftp_server::Server;
 use ftp_server_model::Far;
+use ftp_server_transfer::TreeTransfer;
+use ftp_tool_accounts::two_accounts;
 use ftp_tool_script::{Order, Script, read_script};
 use ftp_tool_status::Status;
 use ftp_tree::MemTree;
@@ -50,32 +54,44 @@ where
     }
 }
 
-/// Plays a script with a server of its own.
+/// Plays a script with a server of its own, over an empty tree, where `guest` and `anonymous` may log in.
 fn play_script<R>(rt: &R, script: Script<Global>) -> io::Result<Status>
 where
     R: Joins + Print,
 {
-    let Script { login, orders } = script;
-    match server_of(rt.heap()) {
-        Some(server) => play_at(rt, server, login, orders),
-        None => Err(Error::from(ErrorKind::OutOfMemory)),
+    let alloc = rt.heap();
+    let Ok(accounts) = two_accounts(alloc) else {
+        return Err(Error::from(ErrorKind::OutOfMemory));
+    };
+    let made: Result<Server<Global, MemTree<Global>, TreeTransfer<Global>>, _> = Server::new(
+        alloc,
+        MemTree::new(alloc),
+        accounts,
+        HERE,
+        HERE,
+    );
+    match made {
+        Ok(server) => play_at(rt, server, script),
+        Err(_) => Err(Error::from(ErrorKind::OutOfMemory)),
     }
 }
 
-/// Plays orders at a server, by a client of their own.
-fn play_at<R, S>(
-    rt: &R,
-    server: S,
-    login: Login<Global>,
-    orders: Vec<Order<Text<Global>>>,
-) -> io::Result<Status>
+/// Plays a script at a server, by a client of its own.
+fn play_at<R, S>(rt: &R, server: S, script: Script<Global>) -> io::Result<Status>
 where
     R: Joins + Print,
     S: Far<Global, MemTree<Global>>,
 {
-    match client_of(rt.heap(), login) {
-        Some(client) => play_between(rt, client, server, orders),
-        None => Err(Error::from(ErrorKind::OutOfMemory)),
+    let Script { login, orders } = script;
+    let made: Result<Client<Global, OperationTransfer<Global>>, _> = Client::new(
+        rt.heap(),
+        login,
+        HERE,
+        HERE,
+    );
+    match made {
+        Ok(client) => play_between(rt, client, server, orders),
+        Err(_) => Err(Error::from(ErrorKind::OutOfMemory)),
     }
 }
 
