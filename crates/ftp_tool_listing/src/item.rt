@@ -28,9 +28,17 @@ pub struct Item<A: Allocator + Copy> {
 }
 
 /// The entries of a directory.
-#[derive(Drop)]
 pub enum Listing<A: Allocator + Copy> {
     Whole(Vec<Item<A>, A>),
     /// It has more entries than are taken.
     CutOff,
+}
+
+/// By hand: a derived drop is proved again, part by part, wherever a listing is let go.
+impl<A: Allocator + Copy> Drop for Listing<A> {
+    fn drop(self) {
+        match self {
+            Listing::Whole(_) | Listing::CutOff => {}
+        }
+    }
 }
