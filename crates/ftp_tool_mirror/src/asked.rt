@@ -42,9 +42,13 @@ impl<'a> Mirror<'a> {
         joined(alloc, self.folder, below)
     }
 
-    /// Its path at the server, as it goes into an operation.
+    /// Its path at the server.
+    pub(crate) fn there(&self, alloc: Global, below: &str) -> Result<String<Global>, AllocError> {
+        joined(alloc, self.path, below)
+    }
+
+    /// The same, as it goes into an operation.
     pub(crate) fn path(&self, alloc: Global, below: &str) -> Result<Text<Global>, AllocError> {
-        let there = joined(alloc, self.path, below)?;
-        Text::copy_of(alloc, there.as_bytes())
+        Text::copy_of(alloc, self.there(alloc, below)?.as_bytes())
     }
 }

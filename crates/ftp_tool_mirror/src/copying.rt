@@ -6,73 +6,23 @@ use ftp_facts::{Moment, Text};
 use ftp_operation::{Answer, How, Op};
 use ftp_tool_connection::{ClientSession, Request};
 use ftp_tool_listing::Facts;
-use ftp_tool_local::{Content, Flush, LocalFiles, Reading};
+use ftp_tool_local::{Content, LocalFiles, Reading};
 use ftp_tool_status::Arrival;
 use ftp_tool_transfer::{Came, Downloading, Stamp};
-use ftp_tool_words::joined;
 use std::alloc::{AllocError, Global};
 use std::io::Eprint;
-
-/// A file at both ends.
-pub(crate) struct Ends<'a> {
-    /// Its path below both roots.
-    below: &'a str,
-    /// Its path at the server.
-    there: String<Global>,
-    /// Its name on this machine.
-    here: String<Global>,
-    how: How,
-    /// The most octets that it may have.
-    limit: u64,
-}
-
-/// By hand: a derived drop is proved again, part by part, wherever ends are let go.
-impl<'a> Drop for Ends<'a> {
-    fn drop(self) {
-        let Self {
-            below: _,
-            there: _,
-            here: _,
-            how: _,
-            limit: _,
-        } = self;
-    }
-}
-
-impl<'a> Ends<'a> {
-    /// What is called `below` in the tree.
-    pub(crate) fn new(
-        alloc: Global,
-        mirror: &Mirror<'_>,
-        below: &'a str,
-    ) -> Result<Ends<'a>, AllocError> {
-        let there = joined(alloc, mirror.path, below)?;
-        let here = mirror.here(alloc, below)?;
-        Ok(Ends {
-            below,
-            there,
-            here,
-            how: mirror.how,
-            limit: mirror.limit,
-        })
-    }
-
-    /// The path at the server, as it goes into an operation.
-    fn path(&self, alloc: Global) -> Result<Text<Global>, AllocError> {
-        Text::copy_of(alloc, self.there.as_bytes())
-    }
-}
 
 /// Writes what came of a file here, last changed at the moment that is known of it. Gives how many octets it has.
 pub(crate) fn leave<R: LocalFiles>(
     rt: &R,
-    ends: &Ends<'_>,
+    alloc: Global,
+    mirror: &Mirror<'_>,
+    below: &str,
     facts: Facts,
     came: &Came,
-    flush: Flush,
 ) -> Result<u64, Trouble> {
-    let moment = moment_of(facts);
-    rt.write_over(ends.here.as_str(), came.pieces(), moment, flush)?;
+    let here = mirror.here(alloc, below)?;
+    rt.write_over(here.as_str(), came.pieces(), moment_of(facts), mirror.flush)?;
     Ok(came.count())
 }
 
@@ -85,16 +35,31 @@ fn moment_of(facts: Facts) -> Option<Moment> {
 pub(crate) fn begun<'a, R: Eprint>(
     rt: &'a R,
     alloc: Global,
-    ends: &Ends<'_>,
+    mirror: &Mirror<'_>,
+    below: &str,
     facts: Facts,
 ) -> Result<Downloading<'a, R>, AllocError> {
-    let mut downloading = Downloading::new(rt, alloc, ends.there.as_str(), ends.how)?;
-    downloading.name_as(shown(alloc, ends.below)?.as_str())?;
-    downloading.put_terms(ends.limit, Stamp::Unasked);
+    let there = mirror.there(alloc, below)?;
+    let mut downloading = Downloading::new(rt, alloc, there.as_str(), mirror.how)?;
+    put_terms(&mut downloading, alloc, mirror, below, facts)?;
+    Ok(downloading)
+}
+
+/// A download is told of by its path below the roots, and is of a file that is listed so.
+fn put_terms<R: Eprint>(
+    downloading: &mut Downloading<'_, R>,
+    alloc: Global,
+    mirror: &Mirror<'_>,
+    below: &str,
+    facts: Facts,
+) -> Result<(), AllocError> {
+    let name = shown(alloc, below)?;
+    downloading.name_as(name.as_str())?;
+    downloading.put_terms(mirror.limit, Stamp::Unasked);
     if let Some(size) = facts.size {
         downloading.expect(size, moment_of(facts));
     }
-    Ok(downloading)
+    Ok(())
 }
 
 /// Goes on with a download until all of it came.
@@ -126,10 +91,13 @@ fn check_whole(arrived: Arrival, count: u64, limit: u64) -> Result<(), Trouble> 
 /// Whether a file here has the octets that came.
 pub(crate) fn is_same<R: LocalFiles>(
     rt: &R,
-    ends: &Ends<'_>,
+    alloc: Global,
+    mirror: &Mirror<'_>,
+    below: &str,
     came: &Came,
 ) -> Result<bool, Trouble> {
-    match rt.read_from(ends.here.as_str(), 0, came.count())? {
+    let here = mirror.here(alloc, below)?;
+    match rt.read_from(here.as_str(), 0, came.count())? {
         Reading::Content(content) => Ok(came.is(content.octets.as_slice())),
         Reading::TooLarge(_) => Ok(false),
     }
@@ -140,35 +108,41 @@ pub(crate) fn copy_up<R, S>(
     rt: &R,
     alloc: Global,
     seat: &mut S,
-    ends: &Ends<'_>,
+    mirror: &Mirror<'_>,
+    below: &str,
 ) -> Result<u64, Trouble>
 where
     R: LocalFiles,
     S: ClientSession,
 {
-    let octets = octets_of(rt, ends)?;
+    let octets = octets_of(rt, alloc, mirror, below)?;
     let count = octets.as_slice().len() as u64;
-    upload(alloc, seat, ends, octets)?;
-    check_size(alloc, seat, ends, count)?;
+    upload(seat, mirror.path(alloc, below)?, octets, mirror.how)?;
+    check_size(seat, mirror.path(alloc, below)?, mirror.how, count)?;
     Ok(count)
 }
 
 /// The octets of a file here.
-fn octets_of<R: LocalFiles>(rt: &R, ends: &Ends<'_>) -> Result<Text<Global>, Trouble> {
-    match rt.read_from(ends.here.as_str(), 0, ends.limit)? {
+fn octets_of<R: LocalFiles>(
+    rt: &R,
+    alloc: Global,
+    mirror: &Mirror<'_>,
+    below: &str,
+) -> Result<Text<Global>, Trouble> {
+    let here = mirror.here(alloc, below)?;
+    match rt.read_from(here.as_str(), 0, mirror.limit)? {
         Reading::Content(Content { octets, changed: _ }) => Ok(Text::from_vec(octets)),
-        Reading::TooLarge(size) => Err(Trouble::TooLarge(size, ends.limit)),
+        Reading::TooLarge(size) => Err(Trouble::TooLarge(size, mirror.limit)),
     }
 }
 
 fn upload<S: ClientSession>(
-    alloc: Global,
     seat: &mut S,
-    ends: &Ends<'_>,
+    path: Text<Global>,
     octets: Text<Global>,
+    how: How,
 ) -> Result<(), Trouble> {
-    let path = ends.path(alloc)?;
-    match &seat.answer(Request::Upload(Some((path, octets)), ends.how)) {
+    match &seat.answer(Request::Upload(Some((path, octets)), how)) {
         Answer::Done => Ok(()),
         answer => Err(Trouble::of(answer)),
     }
@@ -176,13 +150,12 @@ fn upload<S: ClientSession>(
 
 /// Fails where the server tells another size of a file than so many octets (RFC 3659, section 4).
 fn check_size<S: ClientSession>(
-    alloc: Global,
     seat: &mut S,
-    ends: &Ends<'_>,
+    path: Text<Global>,
+    how: How,
     count: u64,
 ) -> Result<(), Trouble> {
-    let path = ends.path(alloc)?;
-    match &seat.answer(Request::One(Some(Op::Size(path, ends.how)))) {
+    match &seat.answer(Request::One(Some(Op::Size(path, how)))) {
         Answer::Number(total) if *total != count => Err(Trouble::Size(count, *total)),
         Answer::Lost => Err(Trouble::Lost),
         _ => Ok(()),

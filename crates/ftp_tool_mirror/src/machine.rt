@@ -1,14 +1,15 @@
-// What a mirror asks of this machine beside files: what stands on a trait without types of its own is proved for less.
+// What a mirror asks of this machine: what stands on one trait without types of its own is proved for less.
 use crate::folder::entries_here;
 use crate::trouble::Trouble;
 use ftp_tool_listing::Listing;
+use ftp_tool_local::LocalFiles;
 use std::alloc::Global;
 use std::fs::Files;
 use std::io;
-use std::io::Print;
+use std::io::{Eprint, Print};
 
-/// What a mirror asks of this machine beside files.
-pub(crate) trait Machine {
+/// Who has files and folders, and tells what is done.
+pub(crate) trait Machine: LocalFiles + Eprint {
     /// The entries of the directory at a place, which is called `below` in the tree.
     fn entries(
         &self,
@@ -21,7 +22,7 @@ pub(crate) trait Machine {
     fn tell_would(&self, what: &str, name: &str) -> io::Result<()>;
 }
 
-impl<R: Files + Print + AllocGlobal + Clone + Drop> Machine for R {
+impl<R: Files + Print + Eprint + AllocGlobal + Clone + Drop> Machine for R {
     fn entries(
         &self,
         place: &str,

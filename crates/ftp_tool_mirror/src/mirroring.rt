@@ -4,7 +4,6 @@ use crate::machine::Machine;
 use crate::walk::Walk;
 use ftp_operation::Answer;
 use ftp_tool_connection::{Converses, LastReply, Logins, SessionFault, ask, say, told};
-use ftp_tool_local::LocalFiles;
 use ftp_tool_status::Status;
 use std::alloc::Global;
 use std::env::Env;
@@ -43,7 +42,7 @@ where
 /// The same, of whoever can ask a server and has a folder.
 fn mirrored<R>(rt: &R, alloc: Global, asked: &Mirror<'_>) -> io::Result<Status>
 where
-    R: Converses + Logins + LocalFiles + Machine + Eprint,
+    R: Converses + Logins + Machine,
 {
     let mut noticed = LastReply::new();
     let mut walk = Walk::new(rt, alloc, asked)?;
@@ -61,7 +60,7 @@ fn walked<R>(
     noticed: &mut LastReply,
 ) -> Result<Answer<Global>, SessionFault>
 where
-    R: Converses + Logins + LocalFiles + Machine + Eprint,
+    R: Converses + Logins + Machine,
 {
     for _ in 0..ROUNDS {
         let before = walk.reach();

@@ -1,12 +1,11 @@
 // What is told of a path, in a line.
 use crate::sentence::sentence_of;
 use crate::trouble::Trouble;
-use ftp_tool_connection::say;
 use ftp_tool_listing::put_shown;
 use std::alloc::{AllocError, Global};
-use std::fmt::{Display, Formatter};
+use std::fmt::Display;
+use std::io;
 use std::io::Eprint;
-use std::{fmt, io};
 
 /// A path, as a terminal is to show it; that of the root is a point.
 pub(crate) fn shown(alloc: Global, below: &str) -> Result<String<Global>, AllocError> {
@@ -18,19 +17,6 @@ pub(crate) fn shown(alloc: Global, below: &str) -> Result<String<Global>, AllocE
     String::from_str(alloc, std::str::from_utf8(octets.as_slice()).unwrap_or("?"))
 }
 
-/// Something about a path.
-#[derive(Drop)]
-struct About<'a, D> {
-    name: &'a str,
-    what: &'a D,
-}
-
-impl<'a, D: Display> Display for About<'a, D> {
-    fn fmt<W: fmt::Write>(&self, formatter: &mut Formatter<W>) -> fmt::Result {
-        write!(formatter, "{}: {}", self.name, self.what)
-    }
-}
-
 /// Tells of a path on standard error, in a line: what kind of a line it is, the path, and what is told of it.
 pub(crate) fn tell<R: Eprint, D: Display>(
     rt: &R,
@@ -40,11 +26,7 @@ pub(crate) fn tell<R: Eprint, D: Display>(
     what: &D,
 ) -> io::Result<()> {
     let name = shown(alloc, below)?;
-    let about = About {
-        name: name.as_str(),
-        what,
-    };
-    say(rt, kind, &about, "")
+    eprintln!(rt; "{kind}{name}: {what}")
 }
 
 /// Tells why something was not done of a path.

@@ -1,7 +1,7 @@
 // The way through a tree, one thing after another.
 use crate::asked::{Doing, Mirror};
 use crate::changing::{change_here, change_there, word_of};
-use crate::copying::{Ends, begun, copy_up, download, is_same, leave};
+use crate::copying::{begun, copy_up, download, is_same, leave};
 use crate::machine::Machine;
 use crate::server::{MISSING, entries_there, stands_there};
 use crate::tally::{Progress, Tally};
@@ -11,10 +11,10 @@ use crate::trouble::Trouble;
 use ftp_operation::{Answer, Op};
 use ftp_tool_connection::{ClientSession, SessionFault, SessionTask};
 use ftp_tool_listing::{Deed, Extra, Facts, Listing, Rules, Way};
-use ftp_tool_local::{Change, LocalFiles};
+use ftp_tool_local::Change;
 use ftp_tool_transfer::Downloading;
 use std::alloc::{AllocError, Global};
-use std::io::{Eprint, ErrorKind};
+use std::io::ErrorKind;
 
 /// A mirror on its way.
 pub(crate) struct Walk<'a, R> {
@@ -42,7 +42,7 @@ impl<'a, R> Drop for Walk<'a, R> {
     }
 }
 
-impl<'a, R: LocalFiles + Machine + Eprint> Walk<'a, R> {
+impl<'a, R: Machine> Walk<'a, R> {
     /// At the roots, of which nothing is known yet.
     pub(crate) fn new(
         rt: &'a R,
@@ -176,33 +176,39 @@ impl<'a, R: LocalFiles + Machine + Eprint> Walk<'a, R> {
         below: &str,
         facts: Facts,
     ) -> Result<u64, Trouble> {
-        let ends = Ends::new(self.alloc, self.mirror, below)?;
         match self.mirror.rules.way {
-            Way::Down => self.copy_down(seat, &ends, facts),
-            Way::Up => copy_up(self.rt, self.alloc, seat, &ends),
+            Way::Down => self.copy_down(seat, below, facts),
+            Way::Up => copy_up(self.rt, self.alloc, seat, self.mirror, below),
         }
     }
 
     fn copy_down<S: ClientSession>(
         &mut self,
         seat: &mut S,
-        ends: &Ends<'_>,
+        below: &str,
         facts: Facts,
     ) -> Result<u64, Trouble> {
-        let downloading = self.downloaded(seat, ends, facts)?;
-        leave(self.rt, ends, facts, downloading.came(), self.mirror.flush)
+        let downloading = self.downloaded(seat, below, facts)?;
+        leave(
+            self.rt,
+            self.alloc,
+            self.mirror,
+            below,
+            facts,
+            downloading.came(),
+        )
     }
 
     /// Downloads a file, all of it: behind what came before, where a control connection ended in its middle.
     fn downloaded<S: ClientSession>(
         &mut self,
         seat: &mut S,
-        ends: &Ends<'_>,
+        below: &str,
         facts: Facts,
     ) -> Result<Downloading<'a, R>, Trouble> {
         let mut downloading = match self.cut.take() {
             Some(downloading) => downloading,
-            None => begun(self.rt, self.alloc, ends, facts)?,
+            None => begun(self.rt, self.alloc, self.mirror, below, facts)?,
         };
         match download(&mut downloading, seat, self.mirror.limit) {
             Ok(()) => Ok(downloading),
@@ -240,18 +246,8 @@ impl<'a, R: LocalFiles + Machine + Eprint> Walk<'a, R> {
         below: &str,
         facts: Facts,
     ) -> Result<bool, Trouble> {
-        let ends = Ends::new(self.alloc, self.mirror, below)?;
-        self.is_same_there(seat, &ends, facts)
-    }
-
-    fn is_same_there<S: ClientSession>(
-        &mut self,
-        seat: &mut S,
-        ends: &Ends<'_>,
-        facts: Facts,
-    ) -> Result<bool, Trouble> {
-        let downloading = self.downloaded(seat, ends, facts)?;
-        is_same(self.rt, ends, downloading.came())
+        let downloading = self.downloaded(seat, below, facts)?;
+        is_same(self.rt, self.alloc, self.mirror, below, downloading.came())
     }
 
     /// Makes a directory of the target, and goes into it. One that is there already, as where its making was answered over a connection that ended, is
@@ -261,30 +257,31 @@ impl<'a, R: LocalFiles + Machine + Eprint> Walk<'a, R> {
         seat: &mut S,
         below: &str,
     ) -> Result<(), Trouble> {
-        let target = match self.made(seat, below) {
-            Err(trouble) => self.target(seat, below).or(Err(trouble)),
-            made => made,
+        let Err(trouble) = self.change(seat, Change::MakeDir, below) else {
+            return self.descend_new(seat, below);
         };
-        self.descend(seat, below, &target?)
+        match self.target(seat, below) {
+            Ok(target) => self.descend(seat, below, &target),
+            Err(_) => Err(trouble),
+        }
     }
 
     /// Goes into a directory that the target has. The target itself is made, where it does not stand.
     fn enter<S: ClientSession>(&mut self, seat: &mut S, below: &str) -> Result<(), Trouble> {
-        let target = match self.target(seat, below) {
-            Err(trouble) if below.is_empty() && is_missing(trouble) => self.made(seat, below),
-            found => found,
-        };
-        self.descend(seat, below, &target?)
+        match self.target(seat, below) {
+            Ok(target) => self.descend(seat, below, &target),
+            Err(trouble) if below.is_empty() && is_missing(trouble) => {
+                self.change(seat, Change::MakeDir, below)?;
+                self.descend_new(seat, below)
+            }
+            Err(trouble) => Err(trouble),
+        }
     }
 
-    /// Makes a directory of the target, in which nothing stands.
-    fn made<S: ClientSession>(
-        &mut self,
-        seat: &mut S,
-        below: &str,
-    ) -> Result<Listing<Global>, Trouble> {
-        self.change(seat, Change::MakeDir, below)?;
-        Ok(Listing::Whole(Vec::new(self.alloc)))
+    /// Goes into a directory of the target that is made just now, in which nothing stands.
+    fn descend_new<S: ClientSession>(&mut self, seat: &mut S, below: &str) -> Result<(), Trouble> {
+        let nothing = Listing::Whole(Vec::new(self.alloc));
+        self.descend(seat, below, &nothing)
     }
 
     /// What stands in a directory of the target.
@@ -350,18 +347,14 @@ impl<'a, R: LocalFiles + Machine + Eprint> Walk<'a, R> {
         change: Change,
         below: &str,
     ) -> Result<(), Trouble> {
-        let changed = if self.is_told_only(word_of(change), below)? {
-            Ok(())
-        } else {
+        if !self.is_told_only(word_of(change), below)? {
             match self.mirror.rules.way {
-                Way::Down => change_here(self.rt, self.alloc, self.mirror, change, below),
-                Way::Up => change_there(self.alloc, seat, self.mirror, change, below),
+                Way::Down => change_here(self.rt, self.alloc, self.mirror, change, below)?,
+                Way::Up => change_there(self.alloc, seat, self.mirror, change, below)?,
             }
-        };
-        if changed.is_ok() {
-            self.tally.add_change(change);
         }
-        changed
+        self.tally.add_change(change);
+        Ok(())
     }
 
     /// Tells what would be done, where nothing is; says whether that is so.
@@ -395,8 +388,7 @@ fn is_missing(trouble: Trouble) -> bool {
     }
 }
 
-impl<'a, R: LocalFiles + Machine + Eprint> SessionTask<Result<Answer<Global>, SessionFault>>
-    for Walk<'a, R> {
+impl<'a, R: Machine> SessionTask<Result<Answer<Global>, SessionFault>> for Walk<'a, R> {
     fn play<S: ClientSession>(&mut self, seat: &mut S) -> Result<Answer<Global>, SessionFault> {
         for _ in 0..u64::MAX {
             let Some(work) = self.todo.next() else {
