@@ -3,12 +3,14 @@ use crate::worlds::desk::Desk;
 use crate::worlds::lines::play_in;
 use crate::worlds::world::Played;
 use ftp_client_model::Near;
+use ftp_client_steps::ClientTransfer;
 use ftp_client_transfer::OperationTransfer;
 use ftp_operation::Login;
 use ftp_pair::World;
 use ftp_server_model::Far;
+use ftp_server_parts::Counted;
 use ftp_server_transfer::TreeTransfer;
-use ftp_tool_pair::{beginning_of, world_of};
+use ftp_tool_pair::{Beginning, beginning_of, world_of};
 use ftp_tool_script::login_of;
 use ftp_tree::{MemTree, Tree};
 use rows_base::{Refusing, cut};
@@ -42,10 +44,22 @@ pub fn login_line(row: &[u8]) -> &[u8] {
 }
 
 fn enter<A: Allocator + Copy>(heap: A, login: Login<A>, row: &[u8], desk: &mut Desk) {
-    let Ok(of) = beginning_of(heap, login, false) else {
-        return desk.paper.line(NO_WORLD);
-    };
-    match world_of::<A, MemTree<A>, OperationTransfer<A>, TreeTransfer<A>>(heap, of) {
+    match beginning_of(heap, login, false) {
+        Ok(of) => begin::<A, MemTree<A>, OperationTransfer<A>, TreeTransfer<A>>(
+            heap, of, row, desk,
+        ),
+        Err(_) => desk.paper.line(NO_WORLD),
+    }
+}
+
+/// Plays a row in a world over such a tree, with such transfers: who names both ends does not name these.
+fn begin<A: Allocator + Copy, T: Tree<A>, C: ClientTransfer<A>, J: Counted<A, T>>(
+    heap: A,
+    of: Beginning<A, T>,
+    row: &[u8],
+    desk: &mut Desk,
+) {
+    match world_of::<A, T, C, J>(heap, of) {
         Ok(world) => play_world(world, heap, row, desk),
         Err(_) => desk.paper.line(NO_WORLD),
     }
