@@ -99,6 +99,24 @@ impl Desk {
         }
     }
 
+    /// The event at this place of those that were kept is the next one of the order.
+    pub fn pass(&mut self, place: usize) {
+        if self.way.push(place).is_err() {
+            self.paper.fill();
+        }
+    }
+
+    /// What was written, where something was to happen before an event.
+    pub fn take_struck(&mut self) -> Paper {
+        let mut paper = Paper::new(self.alloc);
+        if self.struck {
+            mem::swap(&mut self.paper, &mut paper);
+        } else {
+            paper.line(b"not possible");
+        }
+        paper
+    }
+
     /// What is kept, which is then kept no more.
     pub fn take_kept(&mut self) -> Vec<Happening> {
         mem::replace(&mut self.kept, Vec::new(self.alloc))

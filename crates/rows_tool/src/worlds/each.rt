@@ -4,7 +4,6 @@ use crate::worlds::making::play;
 use crate::worlds::words::{Happening, happening_of};
 use rows_base::Paper;
 use std::alloc::Global;
-use std::mem;
 
 /// More events than a row has.
 const EVENTS: u64 = 100_000;
@@ -34,15 +33,10 @@ pub fn play_each(alloc: Global, row: &[u8], event: &[u8], paper: &mut Paper) {
 fn struck(alloc: Global, row: &[u8], happening: Happening, place: u64) -> Option<Paper> {
     let mut desk = Desk::new(alloc, Manner::Struck(happening, place));
     play(alloc, row, 0, &mut desk);
-    if let Manner::Struck(_, _) = desk.manner {
-        return None;
+    match desk.manner {
+        Manner::Struck(_, _) => None,
+        _ => Some(desk.take_struck()),
     }
-    let mut came = Paper::new(alloc);
-    if desk.struck {
-        return Some(mem::replace(&mut desk.paper, came));
-    }
-    came.line(b"not possible");
-    Some(came)
 }
 
 fn tell(place: u64, text: &[u8], paper: &mut Paper) {

@@ -5,7 +5,7 @@ use crate::worlds::each::play_each;
 use crate::worlds::making::{NO_WORLD, play};
 use crate::worlds::stage::NO_MEMORY;
 use crate::worlds::ways::play_ways;
-use rows_base::{Paper, first_other, row_in_front, said};
+use rows_base::{Paper, first_other, found, row_in_front, said};
 use std::alloc::Global;
 
 /// Plays each row of a script. Rows are paragraphs.
@@ -49,18 +49,29 @@ fn play_lines(alloc: Global, row: &[u8], paper: &mut Paper) {
     }
 }
 
-/// Says where a row goes otherwise by a refused growth and that is not told: by a call, or by a world that is calm no more.
+/// Says where a row goes otherwise by a refused growth and that is not told.
 fn compare_growth(alloc: Global, row: &[u8], whole: &[u8], refused: u64, paper: &mut Paper) {
     let mut desk = Desk::new(alloc, Manner::Lines);
     play(alloc, row, refused, &mut desk);
-    let is_told = match first_other(desk.paper.text(), whole) {
-        Some(line) => !desk.calm || line == NO_WORLD || line == NO_MEMORY,
-        None => true,
-    };
-    if !is_told {
-        paper.put(b"! a refused growth is not told: ");
-        paper.number(refused);
-        paper.line(b"");
-        paper.put(desk.paper.text());
+    if !is_told(desk.calm, desk.paper.text(), whole) {
+        tell_growth(refused, desk.paper.text(), paper);
     }
+}
+
+/// Lines by which a row tells that memory was refused.
+const TOLD: &[(&'static [u8], bool)] = &[(NO_WORLD, true), (NO_MEMORY, true)];
+
+/// Whether it is told where a text goes otherwise: by a call, or by a world that is calm no more.
+fn is_told(calm: bool, text: &[u8], whole: &[u8]) -> bool {
+    match first_other(text, whole) {
+        Some(line) => !calm || found(TOLD, line, false),
+        None => true,
+    }
+}
+
+fn tell_growth(refused: u64, text: &[u8], paper: &mut Paper) {
+    paper.put(b"! a refused growth is not told: ");
+    paper.number(refused);
+    paper.line(b"");
+    paper.put(text);
 }

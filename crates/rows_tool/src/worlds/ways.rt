@@ -3,6 +3,7 @@ use crate::worlds::desk::{Desk, Manner};
 use crate::worlds::making::play;
 use crate::worlds::plays::Plays;
 use crate::worlds::stage::{first_of, settle, tell_reports};
+use crate::worlds::words::Happening;
 use rows_base::Paper;
 use std::alloc::Global;
 use std::mem;
@@ -16,21 +17,19 @@ const WAYS: u64 = 1_000_000;
 /// What was kept happens, the first event that is possible each time, none before its least place; then all that moves; writes the reports.
 pub fn follow<P: Plays>(world: &mut P, desk: &mut Desk) {
     let least = mem::replace(&mut desk.way, Vec::new(desk.alloc));
-    go(world, desk, least.as_slice());
+    let events = desk.take_kept();
+    go(world, desk, events.as_slice(), least.as_slice());
     desk.led = desk.way.len() >= least.len();
     settle(world, desk);
     tell_reports(world, desk);
 }
 
-fn go<P: Plays>(world: &mut P, desk: &mut Desk, least: &[usize]) {
-    let events = desk.take_kept();
+fn go<P: Plays>(world: &mut P, desk: &mut Desk, events: &[Happening], least: &[usize]) {
     for at in 0..DEEP {
         let from = least.get(at).copied().unwrap_or(0);
-        let Some(place) = first_of(world, desk, events.as_slice(), from) else {
-            break;
-        };
-        if desk.way.push(place).is_err() {
-            desk.paper.fill();
+        match first_of(world, desk, events, from) {
+            Some(place) => desk.pass(place),
+            None => return,
         }
     }
 }
