@@ -1,7 +1,7 @@
 // Scripts, as the program `pair` plays them.
 use ftp_tool_pair::{PairSettings, play};
 use ftp_tool_status::Status;
-use rows_base::{FailingReader, FailingWriter, Paper, cut, row_in_front, split};
+use rows_base::{FailingReader, FailingWriter, Paper, Refusing, cut, row_in_front, split};
 use std::alloc::Global;
 
 /// The most octets of a round, of the pieces that a script is played by again.
@@ -49,14 +49,15 @@ fn compare(piece: u32, whole: &[u8], again: &[u8], paper: &mut Paper) {
     }
 }
 
-/// What a script writes, and how it ends.
+/// What a script writes, and how it ends. It is over the allocator of the rows of events, so that a world is compiled for one alone.
 fn played(alloc: Global, words: &[u8], script: &[u8], piece: u32) -> Paper {
     let mut paper = Paper::new(alloc);
     let mut reader = FailingReader::new(script, usize::MAX, u32::MAX);
     let mut writer = FailingWriter::new(alloc, usize::MAX, u32::MAX);
     let mut faults = FailingWriter::new(alloc, usize::MAX, u32::MAX);
     let settings = settings_of(words, piece);
-    let status = play(alloc, settings, &mut reader, &mut writer, &mut faults);
+    let heap = Refusing::new(alloc, 0);
+    let status = play(&heap, settings, &mut reader, &mut writer, &mut faults);
     paper.put(writer.taken());
     paper.put(faults.taken());
     put_status(status, &mut paper);
