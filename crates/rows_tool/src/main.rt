@@ -22,6 +22,7 @@ mod worlds;
 use ftp_tool_status::Status;
 use handle::Handle;
 use rows_base::{Paper, row_in_front};
+use std::alloc::Global;
 use std::io::{Read, Write};
 use std::process::ExitCode;
 use std::{fs, io};
@@ -50,25 +51,38 @@ fn played(rt: &HostRuntime) -> io::Result<Status> {
     ftp_tool_loop::play(&Handle::typing(rt, text))
 }
 
-/// Writes the rows of the crates below, each of which lie in a file.
+/// Rows that lie in a file.
+#[derive(Clone, Copy)]
+enum Rows {
+    Lines,
+    Trees,
+    Ends,
+    Worlds,
+}
+
+const FILES: &[(&str, Rows)] = &[
+    ("lines", Rows::Lines),
+    ("trees", Rows::Trees),
+    ("ends", Rows::Ends),
+    ("worlds", Rows::Worlds),
+];
+
+/// Writes the rows of the crates below, and those of events.
 fn others(rt: &HostRuntime) -> io::Result<()> {
-    let alloc = rt.alloc();
-    write(
-        rt,
-        &rows_lines::play_all(alloc, fs::read(rt, "lines")?.as_slice()),
-    )?;
-    write(
-        rt,
-        &rows_tree::play_all(alloc, fs::read(rt, "trees")?.as_slice()),
-    )?;
-    write(
-        rt,
-        &rows_ends::play_all(alloc, fs::read(rt, "ends")?.as_slice()),
-    )?;
-    write(
-        rt,
-        &worlds::play_all(alloc, fs::read(rt, "worlds")?.as_slice()),
-    )
+    for (file, rows) in FILES {
+        let script = fs::read(rt, *file)?;
+        write(rt, &play_all(rt.alloc(), *rows, script.as_slice()))?;
+    }
+    Ok(())
+}
+
+fn play_all(alloc: Global, rows: Rows, script: &[u8]) -> Paper {
+    match rows {
+        Rows::Lines => rows_lines::play_all(alloc, script),
+        Rows::Trees => rows_tree::play_all(alloc, script),
+        Rows::Ends => rows_ends::play_all(alloc, script),
+        Rows::Worlds => worlds::play_all(alloc, script),
+    }
 }
 
 fn write(rt: &HostRuntime, paper: &Paper) -> io::Result<()> {
