@@ -1,5 +1,5 @@
 // A file of this end, as it is written: beside its name, and moved over it.
-ghost use Rattle.std.specs.Prelude.{◌≡◌, IfOk, string_bytes};
+ghost use Rattle.std.specs.Prelude.{◌≡◌, IfOk, OnOk, string_bytes};
 ghost use Rattle.ftp_tool_local.specs.Part.{part_name};
 
 use crate::disk::Disk;
@@ -113,10 +113,18 @@ pub fn beside(alloc: Global, file: &str, number: u32) -> Result<String<Global>, 
     ensures { IfOk result (λ name. string_bytes name ≡ part_name file.now number) }
 {
     let mut name: String<Global> = String::from_str(alloc, file)?;
-    name.push_str(BESIDE)?;
-    if number > 0 {
-        name.push_str("-")?;
-        name.push_str(Buffer::new().format(number))?;
-    }
+    put_part(&mut name, number)?;
     Ok(name)
+}
+
+/// Appends what stands behind the name of a file in that of its part of a number.
+fn put_part(name: &mut String<Global>, number: u32) -> Result<(), AllocError>
+    ensures { OnOk result (string_bytes name.new ≡ part_name (string_bytes name.old) number) }
+{
+    name.push_str(BESIDE)?;
+    if number == 0 {
+        return Ok(());
+    }
+    name.push_str("-")?;
+    name.push_str(Buffer::new().format(number))
 }
