@@ -1,7 +1,6 @@
 -- What is planned of one entry.
 use Rattle.std.proofs.Common.{◌≡◌, ◌++◌, ◌∙◌, ℕ, List, Option, ap}
 use Rattle.ftp_tool_listing.specs.declared.deeds.Deeds.{Deeds}
-use Rattle.ftp_tool_listing.specs.declared.deeds.Rules.{Rules}
 use Rattle.ftp_tool_listing.specs.declared.item.Item.{Item}
 use Rattle.ftp_tool_listing.specs.declared.item.Kind.{Kind}
 use Rattle.ftp_tool_listing.specs.declared.planning.Step.{Step}
