@@ -9,6 +9,7 @@ use crate::server::{ServerAddress, connected, leave};
 use ftp_client::Client;
 use ftp_client_drive::Control;
 use ftp_client_model::Near;
+use ftp_client_steps::ClientTransfer;
 use ftp_client_transfer::OperationTransfer;
 use ftp_endpoint::Host;
 use ftp_operation::Login;
@@ -98,7 +99,7 @@ where
         ControlWriter::new(link.stream, link.patience),
     );
     let done = match login.take() {
-        Some(login) => play_by_one(
+        Some(login) => play_by_one::<OperationTransfer<Global>, _, _, _, _, _>(
             (alloc, login, hosts),
             &mut control,
             ports,
@@ -120,8 +121,8 @@ fn hosts_of(stream: &TcpStream) -> io::Result<(Host, Host)> {
     Ok((here, peer))
 }
 
-/// Plays by a client between two hosts, which takes the login.
-fn play_by_one<C, W, O, T, P>(
+/// Plays by a client between two hosts, which takes the login; what it transfers by is a parameter, since a named one costs the proof more.
+fn play_by_one<F, C, W, O, T, P>(
     (alloc, login, hosts): (Global, Login<Global>, (Host, Host)),
     control: &mut Control<C, W>,
     ports: &mut O,
@@ -129,24 +130,25 @@ fn play_by_one<C, W, O, T, P>(
     play: &mut P,
 ) -> Result<T, SessionFault>
 where
+    F: ClientTransfer<Global>,
     C: Read + Drop,
     W: Write + Drop,
     O: Opens,
     T: Drop,
     P: SessionTask<Result<T, SessionFault>>,
 {
-    match client_of(alloc, login, hosts) {
+    match client_of::<F>(alloc, login, hosts) {
         Some(client) => play_by(client, control, ports, course, play),
         None => Err(SessionFault::of_memory()),
     }
 }
 
 /// A client between two hosts; none where memory is refused.
-fn client_of(
+fn client_of<F: ClientTransfer<Global>>(
     alloc: Global,
     login: Login<Global>,
     (here, peer): (Host, Host),
-) -> Option<Client<Global, OperationTransfer<Global>>> {
+) -> Option<Client<Global, F>> {
     Client::new(alloc, login, here, peer).ok()
 }
 

@@ -7,10 +7,12 @@ use crate::server::ServerEnd;
 use crate::side::HERE;
 use ftp_client::Client;
 use ftp_client_model::Near;
+use ftp_client_steps::ClientTransfer;
 use ftp_client_transfer::OperationTransfer;
 use ftp_facts::Text;
 use ftp_server::Server;
 use ftp_server_model::Far;
+use ftp_server_parts::ServerTransfer;
 use ftp_server_transfer::TreeTransfer;
 use ftp_tool_accounts::two_accounts;
 use ftp_tool_script::{Order, Script, read_script};
@@ -55,15 +57,22 @@ where
 }
 
 /// Plays a script with a server of its own, over an empty tree, where `guest` and `anonymous` may log in.
-fn play_script<R>(rt: &R, script: Script<Global>) -> io::Result<Status>
+fn play_script<R: Joins + Print>(rt: &R, script: Script<Global>) -> io::Result<Status> {
+    play_by::<R, TreeTransfer<Global>, OperationTransfer<Global>>(rt, script)
+}
+
+/// The same by ends with such transfers, which are parameters, since named ones cost the proof more.
+fn play_by<R, J, C>(rt: &R, script: Script<Global>) -> io::Result<Status>
 where
     R: Joins + Print,
+    J: ServerTransfer<Global, MemTree<Global>>,
+    C: ClientTransfer<Global>,
 {
     let alloc = rt.heap();
     let Ok(accounts) = two_accounts(alloc) else {
         return Err(Error::from(ErrorKind::OutOfMemory));
     };
-    let made: Result<Server<Global, MemTree<Global>, TreeTransfer<Global>>, _> = Server::new(
+    let made: Result<Server<Global, MemTree<Global>, J>, _> = Server::new(
         alloc,
         MemTree::new(alloc),
         accounts,
@@ -71,24 +80,20 @@ where
         HERE,
     );
     match made {
-        Ok(server) => play_at(rt, server, script),
+        Ok(server) => play_at::<R, _, C>(rt, server, script),
         Err(_) => Err(Error::from(ErrorKind::OutOfMemory)),
     }
 }
 
 /// Plays a script at a server, by a client of its own.
-fn play_at<R, S>(rt: &R, server: S, script: Script<Global>) -> io::Result<Status>
+fn play_at<R, S, C>(rt: &R, server: S, script: Script<Global>) -> io::Result<Status>
 where
     R: Joins + Print,
     S: Far<Global, MemTree<Global>>,
+    C: ClientTransfer<Global>,
 {
     let Script { login, orders } = script;
-    let made: Result<Client<Global, OperationTransfer<Global>>, _> = Client::new(
-        rt.heap(),
-        login,
-        HERE,
-        HERE,
-    );
+    let made: Result<Client<Global, C>, _> = Client::new(rt.heap(), login, HERE, HERE);
     match made {
         Ok(client) => play_between(rt, client, server, orders),
         Err(_) => Err(Error::from(ErrorKind::OutOfMemory)),

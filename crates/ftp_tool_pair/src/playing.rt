@@ -13,10 +13,12 @@ use crate::making::beginning_of;
 use crate::orders::obey;
 use crate::transcript::Transcript;
 use ftp_client_model::Near;
+use ftp_client_steps::ClientTransfer;
 use ftp_client_transfer::OperationTransfer;
 use ftp_facts::Text;
 use ftp_pair::World;
 use ftp_server_model::Far;
+use ftp_server_session::ServerTransfer;
 use ftp_server_transfer::TreeTransfer;
 use ftp_tool_script::{NoScript, Order, Script, read_script, write_reports};
 use ftp_tool_status::Status;
@@ -99,11 +101,11 @@ fn play_script<A: Allocator + Copy, W: Write>(
 {
     let Script { login, orders } = script;
     let of = beginning_of(alloc, login, settings.roots)?;
-    play_from(alloc, settings, of, orders, writer)
+    play_from::<A, OperationTransfer<A>, TreeTransfer<A>, W>(alloc, settings, of, orders, writer)
 }
 
-/// Plays orders from a beginning.
-fn play_from<A: Allocator + Copy, W: Write>(
+/// Plays orders from a beginning, by ends with such transfers; these are parameters, since named ones cost the proof more.
+fn play_from<A: Allocator + Copy, C: ClientTransfer<A>, J: ServerTransfer<A, MemTree<A>>, W: Write>(
     alloc: A,
     settings: PairSettings,
     of: Beginning<A, MemTree<A>>,
@@ -113,7 +115,7 @@ fn play_from<A: Allocator + Copy, W: Write>(
     ensures { IfOk result (λ status. Plays A (begun of.login.user of.login.pass of.accounts of.tree of.near_host of.far_host) orders.items
         (W.contents writer.old) (W.contents writer.new) status) }
 {
-    let mut world = world_of::<A, MemTree<A>, OperationTransfer<A>, TreeTransfer<A>>(alloc, of)?;
+    let mut world = world_of::<A, MemTree<A>, C, J>(alloc, of)?;
     play_in(alloc, settings, &mut world, orders, writer)
 }
 

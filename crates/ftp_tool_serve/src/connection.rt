@@ -8,6 +8,7 @@ use ftp_operation::Accounts;
 use ftp_server::{NotBegun, Server};
 use ftp_server_drive::{Control, drive_server};
 use ftp_server_model::Far;
+use ftp_server_parts::ServerTransfer;
 use ftp_server_transfer::TreeTransfer;
 use ftp_tool_accounts::Grants;
 use ftp_tool_sockets::{
@@ -54,7 +55,9 @@ where
     T: Tree<Global>,
 {
     match ends_of(stream) {
-        Ok(ends) => session_between(rt, tree, accounts, stream, ends, service),
+        Ok(ends) => session_between::<R, T, TreeTransfer<Global>>(
+            rt, tree, accounts, stream, ends, service,
+        ),
         Err(_) => (tree, Err(Failed)),
     }
 }
@@ -93,8 +96,9 @@ where
     }
 }
 
-/// Makes a server between two ends of a control connection, which serves it.
-fn session_between<R, T>(
+/// Makes a server between two ends of a control connection, which serves it; what it transfers by is a parameter, since a named one costs the proof
+/// more.
+fn session_between<R, T, J>(
     rt: &R,
     tree: T,
     accounts: Accounts<Global>,
@@ -105,8 +109,9 @@ fn session_between<R, T>(
 where
     R: Drives,
     T: Tree<Global>,
+    J: ServerTransfer<Global, T>,
 {
-    let made: Result<Server<Global, T, TreeTransfer<Global>>, NotBegun<Global, T>> = Server::new(
+    let made: Result<Server<Global, T, J>, NotBegun<Global, T>> = Server::new(
         rt.heap(),
         tree,
         accounts,
@@ -125,7 +130,7 @@ trait GivesTree<T> {
     fn give_tree(self) -> T;
 }
 
-impl<T: Tree<Global>> GivesTree<T> for Server<Global, T, TreeTransfer<Global>> {
+impl<T: Tree<Global>, J: ServerTransfer<Global, T>> GivesTree<T> for Server<Global, T, J> {
     fn give_tree(self) -> T {
         self.into_tree()
     }
