@@ -6,7 +6,7 @@ use Rattle.ftp_control.specs.Side.{Side}
 use Rattle.ftp_control.specs.declared.control.Control.{Control}
 use Rattle.ftp_ends.specs.declared.link.Wants.TheVariants as Want
 use Rattle.ftp_operation.specs.Answer as Answers
-use Rattle.ftp_client_model.specs.Calls.{control_end, data_closed, data_end, data_fault, data_opened, data_refused, gives_control, gives_data, is_sound, listen_refused, listening, may_hear, report_of, reports, to_give, wants}
+use Rattle.ftp_client_model.specs.Calls.{control_end, data_closed, data_end, data_fault, data_opened, data_refused, gives_control, gives_data, is_sound, listen_refused, listening, may_hear, may_receive, report_of, reports, to_give, wants}
 use Rattle.ftp_client_model.specs.View.{Job, Idle, Waiting, Doing, Transferring, Told}
 use Rattle.ftp_client_model.specs.Failing.{Client, HearsIfRoom, Holds, HoldsIfRoom, ReceivesIfRoom, data_end_short, data_fault_short, data_opened_short, data_refused_short, listen_refused_short, listening_short, short}
 
@@ -30,6 +30,7 @@ client_machine = record {
   owed = λ client. client.view.owed;
   to_give = λ client. to_give client.view;
   may_hear = λ client. may_hear client.view;
+  may_receive = λ client. may_receive client.view;
   Hears = λ octets unheard old new. HearsIfRoom old new unheard (length octets);
   Gives = λ count old new. Holds old new (gives_control count old.view);
   IsCut = λ old new. Holds old new (control_end old.view);

@@ -1,5 +1,5 @@
 // The calls of a client, as a drive makes them.
-ghost use Rattle.std.specs.Prelude.{false};
+ghost use Rattle.std.specs.Prelude.{false, None};
 ghost use Rattle.ftp_client_drive.specs.Driving.{Reports};
 ghost use Rattle.ftp_client_drive.specs.Side.{client_machine};
 
@@ -11,12 +11,12 @@ use ftp_operation::Answer;
 use std::alloc::Allocator;
 use std::marker::PhantomData;
 
-/// Those of a client whose answers grow by an `A`. It has no clock.
+/// Those of a client whose answers grow by an `A`.
 pub(crate) struct Asks<A> {
     _answers: PhantomData<A>,
 }
 
-impl<A: Allocator + Copy, N: Near<A>> EndCalls<N, ()> for Asks<A> {
+impl<A: Allocator + Copy, N: Near<A>> EndCalls<N> for Asks<A> {
     type Over = Answer<A>;
 
     ghost machine = { client_machine };
@@ -25,6 +25,9 @@ impl<A: Allocator + Copy, N: Near<A>> EndCalls<N, ()> for Asks<A> {
 
     /// It was asked for its report, which was this.
     ghost last = { λ answer old new. Reports answer old new };
+
+    /// It was asked for its report, and had none.
+    ghost goes_on = { None };
 
     ghost serves = { false };
 
@@ -35,8 +38,6 @@ impl<A: Allocator + Copy, N: Near<A>> EndCalls<N, ()> for Asks<A> {
     fn over(end: &mut N) -> Option<Answer<A>> {
         end.report()
     }
-
-    fn tell_time(_end: &mut N, _watch: &mut ()) {}
 
     fn wants(end: &N) -> Wants {
         end.wants()

@@ -40,7 +40,7 @@ where
     P: Ports,
     ensures { Drives control.new.failed (beside R.remaining W.contents (held (N.client client.old) (no_lane (P.history ports.old))) control.old) (beside R.remaining W.contents (held (N.client client.new) (no_lane (P.history ports.new))) control.new) result.off (option_map said_of result.report) }
 {
-    let (data, ended) = drive_end::<Asks<A>, N, (), R, W, P>(client, control, ports, &mut ());
+    let (data, ended) = drive_end::<Asks<A>, N, R, W, P>(client, control, ports);
     match ended {
         Ok(answer) => {
             data.finish(ports);

@@ -31,43 +31,50 @@ module _ {side : Side} where
   goes_then a b c (Ok value) first goes = leads_then a b c first goes
   goes_then a b c (Err e) first fails = fails_then a b c first fails
 
+  -- what is owed is written, or that fails
+  pub flushed : {T : Type 0} (a b : Stand side) (r : Result T Cause) → Flushes a b r → Goes a b r
+  flushed a b (Ok value) settles = settled_leads a b settles
+  flushed a b (Err e) fails = fails
+
   -- ---- reads
 
   -- octets are read
-  pub reads_next : (start old new : Stand side) (octets : List ℕ) → Settles start old → old.unheard ≡ [] → Consumes old.left new.left octets
-      → new.unheard ≡ octets → new.written ≡ old.written → new.owner ≡ old.owner → Leads start new
-  reads_next start old new octets settles heard read unheard written owner =
+  pub reads_next : (start old new : Stand side) (octets : List ℕ) → Settles start old → old.unheard ≡ [] → Consumes old.left.octets new.left.octets octets
+      → new.left.ended ≡ old.left.ended → new.unheard ≡ octets → new.written ≡ old.written → new.owner ≡ old.owner → Leads start new
+  reads_next start old new octets settles heard read ended unheard written owner =
       let mid = settles.mid in
       let owes = settles.owes in
       leads_on (Read octets) start mid new settles.leads (record {
         owes = subst (λ s. side.OwesNone mid.owner s) (sym owner) owes.0;
         heard = ap (λ s. s.unheard) (sym owes.1) ∙ heard;
-        read = subst (λ l. Consumes l new.left octets) (ap (λ s. s.left) owes.1) read;
+        read = subst (λ l. Consumes l.octets new.left.octets octets) (ap (λ s. s.left) owes.1) read;
+        ended = ended ∙ ap (λ s. s.left.ended) owes.1;
         unheard = unheard;
         written = written ∙ ap (λ s. s.written) owes.1;
       })
 
   -- none was left
-  pub ends_here : (start old new : Stand side) → Settles start old → old.unheard ≡ [] → Consumes old.left new.left [] → IsAtEnd new.left
-      → new.unheard ≡ [] → new.written ≡ old.written → side.IsCut old.owner new.owner → Leads start new
-  ends_here start old new settles heard read last unheard written cut =
+  pub ends_here : (start old new : Stand side) → Settles start old → old.unheard ≡ [] → Consumes old.left.octets new.left.octets [] → IsAtEnd new.left.octets
+      → new.left.ended ≡ true → new.unheard ≡ [] → new.written ≡ old.written → side.IsCut old.owner new.owner → Leads start new
+  ends_here start old new settles heard read last ended unheard written cut =
       let mid = settles.mid in
       let owes = settles.owes in
       leads_on Ended start mid new settles.leads (record {
         asked = old.owner;
         owes = owes.0;
         heard = ap (λ s. s.unheard) (sym owes.1) ∙ heard;
-        read = subst (λ l. Consumes l new.left []) (ap (λ s. s.left) owes.1) read;
+        read = subst (λ l. Consumes l.octets new.left.octets []) (ap (λ s. s.left) owes.1) read;
         last = last;
+        ended = ended;
         cut = cut;
         unheard = unheard;
         written = written ∙ ap (λ s. s.written) owes.1;
       })
 
   -- a read failed
-  pub read_fails : (start old new : Stand side) → Settles start old → Keeps old.left new.left → new.unheard ≡ old.unheard → new.written ≡ old.written
-      → new.owner ≡ old.owner → Fails start new
-  read_fails start old new settles left unheard written owner = record {
+  pub read_fails : (start old new : Stand side) → Settles start old → Keeps old.left.octets new.left.octets → new.left.ended ≡ old.left.ended
+      → new.unheard ≡ old.unheard → new.written ≡ old.written → new.owner ≡ old.owner → Fails start new
+  read_fails start old new settles left ended unheard written owner = record {
     mid = old;
     leads = settled_leads start old settles;
     octets = [];
@@ -76,6 +83,7 @@ module _ {side : Side} where
       gives = inl (refl, refl);
       lets = subst (λ s. side.LetsGo old.owner s) (sym owner) (side.lets_none old.owner);
       left = left;
+      ended = ended;
       unheard = unheard;
       wrote = subst (λ w. AppendsFront old.written w []) (sym written) (AppendsFront-none old.written []);
     };
@@ -92,7 +100,8 @@ module _ {side : Side} where
       given = new.owner;
       gives = inr gives;
       lets = side.lets_none new.owner;
-      left = subst (λ l. Keeps old.left l) (sym left) (Keeps-refl old.left);
+      left = subst (λ l. Keeps old.left.octets l.octets) (sym left) (Keeps-refl old.left.octets);
+      ended = ap (λ l. l.ended) left;
       unheard = unheard;
       wrote = wrote;
     };

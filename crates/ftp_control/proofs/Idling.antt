@@ -1,13 +1,14 @@
 -- How an end's data connection moves between its calls, whatever that end holds, and what deeds of it come to.
 use Rattle.std.proofs.Common.{◌≡◌, ◌∙◌, ◌⊎◌, ℕ, inl, inr, List, [], ◌++◌, take, drop, Option, Some, None, refl, sym, ap, subst}
-use Rattle.std.specs.Prelude.{◌≢◌, Bool}
+use Rattle.std.specs.Prelude.{◌≢◌, Bool, true}
+use Rattle.std.specs.Io.KnownBytes.{IsAtEnd}
 use Rattle.std.proofs.KnownBytes.{Keeps-refl}
 use Rattle.std.proofs.lemmas.List.{append-nil, take-append-drop}
 use Rattle.ftp_control.specs.Asking.{Adds, Asked, told_lost}
 use Rattle.ftp_control.specs.Deeds.{Heard, Other, Stand, with_owner}
 use Rattle.ftp_control.specs.Driving.{Breaks, Leads, Quietly}
 use Rattle.ftp_control.specs.Lane.{IsLeft, IsRead, IsWaited, IsWritten, Lane, with_asked, with_untold}
-use Rattle.ftp_control.specs.Machine.{AreWanted, Gives, Got, Held, Idles, IsWanted, Left, LetGo, Machine, Waited, Wrote, held, move_of, side_of}
+use Rattle.ftp_control.specs.Machine.{AreWanted, Aside, Break, End, Gives, Got, Held, Idles, IsWanted, Left, LetGo, Machine, Received, Waited, Wrote, held, move_of, side_of}
 use Rattle.ftp_control.specs.Side.{Side}
 use Rattle.ftp_control.proofs.Courses.{Carrier}
 use Rattle.ftp_control.proofs.Lanes.{asked_for}
@@ -51,6 +52,32 @@ module _ (machine : Machine) where
       → new ≡ with_owner (held old.owner.end new.owner.lane) old → Leads old new
   leaves asked old new left same =
       leads_by (Other (Left asked)) old new ((ap (λ s. s.owner.end) same, left, tt), subst (λ s. new ≡ with_owner s old) (sym (ap (λ s. s.owner) same)) same)
+
+  -- one of its own calls
+  pub asides : (own : machine.Own) (old new : machine.Here) (lane : Lane) → machine.Owns own old new → Quietly (side_of machine) (held old lane) (held new lane)
+  asides own old new lane did = quiet_call (side_of machine) (Aside own) (held old lane) (held new lane) (did, refl, tt)
+
+  -- it is told that its data connection, which stands and is at its end, ended; or that it broke
+  pub ends_told : (old new : machine.Here) (lane : Lane) → machine.End old new → lane.stands ≡ true → IsAtEnd lane.left → lane.untold ≡ []
+      → Quietly (side_of machine) (held old lane) (held new lane)
+  ends_told old new lane over stands ended none = quiet_call (side_of machine) End (held old lane) (held new lane) (over, (refl, ended, none), stands)
+
+  pub breaks_told : (old new : machine.Here) (lane : Lane) → machine.Break old new → Quietly (side_of machine) (held old lane) (held new lane)
+  breaks_told old new lane broke = quiet_call (side_of machine) Break (held old lane) (held new lane) (broke, refl, tt)
+
+  -- these came, and are in hand
+  pub came : (old : Stand (side_of machine)) (lane : Lane) (hand octets : List ℕ) → IsRead hand old.owner.lane (with_untold hand lane) → hand ≡ octets
+      → Leads old (with_owner (held old.owner.end (with_untold octets lane)) old)
+  came old lane hand octets read is =
+      subst (λ l. Leads old (with_owner (held old.owner.end (with_untold l lane)) old)) is
+      (idles_read hand old.owner.lane (with_untold hand lane) read old.owner.end old.left old.unheard old.written)
+
+  -- it took so many of them
+  pub receives : (old new : machine.Here) (lane : Lane) (count : ℕ) (octets : List ℕ) → machine.Received octets count old new
+      → Quietly (side_of machine) (held old (with_untold octets lane)) (held new (with_untold (drop count octets) lane))
+  receives old new lane count octets took =
+      quiet_call (side_of machine) (Received octets count) (held old (with_untold octets lane)) (held new (with_untold (drop count octets) lane))
+      (took, (sym (take-append-drop count octets), refl), tt)
 
   -- octets that it no longer wants are let go
   pub lets_go : (here : machine.Here) (lane : Lane) (octets : List ℕ) → machine.wants here ≢ Want.Receive

@@ -34,10 +34,14 @@ module _ {side : Side} where
 
   -- it gives up where it stands
   pub gives_up : (a : Stand side) → Breaks [] a a
-  gives_up a = record { given = a.owner; gives = inl (refl, refl); lets = side.lets_none a.owner; left = Keeps-refl a.left; unheard = refl; wrote = AppendsFront-none a.written [] }
+  gives_up a = record { given = a.owner; gives = inl (refl, refl); lets = side.lets_none a.owner; left = Keeps-refl a.left.octets; ended = refl; unheard = refl; wrote = AppendsFront-none a.written [] }
 
   pub fails_here : (a b : Stand side) → Leads a b → Fails a b
   fails_here a b leads = record { mid = b; leads = leads; octets = []; breaks = gives_up b }
+
+  -- at once
+  pub fails_at : (a : Stand side) → Fails a a
+  fails_at a = fails_here a a (leads_nowhere a)
 
   -- what was not told is let go, too
   pub fails_lets : (a b c : Stand side) → Fails a b → side.LetsGo b.owner c.owner → c ≡ with_owner c.owner b → Fails a c
@@ -51,7 +55,8 @@ module _ {side : Side} where
           given = breaks.given;
           gives = breaks.gives;
           lets = side.lets_then breaks.given b.owner c.owner breaks.lets lets;
-          left = subst (λ s. Keeps fails.mid.left s.left) (sym same) breaks.left;
+          left = subst (λ s. Keeps fails.mid.left.octets s.left.octets) (sym same) breaks.left;
+          ended = ap (λ s. s.left.ended) same ∙ breaks.ended;
           unheard = ap (λ s. s.unheard) same ∙ breaks.unheard;
           wrote = subst (λ s. AppendsFront fails.mid.written s.written fails.octets) (sym same) breaks.wrote;
         };

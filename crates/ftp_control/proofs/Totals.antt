@@ -10,7 +10,7 @@ use Rattle.ftp_control.specs.Driving.{Cuts, Fails, Sums}
 module _ {side : Side} where
   -- what one deed comes to
   record Adds (deed : Deed side) (old new : Stand side) : Type 0 where
-    read : Consumes old.left new.left (read_by deed)
+    read : Consumes old.left.octets new.left.octets (read_by deed)
     heard : old.unheard ++ read_by deed ≡ heard_by deed ++ new.unheard
     wrote : Appends old.written new.written (said_by deed)
 
@@ -18,7 +18,8 @@ module _ {side : Side} where
   still : (old new : Stand side) (deed : Deed side) → new.left ≡ old.left → new.written ≡ old.written → read_by deed ≡ [] → said_by deed ≡ []
       → old.unheard ≡ heard_by deed ++ new.unheard → Adds deed old new
   still old new deed left written none silent heard = record {
-    read = subst (λ l. Consumes old.left l (read_by deed)) (sym left) (subst (λ l. Consumes old.left old.left l) (sym none) (Consumes-nil old.left));
+    read = subst (λ l. Consumes old.left.octets l.octets (read_by deed)) (sym left)
+        (subst (λ l. Consumes old.left.octets old.left.octets l) (sym none) (Consumes-nil old.left.octets));
     heard = ap (λ l. old.unheard ++ l) none ∙ append-nil old.unheard ∙ heard;
     wrote = subst (λ w. Appends old.written w (said_by deed)) (sym written) (subst (λ l. Appends old.written old.written l) (sym silent) (Appends-nil old.written));
   }
@@ -26,7 +27,7 @@ module _ {side : Side} where
   adds : (deed : Deed side) (old new : Stand side) → Done deed old new → Adds deed old new
   adds (Heard octets) old new done = still old new (Heard octets) done.left done.written refl refl done.next
   adds (Said octets) old new done = record {
-    read = subst (λ l. Consumes old.left l []) (sym done.left) (Consumes-nil old.left);
+    read = subst (λ l. Consumes old.left.octets l.octets []) (sym done.left) (Consumes-nil old.left.octets);
     heard = append-nil old.unheard ∙ sym done.unheard;
     wrote = done.wrote;
   }
@@ -45,14 +46,14 @@ module _ {side : Side} where
 
   pub sums : (deeds : List (Deed side)) (start now : Stand side) → Led deeds start now → Sums deeds start now
   sums [] start now led = subst (λ s. Sums [] start s) (sym led)
-      (record { led = refl; read = Consumes-nil start.left; heard = append-nil start.unheard; wrote = Appends-nil start.written })
+      (record { led = refl; read = Consumes-nil start.left.octets; heard = append-nil start.unheard; wrote = Appends-nil start.written })
   sums (deed ∷ before) start now led =
       let mid = led.0 in
       let all = sums before start mid led.1 in
       let one = adds deed mid now led.2 in
       record {
         led = led;
-        read = Consumes-trans start.left mid.left now.left (read_in before) (read_by deed) all.read one.read;
+        read = Consumes-trans start.left.octets mid.left.octets now.left.octets (read_in before) (read_by deed) all.read one.read;
         heard = sym (append_assoc start.unheard (read_in before) (read_by deed)) ∙ ap (λ l. l ++ read_by deed) all.heard
             ∙ append_assoc (heard_in before) mid.unheard (read_by deed) ∙ ap (λ l. heard_in before ++ l) one.heard
             ∙ sym (append_assoc (heard_in before) (heard_by deed) now.unheard);
@@ -69,7 +70,7 @@ module _ {side : Side} where
         mid = fails.mid;
         led = fails.leads.led;
         breaks = breaks;
-        read = Consumes-kept start.left fails.mid.left now.left (read_in deeds) all.read breaks.left;
+        read = Consumes-kept start.left.octets fails.mid.left.octets now.left.octets (read_in deeds) all.read breaks.left;
         heard = all.heard ∙ ap (λ l. heard_in deeds ++ l) (sym breaks.unheard);
         wrote = Appends-then-front start.written fails.mid.written now.written (said_in deeds) fails.octets all.wrote breaks.wrote;
       }

@@ -25,8 +25,8 @@ pub data Asked : Type 0 where
   -- it told that the control connection ended, or that waiting failed
   Lost : Asked
 
--- these were asked too, the last one first, where it is known what was asked; else it stays unknown
-abbrev pub Adds : (old new : Option (List Asked)) → List Asked → Type 0
+-- these were asked, or told, too, the last one first, where it is known what was before; else it stays unknown
+abbrev pub Adds : {A : Type 0} → (old new : Option (List A)) → List A → Type 0
 Adds None None more = ⊤
 Adds None (Some after) more = ⊥
 Adds (Some before) None more = ⊥

@@ -1,13 +1,14 @@
 -- What is done with an end beside its control connection, one deed after another (RFC 959, section 2.3).
-use Rattle.std.specs.Prelude.{◌≡◌, ℕ, List, [], ◌∷◌, ◌++◌, Option}
+use Rattle.std.specs.Prelude.{◌≡◌, ℕ, true, List, [], ◌∷◌, ◌++◌, Option}
 use Rattle.std.specs.Io.KnownBytes.{Appends, Consumes, IsAtEnd}
 use Rattle.ftp_control.specs.Side.{Side}
+use Rattle.ftp_control.specs.Unheard.{Source}
 
--- an end beside its control connection: what is left to be read of it, what was read and is not heard yet, and what was written
--- to it, where a reader or a writer tells that
+-- an end beside its control connection: what is left to be read of it and whether a read found its end, what was read and is not heard yet, and
+-- what was written to it, where a reader or a writer tells that
 pub record Stand (side : Side) : Type 0 where
   pub owner : side.End
-  pub left : Option (List ℕ)
+  pub left : Source
   pub unheard : List ℕ
   pub written : Option (List ℕ)
 
@@ -50,17 +51,19 @@ module _ {side : Side} where
   pub record ReadsNext (octets : List ℕ) (old new : Stand side) : Type 0 where
     pub owes : side.OwesNone old.owner new.owner
     pub heard : old.unheard ≡ []
-    pub read : Consumes old.left new.left octets
+    pub read : Consumes old.left.octets new.left.octets octets
+    pub ended : new.left.ended ≡ old.left.ended
     pub unheard : new.unheard ≡ octets
     pub written : new.written ≡ old.written
 
-  -- where it owes nothing and all octets were heard, none is left: it is told that the control connection ended
+  -- where it owes nothing and all octets were heard, a read finds none: it is told that the control connection ended
   pub record EndsHere (old new : Stand side) : Type 0 where
     pub asked : side.End
     pub owes : side.OwesNone old.owner asked
     pub heard : old.unheard ≡ []
-    pub read : Consumes old.left new.left []
-    pub last : IsAtEnd new.left
+    pub read : Consumes old.left.octets new.left.octets []
+    pub last : IsAtEnd new.left.octets
+    pub ended : new.left.ended ≡ true
     pub cut : side.IsCut asked new.owner
     pub unheard : new.unheard ≡ []
     pub written : new.written ≡ old.written

@@ -6,6 +6,7 @@ use Rattle.std.specs.Io.KnownBytes.{Appends, Consumes, Keeps}
 use Rattle.ftp_control.specs.Beginning.{AppendsFront}
 use Rattle.ftp_control.specs.Deeds.{Deed, Led, OwesNothing, Stand, heard_in, read_in, said_in}
 use Rattle.ftp_control.specs.Side.{Side}
+use Rattle.ftp_control.specs.Unheard.{Source}
 use Rattle.ftp_control.specs.declared.cause.Cause.{Cause}
 
 module _ {side : Side} where
@@ -25,7 +26,8 @@ module _ {side : Side} where
     pub given : side.End
     pub gives : ((octets ≡ []) × (given ≡ old.owner)) ⊎ side.Gives octets old.owner given
     pub lets : side.LetsGo given new.owner
-    pub left : Keeps old.left new.left
+    pub left : Keeps old.left.octets new.left.octets
+    pub ended : new.left.ended ≡ old.left.ended
     pub unheard : new.unheard ≡ old.unheard
     pub wrote : AppendsFront old.written new.written octets
 
@@ -53,7 +55,7 @@ module _ {side : Side} where
   -- all that the end said was written, and it heard all that was read but for what is not heard yet
   pub record Sums (deeds : List (Deed side)) (start now : Stand side) : Type 0 where
     pub led : Led deeds start now
-    pub read : Consumes start.left now.left (read_in deeds)
+    pub read : Consumes start.left.octets now.left.octets (read_in deeds)
     pub heard : start.unheard ++ read_in deeds ≡ heard_in deeds ++ now.unheard
     pub wrote : Appends start.written now.written (said_in deeds)
 
@@ -62,11 +64,11 @@ module _ {side : Side} where
     pub mid : Stand side
     pub led : Led deeds start mid
     pub breaks : Breaks last mid now
-    pub read : Consumes start.left now.left (read_in deeds)
+    pub read : Consumes start.left.octets now.left.octets (read_in deeds)
     pub heard : start.unheard ++ read_in deeds ≡ heard_in deeds ++ now.unheard
     pub wrote : AppendsFront start.written now.written (said_in deeds ++ last)
 
 -- calls that leave the control connection alone, however it stands
 abbrev pub Quietly : (side : Side) → (old new : side.End) → Type 0
-Quietly side old new = (left : Option (List ℕ)) (unheard : List ℕ) (written : Option (List ℕ))
+Quietly side old new = (left : Source) (unheard : List ℕ) (written : Option (List ℕ))
     → Leads {side = side} (record { owner = old; left = left; unheard = unheard; written = written }) (record { owner = new; left = left; unheard = unheard; written = written })

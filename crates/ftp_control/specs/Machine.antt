@@ -19,8 +19,9 @@ pub record Machine : Type 1 where
   pub wants : Here → Wants
   pub owed : Here → List ℕ
   pub to_give : Here → List ℕ
-  -- whether it may take an octet of the control connection
+  -- whether it may take an octet of the control connection, and of a data connection
   pub may_hear : Here → Bool
+  pub may_receive : Here → Bool
   -- of the control octets that were read and are not heard yet, it hears the first ones; it gives so many; it is told that the connection ended
   pub Hears : (octets unheard : List ℕ) → (old new : Here) → Type 0
   pub Gives : (count : ℕ) → (old new : Here) → Type 0

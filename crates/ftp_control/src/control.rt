@@ -1,5 +1,5 @@
 // A control connection: what was read of it and is not heard yet, and what is written to it.
-ghost use Rattle.std.specs.Prelude.{◌≡◌, ◌≤◌, ◌<◌, IsTrue, IfErr, IfOk, OnOk, OnErr, false, [], drop, length};
+ghost use Rattle.std.specs.Prelude.{◌≡◌, ◌≤◌, ◌<◌, IsTrue, IfErr, IfOk, OnOk, OnErr, false, true, [], drop, length};
 ghost use Rattle.std.specs.Io.KnownBytes.{Appends, Consumes, IsAtEnd, Keeps};
 ghost use Rattle.ftp_control.specs.Beginning.{AppendsFront};
 ghost use Rattle.ftp_control.specs.Cause.{IsFault};
@@ -19,6 +19,8 @@ pub struct Control<R, W> {
     piece: [u8; CONTROL_PIECE],
     at: usize,
     end: usize,
+    /// Whether a read found its end.
+    ended: bool,
     /// Whether a read or a write of it failed.
     failed: bool,
     ghost order: { at ≤ end },
@@ -30,7 +32,8 @@ impl<R: Read + Drop, W: Write + Drop> Control<R, W> {
 
     /// A control connection of which nothing was read.
     pub fn new(reader: R, writer: W) -> Control<R, W>
-        ensures left { left_of R.remaining result ≡ R.remaining reader }
+        ensures left { (left_of R.remaining result).octets ≡ R.remaining reader }
+        ensures open { (left_of R.remaining result).ended ≡ false }
         ensures written { written_of W.contents result ≡ W.contents writer }
         ensures unheard { unheard_of result ≡ [] }
         ensures failed { result.failed ≡ false }
@@ -41,6 +44,7 @@ impl<R: Read + Drop, W: Write + Drop> Control<R, W> {
             piece: [0; CONTROL_PIECE],
             at: 0,
             end: 0,
+            ended: false,
             failed: false,
         }
     }
@@ -76,10 +80,13 @@ impl<R: Read + Drop, W: Write + Drop> Control<R, W> {
     /// Reads once, where all octets before were heard, and gives how many came; none is the end of the connection.
     pub fn read(&mut self) -> Result<usize, Cause>
         requires { unheard_of self.old ≡ [] }
-        ensures ok { OnOk result (Consumes (left_of R.remaining self.old) (left_of R.remaining self.new) (unheard_of self.new)) }
-        ensures none { IfOk result (λ count. count ≡ 0 → IsAtEnd (left_of R.remaining self.new) × (unheard_of self.new ≡ [])) }
+        ensures ok { OnOk result (Consumes (left_of R.remaining self.old).octets (left_of R.remaining self.new).octets (unheard_of self.new)) }
+        ensures none { IfOk result (λ count. count ≡ 0 → IsAtEnd (left_of R.remaining self.new).octets × (unheard_of self.new ≡ [])) }
+        ensures ended { IfOk result (λ count. count ≡ 0 → (left_of R.remaining self.new).ended ≡ true) }
+        ensures some { IfOk result (λ count. 0 < count → (left_of R.remaining self.new).ended ≡ (left_of R.remaining self.old).ended) }
         ensures count { IfOk result (λ count. count ≡ length (unheard_of self.new)) }
-        ensures err { OnErr result (Keeps (left_of R.remaining self.old) (left_of R.remaining self.new)) }
+        ensures err { OnErr result (Keeps (left_of R.remaining self.old).octets (left_of R.remaining self.new).octets) }
+        ensures open { OnErr result ((left_of R.remaining self.new).ended ≡ (left_of R.remaining self.old).ended) }
         ensures kept { OnErr result (unheard_of self.new ≡ []) }
         ensures written { written_of W.contents self.new ≡ written_of W.contents self.old }
         ensures sound { OnOk result (self.new.failed ≡ self.old.failed) }
@@ -90,6 +97,9 @@ impl<R: Read + Drop, W: Write + Drop> Control<R, W> {
         match get(&mut self.reader, &mut self.piece) {
             Ok(count) => {
                 self.end = count;
+                if count == 0 {
+                    self.ended = true;
+                }
                 Ok(count)
             }
             Err(Failed) => {

@@ -1,8 +1,9 @@
 // A data connection: what stands of its stream, and which octets of a room are on their way over it.
-ghost use Rattle.std.specs.Prelude.{◌≡◌, ◌≤◌, ◌<◌, IsTrue, IfOk, OnOk, OnErr, false, true, length, take, Some, None};
+ghost use Rattle.std.specs.Prelude.{◌≡◌, ◌≢◌, ◌≤◌, ◌<◌, IsTrue, IfOk, OnOk, OnErr, false, true, length, take, Some, None};
 ghost use Rattle.std.specs.Option.{is_some};
 ghost use Rattle.std.specs.Io.KnownBytes.{Appends, Consumes, IsAtEnd, Keeps};
 ghost use Rattle.ftp_control.specs.Asking.{Leaves};
+ghost use Rattle.std.specs.IoError.{error_kind};
 ghost use Rattle.ftp_control.specs.Whole.{IsCut, IsWhole};
 
 use crate::pieces::{Failed, TURNS};
@@ -303,7 +304,11 @@ fn write_some<S: Write>(stream: &mut S, octets: &[u8]) -> Result<usize, Halt>
 }
 
 /// What an error of a data connection tells.
-fn halt_of(error: &Error) -> Halt {
+fn halt_of(error: &Error) -> Halt
+    ensures waits { error_kind error.now ≡ ErrorKind.WouldBlock → result ≡ Halt.Spoken }
+    ensures again { error_kind error.now ≡ ErrorKind.Interrupted → result ≡ Halt.Again }
+    ensures broken { error_kind error.now ≢ ErrorKind.WouldBlock → error_kind error.now ≢ ErrorKind.Interrupted → result ≡ Halt.Broken }
+{
     match error.kind() {
         ErrorKind::WouldBlock => Halt::Spoken,
         ErrorKind::Interrupted => Halt::Again,

@@ -1,5 +1,5 @@
 // What opens and closes data connections, and what tells the time.
-ghost use Rattle.std.specs.Prelude.{List, [], ◌∷◌, Option, None};
+ghost use Rattle.std.specs.Prelude.{ℕ, List, [], ◌∷◌, Option, None};
 ghost use Rattle.std.specs.Io.KnownBytes.{Keeps};
 ghost use Rattle.ftp_control.specs.Asking.{Accepts, Adds, Asked, Closes, Connects, Listened, Resets, is_lost, is_over, told_lost};
 
@@ -94,6 +94,10 @@ pub trait Ports {
 
 /// What tells the time.
 pub trait Watch {
+    /// What it told so far, in seconds since 1970, the last one first, where that is known.
+    ghost told: { Self → Option (List ℕ) } = { λ watch. None };
+
     /// The moment that it is.
-    fn moment(&mut self) -> Moment;
+    fn moment(&mut self) -> Moment
+        ensures { Adds (told self.old) (told self.new) (result.seconds ∷ []) };
 }

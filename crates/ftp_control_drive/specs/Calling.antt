@@ -1,5 +1,5 @@
--- What an end does between its common calls, and how its drive ends.
-use Rattle.std.specs.Prelude.{◌≡◌, ◌⊎◌, Option, Some, None}
+-- How an end is asked whether its drive is over, and how that ends.
+use Rattle.std.specs.Prelude.{◌≡◌, Option, Some, None}
 use Rattle.std.specs.declared.result.Result.{Result}
 use Rattle.std.specs.declared.result.Result.TheVariants.{Ok, Err}
 use Rattle.ftp_control.specs.Deeds.{Stand, with_owner}
@@ -8,14 +8,10 @@ use Rattle.ftp_control.specs.Machine.{Machine, held, side_of}
 use Rattle.ftp_control.specs.declared.cause.Cause.{Cause}
 use Rattle.ftp_ends.specs.declared.link.Wants.TheVariants as Want
 
--- one of its own calls, or none
-abbrev pub Asides : (machine : Machine) → (old new : machine.Here) → Type 0
-Asides machine old new = ((own : machine.Own) × machine.Owns own old new) ⊎ (new ≡ old)
-
--- it is asked whether its drive is over, and then that is its last call
-abbrev pub IsAsked : {Over : Type 0} → (machine : Machine) → (last : Over → (old new : machine.Here) → Type 0) → Option Over → (old new : machine.Here) → Type 0
-IsAsked machine last (Some over) old new = last over old new
-IsAsked machine last None old new = Asides machine old new
+-- it is asked whether its drive is over, and then that is its last call, or else this one of its own
+abbrev pub IsAsked : {Over : Type 0} → (machine : Machine) → (last : Over → (old new : machine.Here) → Type 0) → (goes_on : machine.Own) → Option Over → (old new : machine.Here) → Type 0
+IsAsked machine last goes_on (Some over) old new = last over old new
+IsAsked machine last goes_on None old new = machine.Owns goes_on old new
 
 -- it may be told of a close where it wants one
 abbrev pub IsToldOfClose : (machine : Machine) → machine.Here → Type 0

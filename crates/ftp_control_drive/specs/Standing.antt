@@ -25,7 +25,7 @@ abbrev pub HasEnded : {S : Type 0} → (remaining : S → Option (List ℕ)) →
 HasEnded remaining data_connection = (is_some data_connection.connection.stream ≡ true) × IsAtEnd (left_of remaining data_connection.connection)
 
 -- it is a drive of the same end, control connection and ports
-abbrev pub IsKept : {K E C R W P S : Type 0} → (old new : Drive K E C R W P S) → Type 0
+abbrev pub IsKept : {K E R W P S : Type 0} → (old new : Drive K E R W P S) → Type 0
 IsKept old new = (new.end.ghost_name ≡ old.end.ghost_name) × (new.control.ghost_name ≡ old.control.ghost_name) × (new.ports.ghost_name ≡ old.ports.ghost_name)
 
 -- an end beside its control connection breaks off only for a cause, after this was asked
@@ -34,17 +34,17 @@ Why machine serves here asked control result =
     IfErr result (λ cause. IsCause cause control.failed asked (unheard_of control) (machine.wants here) (machine.may_hear here) serves)
 
 -- by what its end holds, its reader has left, its writer holds, and `Ports` and a stream tell
-module _ (machine : Machine) {K E C R W P S : Type 0} (here : E → machine.Here) (left : R → Option (List ℕ)) (written : W → Option (List ℕ))
+module _ (machine : Machine) {K E R W P S : Type 0} (here : E → machine.Here) (left : R → Option (List ℕ)) (written : W → Option (List ℕ))
     (history : P → Option (List Asked)) (remaining contents : S → Option (List ℕ)) where
-  abbrev pub standing : Drive K E C R W P S → Stand (side_of machine)
+  abbrev pub standing : Drive K E R W P S → Stand (side_of machine)
   standing drive = stand_of machine left written (held (here drive.end.now) (lane_at remaining contents (history drive.ports.now) drive.data [])) drive.control.now
 
   -- it leads on
-  abbrev pub LeadsOn : (old new : Drive K E C R W P S) → Type 0
+  abbrev pub LeadsOn : (old new : Drive K E R W P S) → Type 0
   LeadsOn old new = Leads (standing old) (standing new)
 
   -- it leads on, or fails
-  abbrev pub Follows : {T : Type 0} → (old new : Drive K E C R W P S) → Result T Cause → Type 0
+  abbrev pub Follows : {T : Type 0} → (old new : Drive K E R W P S) → Result T Cause → Type 0
   Follows old new result = Goes (standing old) (standing new) result
 
 -- the same before what was asked last

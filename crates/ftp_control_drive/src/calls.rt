@@ -1,13 +1,13 @@
 // The calls of an end, as a drive makes them.
-ghost use Rattle.std.specs.Prelude.{◌≡◌, ◌<◌, ◌≤◌, Bool, length, take};
+ghost use Rattle.std.specs.Prelude.{◌≡◌, ◌<◌, ◌≤◌, Bool, IsTrue, length, take};
 ghost use Rattle.ftp_control.specs.Machine.{Machine};
-ghost use Rattle.ftp_control_drive.specs.Calling.{Asides, IsAsked, IsToldOfClose};
+ghost use Rattle.ftp_control_drive.specs.Calling.{IsAsked, IsToldOfClose};
 
 use ftp_endpoint::Host;
 use ftp_ends::Wants;
 
-/// The calls of an end `E` beside a clock `C`. Each does what the `Machine` says of it to what the end holds.
-pub trait EndCalls<E, C> {
+/// The calls of an end `E`. Each does what the `Machine` says of it to what the end holds.
+pub trait EndCalls<E> {
     /// What the drive gives at its end.
     type Over;
 
@@ -19,6 +19,9 @@ pub trait EndCalls<E, C> {
     /// Its last call.
     ghost last: { Self.Over → (old new : machine.Here) → Type 0 };
 
+    /// The call that asks whether its drive is over, where it is not.
+    ghost goes_on: { machine.Own };
+
     ghost serves: { Bool };
 
     /// Whether it serves: it hears octets one by one, while a transfer is under way too, and lines may wait for a transfer's end unheard. One that
@@ -28,11 +31,7 @@ pub trait EndCalls<E, C> {
 
     /// Whether its drive is over, and with what.
     fn over(end: &mut E) -> Option<Self::Over>
-        ensures { IsAsked machine last result (here end.old) (here end.new) };
-
-    /// It is told the moment, where it wants to know.
-    fn tell_time(end: &mut E, watch: &mut C)
-        ensures { Asides machine (here end.old) (here end.new) };
+        ensures { IsAsked machine last goes_on result (here end.old) (here end.new) };
 
     /// What it wants of the connections.
     fn wants(end: &E) -> Wants
@@ -45,7 +44,8 @@ pub trait EndCalls<E, C> {
     /// Takes the first of the octets of the control connection that were read and not heard, and says how many.
     fn hear(end: &mut E, unheard: &[u8]) -> usize
         ensures within { result ≤ length unheard.now }
-        ensures took { machine.Hears (take result unheard.now) unheard.now (here end.old) (here end.new) };
+        ensures took { machine.Hears (take result unheard.now) unheard.now (here end.old) (here end.new) }
+        ensures some { IsTrue (machine.may_hear (here end.old)) → 0 < length unheard.now → 0 < result };
 
     /// Gives octets of the control connection, and says how many.
     fn control_out(end: &mut E, room: &mut [u8]) -> usize
@@ -77,7 +77,8 @@ pub trait EndCalls<E, C> {
     /// Takes octets of the data connection, and says how many.
     fn data_hear(end: &mut E, piece: &[u8]) -> usize
         ensures within { result ≤ length piece.now }
-        ensures took { machine.Received piece.now result (here end.old) (here end.new) };
+        ensures took { machine.Received piece.now result (here end.old) (here end.new) }
+        ensures some { IsTrue (machine.may_receive (here end.old)) → 0 < length piece.now → 0 < result };
 
     /// The other end closed the data connection.
     fn data_end(end: &mut E)

@@ -12,9 +12,9 @@ use crate::hand::hand;
 use ftp_control::{Cause, For, Halt, Ports, Ready, Spoken};
 use std::io::{Read, Write};
 
-impl<'e, 'k, 'p, 'w, K, E, C, R, W, P, S> Drive<'e, 'k, 'p, 'w, K, E, C, R, W, P, S>
+impl<'e, 'k, 'p, K, E, R, W, P, S> Drive<'e, 'k, 'p, K, E, R, W, P, S>
 where
-    K: EndCalls<E, C>,
+    K: EndCalls<E>,
     R: Read + Drop,
     W: Write + Drop,
     P: Ports<Stream = S>,
@@ -60,13 +60,13 @@ where
         ensures lost { result ≡ Ready.Lost → HasLost (P.history self.new.ports.now) }
         ensures kept { IsKept self.old self.new }
     {
-        self.data.note::<K, E, C>(self.end);
+        self.data.note::<K, E>(self.end);
         let hears = !self.control.has_unheard();
         self.data.wait(self.ports, what, hears)
     }
 
     /// The waiting failed: an end that serves gives up, one that asks may still receive what came before.
-    #[tactic(auto, using(crate::proofs::Steps::fails_at))]
+    #[tactic(auto, using(ftp_control::proofs::Leading::fails_at))]
     fn lost(&mut self) -> Result<(), Cause>
         requires { HasLost (P.history self.old.ports.now) }
         ensures goes { Follows K.machine K.here R.remaining W.contents P.history S.remaining S.contents self.old self.new result }
@@ -87,7 +87,7 @@ where
     {
         match self.data.come() {
             Ok(0) => self.ended(),
-            Ok(count) => hand::<K, E, C, R, W>(self.end, self.control, self.data.front(count)),
+            Ok(count) => hand::<K, E, R, W>(self.end, self.control, self.data.front(count)),
             Err(Halt::Broken) => self.broke(),
             Err(halt) => self.halted(halt),
         }
@@ -124,7 +124,7 @@ where
         ensures leads { LeadsOn K.machine K.here R.remaining W.contents P.history S.remaining S.contents self.old self.new }
         ensures kept { IsKept self.old self.new }
     {
-        self.data.fill::<K, E, C>(self.end);
+        self.data.fill::<K, E>(self.end);
     }
 
     /// Writes octets that are not written yet.
@@ -132,7 +132,7 @@ where
         ensures leads { LeadsOn K.machine K.here R.remaining W.contents P.history S.remaining S.contents self.old self.new }
         ensures kept { IsKept self.old self.new }
     {
-        self.data.write::<K, E, C>()
+        self.data.write::<K, E>()
     }
 
     /// Follows a read or a write of the data connection that moved no octet: one that asks reads what goes first, where all before was heard, and
@@ -222,7 +222,6 @@ where
         ensures leads { LeadsOn K.machine K.here R.remaining W.contents P.history S.remaining S.contents self.old self.new }
         ensures kept { IsKept self.old self.new }
     {
-        K::tell_time(self.end, self.watch);
         K::data_end(self.end);
     }
 
@@ -239,7 +238,6 @@ where
         ensures leads { LeadsOn K.machine K.here R.remaining W.contents P.history S.remaining S.contents self.old self.new }
         ensures kept { IsKept self.old self.new }
     {
-        K::tell_time(self.end, self.watch);
         K::data_fault(self.end);
         self.data.reset(self.ports);
     }

@@ -15,9 +15,9 @@ use std::io::{Read, Write};
 
 /// Writes all control octets that the end owes.
 #[tactic(auto, using(ftp_control::proofs::Causing::passes, ftp_control::proofs::Causing::is_fault, ftp_control::proofs::Causing::is_spent))]
-pub(crate) fn flush<K, E, C, R, W>(end: &mut E, control: &mut Control<R, W>) -> Result<(), Cause>
+pub(crate) fn flush<K, E, R, W>(end: &mut E, control: &mut Control<R, W>) -> Result<(), Cause>
 where
-    K: EndCalls<E, C>,
+    K: EndCalls<E>,
     R: Read + Drop,
     W: Write + Drop,
     ensures flushes { (lane : Lane) → Flushes (stand_of K.machine R.remaining W.contents (held (K.here end.old) lane) control.old) (stand_of K.machine R.remaining W.contents (held (K.here end.new) lane) control.new) result }
@@ -37,9 +37,9 @@ where
     }
 }
 
-impl<'e, 'k, 'p, 'w, K, E, C, R, W, P, S> Drive<'e, 'k, 'p, 'w, K, E, C, R, W, P, S>
+impl<'e, 'k, 'p, K, E, R, W, P, S> Drive<'e, 'k, 'p, K, E, R, W, P, S>
 where
-    K: EndCalls<E, C>,
+    K: EndCalls<E>,
     R: Read + Drop,
     W: Write + Drop,
     P: Ports<Stream = S>,
@@ -53,7 +53,7 @@ where
         ensures why { Why K.machine K.serves (K.here self.new.end.now) (P.history self.new.ports.now) self.new.control.now result }
         ensures kept { IsKept self.old self.new }
     {
-        flush::<K, E, C, R, W>(self.end, self.control)
+        flush::<K, E, R, W>(self.end, self.control)
     }
 
     /// Hears the first octets that were read, and gives whether the end took any.
@@ -69,7 +69,7 @@ where
     }
 
     /// Serves the control connection, of which `Ports` told: reads it; where octets stand unheard its end was told, and the drive breaks off.
-    #[tactic(auto, using(crate::proofs::Steps::fails_at))]
+    #[tactic(auto, using(ftp_control::proofs::Leading::fails_at))]
     pub(crate) fn heed(&mut self) -> Result<(), Cause>
         requires { 0 < length (unheard_of self.old.control.now) → HasLost (P.history self.old.ports.now) }
         ensures goes { Follows K.machine K.here R.remaining W.contents P.history S.remaining S.contents self.old self.new result }
@@ -82,8 +82,7 @@ where
         self.read()
     }
 
-    /// Writes what the end owes and reads from the control connection, where all octets before were heard; tells the end the moment, or that the
-    /// connection ended.
+    /// Writes what the end owes and reads from the control connection, where all octets before were heard; tells the end where that ended.
     #[tactic(auto, using(ftp_control::proofs::Going::goes_err, ftp_control::proofs::Causing::passes, ftp_control::proofs::Causing::is_fault))]
     pub(crate) fn read(&mut self) -> Result<(), Cause>
         requires { unheard_of self.old.control.now ≡ [] }
@@ -93,11 +92,10 @@ where
     {
         self.flush()?;
         let count = self.control.read()?;
-        if count == 0 {
-            K::control_end(self.end);
+        if count != 0 {
             return Ok(());
         }
-        K::tell_time(self.end, self.watch);
+        K::control_end(self.end);
         Ok(())
     }
 }

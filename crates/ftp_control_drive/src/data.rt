@@ -32,30 +32,30 @@ impl<S: Read + Write> Data<S> {
     }
 
     /// Notes whether the end has more octets for it.
-    pub fn note<K: EndCalls<E, C>, E, C>(&mut self, end: &E)
+    pub fn note<K: EndCalls<E>, E>(&mut self, end: &E)
         ensures none { (self.new.connection.rest ≡ Rest.Nothing) → K.machine.wants (K.here end.now) ≢ Wants.Send }
         ensures same { (asked : Option (List Asked)) → lane_at S.remaining S.contents asked self.new [] ≡ lane_at S.remaining S.contents asked self.old [] }
     {
-        self.connection.note(rest_of::<K, E, C>(end));
+        self.connection.note(rest_of::<K, E>(end));
     }
 
     /// Takes octets from the end, where all before were written, and notes whether it has more.
-    pub(crate) fn fill<K: EndCalls<E, C>, E, C>(&mut self, end: &mut E)
+    pub(crate) fn fill<K: EndCalls<E>, E>(&mut self, end: &mut E)
         ensures quiet { (asked : Option (List Asked)) → Quietly (side_of K.machine) (held (K.here end.old) (lane_at S.remaining S.contents asked self.old [])) (held (K.here end.new) (lane_at S.remaining S.contents asked self.new [])) }
         ensures rest { (self.new.connection.rest ≡ Rest.Nothing) → K.machine.wants (K.here end.new) ≢ Wants.Send }
     {
         if self.connection.has_unwritten() {
-            self.note::<K, E, C>(end);
+            self.note::<K, E>(end);
             return;
         }
-        let most = self.piece::<K, E, C>();
-        let count = fill_front::<K, E, C>(end, &mut self.room, most);
+        let most = self.piece::<K, E>();
+        let count = fill_front::<K, E>(end, &mut self.room, most);
         self.connection.took(count);
-        self.note::<K, E, C>(end);
+        self.note::<K, E>(end);
     }
 
     /// How many octets are taken at once: of an end that serves by what went so far, of one that asks as many as there is room for.
-    fn piece<K: EndCalls<E, C>, E, C>(&self) -> usize
+    fn piece<K: EndCalls<E>, E>(&self) -> usize
         ensures { result ≤ 262144 }
     {
         if K::serves() {
@@ -65,7 +65,7 @@ impl<S: Read + Write> Data<S> {
     }
 
     /// Writes octets that are not written yet: as many as one write takes, or, of an end that serves and has no others, all.
-    pub(crate) fn write<K: EndCalls<E, C>, E, C>(&mut self) -> Result<(), Halt>
+    pub(crate) fn write<K: EndCalls<E>, E>(&mut self) -> Result<(), Halt>
         ensures written { (asked : Option (List Asked)) → (octets : List ℕ) × IsWritten octets (lane_at S.remaining S.contents asked self.old []) (lane_at S.remaining S.contents asked self.new []) }
         ensures all { OnOk result (K.serves ≡ true → self.new.connection.rest ≡ Rest.Nothing → self.new.connection.at ≡ self.new.connection.end) }
     {
@@ -147,7 +147,7 @@ impl<S: Read + Write> Data<S> {
 }
 
 /// Whether the end has more octets for its data connection.
-fn rest_of<K: EndCalls<E, C>, E, C>(end: &E) -> Rest
+fn rest_of<K: EndCalls<E>, E>(end: &E) -> Rest
     ensures { (result ≡ Rest.Nothing) → K.machine.wants (K.here end.now) ≢ Wants.Send }
 {
     match K::wants(end) {

@@ -13,12 +13,11 @@ use ftp_ends::Wants;
 use std::io::{Read, Write};
 use std::marker::PhantomData;
 
-/// An end, its control connection, what opens its data connections and tells the time, and the data connection that stands.
-pub(crate) struct Drive<'e, 'k, 'p, 'w, K, E, C, R, W, P, S> {
+/// An end, its control connection, what opens its data connections, and the data connection that stands.
+pub(crate) struct Drive<'e, 'k, 'p, K, E, R, W, P, S> {
     pub(crate) end: &'e mut E,
     pub(crate) control: &'k mut Control<R, W>,
     pub(crate) ports: &'p mut P,
-    pub(crate) watch: &'w mut C,
     pub(crate) data: Data<S>,
     /// How the end is called.
     calls: PhantomData<K>,
@@ -26,14 +25,13 @@ pub(crate) struct Drive<'e, 'k, 'p, 'w, K, E, C, R, W, P, S> {
 
 /// Drives an end until its drive is over, from where no data connection stands; gives the data connection that is left, and what the end gave.
 /// It breaks off only for a `Cause` that is so then.
-pub fn drive_end<K, E, C, R, W, P>(
+pub fn drive_end<K, E, R, W, P>(
     end: &mut E,
     control: &mut Control<R, W>,
     ports: &mut P,
-    watch: &mut C,
 ) -> (Data<P::Stream>, Result<K::Over, Cause>)
 where
-    K: EndCalls<E, C>,
+    K: EndCalls<E>,
     R: Read + Drop,
     W: Write + Drop,
     P: Ports,
@@ -44,7 +42,6 @@ where
         end,
         control,
         ports,
-        watch,
         data: Data::new(),
         calls: PhantomData::<K>,
     };
@@ -53,7 +50,6 @@ where
         end,
         control,
         ports,
-        watch: _,
         data,
         calls: _,
     } = drive;
@@ -62,9 +58,9 @@ where
     (data, over)
 }
 
-impl<'e, 'k, 'p, 'w, K, E, C, R, W, P, S> Drive<'e, 'k, 'p, 'w, K, E, C, R, W, P, S>
+impl<'e, 'k, 'p, K, E, R, W, P, S> Drive<'e, 'k, 'p, K, E, R, W, P, S>
 where
-    K: EndCalls<E, C>,
+    K: EndCalls<E>,
     R: Read + Drop,
     W: Write + Drop,
     P: Ports<Stream = S>,
@@ -77,7 +73,6 @@ where
         ensures why { Why K.machine K.serves (K.here self.new.end.now) (P.history self.new.ports.now) self.new.control.now result }
         ensures kept { IsKept self.old self.new }
     {
-        K::tell_time(self.end, self.watch);
         let mut turns = Turns::new();
         loop {
             turns.next()?;
@@ -110,7 +105,7 @@ where
     }
 
     /// Does what the end wants.
-    #[tactic(auto, using(crate::proofs::Steps::fails_at))]
+    #[tactic(auto, using(ftp_control::proofs::Leading::fails_at))]
     fn act(&mut self) -> Result<(), Cause>
         ensures goes { Follows K.machine K.here R.remaining W.contents P.history S.remaining S.contents self.old self.new result }
         ensures why { Why K.machine K.serves (K.here self.new.end.now) (P.history self.new.ports.now) self.new.control.now result }
@@ -162,7 +157,7 @@ where
 
     /// Reads where nothing is wanted and all octets before were heard. The drive breaks off where octets stand that the end may not hear, and it
     /// wants nothing that goes on beside them; else the next turn goes on.
-    #[tactic(auto, using(crate::proofs::Steps::fails_at))]
+    #[tactic(auto, using(ftp_control::proofs::Leading::fails_at))]
     fn stay(&mut self, wants: Wants) -> Result<(), Cause>
         requires { wants ≡ K.machine.wants (K.here self.old.end.now) }
         ensures goes { Follows K.machine K.here R.remaining W.contents P.history S.remaining S.contents self.old self.new result }
@@ -170,7 +165,7 @@ where
         ensures kept { IsKept self.old self.new }
     {
         if self.control.has_unheard() {
-            if !stands_still::<K, E, C>(wants) {
+            if !stands_still::<K, E>(wants) {
                 return Ok(());
             }
             if K::may_hear(self.end) {
@@ -186,7 +181,7 @@ where
 }
 
 /// Whether an end that wants this goes on only once what stands unheard is heard.
-fn stands_still<K: EndCalls<E, C>, E, C>(wants: Wants) -> bool
+fn stands_still<K: EndCalls<E>, E>(wants: Wants) -> bool
     ensures { result ≡ is_still K.serves wants }
 {
     match wants {

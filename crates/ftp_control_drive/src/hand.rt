@@ -13,19 +13,19 @@ use ftp_ends::Wants;
 use std::io::{Read, Write};
 
 /// Fills the front of the room, so many octets at most, with the octets that the end gives; gives how many they are.
-pub(crate) fn fill_front<K, E, C>(end: &mut E, room: &mut [u8], most: usize) -> usize
+pub(crate) fn fill_front<K, E>(end: &mut E, room: &mut [u8], most: usize) -> usize
 where
-    K: EndCalls<E, C>,
+    K: EndCalls<E>,
     requires { most ≤ length room.old }
     ensures within { result ≤ most }
     ensures quiet { (lane : Lane) → Quietly (side_of K.machine) (held (K.here end.old) lane) (held (K.here end.new) (with_given (take result room.new) lane)) }
 {
     let (front, _) = room.split_at_mut(most);
-    fill::<K, E, C>(end, front)
+    fill::<K, E>(end, front)
 }
 
 /// Fills the room with the octets that the end gives, as far as they go; gives how many they are.
-fn fill<K: EndCalls<E, C>, E, C>(end: &mut E, room: &mut [u8]) -> usize
+fn fill<K: EndCalls<E>, E>(end: &mut E, room: &mut [u8]) -> usize
     ensures within { result ≤ length room.new }
     ensures quiet { (lane : Lane) → Quietly (side_of K.machine) (held (K.here end.old) lane) (held (K.here end.new) (with_given (take result room.new) lane)) }
 {
@@ -46,13 +46,13 @@ fn fill<K: EndCalls<E, C>, E, C>(end: &mut E, room: &mut [u8]) -> usize
 
 /// Hands octets that came to the end until it has taken them all or wants no more, which drops the rest; what it owes is written behind each call.
 #[tactic(auto, using(ftp_control::proofs::Causing::passes, ftp_control::proofs::Causing::is_spent))]
-pub(crate) fn hand<K, E, C, R, W>(
+pub(crate) fn hand<K, E, R, W>(
     end: &mut E,
     control: &mut Control<R, W>,
     octets: &[u8],
 ) -> Result<(), Cause>
 where
-    K: EndCalls<E, C>,
+    K: EndCalls<E>,
     R: Read + Drop,
     W: Write + Drop,
     ensures goes { (lane : Lane) → Goes (stand_of K.machine R.remaining W.contents (held (K.here end.old) (with_untold octets.now lane)) control.old) (stand_of K.machine R.remaining W.contents (held (K.here end.new) (with_untold [] lane)) control.new) result }
@@ -66,7 +66,7 @@ where
         }
         turns.next()?;
         let taken = K::data_hear(end, rest);
-        flush::<K, E, C, R, W>(end, control)?;
+        flush::<K, E, R, W>(end, control)?;
         let (_, behind) = rest.split_at(taken);
         rest = behind;
     }

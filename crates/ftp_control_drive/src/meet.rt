@@ -13,9 +13,9 @@ use ftp_endpoint::{Endpoint, Host};
 use ftp_ends::Wants;
 use std::io::{Read, Write};
 
-impl<'e, 'k, 'p, 'w, K, E, C, R, W, P, S> Drive<'e, 'k, 'p, 'w, K, E, C, R, W, P, S>
+impl<'e, 'k, 'p, K, E, R, W, P, S> Drive<'e, 'k, 'p, K, E, R, W, P, S>
 where
-    K: EndCalls<E, C>,
+    K: EndCalls<E>,
     R: Read + Drop,
     W: Write + Drop,
     P: Ports<Stream = S>,

@@ -10,16 +10,15 @@ use Rattle.ftp_control.specs.Machine.{Left}
 use Rattle.ftp_control.specs.declared.cause.Cause.{Cause}
 use Rattle.ftp_control_drive.specs.Driven.{BreaksOff, Did}
 use Rattle.ftp_server_model.specs.Calls.{wants}
-use Rattle.ftp_server_model.specs.Far.{Server}
-use Rattle.ftp_server_drive.specs.Side.{ended, server_machine, server_side}
+use Rattle.ftp_server_drive.specs.Side.{Timed, ended, server_machine, server_side}
 
 -- the server is done with the control connection
 abbrev pub IsOver : Stand server_side → Type 0
-IsOver stand = wants stand.owner.end.view ≡ CloseAll
+IsOver stand = wants stand.owner.end.server.view ≡ CloseAll
 
 -- it is found to be so
-abbrev pub IsDone : (old new : Server) → Type 0
-IsDone old new = (new ≡ old) × (wants old.view ≡ CloseAll)
+abbrev pub IsDone : (old new : Timed) → Type 0
+IsDone old new = (new ≡ old) × (wants old.server.view ≡ CloseAll)
 
 -- all that the server said was written, and it heard all that was read but for what is not heard yet; it is done with the control
 -- connection, and its data connection was left last

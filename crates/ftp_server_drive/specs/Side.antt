@@ -1,48 +1,80 @@
 -- A server as the end of a session that is driven: what its calls do, as `Far` says it (RFC 959, section 2.3).
-use Rattle.std.specs.Prelude.{◌≡◌, ℕ, List, Option, take}
+use Rattle.std.specs.Prelude.{◌≡◌, ◌≢◌, ◌≤◌, ◌==◌, ⊤, ℕ, Bool, true, false, List, [], ◌∷◌, length, Option, take}
+use Rattle.ftp_control.specs.Asking.{Adds}
 use Rattle.ftp_control.specs.Deeds.{Stand}
 use Rattle.ftp_control.specs.Machine.{Machine, Held, side_of, stand_of}
 use Rattle.ftp_control.specs.Side.{Side}
 use Rattle.ftp_control.specs.declared.control.Control.{Control}
 use Rattle.ftp_ends.specs.declared.link.Wants.TheVariants as Want
-use Rattle.ftp_server_model.specs.Calls.{break_step, clock_step, close_step, control_end, control_step, end_step, given_step, listening_step, no_port_step, opened_step, refused_step, to_give, wants}
+use Rattle.ftp_server_model.specs.Calls.{break_step, clock_step, close_step, control_end, control_step, end_step, given_step, listening_step, may_receive, no_port_step, opened_step, refused_step, to_give, wants}
 use Rattle.ftp_server_model.specs.Machine.{may_hear}
 use Rattle.ftp_server_model.specs.Failing.{EndFails, GiveFails}
 use Rattle.ftp_server_model.specs.Far.{Acts, Hears, Receives, Server, Steps}
+use Rattle.ftp_server_drive.specs.declared.clocked.Clocked.{Clocked}
+
+-- a server, and what its clock told so far, in seconds since 1970, the last one first, where it tells that
+pub record Timed : Type 0 where
+  pub server : Server
+  pub told : Option (List ℕ)
+
+-- of values of the program
+abbrev pub timed : {F C : Type 0} → (F → Server) → (C → Option (List ℕ)) → Clocked F C → Timed
+timed server told clocked = record { server = server clocked.server; told = told clocked.watch }
+
+-- the server is called, and the clock is not asked
+abbrev pub Alone : ((old new : Server) → Type 0) → (old new : Timed) → Type 0
+Alone Calls old new = Calls old.server new.server × (new.told ≡ old.told)
+
+-- the clock is asked and the server told the moment that it is, and right behind that it is called
+abbrev pub Timely : ((old new : Server) → Type 0) → (old new : Timed) → Type 0
+Timely Calls old new =
+    (moment : ℕ) × (mid : Server) × Adds old.told new.told (moment ∷ []) × Acts (clock_step moment) old.server mid × Calls mid new.server
+
+-- whether the first of these octets is an LF, which alone ends a line (RFC 959, section 4)
+abbrev pub ends_line : List ℕ → Bool
+ends_line [] = false
+ends_line (octet ∷ octets) = octet == 10
+
+-- control octets are heard one by one, and one that ends a line behind the moment
+abbrev pub HearsBy : (is_end : Bool) → List ℕ → (old new : Timed) → Type 0
+HearsBy true octets old new = Timely (Hears octets) old new
+HearsBy false octets old new = Alone (Hears octets) old new
 
 -- the control connection ends, as the server sees it: what it owes is dropped with all else
-abbrev pub ended : Server → Server
-ended server = record server { view = control_end server.view }
+abbrev pub ended : Timed → Timed
+ended at = record at { server = record at.server { view = control_end at.server.view } }
 
--- it is told of a refusal also where it waits for a data connection and that is given up
+-- it is told the moment right before each line's end, and each end and break of a data connection, and only there; of a refusal also where it waits
+-- for a data connection and that is given up; its own call is to be asked whether it is done with the control connection, where it is not
 abbrev pub server_machine : Machine
 server_machine = record {
-  Here = Server;
-  wants = λ server. wants server.view;
-  owed = λ server. server.view.owed;
-  to_give = λ server. to_give server.view;
-  may_hear = λ server. may_hear server.view;
-  Hears = λ octets unheard old new. Hears octets old new;
-  Gives = λ count old new. Acts (control_step count) old new;
+  Here = Timed;
+  wants = λ at. wants at.server.view;
+  owed = λ at. at.server.view.owed;
+  to_give = λ at. to_give at.server.view;
+  may_hear = λ at. may_hear at.server.view;
+  may_receive = λ at. may_receive at.server.view;
+  Hears = λ octets unheard old new. (length octets ≤ 1) × HearsBy (ends_line unheard) octets old new;
+  Gives = λ count old new. Alone (Acts (control_step count)) old new;
   IsCut = λ old new. new ≡ ended old;
-  Own = ℕ;
-  Owns = λ moment old new. Acts (clock_step moment) old new;
-  Listening = λ port old new. Acts (listening_step port) old new;
-  Opened = λ host old new. Acts (opened_step host) old new;
-  Received = λ octets count old new. Receives (take count octets) old new;
-  Gave = λ count old new. Steps (GiveFails count) (given_step count) old new;
-  NoPort = λ old new. Acts no_port_step old new;
-  Refused = λ old new. Acts refused_step old new;
-  End = λ old new. Steps EndFails end_step old new;
-  Break = λ old new. Steps EndFails break_step old new;
-  Closed = λ old new. Acts close_step old new;
-  IsGivenUp = λ server. wants server.view ≡ Want.Accept;
-  IsCloseDue = λ server. wants server.view ≡ Want.CloseData;
+  Own = ⊤;
+  Owns = λ asked old new. (new ≡ old) × (wants old.server.view ≢ Want.CloseAll);
+  Listening = λ port old new. Alone (Acts (listening_step port)) old new;
+  Opened = λ host old new. Alone (Acts (opened_step host)) old new;
+  Received = λ octets count old new. Alone (Receives (take count octets)) old new;
+  Gave = λ count old new. Alone (Steps (GiveFails count) (given_step count)) old new;
+  NoPort = λ old new. Alone (Acts no_port_step) old new;
+  Refused = λ old new. Alone (Acts refused_step) old new;
+  End = λ old new. Timely (Steps EndFails end_step) old new;
+  Break = λ old new. Timely (Steps EndFails break_step) old new;
+  Closed = λ old new. Alone (Acts close_step) old new;
+  IsGivenUp = λ at. wants at.server.view ≡ Want.Accept;
+  IsCloseDue = λ at. wants at.server.view ≡ Want.CloseData;
 }
 
 abbrev pub server_side : Side
 server_side = side_of server_machine
 
 -- it and its data connection beside a control connection, by what its reader has left and what its writer holds
-abbrev pub beside : {R W : Type 0} → (R → Option (List ℕ)) → (W → Option (List ℕ)) → Held Server → Control R W → Stand server_side
+abbrev pub beside : {R W : Type 0} → (R → Option (List ℕ)) → (W → Option (List ℕ)) → Held Timed → Control R W → Stand server_side
 beside remaining contents owner control = stand_of server_machine remaining contents owner control

@@ -2,8 +2,9 @@
 ghost use Rattle.ftp_control.specs.Lane.{no_lane};
 ghost use Rattle.ftp_control.specs.Machine.{held};
 ghost use Rattle.ftp_server_drive.specs.Driving.{Drives};
-ghost use Rattle.ftp_server_drive.specs.Side.{beside};
+ghost use Rattle.ftp_server_drive.specs.Side.{beside, timed};
 
+use crate::clocked::Clocked;
 use crate::serves::Serves;
 use ftp_control::{Cause, Control, Ports, Watch};
 use ftp_control_drive::drive_end;
@@ -18,10 +19,9 @@ use std::io::{Read, Write};
 /// pieces, and where its data connection would wait. Where the drive breaks off, which it does only for a `Cause` that is so, the server is told
 /// that the control connection ended. Data connections and ports are closed at the end.
 pub fn drive_server<A, T, F, R, W, P, C>(
-    server: &mut F,
+    clocked: &mut Clocked<F, C>,
     control: &mut Control<R, W>,
     ports: &mut P,
-    watch: &mut C,
 ) -> Result<(), Cause>
 where
     A: Allocator + Copy,
@@ -31,9 +31,9 @@ where
     W: Write + Drop,
     P: Ports,
     C: Watch,
-    ensures { Drives control.new.failed (beside R.remaining W.contents (held (F.server server.old) (no_lane (P.history ports.old))) control.old) (beside R.remaining W.contents (held (F.server server.new) (no_lane (P.history ports.new))) control.new) result }
+    ensures { Drives control.new.failed (beside R.remaining W.contents (held (timed F.server C.told clocked.old) (no_lane (P.history ports.old))) control.old) (beside R.remaining W.contents (held (timed F.server C.told clocked.new) (no_lane (P.history ports.new))) control.new) result }
 {
-    let (data, ended) = drive_end::<Serves<A, T>, F, C, R, W, P>(server, control, ports, watch);
+    let (data, ended) = drive_end::<Serves<A, T>, Clocked<F, C>, R, W, P>(clocked, control, ports);
     match ended {
         Ok(()) => {
             data.finish(ports);
@@ -41,8 +41,8 @@ where
         }
         Err(cause) => {
             let mut data = data;
-            data.note::<Serves<A, T>, F, C>(server);
-            server.control_end();
+            data.note::<Serves<A, T>, Clocked<F, C>>(clocked);
+            clocked.server.control_end();
             data.finish(ports);
             Err(cause)
         }

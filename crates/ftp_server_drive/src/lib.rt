@@ -2,8 +2,10 @@
 //! `Watch` of `ftp_control` (RFC 959, section 2.3). No IO of its own.
 #![tactic(auto)]
 
+mod clocked;
 mod drive;
 mod serves;
 
+pub use clocked::Clocked;
 pub use drive::drive_server;
 pub use ftp_control::Control;

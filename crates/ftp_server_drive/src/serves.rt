@@ -1,8 +1,13 @@
 // The calls of a server, as a drive makes them.
-ghost use Rattle.std.specs.Prelude.{◌≡◌, true};
+ghost use Rattle.std.specs.Prelude.{◌≡◌, ◌<◌, ◌≤◌, ℕ, IsTrue, true, [], ◌∷◌, length, take};
+ghost use Rattle.ftp_control.specs.Asking.{Adds};
+ghost use Rattle.ftp_server_model.specs.Calls.{clock_step};
+ghost use Rattle.ftp_server_model.specs.Far.{Acts, Hears};
+ghost use Rattle.ftp_server_model.specs.Machine.{may_hear};
 ghost use Rattle.ftp_server_drive.specs.Driving.{IsDone};
-ghost use Rattle.ftp_server_drive.specs.Side.{server_machine};
+ghost use Rattle.ftp_server_drive.specs.Side.{Timely, ends_line, server_machine, timed};
 
+use crate::clocked::Clocked;
 use ftp_control::Watch;
 use ftp_control_drive::EndCalls;
 use ftp_endpoint::Host;
@@ -12,12 +17,12 @@ use ftp_tree::Tree;
 use std::alloc::Allocator;
 use std::marker::PhantomData;
 
-/// Those of a server of a tree `T` that grows by an `A`, beside a clock.
+/// Those of a server of a tree `T` that grows by an `A`, beside its clock.
 pub(crate) struct Serves<A, T> {
     _serves: PhantomData<(A, T)>,
 }
 
-impl<A, T, F, C> EndCalls<F, C> for Serves<A, T>
+impl<A, T, F, C> EndCalls<Clocked<F, C>> for Serves<A, T>
 where
     A: Allocator + Copy,
     T: Tree<A>,
@@ -28,9 +33,11 @@ where
 
     ghost machine = { server_machine };
 
-    ghost here = { F.server };
+    ghost here = { timed F.server C.told };
 
     ghost last = { λ over old new. IsDone old new };
+
+    ghost goes_on = { tt };
 
     ghost serves = { true };
 
@@ -39,74 +46,126 @@ where
     }
 
     /// It is over where the server is done with the control connection.
-    fn over(end: &mut F) -> Option<()> {
-        match end.wants() {
+    fn over(end: &mut Clocked<F, C>) -> Option<()> {
+        match end.server.wants() {
             Wants::CloseAll => Some(()),
             _ => None,
         }
     }
 
-    fn tell_time(end: &mut F, watch: &mut C) {
-        end.clock(watch.moment());
+    fn wants(end: &Clocked<F, C>) -> Wants {
+        end.server.wants()
     }
 
-    fn wants(end: &F) -> Wants {
-        end.wants()
-    }
-
-    fn may_hear(end: &F) -> bool {
-        end.may_hear()
+    fn may_hear(end: &Clocked<F, C>) -> bool {
+        end.server.may_hear()
     }
 
     /// One octet a call: what is behind it is heard where the server takes it, or waits for a transfer's end.
-    fn hear(end: &mut F, unheard: &[u8]) -> usize {
-        let (first, _) = unheard.split_at(unheard.len().min(1));
-        end.hear(first)
+    fn hear(end: &mut Clocked<F, C>, unheard: &[u8]) -> usize {
+        if ends_line(unheard) {
+            return hear_end::<A, T, F, C>(end, unheard);
+        }
+        hear_one::<A, T, F>(&mut end.server, unheard)
     }
 
-    fn control_out(end: &mut F, room: &mut [u8]) -> usize {
-        end.control_out(room)
+    fn control_out(end: &mut Clocked<F, C>, room: &mut [u8]) -> usize {
+        end.server.control_out(room)
     }
 
-    fn control_end(end: &mut F) {
-        end.control_end();
+    fn control_end(end: &mut Clocked<F, C>) {
+        end.server.control_end();
     }
 
-    fn listening(end: &mut F, port: u16) {
-        end.listening(port);
+    fn listening(end: &mut Clocked<F, C>, port: u16) {
+        end.server.listening(port);
     }
 
-    fn listen_refused(end: &mut F) {
-        end.listen_refused();
+    fn listen_refused(end: &mut Clocked<F, C>) {
+        end.server.listen_refused();
     }
 
-    fn data_opened(end: &mut F, host: Host) {
-        end.data_opened(host);
+    fn data_opened(end: &mut Clocked<F, C>, host: Host) {
+        end.server.data_opened(host);
     }
 
-    fn data_refused(end: &mut F) {
-        end.data_refused();
+    fn data_refused(end: &mut Clocked<F, C>) {
+        end.server.data_refused();
     }
 
-    fn data_hear(end: &mut F, piece: &[u8]) -> usize {
-        end.data_hear(piece)
+    fn data_hear(end: &mut Clocked<F, C>, piece: &[u8]) -> usize {
+        end.server.data_hear(piece)
     }
 
-    fn data_end(end: &mut F) {
-        end.data_end();
+    fn data_end(end: &mut Clocked<F, C>) {
+        tell_time::<A, T, F, C>(end);
+        end.server.data_end();
     }
 
-    fn data_fault(end: &mut F) {
-        end.data_fault();
+    fn data_fault(end: &mut Clocked<F, C>) {
+        tell_time::<A, T, F, C>(end);
+        end.server.data_fault();
     }
 
-    fn data_out(end: &mut F, room: &mut [u8]) -> usize {
-        end.data_out(room)
+    fn data_out(end: &mut Clocked<F, C>, room: &mut [u8]) -> usize {
+        end.server.data_out(room)
     }
 
-    fn data_closed(end: &mut F) {
-        end.data_closed();
+    fn data_closed(end: &mut Clocked<F, C>) {
+        end.server.data_closed();
     }
 
     ghost close_due = { λ there wanted. wanted };
+}
+
+/// The server is told the moment that its clock tells.
+fn tell_time<A, T, F, C>(end: &mut Clocked<F, C>)
+where
+    A: Allocator + Copy,
+    T: Tree<A>,
+    F: Far<A, T>,
+    C: Watch,
+    ensures { (moment : ℕ) × Adds (C.told end.old.watch) (C.told end.new.watch) (moment ∷ []) × Acts (clock_step moment) (F.server end.old.server) (F.server end.new.server) }
+{
+    let moment = end.watch.moment();
+    end.server.clock(moment);
+}
+
+/// Hears an octet that ends a line, behind the moment.
+fn hear_end<A, T, F, C>(end: &mut Clocked<F, C>, unheard: &[u8]) -> usize
+where
+    A: Allocator + Copy,
+    T: Tree<A>,
+    F: Far<A, T>,
+    C: Watch,
+    ensures within { (result ≤ length unheard.now) × (length (take result unheard.now) ≤ 1) }
+    ensures took { Timely (Hears (take result unheard.now)) (timed F.server C.told end.old) (timed F.server C.told end.new) }
+    ensures some { IsTrue (may_hear (F.server end.old.server).view) → 0 < length unheard.now → 0 < result }
+{
+    tell_time::<A, T, F, C>(end);
+    hear_one::<A, T, F>(&mut end.server, unheard)
+}
+
+/// Hears the first of these octets, and gives how many were taken.
+fn hear_one<A, T, F>(server: &mut F, unheard: &[u8]) -> usize
+where
+    A: Allocator + Copy,
+    T: Tree<A>,
+    F: Far<A, T>,
+    ensures within { (result ≤ length unheard.now) × (length (take result unheard.now) ≤ 1) }
+    ensures took { Hears (take result unheard.now) (F.server server.old) (F.server server.new) }
+    ensures some { IsTrue (may_hear (F.server server.old).view) → 0 < length unheard.now → 0 < result }
+{
+    let (first, _) = unheard.split_at(unheard.len().min(1));
+    server.hear(first)
+}
+
+/// Whether the first of these octets ends a line.
+fn ends_line(unheard: &[u8]) -> bool
+    ensures { result ≡ ends_line unheard.now }
+{
+    match unheard {
+        [first, ..] => *first == b'\n',
+        [] => false,
+    }
 }

@@ -6,7 +6,7 @@ use ftp_control::Failed;
 use ftp_endpoint::Host;
 use ftp_operation::Accounts;
 use ftp_server::{NotBegun, Server};
-use ftp_server_drive::{Control, drive_server};
+use ftp_server_drive::{Clocked, Control, drive_server};
 use ftp_server_model::Far;
 use ftp_server_parts::ServerTransfer;
 use ftp_server_transfer::TreeTransfer;
@@ -67,14 +67,14 @@ trait Drives {
     /// Where memory is had.
     fn heap(&self) -> Global;
 
-    /// Serves a control connection by a server.
+    /// Serves a control connection by a server, which it gives back.
     fn drive<T: Tree<Global>, F: Far<Global, T>>(
         &self,
-        server: &mut F,
+        server: F,
         stream: &TcpStream,
         peer: SocketAddr,
         service: Service<'_>,
-    ) -> Result<(), Failed>;
+    ) -> (F, Result<(), Failed>);
 }
 
 impl<R> Drives for R
@@ -87,11 +87,11 @@ where
 
     fn drive<T: Tree<Global>, F: Far<Global, T>>(
         &self,
-        server: &mut F,
+        server: F,
         stream: &TcpStream,
         peer: SocketAddr,
         service: Service<'_>,
-    ) -> Result<(), Failed> {
+    ) -> (F, Result<(), Failed>) {
         with_journal(self, server, stream, peer, service)
     }
 }
@@ -149,19 +149,18 @@ where
     T: Tree<Global>,
     F: Far<Global, T> + GivesTree<T>,
 {
-    let mut server = server;
-    let ended = rt.drive(&mut server, stream, peer, service);
+    let (server, ended) = rt.drive(server, stream, peer, service);
     (server.give_tree(), ended)
 }
 
 /// Serves a control connection by a server, of which a journal tells.
 fn with_journal<R, T, F>(
     rt: &R,
-    server: &mut F,
+    server: F,
     stream: &TcpStream,
     peer: SocketAddr,
     service: Service<'_>,
-) -> Result<(), Failed>
+) -> (F, Result<(), Failed>)
 where
     R: Net<Listener = TcpListener, Stream = TcpStream> + Clock + Eprint + AllocGlobal,
     T: Tree<Global>,
@@ -169,18 +168,18 @@ where
 {
     match Journal::new(rt, rt.alloc(), peer, service) {
         Ok(journal) => connected(rt, server, stream, &journal, service),
-        Err(AllocError) => Err(Failed),
+        Err(AllocError) => (server, Err(Failed)),
     }
 }
 
 /// Serves a control connection by a server, with data connections.
 fn connected<'a, R, T, F>(
     rt: &'a R,
-    server: &mut F,
+    server: F,
     stream: &'a TcpStream,
     journal: &'a Journal<'a, R>,
     service: Service<'a>,
-) -> Result<(), Failed>
+) -> (F, Result<(), Failed>)
 where
     R: Net<Listener = TcpListener, Stream = TcpStream> + Clock + Eprint + AllocGlobal,
     T: Tree<Global>,
@@ -188,19 +187,19 @@ where
 {
     match SocketPorts::new(rt, stream, service.patience, service.passive) {
         Ok(ports) => driven(rt, server, stream, ports, journal, service.patience),
-        Err(_) => Err(Failed),
+        Err(_) => (server, Err(Failed)),
     }
 }
 
 /// Serves a control connection by a server until it is done with it, and says goodbye.
 fn driven<'a, R, T, F>(
     rt: &'a R,
-    server: &mut F,
+    server: F,
     stream: &'a TcpStream,
     ports: SocketPorts<'a, R>,
     journal: &'a Journal<'a, R>,
     patience: &'a Patience<'a>,
-) -> Result<(), Failed>
+) -> (F, Result<(), Failed>)
 where
     R: Net<Listener = TcpListener, Stream = TcpStream> + Clock + Eprint + AllocGlobal,
     T: Tree<Global>,
@@ -218,7 +217,12 @@ where
         journal,
     };
     let mut control = Control::new(reader, writer);
-    let ended = drive_server(server, &mut control, &mut ports, &mut SystemWatch::new(rt)).is_ok();
+    let mut clocked = Clocked {
+        server,
+        watch: SystemWatch::new(rt),
+    };
+    let ended = drive_server(&mut clocked, &mut control, &mut ports).is_ok();
+    let Clocked { server, watch: _ } = clocked;
     ports.inner.finish();
     if ended {
         let _gone = say_goodbye(stream);
@@ -226,7 +230,7 @@ where
     journal.finish();
     journal.end(ended);
     if ended || patience.over().is_some() {
-        return Ok(());
+        return (server, Ok(()));
     }
-    Err(Failed)
+    (server, Err(Failed))
 }

@@ -244,6 +244,16 @@ pub struct Clock {
     step: u64,
 }
 
+impl Clock {
+    /// One that stands still.
+    pub fn still() -> Clock {
+        Clock {
+            now: YEAR_2000,
+            step: 0,
+        }
+    }
+}
+
 impl Watch for Clock {
     fn moment(&mut self) -> Moment {
         let now = self.now;

@@ -2,10 +2,10 @@
 use crate::driven::Owner;
 use crate::embedded::server::serve;
 use crate::event::{Event, Told};
-use crate::peer::Peer;
+use crate::peer::{Clock, Peer};
 use crate::plays::{Holds, Plays};
 use ftp_ends::Wants;
-use ftp_server_drive::{Control, drive_server};
+use ftp_server_drive::{Clocked, Control, drive_server};
 use ftp_server_model::Far;
 use ftp_tree::MemTree;
 use rows_base::{FailingReader, FailingWriter, Paper};
@@ -13,17 +13,20 @@ use rows_tree::show_tree;
 use std::alloc::{Allocator, Global};
 use std::marker::PhantomData;
 
-/// A server, and how its tree grows.
+/// A server beside its clock, and how its tree grows.
 #[derive(Drop)]
 pub struct Played<A, S: Drop> {
-    server: S,
+    clocked: Clocked<S, Clock>,
     growth: PhantomData<A>,
 }
 
 impl<A: Allocator + Copy, S: Far<A, MemTree<A>> + Holds> Played<A, S> {
     pub fn new(server: S) -> Played<A, S> {
         Played {
-            server,
+            clocked: Clocked {
+                server,
+                watch: Clock::still(),
+            },
             growth: PhantomData,
         }
     }
@@ -31,41 +34,41 @@ impl<A: Allocator + Copy, S: Far<A, MemTree<A>> + Holds> Played<A, S> {
 
 impl<A: Allocator + Copy, S: Far<A, MemTree<A>> + Holds> Plays for Played<A, S> {
     fn hear(&mut self, piece: &[u8]) -> usize {
-        self.server.hear(piece)
+        self.clocked.server.hear(piece)
     }
 
     fn control_out(&mut self, room: &mut [u8]) -> usize {
-        self.server.control_out(room)
+        self.clocked.server.control_out(room)
     }
 
     fn data_hear(&mut self, piece: &[u8]) -> usize {
-        self.server.data_hear(piece)
+        self.clocked.server.data_hear(piece)
     }
 
     fn data_out(&mut self, room: &mut [u8]) -> usize {
-        self.server.data_out(room)
+        self.clocked.server.data_out(room)
     }
 
     fn happens(&mut self, event: Event, told: Told) {
         match event {
-            Event::Listening => self.server.listening(told.port),
-            Event::Portless => self.server.listen_refused(),
-            Event::Opened => self.server.data_opened(told.host),
-            Event::Refused => self.server.data_refused(),
-            Event::Ended => self.server.data_end(),
-            Event::Broke => self.server.data_fault(),
-            Event::Closed => self.server.data_closed(),
-            Event::Cut => self.server.control_end(),
-            Event::Clock => self.server.clock(told.moment),
+            Event::Listening => self.clocked.server.listening(told.port),
+            Event::Portless => self.clocked.server.listen_refused(),
+            Event::Opened => self.clocked.server.data_opened(told.host),
+            Event::Refused => self.clocked.server.data_refused(),
+            Event::Ended => self.clocked.server.data_end(),
+            Event::Broke => self.clocked.server.data_fault(),
+            Event::Closed => self.clocked.server.data_closed(),
+            Event::Cut => self.clocked.server.control_end(),
+            Event::Clock => self.clocked.server.clock(told.moment),
         }
     }
 
     fn wants(&self) -> Wants {
-        self.server.wants()
+        self.clocked.server.wants()
     }
 
     fn held(&self) -> usize {
-        self.server.held()
+        self.clocked.server.held()
     }
 
     fn begin(&mut self, _alloc: Global, _line: &[u8], paper: &mut Paper) {
@@ -75,7 +78,7 @@ impl<A: Allocator + Copy, S: Far<A, MemTree<A>> + Holds> Plays for Played<A, S> 
     fn report(&mut self, _alloc: Global, _paper: &mut Paper) {}
 
     fn show_tree(&self, alloc: Global, paper: &mut Paper) {
-        show_tree(alloc, self.server.tree(), paper);
+        show_tree(alloc, self.clocked.server.tree(), paper);
     }
 
     fn drive(
@@ -89,10 +92,14 @@ impl<A: Allocator + Copy, S: Far<A, MemTree<A>> + Holds> Plays for Played<A, S> 
         let ended = match owner {
             Owner::Drive => {
                 let mut control = Control::new(reader, &mut writer);
-                let mut clock = peer.clock();
-                drive_server(&mut self.server, &mut control, peer, &mut clock).is_ok()
+                self.clocked.watch = peer.clock();
+                drive_server(&mut self.clocked, &mut control, peer).is_ok()
             }
-            Owner::Page(_) => serve(&mut self.server, (&mut reader, &mut writer), peer).is_ok(),
+            Owner::Page(_) => serve(
+                &mut self.clocked.server,
+                (&mut reader, &mut writer),
+                peer,
+            ).is_ok(),
         };
         if ended {
             paper.put(b"= ended\n");

@@ -10,7 +10,7 @@ use Rattle.ftp_control_drive.proofs.Driven.{breaks_off, did}
 use Rattle.ftp_control_drive.specs.Calling.{Ends}
 use Rattle.ftp_control_drive.specs.Standing.{lane_at}
 use Rattle.ftp_server_drive.specs.Driving.{Drove, IsDone, IsOver}
-use Rattle.ftp_server_drive.specs.Side.{beside, server_machine, server_side}
+use Rattle.ftp_server_drive.specs.Side.{beside, server_machine, server_side, timed}
 use Rattle.ftp_server_drive.proofs.drive.drive_server.Goals as goal
 
 -- one that came to its end
@@ -33,7 +33,7 @@ pub returns-in-Ok : goal.returns-in-Ok
 returns-in-Ok g c =
     let ended = c.drive_end-data in
     let lane = lane_at g.P.Stream.Read.remaining g.P.Stream.Write.contents (g.P.Ports.history ended.new.ports) ended.result.0 [] in
-    let off = beside g.R.Read.remaining g.W.Write.contents (held (g.F.Far.server ended.new.end) lane) ended.new.control in
+    let off = beside g.R.Read.remaining g.W.Write.contents (held (timed g.F.Far.server g.C.Watch.told ended.new.end) lane) ended.new.control in
     drove _ off _ ended.result.1 c.in-Ok.field-0 c.finish.ensures.0 refl refl c.in-Ok.is ended.ensures.ends c.finish.ensures.1
 
 pub returns-in-Err : goal.returns-in-Err
@@ -41,13 +41,13 @@ returns-in-Err g c =
     let ended = c.drive_end-data in
     let asked = g.P.Ports.history ended.new.ports in
     let lane = lane_at g.P.Stream.Read.remaining g.P.Stream.Write.contents asked ended.result.0 [] in
-    let off = beside g.R.Read.remaining g.W.Write.contents (held (g.F.Far.server ended.new.end) lane) ended.new.control in
+    let off = beside g.R.Read.remaining g.W.Write.contents (held (timed g.F.Far.server g.C.Watch.told ended.new.end) lane) ended.new.control in
     record {
       off = off;
       breaks = breaks_off server_machine _ refl refl (λ over old new. IsDone old new) true ended.new.control.failed off ended.result.1 c.in-Err.cause
           c.in-Err.is ended.ensures.ends ended.ensures.why;
       stays = refl;
-      cut = c.control_end.ensures;
+      cut = ap (λ server. record off.owner.end { server = server }) c.control_end.ensures;
       asked = c.finish-in-Err.ensures.0;
       left = rw (c.note.ensures.same asked) at c.finish-in-Err.ensures.1;
     }
