@@ -1,3 +1,5 @@
+-- How an answer comes about.
+pub mod Answering
 -- When a further control connection may bring an answer.
 pub mod Again
 -- What is heard of a server's lines, and how much a data connection may bring.

@@ -1,5 +1,15 @@
-// A client between its connections, as whoever asks sees it: nothing is said of what its calls do, so that what stands on them is proved without
-// the clauses of a client.
+// A client between its connections, as whoever asks sees it: how an answer comes about is a ghost member, so that what stands on these calls is proved
+// without the clauses of a client.
+ghost use Rattle.std.specs.Global.{Global};
+ghost use Rattle.std.specs.Prelude.{⊤};
+ghost use Rattle.ftp_control.specs.Lane.{no_lane};
+ghost use Rattle.ftp_control.specs.Machine.{held};
+ghost use Rattle.ftp_client_drive.specs.Side.{beside};
+ghost use Rattle.ftp_operation.specs.Answer.{said_of};
+ghost use Rattle.ftp_operation.specs.declared.answer.Answer.{Answer};
+ghost use Rattle.ftp_tool_connection.specs.Answering.{Answers};
+ghost use Rattle.ftp_tool_connection.specs.declared.request.Request.{Request};
+
 use crate::course::{Course, Ending};
 use crate::request::{Request, begin};
 use ftp_client_drive::{Control, Driven, drive_client};
@@ -11,8 +21,12 @@ use std::io::{Read, Write};
 
 /// What can be asked over one control connection, one request after another.
 pub trait ClientSession {
+    /// How an answer comes about, where that is known.
+    ghost answers: { Request → Answer Global → (old new : Self) → Type 0 } = { λ request answer old new. ⊤ };
+
     /// Does what is requested, and gives its answer.
-    fn answer(&mut self, request: Request) -> Answer<Global>;
+    fn answer(&mut self, request: Request) -> Answer<Global>
+        ensures { answers request result self.old self.new };
 
     /// How many data connections were opened so far.
     fn opened(&self) -> u32;
@@ -52,6 +66,8 @@ where
     W: Write + Drop,
     P: Opens,
 {
+    ghost answers = { λ request answer old new. Answers request (said_of answer) new.control.now.failed (beside C.remaining W.contents (held (N.client old.client) (no_lane (P.history old.ports.now))) old.control.now) (beside C.remaining W.contents (held (N.client new.client) (no_lane (P.history new.ports.now))) new.control.now) };
+
     fn answer(&mut self, request: Request) -> Answer<Global> {
         let mut request = request;
         self.course.begin(&request);

@@ -1,4 +1,6 @@
 // What is asked of a client.
+ghost use Rattle.ftp_tool_connection.specs.Answering.{Begins};
+
 use crate::course::Most;
 use ftp_client_model::Near;
 use ftp_facts::Text;
@@ -100,7 +102,9 @@ fn start_of(op: &Option<Op<Text<Global>>>) -> u64 {
 }
 
 /// Begins what is requested, which is taken out of there.
-pub(crate) fn begin<N: Near<Global>>(client: &mut N, request: &mut Request) {
+pub(crate) fn begin<N: Near<Global>>(client: &mut N, request: &mut Request)
+    ensures { Begins request.old (N.client client.old) (N.client client.new) }
+{
     match request {
         Request::One(op) | Request::Download(op, _) => client.start(op),
         Request::Upload(file, how) => client.upload(file, *how),
