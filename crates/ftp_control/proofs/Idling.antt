@@ -9,7 +9,6 @@ use Rattle.ftp_control.specs.Deeds.{Heard, Other, Stand, with_owner}
 use Rattle.ftp_control.specs.Driving.{Breaks, Leads, Quietly}
 use Rattle.ftp_control.specs.Lane.{IsLeft, IsRead, IsWaited, IsWritten, Lane, with_asked, with_untold}
 use Rattle.ftp_control.specs.Machine.{AreWanted, Aside, Break, End, Gives, Got, Held, Idles, IsWanted, Left, LetGo, Machine, Received, Waited, Wrote, held, move_of, side_of}
-use Rattle.ftp_control.specs.Side.{Side}
 use Rattle.ftp_control.proofs.Courses.{Carrier}
 use Rattle.ftp_control.proofs.Lanes.{asked_for}
 use Rattle.ftp_control.proofs.Leading.{leads_by, quiet_call, quiet_nothing}

@@ -1,8 +1,18 @@
 // The subcommand `serve`: its words.
+ghost use Rattle.std.specs.Prelude.{ℕ, IfOk, IfSome, IfNone, OnErr};
+ghost use Rattle.std.specs.Net.Grammar.{IsIpText};
+ghost use Rattle.std.specs.declared.net.IpAddr.{IpAddr};
+ghost use Rattle.ftp_tool_serve.specs.declared.serving.Serving.{Serving};
+ghost use Rattle.ftp_tool_sockets.specs.declared.patience.Limits.{Limits};
+ghost use Rattle.ftp_tool_words.specs.Words.{SaysPorts, SaysSessions};
+ghost use Rattle.ftp_tool_words.specs.declared.words.Sessions.{Sessions};
+ghost use Rattle.ftp_tool_command.specs.Serving.{AreWaits, Asks};
+
 use crate::help;
 use crate::refusal::Refusal;
-use crate::words::{Form, MOST, Subcommand, Value, Word, chosen, number_in, text_in};
+use crate::words::{Form, MOST, Subcommand, Value, Word, chosen, text_in};
 use clap::ArgMatches;
+use ftp_tool_files::number_of;
 use ftp_tool_serve::{Limits, Log, Others, Serving, Sessions};
 use ftp_tool_words::{port_of, ports_of, sessions_of};
 use std::net::IpAddr;
@@ -82,63 +92,122 @@ const OPTIONS: &[Word<'static>] = &[
     },
 ];
 
+/// The values of `serve`, as they stand on a command line.
+#[derive(Clone, Copy)]
+pub(crate) struct ServeWords<'a> {
+    host: &'a str,
+    port: &'a str,
+    dir: &'a str,
+    sessions: &'a str,
+    accounts: Option<&'a str>,
+    log: Log,
+    others: Others,
+    passive: &'a str,
+    waits: WaitWords<'a>,
+}
+
+/// Those of them that are seconds.
+#[derive(Clone, Copy)]
+pub(crate) struct WaitWords<'a> {
+    login: &'a str,
+    idle: &'a str,
+    idle_while_waited: &'a str,
+}
+
 /// What is to be served; refused where a value is none of its option.
 pub fn serving_of<'a>(words: &'a ArgMatches<'_>) -> Result<Serving<'a>, Refusal<'a>> {
-    let host = host_in(words)?;
-    let sessions = sessions_in(words)?;
-    let passive = passive_in(words)?;
-    let (Some(port), Some(limits)) = (port_of(text_in(words, "port")), limits_of(words)) else {
+    serving_by(ServeWords {
+        host: text_in(words, "host"),
+        port: text_in(words, "port"),
+        dir: text_in(words, "dir"),
+        sessions: text_in(words, "sessions"),
+        accounts: words.get_str("accounts"),
+        log: chosen(words, "log", Log::Told, Log::Silent),
+        others: chosen(words, "keep", Others::Keep, Others::Change),
+        passive: text_in(words, "passive-ports"),
+        waits: WaitWords {
+            login: text_in(words, "login"),
+            idle: text_in(words, "idle"),
+            idle_while_waited: text_in(words, "idle-while-waited"),
+        },
+    })
+}
+
+/// What these values ask to be served; refused where one is none of its option.
+fn serving_by<'a>(words: ServeWords<'a>) -> Result<Serving<'a>, Refusal<'a>>
+    ensures asked { IfOk result (λ serving. Asks words.entry serving) }
+    ensures refused { OnErr result ((serving : Serving) → ¬ Asks words.entry serving) }
+{
+    let host = host_by(words.host)?;
+    let sessions = sessions_by(words.sessions)?;
+    let passive = passive_by(words.passive)?;
+    let Some(port) = port_of(words.port) else {
+        return Err(Refusal::Number);
+    };
+    let Some(limits) = limits_by(words.waits) else {
         return Err(Refusal::Number);
     };
     Ok(Serving {
         host,
         port,
-        dir: text_in(words, "dir"),
+        dir: words.dir,
         sessions,
-        accounts: words.get_str("accounts"),
-        log: chosen(words, "log", Log::Told, Log::Silent),
+        accounts: words.accounts,
+        log: words.log,
         limits,
         passive,
-        others: chosen(words, "keep", Others::Keep, Others::Change),
+        others: words.others,
     })
 }
 
-fn host_in<'a>(words: &'a ArgMatches<'_>) -> Result<IpAddr, Refusal<'a>> {
-    let host = text_in(words, "host");
-    match host.parse() {
+fn host_by(word: &str) -> Result<IpAddr, Refusal<'_>>
+    ensures some { IfOk result (λ host. IsIpText word.now host) }
+    ensures none { OnErr result ((host : IpAddr) → ¬ IsIpText word.now host) }
+{
+    match word.parse() {
         Ok(address) => Ok(address),
-        Err(_) => Err(Refusal::of("--host <A>", host, "an address in numbers is wanted")),
+        Err(_) => Err(Refusal::of("--host <A>", word, "an address in numbers is wanted")),
     }
 }
 
-fn sessions_in<'a>(words: &'a ArgMatches<'_>) -> Result<Sessions, Refusal<'a>> {
-    let sessions = text_in(words, "sessions");
-    match sessions_of(sessions) {
+fn sessions_by(word: &str) -> Result<Sessions, Refusal<'_>>
+    ensures some { IfOk result (λ sessions. SaysSessions word.now sessions) }
+    ensures none { OnErr result ((sessions : Sessions) → ¬ SaysSessions word.now sessions) }
+{
+    match sessions_of(word) {
         Some(sessions) => Ok(sessions),
         None => Err(Refusal::of(
             "--sessions <K|forever>",
-            sessions,
+            word,
             "a number or forever is wanted",
         )),
     }
 }
 
-fn passive_in<'a>(words: &'a ArgMatches<'_>) -> Result<(u16, u16), Refusal<'a>> {
-    let ports = text_in(words, "passive-ports");
-    match ports_of(ports) {
+fn passive_by(word: &str) -> Result<(u16, u16), Refusal<'_>>
+    ensures some { IfOk result (λ ports. SaysPorts word.now ports.0 ports.1) }
+    ensures none { OnErr result ((first last : ℕ) → ¬ SaysPorts word.now first last) }
+{
+    match ports_of(word) {
         Some(ports) => Ok(ports),
         None => Err(Refusal::of(
             "--passive-ports <A-B>",
-            ports,
+            word,
             "two ports from 1 on are wanted, the first not behind the last",
         )),
     }
 }
 
-fn limits_of(words: &ArgMatches<'_>) -> Option<Limits> {
+fn limits_by(words: WaitWords<'_>) -> Option<Limits>
+    ensures some { IfSome result (λ limits. AreWaits words.entry limits) }
+    ensures none { IfNone result ((limits : Limits) → ¬ AreWaits words.entry limits) }
+{
+    let login = number_of(words.login)?;
+    let idle = number_of(words.idle)?;
+    let idle_while_waited = number_of(words.idle_while_waited)?;
     Some(Limits {
-        login: number_in(words, "login")?,
-        idle: number_in(words, "idle")?,
-        idle_while_waited: number_in(words, "idle-while-waited")?,
+        login,
+        idle,
+        idle_while_waited,
     })
 }

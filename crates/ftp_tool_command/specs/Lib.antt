@@ -1,0 +1,2 @@
+-- What the values of `serve` ask to be served.
+pub mod Serving

@@ -1,0 +1,26 @@
+-- What the values of `serve` ask to be served (own choice).
+use Rattle.std.specs.Prelude.{◌≡◌, ◌^◌}
+use Rattle.std.specs.Net.Grammar.{IsIpText}
+use Rattle.ftp_tool_command.specs.declared.serving.ServeWords.{ServeWords}
+use Rattle.ftp_tool_command.specs.declared.serving.WaitWords.{WaitWords}
+use Rattle.ftp_tool_serve.specs.declared.serving.Serving.{Serving}
+use Rattle.ftp_tool_sockets.specs.declared.patience.Limits.{Limits}
+use Rattle.ftp_tool_words.specs.Words.{SaysBelow, SaysPort, SaysPorts, SaysSessions}
+
+-- each is a number of seconds below 2 ^ 32
+pub record AreWaits (words : WaitWords) (limits : Limits) : Type 0 where
+  pub login : SaysBelow (2 ^ 32) words.login.now limits.login
+  pub idle : SaysBelow (2 ^ 32) words.idle.now limits.idle
+  pub idle_while_waited : SaysBelow (2 ^ 32) words.idle_while_waited.now limits.idle_while_waited
+
+-- each value is what its word says, and the folder and the file of accounts are their words
+pub record Asks (words : ServeWords) (serving : Serving) : Type 0 where
+  pub host : IsIpText words.host.now serving.host
+  pub port : SaysPort words.port.now serving.port
+  pub dir : serving.dir ≡ words.dir
+  pub sessions : SaysSessions words.sessions.now serving.sessions
+  pub accounts : serving.accounts ≡ words.accounts
+  pub log : serving.log ≡ words.log
+  pub others : serving.others ≡ words.others
+  pub passive : SaysPorts words.passive.now serving.passive.0 serving.passive.1
+  pub limits : AreWaits words.waits serving.limits
