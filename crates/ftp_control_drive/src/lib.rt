@@ -1,5 +1,5 @@
-//! A drive: what stands between either end of a session and its control connection, data connections and clock (RFC 959, section 2.3). It
-//! knows the end by its calls alone. No IO of its own.
+//! A drive: what stands between either end of a session and its control connection and data connections (RFC 959, section 2.3). It knows the end
+//! by its calls alone. No IO of its own.
 #![tactic(auto)]
 
 mod calls;
