@@ -1,7 +1,9 @@
 // The lines of a row in one world.
 use crate::worlds::desk::{Desk, Manner};
 use crate::worlds::plays::Plays;
-use crate::worlds::stage::{begin, begin_heavy, happen, repeat, settle, tell, tell_reports};
+use crate::worlds::stage::{
+    begin, begin_by_run, begin_heavy, happen, repeat, settle, tell, tell_reports,
+};
 use crate::worlds::ways::follow;
 use crate::worlds::words::{Happening, Word, delivery_of, happening_of, word_of};
 use ftp_pair::Queue;
@@ -67,6 +69,7 @@ fn play_line<P: Plays>(world: &mut P, desk: &mut Desk, line: &[u8]) {
     let (word, rest) = word_of(line);
     match word {
         Word::Begin => order(world, desk, rest),
+        Word::BeginByRun => begin_by_run(world, desk, rest),
         Word::Heavy => heavy(world, desk, rest),
         Word::Deliver | Word::End | Word::Plain(_) => event(world, desk, line),
         Word::Settle => settle(world, desk),

@@ -25,6 +25,9 @@ pub trait Plays: Drop {
     /// The order of a line of a script begins; this is its number, from 0.
     fn begins(&mut self, line: &[u8], number: u64) -> Became;
 
+    /// The same by `World::run` of that one event.
+    fn begins_by_run(&mut self, alloc: Global, line: &[u8], number: u64) -> Became;
+
     /// An upload of octets to the file `f` begins; this is its number.
     fn uploads(&mut self, octets: &[u8], number: u64) -> Became;
 

@@ -28,6 +28,15 @@ pub fn begin<P: Plays>(world: &mut P, desk: &mut Desk, line: &[u8]) {
     tell_begun(world, desk, became);
 }
 
+/// The same by `World::run` of that one event.
+pub fn begin_by_run<P: Plays>(world: &mut P, desk: &mut Desk, line: &[u8]) {
+    let became = match world.begins_by_run(desk.alloc, line, desk.begun) {
+        Became::NoMemory => world.begins_by_run(desk.alloc, line, desk.begun),
+        became => became,
+    };
+    tell_begun(world, desk, became);
+}
+
 /// An upload of so many octets begins.
 pub fn begin_heavy<P: Plays>(world: &mut P, desk: &mut Desk, octets: &[u8]) {
     let became = world.uploads(octets, desk.begun);

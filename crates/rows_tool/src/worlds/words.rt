@@ -18,6 +18,8 @@ pub enum Happening {
 pub enum Word {
     /// An order begins.
     Begin,
+    /// An order begins by `World::run` of that one event.
+    BeginByRun,
     /// An upload of so many octets of the fixed sequence begins.
     Heavy,
     Deliver,
@@ -46,6 +48,7 @@ pub enum Word {
 
 const WORDS: &[(&'static [u8], Word)] = &[
     (b">", Word::Begin),
+    (b">>", Word::BeginByRun),
     (b"heavy", Word::Heavy),
     (b"deliver", Word::Deliver),
     (b"end", Word::End),

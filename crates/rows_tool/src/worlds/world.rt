@@ -52,6 +52,17 @@ fn order_event<A: Allocator + Copy>(order: Order<Text<A>>, moment: Moment) -> Ev
     }
 }
 
+/// That event alone, as a list.
+fn beginning_of<A: Allocator + Copy>(
+    alloc: Global,
+    order: Order<Text<A>>,
+    moment: Moment,
+) -> Result<Vec<Event<A>>, AllocError> {
+    let mut events = Vec::new(alloc);
+    events.push(order_event(order, moment))?;
+    Ok(events)
+}
+
 /// The event in which an upload of octets to the file `f` begins.
 fn upload_event<A: Allocator + Copy>(
     heap: A,
@@ -97,6 +108,24 @@ impl<A: Allocator + Copy, T: Tree<A>, N: Near<A> + Holds, F: Far<A, T> + Holds> 
         };
         match order_of(self.heap, line) {
             Ok(order) => self.step(order_event(order, moment)),
+            Err(_) => Became::NoMemory,
+        }
+    }
+
+    fn begins_by_run(&mut self, alloc: Global, line: &[u8], number: u64) -> Became {
+        let Some(moment) = moment_of(number) else {
+            return Became::Impossible;
+        };
+        let Ok(order) = order_of(self.heap, line) else {
+            return Became::NoMemory;
+        };
+        let Ok(events) = beginning_of(alloc, order, moment) else {
+            return Became::NoMemory;
+        };
+        match self.world.run(events) {
+            // It began where it is the next one of those that have marks.
+            Ok(()) if self.world.marks(number as usize).is_some() => Became::Happened,
+            Ok(()) => Became::Impossible,
             Err(_) => Became::NoMemory,
         }
     }
