@@ -4,9 +4,14 @@ use Rattle.std.specs.Result.{is_err}
 use Rattle.std.specs.declared.result.Result.{Result}
 use Rattle.std.specs.declared.result.Result.TheVariants.{Ok, Err}
 use Rattle.std.proofs.Math.Seq.{take-suc}
+use Rattle.std.proofs.lemmas.Grind.{common_steps}
 use Rattle.std.specs.Prelude.{IsTrue}
-use Rattle.ftp_client_model.specs.Calls.{hears, hears_octet, may_hear, MayHear}
+use Rattle.ftp_client_model.specs.Calls.{hears, hears_octet, is_sound, may_hear, MayHear}
 use Rattle.ftp_client_model.specs.View.{View}
+
+-- a client that may hear has not failed
+pub sound_of : (v : View) → IsTrue (may_hear v) → IsTrue (is_sound v.standing)
+sound_of v may = grind (arith, common_steps, may)
 
 pub hears_one : (v : View) (front : List ℕ) (octet : ℕ) → hears v (front ++ octet ∷ []) ≡ hears_octet (hears v front) octet
 hears_one v [] octet = refl

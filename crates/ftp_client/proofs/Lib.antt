@@ -1,4 +1,3 @@
-pub mod ReplyLemmas
 pub mod HeardLemmas
 pub mod GivenLemmas
 pub mod FitLemmas

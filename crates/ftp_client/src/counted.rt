@@ -11,10 +11,11 @@ ghost use Rattle.ftp_client_model.specs.Most.{IsMostHeard, IsMostReceived};
 ghost use Rattle.ftp_client_model.specs.Tries.{over_breaks};
 ghost use Rattle.ftp_client_model.specs.View as view;
 
-use crate::link::{data_end, data_fault, data_opened, data_refused, listen_refused, listening};
-use crate::reply::hear_octet;
 use ftp_client_model::client::Failure;
-use ftp_client_session::Dialogue;
+use ftp_client_session::{
+    Dialogue, data_end, data_fault, data_opened, data_refused, hear_octet, listen_refused,
+    listening,
+};
 use ftp_client_steps::ClientTransfer;
 use ftp_endpoint::Host;
 use ftp_ends::Wants;

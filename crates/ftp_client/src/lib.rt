@@ -3,11 +3,6 @@
 
 mod client;
 mod counted;
-mod link;
-mod login;
 mod near;
-mod reply;
-mod steps;
-mod transfer;
 
 pub use client::Client;

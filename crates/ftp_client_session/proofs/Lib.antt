@@ -1,3 +1,4 @@
+pub mod ReplyLemmas
 pub mod RunLemmas
 pub mod HeardLemmas
 pub mod CarryLemmas

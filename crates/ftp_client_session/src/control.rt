@@ -22,7 +22,7 @@ impl<A: Allocator + Copy, F: ClientTransfer<A>> Dialogue<A, F> {
 
     /// Takes an octet, and hands out the reply that ends with it, which is to be answered then. Refused memory, the client is short of it,
     /// as it was before the octet.
-    pub fn hear(&mut self, octet: u8) -> Result<Option<Reply<A>>, AllocError>
+    pub(crate) fn hear(&mut self, octet: u8) -> Result<Option<Reply<A>>, AllocError>
         requires { IsTrue (is_sound (view_of F.flow self.old).standing) }
         ensures ok { IfOk result (λ reply. reply_answered reply (view_of F.flow self.new) ≡ hears_octet (view_of F.flow self.old) octet) }
         ensures calm { IfOk result (λ reply. IfSome reply (λ some. IsTrue (is_sound (view_of F.flow self.new).standing))) }

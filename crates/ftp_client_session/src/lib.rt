@@ -4,12 +4,14 @@
 mod carrying;
 mod control;
 mod dialogue;
+mod events;
 mod finishing;
 mod holding;
 mod letting_go;
 mod link;
 mod login;
 mod octets;
+mod replies;
 mod sending;
 mod starting;
 mod steps;
@@ -17,4 +19,6 @@ mod task;
 mod transfer;
 
 pub use dialogue::Dialogue;
+pub use events::{data_end, data_fault, data_opened, data_refused, listen_refused, listening};
+pub use replies::hear_octet;
 pub use task::{Task, Transfer};

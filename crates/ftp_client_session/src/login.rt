@@ -16,7 +16,7 @@ impl<A: Allocator + Copy, F: ClientTransfer<A>> Dialogue<A, F> {
     ghost use Rattle.ftp_client_session.specs.Client.{view_of};
 
     /// USER is sent, and its reply awaited.
-    pub fn send_user(&mut self) -> Result<(), AllocError>
+    pub(crate) fn send_user(&mut self) -> Result<(), AllocError>
         requires { (view_of F.flow self.old).standing ≡ Standing.Greeting }
         ensures ok { OnOk result (view_of F.flow self.new
             ≡ sends (Commands.User (view_of F.flow self.old).user) (record (view_of F.flow self.old) { standing = Stands.User })) }
@@ -29,7 +29,7 @@ impl<A: Allocator + Copy, F: ClientTransfer<A>> Dialogue<A, F> {
     }
 
     /// PASS is sent, and its reply awaited.
-    pub fn send_pass(&mut self) -> Result<(), AllocError>
+    pub(crate) fn send_pass(&mut self) -> Result<(), AllocError>
         requires { (view_of F.flow self.old).standing ≡ Standing.User }
         ensures ok { OnOk result (view_of F.flow self.new
             ≡ sends (Commands.Pass (view_of F.flow self.old).pass) (record (view_of F.flow self.old) { standing = Stands.Pass })) }
@@ -42,7 +42,7 @@ impl<A: Allocator + Copy, F: ClientTransfer<A>> Dialogue<A, F> {
     }
 
     /// Operations are sent from now on, and one that waits begins.
-    pub fn login_ends(&mut self) -> Result<(), AllocError>
+    pub(crate) fn login_ends(&mut self) -> Result<(), AllocError>
         requires { IsTrue (is_sound self.old.standing) }
         ensures ok { OnOk result (view_of F.flow self.new ≡ login_ends (view_of F.flow self.old)) }
         ensures err { OnErr result (view_of F.flow self.new ≡ view_of F.flow self.old) }

@@ -1,5 +1,5 @@
 // The octets of the data connection, and what is wanted of it (RFC 959, section 3.2).
-ghost use Rattle.std.specs.Prelude.{◌≡◌, ◌<◌, ◌≤◌, [], IfErr, IfOk, IsTrue, OnErr, OnOk, length, min, take, true, if◌then◌else◌};
+ghost use Rattle.std.specs.Prelude.{◌≡◌, ◌<◌, ◌≤◌, [], IfErr, IfOk, IsTrue, OnErr, OnOk, false, length, min, take, true, if◌then◌else◌};
 ghost use Rattle.ftp_ends.specs.Octets.{has_octets};
 ghost use Rattle.ftp_client_model.specs.Calls.{data_wants, is_sound, may_receive, receives, to_give, transfer_over, wants};
 ghost use Rattle.ftp_client_model.specs.declared.client.ClientLink.TheVariants as Data;
@@ -32,8 +32,23 @@ impl<A: Allocator + Copy, F: ClientTransfer<A>> Dialogue<A, F> {
         transfer.flow.is_down(&self.op)
     }
 
-    /// Takes octets of a download: all of them. `Err` says behind how many of them memory was refused.
+    /// Takes octets of a download, all of them; none where none may be taken. `Err` says behind how many of them memory was refused.
     pub fn receive(&mut self, piece: &[u8]) -> Result<(), usize>
+        ensures ok { may_receive (view_of F.flow self.old) ≡ true → OnOk result (view_of F.flow self.new ≡ receives (view_of F.flow self.old) piece.now) }
+        ensures none { may_receive (view_of F.flow self.old) ≡ false → view_of F.flow self.new ≡ view_of F.flow self.old }
+        ensures err { OnErr result (shorted (view_of F.flow self.new) ≡ shorted (view_of F.flow self.old)) }
+        ensures within { IfErr result (λ count. count < length piece.now) }
+        ensures sound { OnErr result (IsTrue (is_sound (view_of F.flow self.new).standing)) }
+        ensures was { OnErr result (IsTrue (is_sound (view_of F.flow self.old).standing)) }
+    {
+        if !self.may_receive() {
+            return Ok(());
+        }
+        self.receive_all(piece)
+    }
+
+    /// Takes octets of a download that may be taken.
+    fn receive_all(&mut self, piece: &[u8]) -> Result<(), usize>
         requires { may_receive (view_of F.flow self.old) ≡ true }
         ensures ok { OnOk result (view_of F.flow self.new ≡ receives (view_of F.flow self.old) piece.now) }
         ensures err { OnErr result (shorted (view_of F.flow self.new) ≡ shorted (view_of F.flow self.old)) }

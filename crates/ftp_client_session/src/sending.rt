@@ -62,7 +62,7 @@ impl<A: Allocator + Copy, F: ClientTransfer<A>> Dialogue<A, F> {
     }
 
     /// The operation goes on behind a step that was answered well.
-    pub fn go_on(&mut self, step: Step) -> Result<(), AllocError>
+    pub(crate) fn go_on(&mut self, step: Step) -> Result<(), AllocError>
         requires { IsTrue (is_sound self.old.standing) }
         ensures ok { OnOk result (view_of F.flow self.new ≡ goes_on self.old.op step (view_of F.flow self.old)) }
         ensures err { OnErr result (view_of F.flow self.new ≡ view_of F.flow self.old) }

@@ -15,7 +15,7 @@ impl<A: Allocator + Copy, F: ClientTransfer<A>> Dialogue<A, F> {
     ghost use Rattle.ftp_client_session.specs.Client.{shorted, view_of};
 
     /// The operation is answered with what the reply to its own command says.
-    pub fn read_answer(&mut self, reply: &Reply<A>) -> Result<(), AllocError>
+    pub(crate) fn read_answer(&mut self, reply: &Reply<A>) -> Result<(), AllocError>
         requires { IsTrue (is_sound self.old.standing) }
         ensures ok { OnOk result (view_of F.flow self.new ≡ finishes_read (answer_in self.old.op reply.now.lines) (view_of F.flow self.old)) }
         ensures err { OnErr result (shorted (view_of F.flow self.new) ≡ shorted (view_of F.flow self.old)) }
@@ -28,7 +28,7 @@ impl<A: Allocator + Copy, F: ClientTransfer<A>> Dialogue<A, F> {
     }
 
     /// The settings are those that the server accepted.
-    pub fn set_accepted(&mut self, step: Step) -> Result<(), AllocError>
+    pub(crate) fn set_accepted(&mut self, step: Step) -> Result<(), AllocError>
         requires { IsTrue (is_sound self.old.standing) }
         ensures ok { OnOk result (view_of F.flow self.new ≡ set_accepted self.old.op step (view_of F.flow self.old)) }
         ensures err { OnErr result (shorted (view_of F.flow self.new) ≡ shorted (view_of F.flow self.old)) }
@@ -44,7 +44,7 @@ impl<A: Allocator + Copy, F: ClientTransfer<A>> Dialogue<A, F> {
     }
 
     /// The link is to be opened to an endpoint.
-    pub fn dial(&mut self, endpoint: Endpoint)
+    pub(crate) fn dial(&mut self, endpoint: Endpoint)
         requires { IsTrue (is_sound self.old.standing) }
         ensures { view_of F.flow self.new ≡ dials self.old.op endpoint (view_of F.flow self.old) }
     {

@@ -1,9 +1,9 @@
 // An upload's end: what came is put into the tree, behind the octets of the file there that are kept (own choice).
-ghost use Rattle.std.specs.Prelude.{◌≡◌, ◌⊎◌, ◌+◌, ◌++◌, IfErr, IfOk, OnOk, OnErr, drop, length, take, is_some};
+ghost use Rattle.std.specs.Prelude.{◌≡◌, ◌⊎◌, ◌+◌, ◌++◌, IfErr, IfOk, OnOk, OnErr, drop, length, take, is_none, is_some};
 ghost use Rattle.std.specs.Option.{IfSome};
 ghost use Rattle.ftp_tree.specs.Change.{next_count};
 ghost use Rattle.ftp_server_transfer.specs.Receiving.{Leaves};
-ghost use Rattle.ftp_tree.specs.Tree.{installed, octets_or_none, octets_refusal, under, with_part};
+ghost use Rattle.ftp_tree.specs.Tree.{install_refusal, installed, octets_or_none, octets_refusal, room_refusal, under, with_part};
 
 use ftp_facts::Moment;
 use ftp_path::Path;
@@ -18,7 +18,8 @@ pub(crate) fn room_behind<
     C: Allocator + Copy,
     T: Tree<A>,
 >(tree: &T, root: &Path<B>, path: &Path<C>, keep: u64) -> Option<u64>
-    ensures { IfSome result (λ room. Leaves (under (T.table tree.now) root.now) path.now keep room) }
+    ensures room { IfSome result (λ room. Leaves (under (T.table tree.now) root.now) path.now keep room) }
+    ensures none { is_none result ≡ is_some (install_refusal (under (T.table tree.now) root.now) path.now keep) }
 {
     match tree.room(root, path) {
         Ok(room) => {
@@ -39,7 +40,8 @@ pub(crate) fn passes<A: Allocator + Copy, B: Allocator + Copy, C: Allocator + Co
     keep: u64,
     count: u64,
 ) -> Option<bool>
-    ensures { IfSome result (λ passes. passes ≡ is_some (octets_refusal (under (T.table tree.now) root.now) path.now (keep + count))) }
+    ensures passes { IfSome result (λ passes. passes ≡ is_some (octets_refusal (under (T.table tree.now) root.now) path.now (keep + count))) }
+    ensures none { is_none result ≡ is_some (room_refusal (under (T.table tree.now) root.now) path.now) }
 {
     match tree.room(root, path) {
         Ok(room) => {

@@ -1,5 +1,5 @@
 // An upload: the octets of its data connection are settled into a file, apart from the tree until it ends (RFC 959, section 3.4).
-ghost use Rattle.std.specs.Prelude.{◌≡◌, ◌≤◌, ◌<◌, ◌+◌, ◌^◌, ℕ, Some, false, length, take, if◌then◌else◌};
+ghost use Rattle.std.specs.Prelude.{◌≡◌, ◌≤◌, ◌<◌, ◌+◌, ◌^◌, ℕ, Some, false, length, take, is_none, is_some, if◌then◌else◌};
 ghost use Rattle.std.specs.Option.{IfSome};
 ghost use Rattle.ftp_wire.specs.Decoder.{no_octets};
 ghost use Rattle.ftp_server_parts.specs.ServerTransfer.{Comes, Ends};
@@ -7,7 +7,7 @@ ghost use Rattle.ftp_server_model.specs.Machine.{at_break, at_end, installs};
 ghost use Rattle.ftp_server_model.specs.View.{Session};
 ghost use Rattle.ftp_server_model.specs.declared.session.Transfer.TheVariants as Transfers;
 ghost use Rattle.ftp_server_transfer.specs.Receiving.{is_over};
-ghost use Rattle.ftp_tree.specs.Tree.{under};
+ghost use Rattle.ftp_tree.specs.Tree.{install_refusal, under};
 
 use crate::came::Came;
 use crate::install::{passes, put_in, room_behind};
@@ -93,7 +93,8 @@ impl<A: Allocator + Copy> Upload<A> {
         tree: &T,
         root: &Path<C>,
     ) -> Option<u64>
-        ensures { IfSome result (λ room. Leaves (under (T.table tree.now) root.now) self.now.path self.now.keep (length self.now.decoder.decoder.content + room)) }
+        ensures room { IfSome result (λ room. Leaves (under (T.table tree.now) root.now) self.now.path self.now.keep (length self.now.decoder.decoder.content + room)) }
+        ensures none { is_none result ≡ is_some (install_refusal (under (T.table tree.now) root.now) self.now.path (self.now.keep + length self.now.decoder.decoder.content)) }
     {
         let Some(most) = room_behind(tree, root, &self.path, self.keep) else {
             return None;

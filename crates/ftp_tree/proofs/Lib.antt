@@ -5,6 +5,7 @@ pub mod EntryLemmas
 pub mod KeepLaws
 pub mod LawLemmas
 pub mod LeafLemmas
+pub mod MirrorLemmas
 pub mod MoveLemmas
 pub mod NameLemmas
 pub mod PartLemmas

@@ -1,6 +1,7 @@
 pub mod Branch
 pub mod BranchFalls
 pub mod Change
+pub mod Folder
 pub mod Laws
 pub mod Sound
 pub mod Store

@@ -530,7 +530,7 @@ impl<A: Allocator + Copy> MemTree<A> {
     }
 
     /// Takes away what stands at a path, where no refusal applies to a file or to a directory there. Takes no memory.
-    pub fn take_away<B: Allocator + Copy, C: Allocator + Copy>(
+    pub(crate) fn take_away<B: Allocator + Copy, C: Allocator + Copy>(
         &mut self,
         root: &Path<B>,
         path: &Path<C>,

@@ -14,7 +14,7 @@ use std::alloc::{AllocError, Allocator};
 
 impl<A: Allocator + Copy> MemTree<A> {
     /// Puts an empty directory where nothing stands, in a directory: one that is made, or the place of what is to come.
-    pub fn make_place<B: Allocator + Copy, C: Allocator + Copy>(
+    pub(crate) fn make_place<B: Allocator + Copy, C: Allocator + Copy>(
         &mut self,
         root: &Path<B>,
         path: &Path<C>,
@@ -42,7 +42,7 @@ impl<A: Allocator + Copy> MemTree<A> {
     }
 
     /// Puts a file in the place of a file or of an empty directory. Its octets are taken out of the content. Takes no memory.
-    pub fn put_over<B: Allocator + Copy, C: Allocator + Copy>(
+    pub(crate) fn put_over<B: Allocator + Copy, C: Allocator + Copy>(
         &mut self,
         root: &Path<B>,
         path: &Path<C>,
@@ -62,7 +62,7 @@ impl<A: Allocator + Copy> MemTree<A> {
     }
 
     /// Moves what stands at a path into the place of an empty directory, where no refusal applies without that. Takes no memory.
-    pub fn move_over<B: Allocator + Copy, C: Allocator + Copy, D: Allocator + Copy>(
+    pub(crate) fn move_over<B: Allocator + Copy, C: Allocator + Copy, D: Allocator + Copy>(
         &mut self,
         root: &Path<B>,
         from: &Path<C>,

@@ -1,2 +1,1 @@
-pub mod MirrorLemmas
 pub mod PlaceLemmas

@@ -1,3 +1,2 @@
-pub mod Folder
 pub mod Moment
 pub mod Place

@@ -13,7 +13,7 @@ returns-in-Ok-clause-took g c =
     let v : View = view_of g.F.ClientTransfer.flow c.args.self.now.dialogue in
     let piece = c.args.piece.now in
     let may : may_receive v ≡ true = sym c.may_receive.ensures ∙ c.if-not-may_receive.false in (
-      (λ same. (c.in-Ok.ensures.ok ∙ ap (receives v) (sym (take-length piece)), λ k less. may_receives v (take k piece) ∙ may)),
+      (λ same. (c.in-Ok.ensures.ok may ∙ ap (receives v) (sym (take-length piece)), λ k less. may_receives v (take k piece) ∙ may)),
       (λ other. absurd (other refl)),
     )
 

@@ -3,7 +3,7 @@ use Rattle.std.specs.Prelude.{IsTrue}
 use Rattle.ftp_client_model.specs.Calls.{hears_octet, may_hear}
 use Rattle.ftp_client_model.specs.View.{View}
 use Rattle.ftp_client.specs.Counted.{counted_of}
-use Rattle.ftp_client.proofs.HeardLemmas.{hears_next, may_more, ok_at}
+use Rattle.ftp_client.proofs.HeardLemmas.{hears_next, may_more, ok_at, sound_of}
 use Rattle.ftp_client.proofs.counted.Counted.hear.Goals as goal
 
 pub loop-taken-preserved : goal.loop-taken-preserved
@@ -11,11 +11,12 @@ loop-taken-preserved g c =
     let v : View = (counted_of g.F.ClientTransfer.flow c.args.self.now).view in
     let n = c.loop-taken.taken in
     let piece = c.args.piece.now in
+    let sound = sound_of (counted_of g.F.ClientTransfer.flow c.loop-taken.self).view (sym c.may_hear.ensures ∙ c.if-may_hear.true) in
     let less : n < length piece = omega (arith, c.loop-taken-test.true) in
     record {
       within = omega arith;
       count = c.loop-taken.invariant.count;
-      view = ok_at c.hear_octet.result _ (sym c.is_err.ensures.value ∙ c.if-is_err.false) c.hear_octet.ensures.ok
+      view = ok_at c.hear_octet.result _ (sym c.is_err.ensures.value ∙ c.if-is_err.false) (c.hear_octet.ensures.ok sound)
           ∙ ap (λ w. hears_octet w (slice_index piece n)) c.loop-taken.invariant.view
           ∙ sym (hears_next v piece n less);
       may = may_more v piece n c.loop-taken.invariant.may

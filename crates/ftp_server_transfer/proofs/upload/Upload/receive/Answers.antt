@@ -23,7 +23,7 @@ told-requires g c = λ held is.
     let octets = take taken.result.count c.args.piece.now in
     let P : Option ℕ → Type 0 = λ mark. Hears most d octets mark taken.new.self.marker taken.result.heard taken.new.self.decoder in
     let fits = mark_fits most d octets held taken.new.self.marker taken.result.heard taken.new.self.decoder (omega arith) (subst P is taken.ensures.hears) in
-    (omega (arith, fits.0, c.in-Some.ensures.short), fits.1)
+    (omega (arith, fits.0, c.in-Some.ensures.room.short), fits.1)
 
 pub returns-clause-comes : goal.returns-clause-comes
 returns-clause-comes g c =
@@ -37,4 +37,4 @@ returns-clause-comes g c =
     (if over then Transfers.OverLimit else Transfers.Upload u.path u.keep new.decoder) in
     subst P (sym c.is_over.ensures)
     (comes part u.path u.keep (length d.content + c.in-Some.room) d octets taken.result.mark new.marker taken.result.heard new.decoder c.told.result
-    c.in-Some.ensures (omega arith) taken.ensures.hears c.told.ensures)
+    c.in-Some.ensures.room (omega arith) taken.ensures.hears c.told.ensures)

@@ -7,8 +7,8 @@ ghost use Rattle.ftp_client_session.specs.Client.{shorted, view_of};
 ghost use Rattle.ftp_client_steps.specs.Verdict.{verdict_in};
 ghost use Rattle.ftp_reply.specs.Lines.{joined};
 
+use crate::dialogue::Dialogue;
 use ftp_client_model::client::Step;
-use ftp_client_session::Dialogue;
 use ftp_client_steps::{ClientTransfer, Verdict};
 use ftp_endpoint::Endpoint;
 use ftp_ends::is_same_host;

@@ -4,8 +4,8 @@ ghost use Rattle.ftp_client_model.specs.Dialogue.{greeted, pass_answered, user_a
 ghost use Rattle.ftp_client_session.specs.Client.{view_of};
 ghost use Rattle.ftp_client_steps.specs.Verdict.{verdict_in};
 
+use crate::dialogue::Dialogue;
 use ftp_client_model::client::Standing;
-use ftp_client_session::Dialogue;
 use ftp_client_steps::{ClientTransfer, Verdict};
 use std::alloc::{AllocError, Allocator};
 

@@ -1,7 +1,7 @@
 use Rattle.std.proofs.Common.{◌≡◌, ◌-◌, ◌≤◌, true, length, take}
 use Rattle.ftp_client_model.specs.Calls.{may_receive, receives}
 use Rattle.ftp_client_session.specs.Client.{view_of}
-use Rattle.ftp_client_session.proofs.dialogue.Dialogue.receive.Given as goal
+use Rattle.ftp_client_session.proofs.dialogue.Dialogue.receive_all.Given as goal
 
 abbrev pub invariant-loop-at : goal.invariant-loop-at
 invariant-loop-at g l = record {

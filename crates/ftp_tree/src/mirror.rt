@@ -2,12 +2,15 @@
 ghost use Rattle.std.specs.Prelude.{◌≡◌, ◌⊎◌, None, OnOk, OnErr, IfErr, [], length};
 ghost use Rattle.ftp_tree.specs.Change.{Refuses};
 ghost use Rattle.ftp_tree.specs.Tree.{delete_refusal, installed, remove_refusal, under, with_part};
-ghost use Rattle.ftp_tree_folder.specs.Folder.{IsKept, Mirrors, changed_below};
+ghost use Rattle.ftp_tree.specs.Folder.{IsKept, Mirrors, changed_below};
 
+use crate::content::Content;
 use crate::device::Folder;
+use crate::fault::TreeFault;
+use crate::memory::MemTree;
+use crate::tree::{DirEntry, NodeKind, Tree};
 use ftp_facts::Moment;
 use ftp_path::{Name, Path};
-use ftp_tree::{Content, DirEntry, MemTree, NodeKind, Tree, TreeFault};
 use std::alloc::Allocator;
 
 /// A tree in memory, and a folder that keeps the same outside memory. All that a change needs of memory is had first, then the

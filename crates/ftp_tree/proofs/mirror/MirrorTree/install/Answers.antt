@@ -1,9 +1,9 @@
 use Rattle.std.proofs.Common.{inl, is_some, length, sym, ap, ◌∙◌}
 use Rattle.ftp_tree.specs.Tree.{install_refusal, installed, removed, under, with_part}
 use Rattle.ftp_tree.proofs.PlacingLemmas.{had, install-above}
-use Rattle.ftp_tree_folder.specs.Folder.{changed_below}
-use Rattle.ftp_tree_folder.proofs.MirrorLemmas.{install-over, kind-absent, mirrors-on, on-ok, refuses-as}
-use Rattle.ftp_tree_folder.proofs.mirror.MirrorTree.install.Goals as goal
+use Rattle.ftp_tree.specs.Folder.{changed_below}
+use Rattle.ftp_tree.proofs.MirrorLemmas.{install-over, kind-absent, mirrors-on, on-ok, refuses-as}
+use Rattle.ftp_tree.proofs.mirror.MirrorTree.install.Goals as goal
 
 pub put_over-requires : goal.put_over-requires
 put_over-requires g c =

@@ -1,11 +1,11 @@
 // A folder outside memory, as a mirrored tree uses it.
 ghost use Rattle.std.specs.Prelude.{◌≡◌, ℕ, Option, OnErr, OnOk};
 ghost use Rattle.ftp_tree.specs.Tree.{Table, installed, made, moved, removed};
-ghost use Rattle.ftp_tree_folder.specs.Folder.{HasFailed, IsKept, changed_below};
+ghost use Rattle.ftp_tree.specs.Folder.{HasFailed, IsKept, changed_below};
 
+use crate::content::Content;
 use ftp_facts::Moment;
 use ftp_path::Path;
-use ftp_tree::Content;
 use std::alloc::Allocator;
 
 /// A call on a folder failed; what the folder keeps is as it was.

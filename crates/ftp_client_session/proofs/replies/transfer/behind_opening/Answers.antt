@@ -4,8 +4,8 @@ use Rattle.ftp_client_model.specs.View.{View}
 use Rattle.ftp_client_steps.specs.Verdict.{verdict_in}
 use Rattle.ftp_reply.specs.Lines.{joined}
 use Rattle.ftp_client_session.specs.Client.{job_of, shorted, transfer_of, view_of}
-use Rattle.ftp_client.proofs.ReplyLemmas.{behind_is, unless_short}
-use Rattle.ftp_client.proofs.transfer.behind_opening.Goals as goal
+use Rattle.ftp_client_session.proofs.ReplyLemmas.{behind_is, unless_short}
+use Rattle.ftp_client_session.proofs.replies.transfer.behind_opening.Goals as goal
 
 pub returns-in-Negative-clause-ok : goal.returns-in-Negative-clause-ok
 returns-in-Negative-clause-ok g c =

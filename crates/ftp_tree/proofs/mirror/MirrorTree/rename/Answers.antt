@@ -1,9 +1,9 @@
 use Rattle.std.proofs.Common.{sym, ap, ◌∙◌}
 use Rattle.ftp_tree.specs.Tree.{moved, rename_refusal, under, with_part}
 use Rattle.ftp_tree.proofs.PlacingLemmas.{had, move-above, move-absent}
-use Rattle.ftp_tree_folder.specs.Folder.{changed_below}
-use Rattle.ftp_tree_folder.proofs.MirrorLemmas.{mirrors-on, on-err, on-ok, refuses-device}
-use Rattle.ftp_tree_folder.proofs.mirror.MirrorTree.rename.Goals as goal
+use Rattle.ftp_tree.specs.Folder.{changed_below}
+use Rattle.ftp_tree.proofs.MirrorLemmas.{mirrors-on, on-err, on-ok, refuses-device}
+use Rattle.ftp_tree.proofs.mirror.MirrorTree.rename.Goals as goal
 
 pub make_place-requires-clause-absent : goal.make_place-requires-clause-absent
 make_place-requires-clause-absent g c = move-absent _ c.args.from.now c.args.to.now (sym c.rename_refusal.ensures ∙ c.in_default.is)

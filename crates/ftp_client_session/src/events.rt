@@ -7,8 +7,9 @@ ghost use Rattle.ftp_client_model.specs.declared.client.ClientLink.TheVariants a
 ghost use Rattle.ftp_client_session.specs.Client.{shorted, view_of};
 ghost use Rattle.ftp_ends.specs.Link.{same_host};
 
+use crate::dialogue::Dialogue;
+use crate::task::Task;
 use ftp_client_model::client::{ClientLink, Ending, Step};
-use ftp_client_session::{Dialogue, Task};
 use ftp_client_steps::ClientTransfer;
 use ftp_endpoint::Host;
 use ftp_ends::is_same_host;
@@ -40,7 +41,7 @@ pub fn listening<A: Allocator + Copy, F: ClientTransfer<A>>(
 }
 
 /// No port can be had: the operation is not opened.
-#[tactic(auto, unfolding(ftp_client_model::specs::Calls::listen_refused), using(ftp_client_session::proofs::HeardLemmas::short_alike))]
+#[tactic(auto, unfolding(ftp_client_model::specs::Calls::listen_refused), using(crate::proofs::HeardLemmas::short_alike))]
 pub fn listen_refused<A: Allocator + Copy, F: ClientTransfer<A>>(
     dialogue: &mut Dialogue<A, F>,
 ) -> Result<(), AllocError>
@@ -57,7 +58,7 @@ pub fn listen_refused<A: Allocator + Copy, F: ClientTransfer<A>>(
 }
 
 /// The link is open; this host is at its other end.
-#[tactic(auto, unfolding(ftp_client_model::specs::Calls::data_opened), using(ftp_client_session::proofs::HeardLemmas::short_alike))]
+#[tactic(auto, unfolding(ftp_client_model::specs::Calls::data_opened), using(crate::proofs::HeardLemmas::short_alike))]
 pub fn data_opened<A: Allocator + Copy, F: ClientTransfer<A>>(
     dialogue: &mut Dialogue<A, F>,
     host: Host,
@@ -78,7 +79,7 @@ pub fn data_opened<A: Allocator + Copy, F: ClientTransfer<A>>(
 }
 
 /// The link broke, or the server closed it before its time.
-#[tactic(auto, unfolding(ftp_client_model::specs::Calls::data_fault), using(ftp_client_session::proofs::HeardLemmas::short_alike))]
+#[tactic(auto, unfolding(ftp_client_model::specs::Calls::data_fault), using(crate::proofs::HeardLemmas::short_alike))]
 pub fn data_fault<A: Allocator + Copy, F: ClientTransfer<A>>(
     dialogue: &mut Dialogue<A, F>,
 ) -> Result<(), AllocError>
@@ -95,7 +96,7 @@ pub fn data_fault<A: Allocator + Copy, F: ClientTransfer<A>>(
 }
 
 /// The server closed the open link.
-#[tactic(auto, unfolding(ftp_client_model::specs::Calls::data_end), using(ftp_client_session::proofs::HeardLemmas::short_alike))]
+#[tactic(auto, unfolding(ftp_client_model::specs::Calls::data_end), using(crate::proofs::HeardLemmas::short_alike))]
 pub fn data_end<A: Allocator + Copy, F: ClientTransfer<A>>(
     dialogue: &mut Dialogue<A, F>,
 ) -> Result<(), AllocError>
@@ -113,7 +114,7 @@ pub fn data_end<A: Allocator + Copy, F: ClientTransfer<A>>(
 }
 
 /// The link was not had: an operation without one is not opened, and at the client's port it counts as broken (own choice).
-#[tactic(auto, unfolding(ftp_client_model::specs::Calls::data_refused), using(ftp_client_session::proofs::HeardLemmas::short_alike))]
+#[tactic(auto, unfolding(ftp_client_model::specs::Calls::data_refused), using(crate::proofs::HeardLemmas::short_alike))]
 pub fn data_refused<A: Allocator + Copy, F: ClientTransfer<A>>(
     dialogue: &mut Dialogue<A, F>,
 ) -> Result<(), AllocError>

@@ -1,29 +1,38 @@
 // Replies as they come, and who is answered by each (RFC 959, sections 4.2 and 5.4).
-ghost use Rattle.std.specs.Prelude.{◌≡◌, IsTrue, OnErr, OnOk};
+ghost use Rattle.std.specs.Prelude.{◌≡◌, IsTrue, OnErr, OnOk, false};
 ghost use Rattle.ftp_client_model.specs.Calls.{hears_octet, is_sound};
 ghost use Rattle.ftp_client_model.specs.Dialogue.{answered, job_answered, stand_answered};
 ghost use Rattle.ftp_client_session.specs.Client.{shorted, view_of};
 ghost use Rattle.ftp_client_steps.specs.Verdict.{verdict_in};
 
-use crate::login::{greeted, pass_answered, user_answered};
-use crate::steps::step_answered;
-use crate::transfer::transfer_answered;
+mod login;
+mod steps;
+mod transfer;
+
+use crate::dialogue::Dialogue;
+use crate::task::Task;
 use ftp_client_model::client::{Failure, Standing};
-use ftp_client_session::{Dialogue, Task};
 use ftp_client_steps::{ClientTransfer, Verdict, verdict_of};
 use ftp_reply::Reply;
+use login::{greeted, pass_answered, user_answered};
 use std::alloc::{AllocError, Allocator};
+use steps::step_answered;
+use transfer::transfer_answered;
 
-/// Takes an octet of the control connection. Refused memory, the client is short of it, as it was before the octet.
+/// Takes an octet of the control connection; a client that has failed hears none. Refused memory, the client is short of it, as it was before the
+/// octet.
 pub fn hear_octet<A: Allocator + Copy, F: ClientTransfer<A>>(
     dialogue: &mut Dialogue<A, F>,
     octet: u8,
 ) -> Result<(), AllocError>
-    requires { IsTrue (is_sound (view_of F.flow dialogue.old).standing) }
-    ensures ok { OnOk result (view_of F.flow dialogue.new ≡ hears_octet (view_of F.flow dialogue.old) octet) }
+    ensures ok { IsTrue (is_sound (view_of F.flow dialogue.old).standing) → OnOk result (view_of F.flow dialogue.new ≡ hears_octet (view_of F.flow dialogue.old) octet) }
+    ensures failed { is_sound (view_of F.flow dialogue.old).standing ≡ false → view_of F.flow dialogue.new ≡ view_of F.flow dialogue.old }
     ensures err { OnErr result (shorted (view_of F.flow dialogue.new) ≡ shorted (view_of F.flow dialogue.old)) }
     ensures sound { OnErr result (IsTrue (is_sound (view_of F.flow dialogue.new).standing)) }
 {
+    if let Standing::Failed(_) = dialogue.standing() {
+        return Ok(());
+    }
     match dialogue.hear(octet) {
         Ok(None) => Ok(()),
         Ok(Some(reply)) => answered(dialogue, &reply),

@@ -9,7 +9,7 @@ use Rattle.ftp_tree.specs.Tree.{Node, Dir, File, Table, delete_refusal, file_ref
 use Rattle.ftp_tree.specs.declared.fault.TreeFault.{TreeFault}
 use Rattle.ftp_tree.specs.declared.fault.TreeFault.TheVariants.{Device}
 use Rattle.ftp_tree.proofs.TableLemmas.{both-none}
-use Rattle.ftp_tree_folder.specs.Folder.{Mirrors}
+use Rattle.ftp_tree.specs.Folder.{Mirrors}
 
 -- ---- what a call that did not fail says, and what one that failed does
 

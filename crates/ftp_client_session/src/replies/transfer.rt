@@ -6,8 +6,9 @@ ghost use Rattle.ftp_client_session.specs.Client.{in_transfer, shorted, view_of}
 ghost use Rattle.ftp_client_steps.specs.Verdict.{verdict_in};
 ghost use Rattle.ftp_reply.specs.Lines.{joined};
 
+use crate::dialogue::Dialogue;
+use crate::task::Task;
 use ftp_client_model::client::Replied;
-use ftp_client_session::{Dialogue, Task};
 use ftp_client_steps::{ClientTransfer, Verdict};
 use ftp_reply::{Reply, mark_of};
 use std::alloc::{AllocError, Allocator};

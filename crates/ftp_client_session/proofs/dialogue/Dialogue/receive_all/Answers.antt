@@ -4,7 +4,7 @@ use Rattle.ftp_client_model.specs.Calls.{may_receive, receives}
 use Rattle.ftp_client_model.specs.View.{View}
 use Rattle.ftp_client_session.specs.Client.{shorted, view_of}
 use Rattle.ftp_client_session.proofs.OctetLemmas.{may_receives, receives_append, short_receives}
-use Rattle.ftp_client_session.proofs.dialogue.Dialogue.receive.Goals as goal
+use Rattle.ftp_client_session.proofs.dialogue.Dialogue.receive_all.Goals as goal
 
 pub loop-at-preserved : goal.loop-at-preserved
 loop-at-preserved g c =

@@ -1,7 +1,7 @@
 use Rattle.std.proofs.Common.{sym, ◌∙◌}
 use Rattle.ftp_tree.proofs.PlacingLemmas.{had, make-above, make-absent}
-use Rattle.ftp_tree_folder.proofs.MirrorLemmas.{on-err, on-ok, refuses-device}
-use Rattle.ftp_tree_folder.proofs.mirror.MirrorTree.make_dir.Goals as goal
+use Rattle.ftp_tree.proofs.MirrorLemmas.{on-err, on-ok, refuses-device}
+use Rattle.ftp_tree.proofs.mirror.MirrorTree.make_dir.Goals as goal
 
 pub make_place-requires-clause-absent : goal.make_place-requires-clause-absent
 make_place-requires-clause-absent g c = make-absent _ c.args.path.now (sym c.make_refusal.ensures ∙ c.in_default.is)
