@@ -1,3 +1,4 @@
 mod ShownLemmas
 mod LinesLemmas
 mod PlanLemmas
+pub mod PatternLemmas

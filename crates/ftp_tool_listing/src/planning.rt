@@ -1,8 +1,8 @@
 // What is done of a directory.
 ghost use Rattle.std.specs.Prelude.{◌≡◌, ◌++◌, IfOk, OnOk, flat_map};
-ghost use Rattle.ftp_tool_listing.specs.Plan.{clearing, copying, is_named, plan, stands, steps};
+ghost use Rattle.ftp_tool_listing.specs.Plan.{clearing, copying, guarded, is_named, plan, refused, stands, steps, whole_plan};
 
-use crate::deeds::{Deed, Deeds, Reason, Rules, deeds_for, removal_for};
+use crate::deeds::{Deed, Deeds, Extra, Reason, Rules, deeds_for, removal_for};
 use crate::item::{Item, Kind, Listing};
 use ftp_facts::Text;
 use std::alloc::{AllocError, Allocator, Global};
@@ -24,26 +24,50 @@ pub fn plan(
 ) -> Result<Vec<Step<Global>, Global>, AllocError>
     ensures { IfOk result (λ planned. planned.items ≡ plan rules source.now target.now) }
 {
-    let mut planned = Vec::new(alloc);
     match (source, target) {
         (Listing::Whole(source), Listing::Whole(target)) => {
-            put_copying(
-                alloc,
-                rules,
-                source.as_slice(),
-                target.as_slice(),
-                &mut planned,
-            )?;
-            put_clearing(
-                alloc,
-                rules,
-                source.as_slice(),
-                target.as_slice(),
-                &mut planned,
-            )?;
+            whole_plan(alloc, rules, source.as_slice(), target.as_slice())
         }
-        _ => put_step(alloc, b"", Deed::Refuse(Reason::CutOff), &mut planned)?,
+        _ => refused(alloc, Reason::CutOff),
     }
+}
+
+/// The same of whole listings.
+fn whole_plan(
+    alloc: Global,
+    rules: Rules,
+    source: &[Item<Global>],
+    target: &[Item<Global>],
+) -> Result<Vec<Step<Global>, Global>, AllocError>
+    ensures { IfOk result (λ planned. planned.items ≡ whole_plan rules source.now target.now) }
+{
+    let mut planned = Vec::new(alloc);
+    put_copying(alloc, rules, source, target, &mut planned)?;
+    put_clearing(alloc, rules, source, target, &mut planned)?;
+    guarded(alloc, rules.extra, source, planned)
+}
+
+/// What was planned; where the source lists nothing, what would be removed stays, and that is told.
+fn guarded(
+    alloc: Global,
+    extra: Extra,
+    source: &[Item<Global>],
+    planned: Vec<Step<Global>, Global>,
+) -> Result<Vec<Step<Global>, Global>, AllocError>
+    ensures { IfOk result (λ kept. kept.items ≡ guarded extra source.now planned.items) }
+{
+    if matches!(extra, Extra::Removed) && source.is_empty() && !planned.is_empty() {
+        return refused(alloc, Reason::Emptied(planned.len()));
+    }
+    Ok(planned)
+}
+
+/// That nothing is done of a directory.
+fn refused(alloc: Global, reason: Reason) -> Result<Vec<Step<Global>, Global>, AllocError>
+    ensures { IfOk result (λ planned. planned.items ≡ refused reason) }
+{
+    let mut planned = Vec::new(alloc);
+    put_step(alloc, b"", Deed::Refuse(reason), &mut planned)?;
     Ok(planned)
 }
 
