@@ -2,3 +2,4 @@ mod ShownLemmas
 mod LinesLemmas
 mod PlanLemmas
 pub mod PatternLemmas
+pub mod IndexLemmas

@@ -1,8 +1,7 @@
 -- Patterns: how a text stands to a pattern, and that behind a star that was reached no star before it is gone back to.
-use Rattle.std.proofs.Common.{◌≡◌, ◌⊎◌, inl, inr, ◌<◌, ◌≤◌, ◌++◌, ◌+◌, ◌==◌, ◌&&◌, ◌||◌, ◌∙◌, ℕ, zero, suc, Bool, true, false, not, List, [], ◌∷◌, length, drop, sym, refl, ap, arith, append_assoc}
+use Rattle.std.proofs.Common.{◌≡◌, inl, inr, ◌<◌, ◌≤◌, ◌++◌, ◌+◌, ◌==◌, ◌&&◌, ◌||◌, ◌∙◌, ℕ, zero, suc, Bool, true, false, not, List, [], ◌∷◌, length, drop, sym, refl, arith, append_assoc}
 use Rattle.std.proofs.lemmas.Bool.{and_parts, both_ways, not-true, or_cases}
 use Rattle.std.specs.List.{list_all}
-use Rattle.ftp_tool_listing.specs.declared.pattern.Meeting.{Meeting}
 use Rattle.ftp_tool_listing.specs.declared.pattern.Meeting.TheVariants as Meetings
 use Rattle.ftp_tool_listing.specs.Pattern.{is_floating, is_octet, matches, meet, slash, some_rest, star}
 
@@ -99,12 +98,12 @@ pub later : (u : List ℕ) (j : ℕ) (p : List ℕ) (o : ℕ) (s : List ℕ) →
 later [] j p o s fits one rest is = greedy j p o s [] fits one rest is
 later (n ∷ u) j p o s fits one rest is =
     elim (or_cases (matches p (n ∷ u)) (not (n == slash) && some_rest (matches p) u) is) [
-      inl here ↦ greedy j p o s (n ∷ u) fits one rest here
-    | inr further ↦
-        let parts = and_parts (not (n == slash)) (some_rest (matches p) u) further in
-        let more : s ++ n ∷ u ≡ (s ++ n ∷ []) ++ u = sym (append_assoc s (n ∷ []) u) in
-        let so : Fits j p (o ∷ ((s ++ n ∷ []) ++ u)) = rw (sym more) fits in
-        rw more (later u j p o (s ++ n ∷ []) so one (plain_more s n rest (not-true (n == slash) parts.0)) parts.1)
+      | inl here ↦ greedy j p o s (n ∷ u) fits one rest here
+      | inr further ↦
+          let parts = and_parts (not (n == slash)) (some_rest (matches p) u) further in
+          let more : s ++ n ∷ u ≡ (s ++ n ∷ []) ++ u = sym (append_assoc s (n ∷ []) u) in
+          let so : Fits j p (o ∷ ((s ++ n ∷ []) ++ u)) = rw (sym more) fits in
+          rw more (later u j p o (s ++ n ∷ []) so one (plain_more s n rest (not-true (n == slash) parts.0)) parts.1)
     ]
 
 -- a rest matches behind the first octet, which is no slash

@@ -7,7 +7,9 @@ ghost use Rattle.ftp_tool_listing.specs.Pattern.{behind_slash, is_met, is_octet,
 pub fn is_excluded(patterns: &[&str], path: &[u8], name: &[u8]) -> bool
     ensures { result ≡ list_any (λ pattern. is_met path.now name.now pattern.now) patterns.now }
 {
-    patterns.iter().any(|pattern| is_met(path, name, pattern.as_bytes()))
+    patterns
+        .iter()
+        .any(|pattern| is_met(path, name, pattern.as_bytes()))
 }
 
 fn is_met(path: &[u8], name: &[u8], pattern: &[u8]) -> bool

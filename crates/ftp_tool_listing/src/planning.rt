@@ -1,9 +1,10 @@
 // What is done of a directory.
 ghost use Rattle.std.specs.Prelude.{◌≡◌, ◌++◌, IfOk, OnOk, flat_map};
-ghost use Rattle.ftp_tool_listing.specs.Plan.{clearing, copying, guarded, is_named, plan, refused, stands, steps, whole_plan};
+ghost use Rattle.ftp_tool_listing.specs.Plan.{clearing, copying, guarded, plan, refused, steps, whole_plan};
 
 use crate::deeds::{Deed, Deeds, Extra, Reason, Rules, deeds_for, removal_for};
-use crate::item::{Item, Kind, Listing};
+use crate::index::{kinds_of, stands};
+use crate::item::{Item, Listing};
 use ftp_facts::Text;
 use std::alloc::{AllocError, Allocator, Global};
 
@@ -80,9 +81,10 @@ fn put_copying(
 ) -> Result<(), AllocError>
     ensures { OnOk result (planned.new.items ≡ planned.old.items ++ flat_map (copying rules target.now) source.now) }
 {
+    let kinds = kinds_of(alloc, target)?;
     for item in source {
         let name = item.name.as_slice();
-        let deeds = deeds_for(rules, item, stands(target, name));
+        let deeds = deeds_for(rules, item, stands(&kinds, name));
         put_steps(alloc, name, deeds, planned)?;
     }
     Ok(())
@@ -97,9 +99,10 @@ fn put_clearing(
 ) -> Result<(), AllocError>
     ensures { OnOk result (planned.new.items ≡ planned.old.items ++ flat_map (clearing rules source.now) target.now) }
 {
+    let kinds = kinds_of(alloc, source)?;
     for item in target {
         let name = item.name.as_slice();
-        let deeds = removal_for(rules, item, stands(source, name));
+        let deeds = removal_for(rules, item, stands(&kinds, name));
         put_steps(alloc, name, deeds, planned)?;
     }
     Ok(())
@@ -134,20 +137,4 @@ fn put_step(
     let name = Text::copy_of(alloc, name)?;
     planned.push(Step { deed, name })?;
     Ok(())
-}
-
-/// What stands under a name among entries: the first that has it.
-fn stands(items: &[Item<Global>], name: &[u8]) -> Option<Kind>
-    ensures { result ≡ stands items.now name.now }
-{
-    items
-        .iter()
-        .find(|item| is_named(name, item))
-        .map(|item| item.kind)
-}
-
-fn is_named(name: &[u8], item: &Item<Global>) -> bool
-    ensures { result ≡ is_named name.now item.now }
-{
-    item.name.as_slice() == name
 }
