@@ -6,7 +6,7 @@ use ftp_operation::{Answer, How};
 use ftp_settings::{Mode, Structure};
 use ftp_tool_connection::{Converses, LastReply, Logins, Phase, SessionFault, at, say, told};
 use ftp_tool_local::{Beside, Flush, Kept, LocalFiles, Note, note_of};
-use ftp_tool_status::{Arrival, Size, Status};
+use ftp_tool_status::{Arrival, Size, Status, Version};
 use ftp_tool_transfer::{Came, Downloading, Part, Stamp, is_counted, tell, tell_too_large};
 use std::alloc::Global;
 use std::io;
@@ -203,6 +203,7 @@ fn save<R: LocalFiles + Print + Eprint>(
         }
         Arrival::TooLarge(total) => tell_too_large(rt, total, asked.limit),
         Arrival::Past => tell_past(rt, asked.limit),
+        Arrival::Changed => tell_changed(rt),
     }
 }
 
@@ -240,6 +241,12 @@ fn tell_past<R: Eprint>(rt: &R, limit: u64) -> io::Result<Status> {
         " octets, which is the limit",
         Status::Refused,
     )
+}
+
+/// Tells that the file was another one after each try, so that what came may be of two files, and gives the exit status.
+fn tell_changed<R: Eprint>(rt: &R) -> io::Result<Status> {
+    rt.eprintln("error: the file changed at the server each time that it came")?;
+    Ok(Status::Refused)
 }
 
 /// Writes the file, or its octets to standard output.
@@ -344,17 +351,21 @@ fn write_part<R: LocalFiles + Eprint>(
     }
 }
 
-/// The note of a part, where the server told the size and the moment of its file.
+/// The note of a part, where the server told the size and the moment of the file that it is of.
 fn note_for<R: Eprint>(
     job: &Job<'_>,
     downloading: &Downloading<'_, R>,
 ) -> io::Result<Option<Vec<u8, Global>>> {
-    let (Size::Told(size), Some(moment)) = (downloading.size(), downloading.moment()) else {
+    let Version {
+        size: Size::Told(size),
+        moment: Some(moment),
+    } = downloading.begun()
+    else {
         return Ok(None);
     };
     let note = Note {
         size,
-        moment: moment.seconds,
+        moment,
         count: downloading.came().count(),
     };
     Ok(note_of(job.alloc, note, job.place.as_bytes())?)

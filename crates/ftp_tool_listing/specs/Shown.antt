@@ -1,5 +1,6 @@
--- How octets of a server are shown, so that no terminal obeys them (own choice): UTF-8 as it stands (RFC 3629, section 4), and `\xHH` for each octet
--- that is of no character, or of a control character.
+-- How octets of a stranger are shown, so that no terminal obeys them and nobody takes them for others (own choice): UTF-8 as it stands (RFC 3629,
+-- section 4), and `\xHH` for each octet that is of no character, or of one that is hidden: a control character, a mark of direction, one without width,
+-- or a tag.
 use Rattle.std.specs.Prelude.{ℕ, ◌+◌, ◌-◌, ◌/◌, ◌%◌, ◌==◌, ◌&&◌, ◌||◌, ◌++◌, Bool, false, not, nat_le, nat_lt, List, [], ◌∷◌, length, if◌then◌else◌}
 use Rattle.std.specs.List.{list_all}
 
@@ -15,21 +16,37 @@ is_plain octet = is_from 32 126 octet && not (octet == 92)
 abbrev pub is_tail : ℕ → Bool
 is_tail octet = is_from 0x80 0xBF octet
 
--- a control character of two octets: U+0080 to U+009F (C1), and U+061C, a mark of direction
+-- after 0xC2: the control characters U+0080 to U+009F (C1), and U+00AD, a hyphen without width
+abbrev pub is_hidden_c2 : ℕ → Bool
+is_hidden_c2 second = is_from 0x80 0x9F second || second == 0xAD
+
+-- a hidden character of two octets: after 0xC2, U+034F without width, and U+061C, a mark of direction
 abbrev pub is_hidden_two : ℕ → ℕ → Bool
-is_hidden_two first second = (first == 0xC2 && is_from 0x80 0x9F second) || (first == 0xD8 && second == 0x9C)
+is_hidden_two first second =
+    (first == 0xC2 && is_hidden_c2 second) || (first == 0xCD && second == 0x8F) || (first == 0xD8 && second == 0x9C)
 
--- behind 0xE2: the marks of direction U+200E, U+200F and U+202A to U+202E, and the ends of lines U+2028 and U+2029
+-- after 0xE2: U+200B to U+200D without width, the marks of direction U+200E, U+200F and U+202A to U+202E, and the ends of lines U+2028 and U+2029
 abbrev pub is_hidden_80 : ℕ → ℕ → Bool
-is_hidden_80 second third = second == 0x80 && (is_from 0x8E 0x8F third || is_from 0xA8 0xAE third)
+is_hidden_80 second third = second == 0x80 && (is_from 0x8B 0x8F third || is_from 0xA8 0xAE third)
 
--- behind 0xE2: the marks of direction U+2066 to U+2069
+-- after 0xE2: U+2060 to U+206F, which are without width, the marks of direction U+2066 to U+2069 among them
 abbrev pub is_hidden_81 : ℕ → ℕ → Bool
-is_hidden_81 second third = second == 0x81 && is_from 0xA6 0xA9 third
+is_hidden_81 second third = second == 0x81 && is_from 0xA0 0xAF third
 
--- a control character of three octets
+-- after 0xEF: U+FE00 to U+FE0F, which choose a shape, U+FEFF without width, and U+FFF9 to U+FFFB, which annotate
+abbrev pub is_hidden_ef : ℕ → ℕ → Bool
+is_hidden_ef second third =
+    (second == 0xB8 && is_from 0x80 0x8F third) || (second == 0xBB && third == 0xBF) || (second == 0xBF && is_from 0xB9 0xBB third)
+
+-- a hidden character of three octets: after 0xE2 and 0xEF, and U+180E without width
 abbrev pub is_hidden_three : ℕ → ℕ → ℕ → Bool
-is_hidden_three first second third = first == 0xE2 && (is_hidden_80 second third || is_hidden_81 second third)
+is_hidden_three first second third =
+    (first == 0xE2 && (is_hidden_80 second third || is_hidden_81 second third)) || (first == 0xEF && is_hidden_ef second third)
+    || (first == 0xE1 && second == 0xA0 && third == 0x8E)
+
+-- a hidden character of four octets: the tags U+E0000 to U+E007F, and what else stands up to U+E01FF, which chooses a shape
+abbrev pub is_hidden_four : ℕ → ℕ → ℕ → Bool
+is_hidden_four first second third = first == 0xF3 && second == 0xA0 && is_from 0x80 0x87 third
 
 -- what may stand second in a character of three octets, and of four
 abbrev pub is_second_of_three : ℕ → ℕ → Bool
@@ -45,7 +62,8 @@ abbrev pub is_three : ℕ → ℕ → ℕ → Bool
 is_three first second third = is_second_of_three first second && is_tail third && not (is_hidden_three first second third)
 
 abbrev pub is_four : ℕ → ℕ → ℕ → ℕ → Bool
-is_four first second third fourth = is_second_of_four first second && is_tail third && is_tail fourth
+is_four first second third fourth =
+    is_second_of_four first second && is_tail third && is_tail fourth && not (is_hidden_four first second third)
 
 -- how many octets the character has that begins with this one and goes on so, where it is shown as it stands; else 0
 abbrev pub len_two : ℕ → List ℕ → ℕ

@@ -22,4 +22,4 @@ pub use long::put_long;
 pub use name::is_name;
 pub use pattern::{is_excluded, matches};
 pub use planning::{Step, plan};
-pub use shown::put_shown;
+pub use shown::{Shown, put_shown};

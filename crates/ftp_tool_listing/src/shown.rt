@@ -1,12 +1,14 @@
 // Octets as a terminal is to show them.
 ghost use Rattle.std.specs.Prelude.{◌≡◌, ◌<◌, ◌≤◌, ◌++◌, ◌-◌, length, get_or, OnOk, IfOk};
-ghost use Rattle.ftp_tool_listing.specs.Shown.{is_four, is_from, is_hidden_80, is_hidden_81, is_hidden_three, is_hidden_two, is_plain, is_second_of_four, is_second_of_three, is_tail, is_three};
+ghost use Rattle.ftp_tool_listing.specs.Shown.{is_four, is_from, is_hidden_80, is_hidden_81, is_hidden_c2, is_hidden_ef, is_hidden_four, is_hidden_three, is_hidden_two, is_plain, is_second_of_four, is_second_of_three, is_tail, is_three};
 ghost use Rattle.ftp_tool_listing.specs.Shown.{digit, escaped, kept_of, len_four, len_three, len_two, octet_shown, shown, shown_len};
 
 use std::alloc::{AllocError, Global};
+use std::fmt;
+use std::fmt::{Display, Formatter};
 
-/// Appends octets of a server as a terminal is to show them: characters of UTF-8 as they stand, but for control characters, marks of direction and a
-/// backslash; for each octet of these, and for each that is of no character, `\xHH`, and `\\` for a backslash.
+/// Appends octets of a stranger as a terminal is to show them: characters of UTF-8 as they stand, but for control characters, marks of direction,
+/// characters without width, tags and a backslash; for each octet of these, and for each that is of no character, `\xHH`, and `\\` for a backslash.
 ///
 /// Refused memory, a part of it may stand there.
 pub fn put_shown(octets: &[u8], out: &mut Vec<u8, Global>) -> Result<(), AllocError>
@@ -17,6 +19,54 @@ pub fn put_shown(octets: &[u8], out: &mut Vec<u8, Global>) -> Result<(), AllocEr
         kept = put_next(kept, &octets[place..], out)?;
     }
     Ok(())
+}
+
+/// Octets of a stranger, whose text is what `put_shown` appends of them: which of them stand as they are is decided by the same function.
+#[derive(Clone, Copy)]
+pub struct Shown<'a>(pub &'a [u8]);
+
+impl<'a> Display for Shown<'a> {
+    fn fmt<W: fmt::Write>(&self, formatter: &mut Formatter<W>) -> fmt::Result {
+        let mut kept = 0;
+        for place in 0..self.0.len() {
+            kept = write_next(kept, &self.0[place..], formatter)?;
+        }
+        Ok(())
+    }
+}
+
+/// Writes the character at the front, where it stands as it is and is not written yet, or the first octet as an escape; gives how many octets after the
+/// first are written.
+fn write_next<W: fmt::Write>(
+    kept: u8,
+    octets: &[u8],
+    formatter: &mut Formatter<W>,
+) -> Result<u8, fmt::Error>
+    requires { 0 < length octets.now }
+{
+    if kept == 0 {
+        match shown_len(octets) {
+            0 => write_escaped(octets[0], formatter)?,
+            count => formatter.write_str(text_of(octets, count))?,
+        }
+    }
+    Ok(kept_of(kept, octets).saturating_sub(1))
+}
+
+/// So many octets at the front as a text.
+fn text_of(octets: &[u8], count: u8) -> &str {
+    let front = octets.get(..usize::from(count)).unwrap_or(octets);
+    str::from_utf8(front).unwrap_or("?")
+}
+
+/// Writes an octet as an escape.
+fn write_escaped<W: fmt::Write>(octet: u8, formatter: &mut Formatter<W>) -> fmt::Result {
+    if octet == b'\\' {
+        return formatter.write_str("\\\\");
+    }
+    formatter.write_str("\\x")?;
+    formatter.write_char(char::from(digit(octet / 16)))?;
+    formatter.write_char(char::from(digit(octet % 16)))
 }
 
 /// Appends the first octet, where of so many at the front it is known that they stand as they are; gives how many these are behind it.
@@ -126,7 +176,10 @@ fn len_four(first: u8, rest: &[u8]) -> u8
 fn is_four(first: u8, second: u8, third: u8, fourth: u8) -> bool
     ensures { result ≡ is_four first second third fourth }
 {
-    is_second_of_four(first, second) && is_tail(third) && is_tail(fourth)
+    is_second_of_four(first, second)
+        && is_tail(third)
+        && is_tail(fourth)
+        && !is_hidden_four(first, second, third)
 }
 
 fn is_plain(octet: u8) -> bool
@@ -141,28 +194,52 @@ fn is_tail(octet: u8) -> bool
     is_from(0x80, 0xBF, octet)
 }
 
+fn is_hidden_c2(second: u8) -> bool
+    ensures { result ≡ is_hidden_c2 second }
+{
+    is_from(0x80, 0x9F, second) || second == 0xAD
+}
+
 fn is_hidden_two(first: u8, second: u8) -> bool
     ensures { result ≡ is_hidden_two first second }
 {
-    (first == 0xC2 && is_from(0x80, 0x9F, second)) || (first == 0xD8 && second == 0x9C)
+    (first == 0xC2 && is_hidden_c2(second))
+        || (first == 0xCD && second == 0x8F)
+        || (first == 0xD8 && second == 0x9C)
 }
 
 fn is_hidden_three(first: u8, second: u8, third: u8) -> bool
     ensures { result ≡ is_hidden_three first second third }
 {
-    first == 0xE2 && (is_hidden_80(second, third) || is_hidden_81(second, third))
+    (first == 0xE2 && (is_hidden_80(second, third) || is_hidden_81(second, third)))
+        || (first == 0xEF && is_hidden_ef(second, third))
+        || (first == 0xE1 && second == 0xA0 && third == 0x8E)
+}
+
+fn is_hidden_ef(second: u8, third: u8) -> bool
+    ensures { result ≡ is_hidden_ef second third }
+{
+    (second == 0xB8 && is_from(0x80, 0x8F, third))
+        || (second == 0xBB && third == 0xBF)
+        || (second == 0xBF && is_from(0xB9, 0xBB, third))
+}
+
+fn is_hidden_four(first: u8, second: u8, third: u8) -> bool
+    ensures { result ≡ is_hidden_four first second third }
+{
+    first == 0xF3 && second == 0xA0 && is_from(0x80, 0x87, third)
 }
 
 fn is_hidden_80(second: u8, third: u8) -> bool
     ensures { result ≡ is_hidden_80 second third }
 {
-    second == 0x80 && (is_from(0x8E, 0x8F, third) || is_from(0xA8, 0xAE, third))
+    second == 0x80 && (is_from(0x8B, 0x8F, third) || is_from(0xA8, 0xAE, third))
 }
 
 fn is_hidden_81(second: u8, third: u8) -> bool
     ensures { result ≡ is_hidden_81 second third }
 {
-    second == 0x81 && is_from(0xA6, 0xA9, third)
+    second == 0x81 && is_from(0xA0, 0xAF, third)
 }
 
 fn is_second_of_three(first: u8, second: u8) -> bool

@@ -2,7 +2,7 @@
 // files, which bring two types and their bounds.
 use crate::content::{Reading, read_from};
 use crate::place::Standing;
-use crate::writing::{Writing, write_beside, write_into, write_whole};
+use crate::writing::{Writing, write_beside, write_into, write_new};
 use ftp_facts::Text;
 use std::alloc::Global;
 use std::fs::Files;
@@ -29,8 +29,8 @@ pub(crate) trait Disk {
     /// Writes octets behind what stands at a name that is no file's.
     fn write_into(&self, name: &str, pieces: &[Text<Global>]) -> io::Result<()>;
 
-    /// Writes octets in the place of what a file has, and flushes them.
-    fn write_whole(&self, name: &str, octets: &[u8]) -> io::Result<()>;
+    /// Makes a file of these octets, and flushes it. Where something has its name, a link too, that stays, and it fails.
+    fn write_new(&self, name: &str, octets: &[u8]) -> io::Result<()>;
 
     fn rename(&self, from: &str, to: &str) -> io::Result<()>;
 
@@ -66,8 +66,8 @@ impl<R: Files + AllocGlobal> Disk for R {
         write_into(self, name, pieces)
     }
 
-    fn write_whole(&self, name: &str, octets: &[u8]) -> io::Result<()> {
-        write_whole(self, name, octets)
+    fn write_new(&self, name: &str, octets: &[u8]) -> io::Result<()> {
+        write_new(self, name, octets)
     }
 
     fn rename(&self, from: &str, to: &str) -> io::Result<()> {

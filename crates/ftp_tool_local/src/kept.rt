@@ -3,7 +3,7 @@ use crate::content::Reading;
 use crate::disk::Disk;
 use crate::note::{Note, note_in};
 use crate::part::beside;
-use crate::place::{Place, place_of};
+use crate::place::{Place, Standing, place_of};
 use crate::writing::NAMES;
 use std::alloc::{AllocError, Global};
 use std::io;
@@ -101,8 +101,11 @@ fn noted<D: Disk>(disk: &D, alloc: Global, part: &str, place: &[u8]) -> io::Resu
     }
 }
 
-/// The octets of a file; none where there is no such file, or one of too many octets.
+/// The octets of a file; none where there is no such file, or one of too many octets. What is none, as a pipe, is not waited for.
 fn octets_of<D: Disk>(disk: &D, file: &str, limit: u64) -> io::Result<Option<Vec<u8, Global>>> {
+    if !matches!(disk.standing_at(file)?, Standing::File(_)) {
+        return Ok(None);
+    }
     match disk.read(file, limit) {
         Ok(Reading::Content(content)) => Ok(Some(content.octets)),
         Ok(Reading::TooLarge(_)) => Ok(None),
@@ -111,7 +114,7 @@ fn octets_of<D: Disk>(disk: &D, file: &str, limit: u64) -> io::Result<Option<Vec
     }
 }
 
-/// Writes the note of a part, and flushes it.
+/// Writes the note of a part, and flushes it; never over what has its name.
 pub(crate) fn write_note<D: Disk>(
     disk: &D,
     alloc: Global,
@@ -119,7 +122,7 @@ pub(crate) fn write_note<D: Disk>(
     note: &[u8],
 ) -> io::Result<()> {
     let name = name_of_note(alloc, part)?;
-    disk.write_whole(name.as_str(), note)
+    disk.write_new(name.as_str(), note)
 }
 
 /// Removes the note of a part, if there is one.

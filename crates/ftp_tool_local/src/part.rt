@@ -51,7 +51,8 @@ fn replace<D: Disk>(disk: &D, file: &str, writing: Writing<'_>) -> io::Result<()
 }
 
 /// Writes a part of a file beside its name, leaves it there, and gives its own name; over the part of the number `over`, where there is one, and else
-/// by the first name that is free. Its note is written once it is whole. Where the part can't be written, what was written of it is removed again.
+/// by the first name that is free, as that of its note is. Its note is written once it is whole. Where the part can't be written, what was written of
+/// it is removed again.
 pub(crate) fn write_part<D: Disk>(
     disk: &D,
     alloc: Global,

@@ -33,7 +33,7 @@ pub(crate) struct Writing<'a> {
     /// When it was changed last, where that is said.
     pub(crate) moment: Option<Moment>,
     pub(crate) flush: Flush,
-    /// Whether it is a part, beside which no note may stand that is of another one.
+    /// Whether it is a part, which has a note beside it: it takes a name by which no note stands yet.
     pub(crate) is_part: bool,
 }
 
@@ -50,11 +50,7 @@ pub(crate) fn write_beside<R: Files>(
     file: &str,
     writing: Writing<'_>,
 ) -> io::Result<String<Global>> {
-    let Made { name, mut opened } = create(files, alloc, file, writing.kept.unwrap_or(NEW_MODE))?;
-    if writing.is_part {
-        let noted = name_of_note(alloc, name.as_str())?;
-        let _gone = fs::remove_file(files, noted.as_str());
-    }
+    let Made { name, mut opened } = create(files, alloc, file, writing)?;
     match write_to(&mut opened, writing) {
         Ok(()) => Ok(name),
         Err(error) => {
@@ -64,22 +60,54 @@ pub(crate) fn write_beside<R: Files>(
     }
 }
 
-/// Makes a file beside another, by the first name that no file has: what stands there may be of another program or of the user, and stays.
-fn create<R: Files>(files: &R, alloc: Global, file: &str, mode: u32) -> io::Result<Made<R::File>> {
-    let mut how = OpenOptions::new();
-    how.write(true).create_new(true).mode(mode);
+/// Makes a file beside another, by the first name that is free: what stands there may be of another program or of the user, and stays.
+fn create<R: Files>(
+    files: &R,
+    alloc: Global,
+    file: &str,
+    writing: Writing<'_>,
+) -> io::Result<Made<R::File>> {
     for number in 0..NAMES {
         let name = beside(alloc, file, number)?;
-        match how.open(files, name.as_str()) {
-            Ok(opened) => return Ok(Made { name, opened }),
-            Err(error) if error.kind() == ErrorKind::AlreadyExists => {}
-            Err(error) => return Err(error),
+        if let Some(opened) = open_new(files, alloc, name.as_str(), writing)? {
+            return Ok(Made { name, opened });
         }
     }
     Err(Error::new(
         ErrorKind::AlreadyExists,
         "too many parts of it stand beside it already",
     ))
+}
+
+/// Makes a file; none where something has its name, or, if it is a part, that of its note.
+fn open_new<R: Files>(
+    files: &R,
+    alloc: Global,
+    name: &str,
+    writing: Writing<'_>,
+) -> io::Result<Option<R::File>> {
+    if writing.is_part && is_noted(files, alloc, name)? {
+        return Ok(None);
+    }
+    let mut how = OpenOptions::new();
+    how.write(true)
+        .create_new(true)
+        .mode(writing.kept.unwrap_or(NEW_MODE));
+    match how.open(files, name) {
+        Ok(opened) => Ok(Some(opened)),
+        Err(error) if error.kind() == ErrorKind::AlreadyExists => Ok(None),
+        Err(error) => Err(error),
+    }
+}
+
+/// Whether something has the name of a part's note, a link that leads to nothing too.
+fn is_noted<R: Files>(files: &R, alloc: Global, part: &str) -> io::Result<bool> {
+    let note = name_of_note(alloc, part)?;
+    match fs::symlink_metadata(files, note.as_str()) {
+        Ok(_) => Ok(true),
+        Err(error) if error.kind() == ErrorKind::NotFound => Ok(false),
+        Err(error) => Err(error),
+    }
 }
 
 /// Writes the octets of a file, and flushes it where that comes first.
@@ -114,10 +142,10 @@ pub(crate) fn write_into<R: Files>(
     Ok(())
 }
 
-/// Writes octets in the place of what a file has, and flushes them.
-pub(crate) fn write_whole<R: Files>(files: &R, file: &str, octets: &[u8]) -> io::Result<()> {
+/// Makes a file of these octets, and flushes it. Where something has its name, a link too, that stays, and it fails.
+pub(crate) fn write_new<R: Files>(files: &R, file: &str, octets: &[u8]) -> io::Result<()> {
     let mut how = OpenOptions::new();
-    how.write(true).create(true).truncate(true);
+    how.write(true).create_new(true).mode(NEW_MODE);
     let mut opened = how.open(files, file)?;
     opened.write_all(octets)?;
     opened.sync_all()

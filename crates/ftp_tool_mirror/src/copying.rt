@@ -55,9 +55,9 @@ fn put_terms<R: Eprint>(
 ) -> Result<(), AllocError> {
     let name = shown(alloc, below)?;
     downloading.name_as(name.as_str())?;
-    downloading.put_terms(mirror.limit, Stamp::Unasked);
-    if let Some(size) = facts.size {
-        downloading.expect(size, moment_of(facts));
+    downloading.put_terms(mirror.limit, Stamp::Untold);
+    if let (Some(size), Some(moment)) = (facts.size, moment_of(facts)) {
+        downloading.expect(size, moment);
     }
     Ok(())
 }
@@ -85,6 +85,9 @@ fn check_whole(arrived: Arrival, count: u64, limit: u64) -> Result<(), Trouble> 
         Arrival::Wrong(total) => Err(Trouble::Size(count, total)),
         Arrival::TooLarge(size) => Err(Trouble::TooLarge(size, limit)),
         Arrival::Past => Err(Trouble::Past(limit)),
+        Arrival::Changed => Err(Trouble::Answered(
+            "it changed at the server each time that it came",
+        )),
     }
 }
 

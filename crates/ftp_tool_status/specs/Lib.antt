@@ -1,4 +1,5 @@
 pub mod Status
 pub mod Steps
+pub mod Tries
 pub mod Version
 pub mod Pace

@@ -1,4 +1,4 @@
--- What follows a try of an upload or a download (own choice: RFC 959, section 3.5, leaves the recovery of a transfer to the user). Sizes are those
+-- What follows a try of an upload (own choice: RFC 959, section 3.5, leaves the recovery of a transfer to the user). Sizes are those
 -- of SIZE, in type I (RFC 3659, section 4).
 use Rattle.std.specs.Prelude.{ℕ, ◌==◌, ◌&&◌, ◌||◌, Bool, true, false, not, nat_le, if◌then◌else◌}
 use Rattle.ftp_tool_status.specs.declared.step.There.{There}
@@ -59,25 +59,3 @@ follows t Ends.Broken there = behind_broken t there
 follows t Ends.Failed there = behind_failed t there
 follows t Ends.Unended there = behind_unended t there
 follows t Ends.Unopened there = if t.left == 0 then Steps.Tell else Steps.Again
-
--- A download as a transfer to this end, where the server told the size `told` before a try and this behind it. Octets that came are known to be of
--- the file only while its size is the same; where it is told no more, it is taken to be.
-abbrev pub arriving : ℕ → ℕ → There → Transfer
-arriving told left (Theres.Octets size) =
-    record { total = size; left = left; older = if size == told then Theres.Nothing else Theres.Untold }
-arriving told left Theres.Nothing = record { total = told; left = left; older = Theres.Nothing }
-arriving told left Theres.Untold = record { total = told; left = left; older = Theres.Nothing }
-arriving told left Theres.Lost = record { total = told; left = left; older = Theres.Nothing }
-
--- the size could not be asked for behind a try, since the control connection ended
-abbrev pub is_lost : There → Bool
-is_lost Theres.Lost = true
-is_lost (Theres.Octets size) = false
-is_lost Theres.Nothing = false
-is_lost Theres.Untold = false
-
--- behind a try of a download of which so many octets came so far
-abbrev pub follows_download : ℕ → ℕ → Ended → ℕ → There → Step
-follows_download told left ended came behind =
-    if is_lost behind && not (left == 0) then Steps.Lost
-    else follows (arriving told left behind) ended (Theres.Octets came)

@@ -5,9 +5,11 @@
 mod pace;
 mod status;
 mod step;
+mod tries;
 mod version;
 
 pub use pace::{Pace, Rest, Span, pace_of};
 pub use status::Status;
-pub use step::{Ended, Step, There, Transfer, follows, follows_download};
-pub use version::{Arrival, Size, Version, arrived, is_too_large, resumes};
+pub use step::{Ended, Step, There, Transfer, follows};
+pub use tries::follows_download;
+pub use version::{Arrival, Size, Version, arrived, is_too_large, resumes, stays};

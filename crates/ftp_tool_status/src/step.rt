@@ -1,6 +1,6 @@
-// What follows a try of an upload or a download, by values alone.
+// What follows a try of an upload, by values alone.
 ghost use Rattle.std.specs.Prelude.{◌≡◌};
-ghost use Rattle.ftp_tool_status.specs.Steps.{arriving, behind_broken, behind_done, behind_failed, behind_unended, follows, follows_download, is_lost, is_own};
+ghost use Rattle.ftp_tool_status.specs.Steps.{behind_broken, behind_done, behind_failed, behind_unended, follows, is_own};
 
 /// What is there of a file: what a server tells by SIZE (RFC 3659, section 4), or what came to this end.
 #[derive(Clone, Copy)]
@@ -116,49 +116,6 @@ fn behind_octets(transfer: Transfer, count: u64) -> Step
     } else {
         Step::From(0)
     }
-}
-
-/// What follows a try of a download that ended so, where the server told the size `told` before it, so many octets came so far, and the server tells
-/// this of the size behind the try.
-///
-/// A download is done only where what came has the size that the server told last. It goes on behind what came only while that size is the one of
-/// before, and else begins anew.
-pub fn follows_download(told: u64, left: u64, ended: Ended, came: u64, behind: There) -> Step
-    ensures { result ≡ follows_download told left ended came behind }
-{
-    if is_lost(behind) && left != 0 {
-        return Step::Lost;
-    }
-    follows(arriving(told, left, behind), ended, There::Octets(came))
-}
-
-/// A download as a transfer to this end.
-fn arriving(told: u64, left: u64, behind: There) -> Transfer
-    ensures { result ≡ arriving told left behind }
-{
-    match behind {
-        There::Octets(size) => Transfer {
-            total: size,
-            left,
-            older: if size == told {
-                There::Nothing
-            } else {
-                There::Untold
-            },
-        },
-        There::Nothing | There::Untold | There::Lost => Transfer {
-            total: told,
-            left,
-            older: There::Nothing,
-        },
-    }
-}
-
-/// Whether the control connection ended where the size was asked for.
-fn is_lost(there: There) -> bool
-    ensures { result ≡ is_lost there }
-{
-    matches!(there, There::Lost)
 }
 
 /// Behind a try whose data connection broke.

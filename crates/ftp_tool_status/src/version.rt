@@ -1,6 +1,6 @@
 // Which file a server has, and how a download of it stands, by values alone.
 ghost use Rattle.std.specs.Prelude.{◌≡◌};
-ghost use Rattle.ftp_tool_status.specs.Version.{arrived, is_front, is_same_moment, is_too_large, resumes};
+ghost use Rattle.ftp_tool_status.specs.Version.{arrived, has_so_many, is_as_before, is_seen_again, is_told_again, is_too_large, resumes, size_told, stays};
 
 /// What is known of the size of a file that is downloaded.
 #[derive(Clone, Copy)]
@@ -36,39 +36,76 @@ pub enum Arrival {
     Wrong(u64),
     /// The server tells this size, which is past the limit.
     TooLarge(u64),
+    /// The file was another one after its last octet than before its first.
+    Changed,
     /// More octets came than the limit.
     Past,
 }
 
-/// From which octet on a download goes on over a new control connection, of which so many octets came over those before: behind them where the
-/// server tells the size of before, and the moment of before or none as before; else it begins anew.
+/// Where a download goes on of which so many octets came of the file `before`, where the server has the file `now`: after them where it tells size and
+/// moment, and these are those of before; else it begins anew.
 pub fn resumes(before: Version, now: Version, came: u64) -> u64
     ensures { result ≡ resumes before now came }
 {
-    if is_front(before.size, now.size, came) && is_same_moment(before.moment, now.moment) {
+    if is_seen_again(before, now) && has_so_many(size_told(now.size), came) {
         came
     } else {
         0
     }
 }
 
-/// Whether so many octets are a front of the file of before.
-fn is_front(before: Size, now: Size, came: u64) -> bool
-    ensures { result ≡ is_front before now came }
+/// Whether the server has the file of before, as far as it tells.
+pub fn stays(before: Version, now: Version) -> bool
+    ensures { result ≡ stays before now }
 {
-    match (before, now) {
-        (Size::Told(before), Size::Told(now)) => before == now && came <= now,
-        _ => false,
+    is_as_before(size_told(before.size), size_told(now.size))
+        && is_as_before(before.moment, now.moment)
+}
+
+/// Whether size and moment were told, and are told again.
+fn is_seen_again(before: Version, now: Version) -> bool
+    ensures { result ≡ is_seen_again before now }
+{
+    is_told_again(size_told(before.size), size_told(now.size))
+        && is_told_again(before.moment, now.moment)
+}
+
+/// Whether a file of this size has so many octets.
+fn has_so_many(total: Option<u64>, came: u64) -> bool
+    ensures { result ≡ has_so_many total came }
+{
+    match total {
+        Some(total) => came <= total,
+        None => false,
     }
 }
 
-/// Whether the moment is the one of before.
-fn is_same_moment(before: Option<u64>, now: Option<u64>) -> bool
-    ensures { result ≡ is_same_moment before now }
+/// The size, where the server tells it.
+pub(crate) fn size_told(size: Size) -> Option<u64>
+    ensures { result ≡ size_told size }
+{
+    match size {
+        Size::Told(total) => Some(total),
+        _ => None,
+    }
+}
+
+/// Whether a number is told again, or none, as before.
+fn is_as_before(before: Option<u64>, now: Option<u64>) -> bool
+    ensures { result ≡ is_as_before before now }
+{
+    match (before, now) {
+        (None, None) => true,
+        _ => is_told_again(before, now),
+    }
+}
+
+/// Whether a number is told again.
+fn is_told_again(before: Option<u64>, now: Option<u64>) -> bool
+    ensures { result ≡ is_told_again before now }
 {
     match (before, now) {
         (Some(before), Some(now)) => before == now,
-        (None, None) => true,
         _ => false,
     }
 }
@@ -83,15 +120,18 @@ pub fn is_too_large(limit: u64, size: Size) -> bool
     }
 }
 
-/// How a download stands that the server says is done, of which so many octets came, where a file may have `limit` octets.
-pub fn arrived(limit: u64, size: Size, count: u64) -> Arrival
-    ensures { result ≡ arrived limit size count }
+/// How a download stands that the server says is done, of which so many octets came, where a file may have `limit` octets, and the server told
+/// `before` of it before they came, and `now` after the last of them.
+pub fn arrived(limit: u64, before: Version, now: Version, count: u64) -> Arrival
+    ensures { result ≡ arrived limit before now count }
 {
-    match size {
+    let same = stays(before, now);
+    match now.size {
         Size::Told(total) if limit < total => Arrival::TooLarge(total),
+        Size::Past => Arrival::Past,
+        _ if !same => Arrival::Changed,
         Size::Told(total) if count == total => Arrival::Whole,
         Size::Told(total) => Arrival::Wrong(total),
-        Size::Past => Arrival::Past,
         Size::Untold | Size::Strange | Size::Uncounted => Arrival::Unknown,
     }
 }

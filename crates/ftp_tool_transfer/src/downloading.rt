@@ -1,14 +1,14 @@
 // A download, which goes on where it was cut: where its data connection broke, where its control connection ended, and where the server says that all
-// is sent and not all came.
+// is sent and not all came. After each try the server is asked once more which file it has: octets of two files are never joined.
 use crate::came::Came;
 use crate::telling::Part;
-use crate::trying::{ended_of, is_counted, moment_request, size_request, there_of};
+use crate::trying::{ended_of, is_counted, moment_request, size_request};
 use ftp_client_steps::MOST_TRIES;
 use ftp_facts::{Moment, Text};
 use ftp_operation::{Answer, How, Op};
 use ftp_tool_connection::{ClientSession, Ending, Request, SessionFault, SessionTask, Terms, say};
 use ftp_tool_status::{
-    Arrival, Ended, Size, Step, There, Version, arrived, follows_download, is_too_large, resumes,
+    Arrival, Ended, Size, Step, Version, arrived, follows_download, is_too_large, resumes,
 };
 use std::alloc::{AllocError, Global};
 use std::io::Eprint;
@@ -26,13 +26,15 @@ pub enum Stamp {
     Told(Moment),
 }
 
-/// How far what is known of the file is the server's last word.
+/// What is asked over a control connection before a first try over it.
 #[derive(Clone, Copy)]
 enum Sight {
-    /// It is asked before the first try over a control connection.
+    /// Which file the server has.
     Asked,
-    /// The server has just listed it: it is not asked before the next try.
+    /// Nothing: the server has just listed the file.
     Listed,
+    /// Which file the server has, which said over the control connection of before that it is done: where it is the file of before, nothing is tried.
+    Said,
 }
 
 /// A download, until the server answers to it.
@@ -49,6 +51,9 @@ pub struct Downloading<'a, R> {
     came: Came,
     /// How many tries may still begin, over all control connections.
     left: u64,
+    /// Which file the server had before the first octet of what came.
+    begun: Version,
+    /// What the server told last of the file.
     size: Size,
     stamp: Stamp,
     sight: Sight,
@@ -66,6 +71,7 @@ impl<'a, R> Drop for Downloading<'a, R> {
             limit: _,
             came: _,
             left: _,
+            begun: _,
             size: _,
             stamp: _,
             sight: _,
@@ -83,6 +89,11 @@ impl<'a, R: Eprint> Downloading<'a, R> {
     ) -> Result<Downloading<'a, R>, AllocError> {
         let head = String::from_str(alloc, "note: ")?;
         let path = String::from_str(alloc, path)?;
+        let size = if is_counted(how) {
+            Size::Untold
+        } else {
+            Size::Uncounted
+        };
         Ok(Downloading {
             rt,
             alloc,
@@ -92,11 +103,8 @@ impl<'a, R: Eprint> Downloading<'a, R> {
             limit: u64::MAX,
             came: Came::new(alloc),
             left: MOST_TRIES,
-            size: if is_counted(how) {
-                Size::Untold
-            } else {
-                Size::Uncounted
-            },
+            begun: Version { size, moment: None },
+            size,
             stamp: Stamp::Unasked,
             sight: Sight::Asked,
         })
@@ -126,18 +134,18 @@ impl<'a, R: Eprint> Downloading<'a, R> {
             self.came.add(octets)?;
             self.size = Size::Told(total);
             self.stamp = Stamp::Told(moment);
+            self.begun = self.version();
         }
         Ok(())
     }
 
-    /// The server has just listed the file with this size, and with this moment, if it tells one: the first try asks for neither.
-    pub fn expect(&mut self, total: u64, moment: Option<Moment>) {
+    /// The server has just listed the file with this size and this moment: the first try asks for neither. Where the listing lacks one of them, both
+    /// are asked for, and `expect` is not called.
+    pub fn expect(&mut self, total: u64, moment: Moment) {
         if is_counted(self.how) {
             self.size = Size::Told(total);
-            self.stamp = match moment {
-                Some(moment) => Stamp::Told(moment),
-                None => Stamp::Unasked,
-            };
+            self.stamp = Stamp::Told(moment);
+            self.begun = self.version();
             self.sight = Sight::Listed;
         }
     }
@@ -147,9 +155,9 @@ impl<'a, R: Eprint> Downloading<'a, R> {
         &self.came
     }
 
-    /// The size that the server told last, if it tells one.
-    pub fn size(&self) -> Size {
-        self.size
+    /// Which file what came is of, as far as the server told before its first octet.
+    pub fn begun(&self) -> Version {
+        self.begun
     }
 
     /// The moment that the server told last, if it was asked and tells one.
@@ -160,14 +168,14 @@ impl<'a, R: Eprint> Downloading<'a, R> {
         }
     }
 
-    /// Whether no further try may begin.
+    /// Whether no further try may begin, and none is looked at any more.
     pub fn is_spent(&self) -> bool {
-        self.left == 0
+        self.left == 0 && !matches!(self.sight, Sight::Said)
     }
 
     /// How it stands, once the server said that it is done.
     pub fn arrived(&self) -> Arrival {
-        arrived(self.limit, self.size, self.came.count())
+        arrived(self.limit, self.begun, self.version(), self.came.count())
     }
 
     /// Which file the server has, as far as it told.
@@ -178,14 +186,20 @@ impl<'a, R: Eprint> Downloading<'a, R> {
         }
     }
 
-    /// Tries until the server answers: over this control connection, behind what came over those before.
+    /// Tries until the server answers: over this control connection, after what came over those before.
     pub fn answer<S: ClientSession>(&mut self, seat: &mut S) -> Answer<Global> {
-        if !self.is_seen(seat) {
-            return Answer::Lost;
+        if matches!(self.sight, Sight::Listed) {
+            self.sight = Sight::Asked;
+            return self.tries(seat);
         }
-        if is_too_large(self.limit, self.size) {
-            return Answer::Done;
+        match self.begin(seat) {
+            Turn::GoesOn => self.tries(seat),
+            Turn::Over(answer) => answer,
         }
+    }
+
+    /// Tries while a try is left.
+    fn tries<S: ClientSession>(&mut self, seat: &mut S) -> Answer<Global> {
         for _ in 0..self.left {
             match self.turn(seat) {
                 Turn::GoesOn => {}
@@ -195,30 +209,45 @@ impl<'a, R: Eprint> Downloading<'a, R> {
         Answer::Lost
     }
 
-    /// Asks which file the server has, where it has not just said so; says whether tries may follow.
-    fn is_seen<S: ClientSession>(&mut self, seat: &mut S) -> bool {
-        match self.sight {
-            Sight::Asked => self.look(seat),
-            Sight::Listed => {
-                self.sight = Sight::Asked;
-                true
-            }
+    /// Asks which file the server has before the first try over a control connection. Where it said before that it is done, that is judged by it; else
+    /// the download goes on after what came, where that is of this file.
+    fn begin<S: ClientSession>(&mut self, seat: &mut S) -> Turn {
+        if !self.look(seat) {
+            return Turn::Over(Answer::Lost);
         }
+        if is_too_large(self.limit, self.size) {
+            return Turn::Over(Answer::Done);
+        }
+        let is_said = matches!(self.sight, Sight::Said);
+        self.sight = Sight::Asked;
+        self.take_up(is_said)
     }
 
-    /// Asks which file the server has before the first try over a control connection, and goes on behind what came of that one; says whether tries
-    /// may follow.
-    fn look<S: ClientSession>(&mut self, seat: &mut S) -> bool {
-        let before = self.version();
-        if !self.look_at_size(seat) || !self.look_at_moment(seat) {
-            return false;
-        }
+    /// Judges what came over the control connections before by the file that the server has now.
+    fn take_up(&mut self, is_said: bool) -> Turn {
         let came = self.came.count();
-        if came > 0 {
-            let now = self.version();
-            self.go_on(resumes(before, now, came));
+        let now = self.version();
+        if is_said {
+            let step = follows_download(self.left, Ended::Done, came, self.begun, Some(now));
+            return self.follow(Answer::Done, step);
         }
-        true
+        if came > 0 {
+            self.go_on(resumes(self.begun, now, came));
+        } else {
+            self.begun = now;
+        }
+        Turn::GoesOn
+    }
+
+    /// Asks which file the server has: for its size and its moment. Says whether anything more is answered over this control connection.
+    fn look<S: ClientSession>(&mut self, seat: &mut S) -> bool {
+        self.look_at_size(seat) && self.look_at_moment(seat)
+    }
+
+    /// The same after a try; what the server did not tell before it is not asked for.
+    fn look_again<S: ClientSession>(&mut self, seat: &mut S) -> bool {
+        (!matches!(self.size, Size::Told(_)) || self.see(seat))
+            && (!matches!(self.stamp, Stamp::Told(_)) || self.look_at_moment(seat))
     }
 
     /// Asks for the size; says whether anything more is answered over this control connection.
@@ -319,34 +348,30 @@ impl<'a, R: Eprint> Downloading<'a, R> {
         is_opened: bool,
     ) -> Step {
         let is_unended = seat.ending() == Ending::Unended;
-        match (ended_of(answer, is_opened, is_unended), self.size) {
-            (Some(ended), Size::Told(told)) => self.judge(seat, ended, told),
-            _ => Step::Tell,
+        match ended_of(answer, is_opened, is_unended) {
+            Some(ended) => self.judge(seat, ended),
+            None => Step::Tell,
         }
     }
 
-    /// What follows a try that ended so, where the server told a size before it.
-    fn judge<S: ClientSession>(&mut self, seat: &mut S, ended: Ended, told: u64) -> Step {
-        let behind = self.size_behind(seat, ended, told);
-        if let There::Octets(size) = behind {
-            self.size = Size::Told(size);
-        }
-        follows_download(told, self.left, ended, self.came.count(), behind)
-    }
-
-    /// The size that the server tells behind a try. It is asked where not as many octets came as it told before, and anything may follow.
-    fn size_behind<S: ClientSession>(&self, seat: &mut S, ended: Ended, told: u64) -> There {
+    /// What follows a try that ended so. Which file the server has is asked where anything may follow.
+    fn judge<S: ClientSession>(&mut self, seat: &mut S, ended: Ended) -> Step {
+        let is_sized = matches!(self.size, Size::Told(_));
         let is_asked = match ended {
-            Ended::Done => self.came.count() != told,
-            Ended::Broken | Ended::Failed => self.left > 0,
-            Ended::Unended => true,
+            Ended::Done => true,
+            Ended::Unended => is_sized,
+            Ended::Broken | Ended::Failed => is_sized && self.left > 0,
             Ended::Unopened => false,
         };
-        if is_asked {
-            there_of(&self.size_answer(seat))
+        let now = if !is_asked || self.look_again(seat) {
+            Some(self.version())
         } else {
-            There::Octets(told)
+            None
+        };
+        if now.is_none() && matches!(ended, Ended::Done) {
+            self.sight = Sight::Said;
         }
+        follows_download(self.left, ended, self.came.count(), self.begun, now)
     }
 
     /// Takes a step. An answer that is none of the end is let go by a call: where it is let go at an arm's end, it is proved part by part.
@@ -373,9 +398,13 @@ impl<'a, R: Eprint> Downloading<'a, R> {
         }
     }
 
-    /// Tells from where the download goes on; where that is not behind what came, it begins anew.
+    /// Tells from where the download goes on; where that is not after what came, it begins anew, with the file that the server has now.
     fn go_on(&mut self, from: u64) {
-        if from != self.came.count() {
+        let is_anew = from != self.came.count();
+        if from == 0 {
+            self.begun = self.version();
+        }
+        if is_anew {
             self.came = Came::new(self.alloc);
             let _told = say(self.rt, self.head.as_str(), &"the download begins anew", "");
         } else if let Size::Told(total) = self.size {

@@ -4,4 +4,4 @@ use Rattle.ftp_tool_listing.proofs.rows.characters.Goals as goal
 
 pub returns : goal.returns
 unfolding shown_from
-returns c = (refl, refl, refl, refl, refl, refl, refl, refl, refl, refl, refl, refl)
+returns c = (refl, refl, refl, refl, refl, refl, refl, refl, refl, refl, refl, refl, refl, refl, refl, refl, refl)
