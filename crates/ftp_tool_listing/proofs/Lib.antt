@@ -1,3 +1,5 @@
 mod ShownLemmas
 mod LinesLemmas
 mod PlanLemmas
+pub mod PatternLemmas
+pub mod IndexLemmas

@@ -1,5 +1,5 @@
 -- What is done of one name, by what stands under it in the source and in the target (own choice; facts are those of RFC 3659, section 7.5).
-use Rattle.std.specs.Prelude.{ℕ, ◌==◌, ◌||◌, Bool, true, false, not, nat_lt, Option, Some, None, if◌then◌else◌}
+use Rattle.std.specs.Prelude.{ℕ, ◌+◌, ◌==◌, ◌||◌, Bool, true, false, not, nat_le, nat_lt, Option, Some, None, if◌then◌else◌}
 use Rattle.ftp_tool_listing.specs.Shown.{is_name}
 use Rattle.ftp_tool_listing.specs.declared.item.Facts.{Facts}
 use Rattle.ftp_tool_listing.specs.declared.item.Kind.{Kind}
@@ -59,6 +59,7 @@ file_onto_file Checks.ByOctets way source target = onto_by_octets source target
 abbrev pub in_place : Extra → Deed → Deed → Reason → Deeds
 in_place Extras.Kept removal deed reason = Many.One (Does.Refuse reason)
 in_place Extras.Removed removal deed reason = Many.Two removal deed
+in_place Extras.Any removal deed reason = Many.Two removal deed
 
 -- a file of the source, where this stands in the target
 abbrev pub file_onto : Rules → Facts → Option Kind → Deeds
@@ -98,8 +99,15 @@ removal Kinds.Excluded = Many.Nothing
 abbrev pub alone : {A : Type 0} → Extra → Item A → Deeds
 alone Extras.Kept item = Many.Nothing
 alone Extras.Removed item = if is_name item.name then removal item.kind else Many.One (Does.Refuse Reasons.Name)
+alone Extras.Any item = if is_name item.name then removal item.kind else Many.One (Does.Refuse Reasons.Name)
 
 -- an entry of the target, where this stands in the source
 abbrev pub removal_for : {A : Type 0} → Rules → Item A → Option Kind → Deeds
 removal_for rules item None = alone rules.extra item
 removal_for rules item (Some kind) = Many.Nothing
+
+-- so many entries may be removed of a target that held so many: ten always, half of them, or any number where that is asked for
+abbrev pub may_remove : Extra → ℕ → ℕ → Bool
+may_remove Extras.Kept held removed = false
+may_remove Extras.Removed held removed = nat_le removed 10 || nat_le (removed + removed) held
+may_remove Extras.Any held removed = true

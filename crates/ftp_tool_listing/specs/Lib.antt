@@ -7,3 +7,4 @@ pub mod Pattern
 pub mod Deeds
 pub mod Plan
 pub mod PlanRows
+pub mod Index

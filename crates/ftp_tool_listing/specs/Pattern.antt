@@ -1,6 +1,8 @@
 -- Patterns of names and paths, as a shell has them (own choice): `*` is any octets but a slash, `?` is one, and any other octet is itself.
-use Rattle.std.specs.Prelude.{ℕ, ◌==◌, ◌&&◌, ◌||◌, Bool, false, not, List, [], ◌∷◌, length, if◌then◌else◌}
+use Rattle.std.specs.Prelude.{ℕ, ◌+◌, ◌==◌, ◌&&◌, ◌||◌, Bool, false, not, List, [], ◌∷◌, length, if◌then◌else◌}
 use Rattle.std.specs.List.{list_any}
+use Rattle.ftp_tool_listing.specs.declared.pattern.Meeting.{Meeting}
+use Rattle.ftp_tool_listing.specs.declared.pattern.Meeting.TheVariants as Meetings
 
 abbrev pub slash : ℕ
 slash = 47
@@ -30,6 +32,21 @@ abbrev pub matches : List ℕ → List ℕ → Bool
 matches [] text = length text == 0
 matches (first ∷ pattern) text =
     if first == star then some_rest (matches pattern) text else first_then first (matches pattern) text
+
+-- a front that comes next, of the rest of a text behind an octet that this one stands for
+abbrev pub meet_behind : ℕ → (List ℕ → Meeting) → List ℕ → Meeting
+meet_behind wanted next [] = Meetings.Apart
+meet_behind wanted next (octet ∷ rest) = if is_octet wanted octet then next rest else Meetings.Apart
+
+-- how the octets of a pattern before its first star stand to the front of a text, where so many were met before
+abbrev pub meet : ℕ → List ℕ → List ℕ → Meeting
+meet met [] text = if length text == 0 then Meetings.Whole else Meetings.Apart
+meet met (first ∷ pattern) text = if first == star then Meetings.Star met else meet_behind first (meet (met + 1) pattern) text
+
+-- a text has a first octet, and that is no slash
+abbrev pub is_floating : List ℕ → Bool
+is_floating [] = false
+is_floating (first ∷ rest) = not (first == slash)
 
 -- an octet is a slash
 abbrev pub is_slash : ℕ → Bool

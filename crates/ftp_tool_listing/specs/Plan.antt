@@ -1,11 +1,14 @@
 -- What a mirror does of a directory, by the listing of the source and that of the target (own choice).
-use Rattle.std.specs.Prelude.{ℕ, ◌++◌, List, [], ◌∷◌, flat_map, find, option_map, nat_eq, Bool, Option}
+use Rattle.std.specs.Prelude.{ℕ, ◌++◌, List, [], ◌∷◌, length, flat_map, find, option_map, nat_eq, Bool, Option}
 use Rattle.std.specs.Cmp.Lexicographic.{pointwise}
 use Rattle.ftp_tool_listing.specs.declared.item.Kind.{Kind}
 use Rattle.ftp_tool_listing.specs.declared.item.Item.{Item}
 use Rattle.ftp_tool_listing.specs.declared.item.Listing.{Listing}
 use Rattle.ftp_tool_listing.specs.declared.item.Listing.TheVariants as Listings
 use Rattle.ftp_tool_listing.specs.declared.deeds.Rules.{Rules}
+use Rattle.ftp_tool_listing.specs.declared.deeds.Extra.{Extra}
+use Rattle.ftp_tool_listing.specs.declared.deeds.Extra.TheVariants as Extras
+use Rattle.ftp_tool_listing.specs.declared.deeds.Reason.{Reason}
 use Rattle.ftp_tool_listing.specs.declared.deeds.Reason.TheVariants as Reasons
 use Rattle.ftp_tool_listing.specs.declared.deeds.Deed.TheVariants as Does
 use Rattle.ftp_tool_listing.specs.declared.deeds.Deeds.{Deeds}
@@ -35,15 +38,20 @@ copying rules target item = steps item.name (deeds_for rules item (stands target
 abbrev pub clearing : {A : Type 0} → Rules → List (Item A) → Item A → List (Step A)
 clearing rules source item = steps item.name (removal_for rules item (stands source item.name))
 
+-- where one of both is cut off, or would be emptied, it is refused, and nothing is done
+abbrev pub refused : {A : Type 0} → Reason → List (Step A)
+refused reason = record { deed = Does.Refuse reason; name = [] } ∷ []
+
+-- where the source lists nothing, what would be removed stays, and that is told; unless any number may be removed
+abbrev pub guarded : {A : Type 0} → Extra → List (Item A) → List (Step A) → List (Step A)
+guarded Extras.Removed [] (first ∷ rest) = refused (Reasons.Emptied (length (first ∷ rest)))
+guarded extra source planned = planned
+
 -- all that is done of whole listings: first of each entry of the source, and then of each of the target, both in their orders
 abbrev pub whole_plan : {A : Type 0} → Rules → List (Item A) → List (Item A) → List (Step A)
-whole_plan rules source target = flat_map (copying rules target) source ++ flat_map (clearing rules source) target
-
--- where one of both is cut off, it is refused, and nothing is done
-abbrev pub refused : {A : Type 0} → List (Step A)
-refused = record { deed = Does.Refuse Reasons.CutOff; name = [] } ∷ []
+whole_plan rules source target = guarded rules.extra source (flat_map (copying rules target) source ++ flat_map (clearing rules source) target)
 
 abbrev pub plan : {A : Type 0} → Rules → Listing A → Listing A → List (Step A)
 plan rules (Listings.Whole source) (Listings.Whole target) = whole_plan rules source.items target.items
-plan rules (Listings.Whole source) Listings.CutOff = refused
-plan rules Listings.CutOff target = refused
+plan rules (Listings.Whole source) Listings.CutOff = refused Reasons.CutOff
+plan rules Listings.CutOff target = refused Reasons.CutOff

@@ -16,7 +16,7 @@ use Rattle.ftp_tool_listing.specs.declared.planning.Step.{Step}
 use Rattle.ftp_tool_listing.specs.Pattern.{is_met, matches}
 use Rattle.ftp_tool_listing.specs.Plan.{plan, refused, whole_plan}
 
--- from a server, to a server, from one with octets compared; the last two remove what the target has alone
+-- from a server, to a server, from one with octets compared; the last two remove what the target has alone, the last however much it is
 abbrev pub down : Rules
 down = record { way = Ways.Down; check = Checks.ByFacts; extra = Extras.Kept }
 
@@ -28,6 +28,9 @@ by_octets = record { way = Ways.Down; check = Checks.ByOctets; extra = Extras.Ke
 
 abbrev pub down_all : Rules
 down_all = record { way = Ways.Down; check = Checks.ByFacts; extra = Extras.Removed }
+
+abbrev pub down_any : Rules
+down_any = record { way = Ways.Down; check = Checks.ByFacts; extra = Extras.Any }
 
 -- a file of a size, changed last at a moment
 abbrev pub facts : ℕ → ℕ → Facts
@@ -84,8 +87,10 @@ abbrev pub OthersPlanned : Type 0
 OthersPlanned =
     (whole_plan {A = ℕ} down [] [] ≡ [])
     × (whole_plan down [] (a Kinds.Dir) ≡ [])
-    × (whole_plan down_all [] (a Kinds.Dir) ≡ of_a Does.RemoveDir)
-    × (whole_plan down_all [] (a (Kinds.File (facts 3 5))) ≡ of_a Does.RemoveFile)
+    × (whole_plan down_any [] (a Kinds.Dir) ≡ of_a Does.RemoveDir)
+    × (whole_plan down_any [] (a (Kinds.File (facts 3 5))) ≡ of_a Does.RemoveFile)
+    × (whole_plan down_all [] (a (Kinds.File (facts 3 5))) ≡ refused (Reasons.Emptied 1))
+    × (whole_plan down_all [] (item (codes "b") Kinds.Dir ∷ a Kinds.Dir) ≡ refused (Reasons.Emptied 2))
     × (whole_plan down_all [] (a Kinds.Excluded) ≡ [])
     × (whole_plan down_all (a Kinds.Excluded) [] ≡ [])
     × (whole_plan down (item (codes "..") Kinds.Dir ∷ []) [] ≡ step (codes "..") (Does.Refuse Reasons.Name) ∷ [])
@@ -93,7 +98,7 @@ OthersPlanned =
     × (whole_plan down (item [] Kinds.Dir ∷ []) [] ≡ step [] (Does.Refuse Reasons.Name) ∷ [])
     × (whole_plan down_all (item (codes "b") Kinds.Dir ∷ a (Kinds.File (facts 3 5))) (item (codes "c") Kinds.Dir ∷ [])
     ≡ step (codes "b") Does.MakeDir ∷ step (codes "a") (Does.Copy (facts 3 5)) ∷ step (codes "c") Does.RemoveDir ∷ [])
-    × (plan {A = ℕ} down_all Listings.CutOff Listings.CutOff ≡ refused)
+    × (plan {A = ℕ} down_all Listings.CutOff Listings.CutOff ≡ refused Reasons.CutOff)
 
 -- which texts are of a pattern, and which paths meet one
 abbrev pub PatternsMet : Type 0

@@ -1,6 +1,6 @@
 // What is done of one name.
 ghost use Rattle.std.specs.Prelude.{◌≡◌};
-ghost use Rattle.ftp_tool_listing.specs.Deeds.{alone, deeds_for, differ, differs, dir_onto, file_onto, file_onto_file, in_place, is_later, is_untold, onto, onto_by_facts, onto_by_octets, removal, removal_for};
+ghost use Rattle.ftp_tool_listing.specs.Deeds.{alone, deeds_for, differ, differs, dir_onto, file_onto, file_onto_file, in_place, is_later, is_untold, may_remove, onto, onto_by_facts, onto_by_octets, removal, removal_for};
 
 use crate::item::{Facts, Item, Kind};
 use crate::name::is_name;
@@ -28,7 +28,10 @@ pub enum Check {
 #[derive(Clone, Copy)]
 pub enum Extra {
     Kept,
+    /// It is removed where that is not too much of the target: not in a directory that the source lists empty, and not past `may_remove`.
     Removed,
+    /// It is removed, however much it is.
+    Any,
 }
 
 /// How a tree is mirrored.
@@ -52,6 +55,8 @@ pub enum Reason {
     Neither,
     /// A listing has more entries than are taken.
     CutOff,
+    /// The source lists nothing where the target has so many entries to be removed.
+    Emptied(usize),
 }
 
 impl Reason {
@@ -67,6 +72,7 @@ impl Reason {
                 "what stands there is neither file nor directory, and stays without --delete"
             }
             Reason::CutOff => "more than 1,000,000 entries are listed; nothing is done there",
+            Reason::Emptied(_) => "the source lists nothing there, and what the target has stays",
         }
     }
 }
@@ -160,7 +166,7 @@ fn in_place(extra: Extra, removal: Deed, deed: Deed, reason: Reason) -> Deeds
 {
     match extra {
         Extra::Kept => Deeds::One(Deed::Refuse(reason)),
-        Extra::Removed => Deeds::Two(removal, deed),
+        Extra::Removed | Extra::Any => Deeds::Two(removal, deed),
     }
 }
 
@@ -236,8 +242,8 @@ fn alone(extra: Extra, item: &Item<Global>) -> Deeds
 {
     match extra {
         Extra::Kept => Deeds::Nothing,
-        Extra::Removed if is_name(item.name.as_slice()) => removal(item.kind),
-        Extra::Removed => Deeds::One(Deed::Refuse(Reason::Name)),
+        Extra::Removed | Extra::Any if is_name(item.name.as_slice()) => removal(item.kind),
+        Extra::Removed | Extra::Any => Deeds::One(Deed::Refuse(Reason::Name)),
     }
 }
 
@@ -248,5 +254,19 @@ fn removal(kind: Kind) -> Deeds
         Kind::File(_) | Kind::Other => Deeds::One(Deed::RemoveFile),
         Kind::Dir => Deeds::One(Deed::RemoveDir),
         Kind::Excluded => Deeds::Nothing,
+    }
+}
+
+/// How many entries may be removed of a target, however few it held.
+const ALWAYS: u64 = 10;
+
+/// Whether so many of the entries that a target held may be removed: all where that is asked for; else ten at most, or half of them.
+pub fn may_remove(extra: Extra, held: u64, removed: u64) -> bool
+    ensures { result ≡ may_remove extra held removed }
+{
+    match extra {
+        Extra::Kept => false,
+        Extra::Removed => removed <= ALWAYS || removed <= held / 2,
+        Extra::Any => true,
     }
 }

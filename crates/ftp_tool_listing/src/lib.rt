@@ -3,6 +3,7 @@
 #![tactic(auto)]
 
 mod deeds;
+mod index;
 mod item;
 mod lines;
 mod long;
@@ -12,7 +13,9 @@ mod planning;
 pub mod rows;
 mod shown;
 
-pub use deeds::{Check, Deed, Deeds, Extra, Reason, Rules, Way, deeds_for, removal_for};
+pub use deeds::{
+    Check, Deed, Deeds, Extra, Reason, Rules, Way, deeds_for, may_remove, removal_for,
+};
 pub use item::{Facts, Item, Kind, Listing};
 pub use lines::{put_entries, put_names, strange_entries, strange_names};
 pub use long::put_long;

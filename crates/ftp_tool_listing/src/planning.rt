@@ -1,9 +1,10 @@
 // What is done of a directory.
 ghost use Rattle.std.specs.Prelude.{◌≡◌, ◌++◌, IfOk, OnOk, flat_map};
-ghost use Rattle.ftp_tool_listing.specs.Plan.{clearing, copying, is_named, plan, stands, steps};
+ghost use Rattle.ftp_tool_listing.specs.Plan.{clearing, copying, guarded, plan, refused, steps, whole_plan};
 
-use crate::deeds::{Deed, Deeds, Reason, Rules, deeds_for, removal_for};
-use crate::item::{Item, Kind, Listing};
+use crate::deeds::{Deed, Deeds, Extra, Reason, Rules, deeds_for, removal_for};
+use crate::index::{kinds_of, stands};
+use crate::item::{Item, Listing};
 use ftp_facts::Text;
 use std::alloc::{AllocError, Allocator, Global};
 
@@ -24,26 +25,50 @@ pub fn plan(
 ) -> Result<Vec<Step<Global>, Global>, AllocError>
     ensures { IfOk result (λ planned. planned.items ≡ plan rules source.now target.now) }
 {
-    let mut planned = Vec::new(alloc);
     match (source, target) {
         (Listing::Whole(source), Listing::Whole(target)) => {
-            put_copying(
-                alloc,
-                rules,
-                source.as_slice(),
-                target.as_slice(),
-                &mut planned,
-            )?;
-            put_clearing(
-                alloc,
-                rules,
-                source.as_slice(),
-                target.as_slice(),
-                &mut planned,
-            )?;
+            whole_plan(alloc, rules, source.as_slice(), target.as_slice())
         }
-        _ => put_step(alloc, b"", Deed::Refuse(Reason::CutOff), &mut planned)?,
+        _ => refused(alloc, Reason::CutOff),
     }
+}
+
+/// The same of whole listings.
+fn whole_plan(
+    alloc: Global,
+    rules: Rules,
+    source: &[Item<Global>],
+    target: &[Item<Global>],
+) -> Result<Vec<Step<Global>, Global>, AllocError>
+    ensures { IfOk result (λ planned. planned.items ≡ whole_plan rules source.now target.now) }
+{
+    let mut planned = Vec::new(alloc);
+    put_copying(alloc, rules, source, target, &mut planned)?;
+    put_clearing(alloc, rules, source, target, &mut planned)?;
+    guarded(alloc, rules.extra, source, planned)
+}
+
+/// What was planned; where the source lists nothing, what would be removed stays, and that is told.
+fn guarded(
+    alloc: Global,
+    extra: Extra,
+    source: &[Item<Global>],
+    planned: Vec<Step<Global>, Global>,
+) -> Result<Vec<Step<Global>, Global>, AllocError>
+    ensures { IfOk result (λ kept. kept.items ≡ guarded extra source.now planned.items) }
+{
+    if matches!(extra, Extra::Removed) && source.is_empty() && !planned.is_empty() {
+        return refused(alloc, Reason::Emptied(planned.len()));
+    }
+    Ok(planned)
+}
+
+/// That nothing is done of a directory.
+fn refused(alloc: Global, reason: Reason) -> Result<Vec<Step<Global>, Global>, AllocError>
+    ensures { IfOk result (λ planned. planned.items ≡ refused reason) }
+{
+    let mut planned = Vec::new(alloc);
+    put_step(alloc, b"", Deed::Refuse(reason), &mut planned)?;
     Ok(planned)
 }
 
@@ -56,9 +81,10 @@ fn put_copying(
 ) -> Result<(), AllocError>
     ensures { OnOk result (planned.new.items ≡ planned.old.items ++ flat_map (copying rules target.now) source.now) }
 {
+    let kinds = kinds_of(alloc, target)?;
     for item in source {
         let name = item.name.as_slice();
-        let deeds = deeds_for(rules, item, stands(target, name));
+        let deeds = deeds_for(rules, item, stands(&kinds, name));
         put_steps(alloc, name, deeds, planned)?;
     }
     Ok(())
@@ -73,9 +99,10 @@ fn put_clearing(
 ) -> Result<(), AllocError>
     ensures { OnOk result (planned.new.items ≡ planned.old.items ++ flat_map (clearing rules source.now) target.now) }
 {
+    let kinds = kinds_of(alloc, source)?;
     for item in target {
         let name = item.name.as_slice();
-        let deeds = removal_for(rules, item, stands(source, name));
+        let deeds = removal_for(rules, item, stands(&kinds, name));
         put_steps(alloc, name, deeds, planned)?;
     }
     Ok(())
@@ -110,20 +137,4 @@ fn put_step(
     let name = Text::copy_of(alloc, name)?;
     planned.push(Step { deed, name })?;
     Ok(())
-}
-
-/// What stands under a name among entries: the first that has it.
-fn stands(items: &[Item<Global>], name: &[u8]) -> Option<Kind>
-    ensures { result ≡ stands items.now name.now }
-{
-    items
-        .iter()
-        .find(|item| is_named(name, item))
-        .map(|item| item.kind)
-}
-
-fn is_named(name: &[u8], item: &Item<Global>) -> bool
-    ensures { result ≡ is_named name.now item.now }
-{
-    item.name.as_slice() == name
 }

@@ -1,3 +1,4 @@
+use Rattle.std.proofs.Common.{◌∙◌}
 use Rattle.ftp_tool_listing.specs.Deeds.{deeds_for}
 use Rattle.ftp_tool_listing.specs.Plan.{copying}
 use Rattle.ftp_tool_listing.proofs.LinesLemmas.{one_written}
@@ -11,4 +12,4 @@ loop-item-preserved c =
     one_written (copying c.args.rules c.args.target.now) c.args.source.now c.loop-item.item-index item item c.args.planned.now.items old
     c.put_steps.new.planned.items c.loop-item-test.true c.item-item.is c.loop-item.invariant
     (one_planned (deeds_for c.args.rules item) c.args.target.now item c.as_slice-name.result.now c.stands.result c.deeds_for-deeds.result old
-    c.put_steps.new.planned.items c.as_slice-name.ensures c.stands.ensures c.deeds_for-deeds.ensures c.in_ok-put_steps.ensures)
+    c.put_steps.new.planned.items c.as_slice-name.ensures (c.stands.ensures ∙ c.in_ok-kinds.ensures c.as_slice-name.result.now) c.deeds_for-deeds.ensures c.in_ok-put_steps.ensures)
