@@ -1,5 +1,6 @@
 pub mod BusyLemmas
 pub mod CallLemmas
+pub mod ConcludeLemmas
 pub mod DataLemmas
 pub mod HearLemmas
 pub mod NameLemmas

@@ -7,6 +7,7 @@ ghost use Rattle.ftp_server_model.specs.View.{seen};
 ghost use Rattle.ftp_server.specs.Breaking.{InstallIsLost};
 ghost use Rattle.ftp_server_session.specs.Session.{connection_of};
 
+use crate::conclude::at_break;
 use crate::hear::is_transferring;
 use crate::line::Failed;
 use crate::server::Server;
@@ -49,7 +50,7 @@ impl<A: Allocator + Copy, T: Tree<A>, J: ServerTransfer<A, T>> Server<A, T, J> {
         }
         match self.take_connection() {
             ServerLink::Transferring(transfer) => {
-                match self.session.at_break(self.footing.moment, transfer) {
+                match at_break(&mut self.session, self.footing.moment, transfer) {
                     Ok(text) => {
                         self.output.put_fixed(text);
                         Ok(())

@@ -8,6 +8,7 @@ ghost use Rattle.ftp_server.specs.Breaking.{InstallIsLost};
 ghost use Rattle.ftp_server.specs.Busy.{HasRoom};
 ghost use Rattle.ftp_server_session.specs.Session.{connection_of};
 
+use crate::conclude::{at_break, at_end};
 use crate::line::Failed;
 use crate::server::Server;
 use ftp_server_model::{FixedReply, ServerLink};
@@ -32,7 +33,7 @@ impl<A: Allocator + Copy, T: Tree<A>, J: ServerTransfer<A, T>> Server<A, T, J> {
         match self.leave() {
             ServerLink::Ready => Ok(()),
             ServerLink::Transferring(transfer) => {
-                match self.session.at_end(self.footing.moment, transfer) {
+                match at_end(&mut self.session, self.footing.moment, transfer) {
                     Ok(text) => {
                         self.output.put_fixed(text);
                         Ok(())
@@ -63,7 +64,7 @@ impl<A: Allocator + Copy, T: Tree<A>, J: ServerTransfer<A, T>> Server<A, T, J> {
         match self.leave() {
             ServerLink::Ready => Ok(()),
             ServerLink::Transferring(transfer) => {
-                match self.session.at_break(self.footing.moment, transfer) {
+                match at_break(&mut self.session, self.footing.moment, transfer) {
                     Ok(text) => {
                         self.output.put_fixed(text);
                         Ok(())

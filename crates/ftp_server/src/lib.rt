@@ -5,6 +5,7 @@ mod abort;
 mod begin;
 mod calls;
 mod carry;
+mod conclude;
 mod connect;
 mod data;
 mod ending;

@@ -1,6 +1,5 @@
 pub mod AskLemmas
 pub mod RefusedLemmas
 pub mod SessionLemmas
-pub mod ConcludeLemmas
 pub mod ActLemmas
 pub mod GivenLemmas

@@ -4,7 +4,6 @@
 
 mod act;
 mod ask;
-mod conclude;
 mod decide;
 mod endpoint;
 mod footing;
