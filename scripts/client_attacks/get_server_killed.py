@@ -35,13 +35,25 @@ def silent_end(count):
 
 
 def told_nothing(rows):
-    for what, count in (("amid its octets", 1000), ("after its last octet", len(WHOLE))):
-        for name, size, words in (("its size told", f"213 {len(WHOLE)}", ()), ("no size told", "500 what", ()), ("type A", "500 what", ("--type", "A"))):
-            (rows.folder / "out").write_bytes(b"older")
-            server = FakeServer({"SIZE": size, "MDTM": "213 20260101000000", "RETR": silent_end(count)})
-            status, _, told = rows.tool("get", f"127.0.0.1:{server.port}/f", "out", *words)
-            octets = (rows.folder / "out").read_bytes()
-            rows.row(f"get, {name}, no reply {what}: not status 0, the older file", status in (1, 3) and octets == b"older", (status, len(octets), told))
+    """All at a time, since each waits for further control connections."""
+    ways = [
+        (what, count, name, size, words)
+        for what, count in (("amid its octets", 1000), ("after its last octet", len(WHOLE)))
+        for name, size, words in (("its size told", f"213 {len(WHOLE)}", ()), ("no size told", "500 what", ()), ("type A", "500 what", ("--type", "A")))
+    ]
+    waits = [threading.Thread(target=one, args=(rows, f"out{number}", *way)) for number, way in enumerate(ways)]
+    for wait in waits:
+        wait.start()
+    for wait in waits:
+        wait.join()
+
+
+def one(rows, file, what, count, name, size, words):
+    (rows.folder / file).write_bytes(b"older")
+    server = FakeServer({"SIZE": size, "MDTM": "213 20260101000000", "RETR": silent_end(count)})
+    status, _, told = rows.tool("get", f"127.0.0.1:{server.port}/f", file, *words)
+    octets = (rows.folder / file).read_bytes()
+    rows.row(f"get, {name}, no reply {what}: not status 0, the older file", status in (1, 3) and octets == b"older", (status, len(octets), told))
 
 
 def killed(rows):
