@@ -1,5 +1,5 @@
 -- What a line of an accounts file says (own choice: `user:password:root`, as in the password file of a system, or `user:password:root:rights`).
-use Rattle.std.specs.Prelude.{◌≡◌, ℕ, ◌||◌, ◌&&◌, ◌==◌, ◌⊎◌, Bool, List, [], ◌∷◌, ◌++◌, Option, Some, None, IsTrue, not, is_none, nat_eq, if◌then◌else◌}
+use Rattle.std.specs.Prelude.{◌≡◌, ℕ, ◌||◌, ◌&&◌, ◌==◌, ◌⊎◌, Bool, false, List, [], ◌∷◌, ◌++◌, Option, Some, None, IsTrue, not, is_none, nat_eq, nat_le, if◌then◌else◌}
 use Rattle.std.specs.List.{list_all, starts_with}
 use Rattle.ftp_facts.specs.Fact.{Lacks}
 use Rattle.ftp_path.specs.Path.{fits, is_path_text, is_rooted, resolved}
@@ -32,33 +32,66 @@ abbrev pub needed : List ℕ → Option (List ℕ)
 needed [] = None
 needed (octet ∷ octets) = Some (octet ∷ octets)
 
--- the rights that a field says: all where it is empty, `r` to look alone, `w` also to put what does not stand
-abbrev pub rights_said : List ℕ → Option Rights
-rights_said [] = Some May.All
-rights_said (octet ∷ []) = if octet == 114 then Some May.Look else (if octet == 119 then Some May.Put else None)
-rights_said (octet ∷ next ∷ octets) = None
+-- an ASCII letter or digit
+abbrev pub is_word : ℕ → Bool
+is_word octet = (nat_le 48 octet && nat_le octet 57) || ((nat_le 65 octet && nat_le octet 90) || (nat_le 97 octet && nat_le octet 122))
+
+-- a password is written as systems write digests, `$6$..`: `$`, one to three letters or digits, and `$` (crypt(5)). None is known here, and taken in clear
+-- it would be another password
+abbrev pub ends_kind : List ℕ → Bool
+ends_kind [] = false
+ends_kind (octet ∷ octets) = octet == 36
+
+abbrev pub ends_kind_within_one : List ℕ → Bool
+ends_kind_within_one [] = false
+ends_kind_within_one (octet ∷ octets) = (octet == 36) || (is_word octet && ends_kind octets)
+
+abbrev pub ends_kind_within_two : List ℕ → Bool
+ends_kind_within_two [] = false
+ends_kind_within_two (octet ∷ octets) = (octet == 36) || (is_word octet && ends_kind_within_one octets)
+
+abbrev pub names_kind : List ℕ → Bool
+names_kind [] = false
+names_kind (octet ∷ octets) = is_word octet && ends_kind_within_two octets
+
+abbrev pub is_digest : List ℕ → Bool
+is_digest [] = false
+is_digest (octet ∷ octets) = (octet == 36) && names_kind octets
+
+-- the rights that are said: all where no field stands, `r` to look alone, `w` also to put what does not stand; an empty field says none
+abbrev pub rights_said : Option (List ℕ) → Option Rights
+rights_said None = Some May.All
+rights_said (Some (octet ∷ [])) = if octet == 114 then Some May.Look else (if octet == 119 then Some May.Put else None)
+rights_said (Some []) = None
+rights_said (Some (octet ∷ next ∷ octets)) = None
 
 -- a root: a path text that begins with `/`, and leads to a path within the limits
 abbrev pub is_root : List ℕ → Bool
 is_root root = is_path_text root && is_rooted root && fits (resolved [] root)
 
--- what stands behind the second colon: a root, or a root, a colon and rights
-abbrev pub EndsIn : (rest root rights : List ℕ) → Type 0
-EndsIn rest root rights = Lacks root colon × (((rest ≡ root) × (rights ≡ [])) ⊎ (rest ≡ root ++ colon ∷ rights))
+-- what stands after a root: nothing, or a colon and rights
+abbrev pub ending : Option (List ℕ) → List ℕ
+ending None = []
+ending (Some rights) = colon ∷ rights
+
+-- what stands after the second colon: a root, or a root, a colon and rights
+abbrev pub EndsIn : (rest root : List ℕ) → Option (List ℕ) → Type 0
+EndsIn rest root rights = Lacks root colon × (rest ≡ root ++ ending rights)
 
 -- a line is these fields, with colons between
-pub record IsCut (line user pass root rights : List ℕ) : Type 0 where
+pub record IsCut (line user pass root : List ℕ) (rights : Option (List ℕ)) : Type 0 where
   pub rest : List ℕ
   pub whole : line ≡ user ++ colon ∷ (pass ++ colon ∷ rest)
   pub lack : Lacks user colon × Lacks pass colon
   pub ends : EndsIn rest root rights
 
 -- what is wrong with the fields of a line: the first that is none
-abbrev pub wrong : (user pass root rights : List ℕ) → Option LineFault
+abbrev pub wrong : (user pass root : List ℕ) → Option (List ℕ) → Option LineFault
 wrong user pass root rights =
     if not (is_user user) then Some Faults.User
     else (if not (is_password pass) then Some Faults.Password
-    else (if not (is_root root) then Some Faults.Root else (if is_none (rights_said rights) then Some Faults.Rights else None)))
+    else (if is_digest pass then Some Faults.Digest
+    else (if not (is_root root) then Some Faults.Root else (if is_none (rights_said rights) then Some Faults.Rights else None))))
 
 -- what a line says: an account, and what it may change
 abbrev pub Entry : Type 0
@@ -68,10 +101,11 @@ Entry = Account × Rights
 pub record Says (line : List ℕ) (entry : Entry) : Type 0 where
   pub pass : List ℕ
   pub root : List ℕ
-  pub rights : List ℕ
+  pub rights : Option (List ℕ)
   pub cut : IsCut line entry.0.user pass root rights
   pub user : IsTrue (is_user entry.0.user)
   pub password : IsTrue (is_password pass) × (entry.0.pass ≡ needed pass)
+  pub clear : is_digest pass ≡ false
   pub path : IsTrue (is_root root) × (entry.0.root ≡ resolved [] root)
   pub right : rights_said rights ≡ Some entry.1
 
@@ -90,7 +124,7 @@ pub record HasWrong (line : List ℕ) (fault : LineFault) : Type 0 where
   pub user : List ℕ
   pub pass : List ℕ
   pub root : List ℕ
-  pub rights : List ℕ
+  pub rights : Option (List ℕ)
   pub cut : IsCut line user pass root rights
   pub is : wrong user pass root rights ≡ Some fault
 

@@ -17,10 +17,13 @@ pub enum LineFault {
     /// Over 255 octets, or CR or NUL.
     #[error("the password is none")]
     Password,
+    /// `$`, one to three letters or digits, and `$`: passwords are in clear here.
+    #[error("the password is written as a digest, and digests are not known: it is wanted in clear")]
+    Digest,
     /// It does not begin with `/`, or is no path text, or is past the limits of a path.
     #[error("the root is no path that begins with /")]
     Root,
-    #[error("the rights are none: nothing, r or w is wanted")]
+    #[error("the rights are none: :r or :w is wanted after the root, or no colon")]
     Rights,
     #[error("a line above has this user")]
     SameUser,

@@ -1,8 +1,9 @@
 // One line of an accounts file.
 ghost use Rattle.std.specs.Prelude.{◌≡◌, ◌≢◌, [], IfOk, IfErr, IfSome, IfNone, IsTrue, false};
 ghost use Rattle.std.specs.List.{list_all};
+ghost use Rattle.std.specs.Option.{option_map};
 ghost use Rattle.ftp_path.specs.Path.{resolved};
-ghost use Rattle.ftp_tool_accounts.specs.Line.{EndsIn, HasFewFields, IsCut, IsFaulty, Says, is_blank, is_comment, is_root, is_silent, needed, rights_said};
+ghost use Rattle.ftp_tool_accounts.specs.Line.{EndsIn, HasFewFields, IsCut, IsFaulty, Says, ends_kind, ends_kind_within_one, ends_kind_within_two, is_blank, is_comment, is_digest, is_root, is_silent, is_word, names_kind, needed, rights_said};
 
 use crate::fault::LineFault;
 use ftp_facts::{Text, cut_at};
@@ -56,6 +57,9 @@ pub(crate) fn entry_of<A: Allocator + Copy>(alloc: A, line: &[u8]) -> Result<Ent
     if !is_password(fields.pass) {
         return Err(LineFault::Password);
     }
+    if is_digest(fields.pass) {
+        return Err(LineFault::Digest);
+    }
     let root = match root_of(alloc, fields.root) {
         Ok(root) => root,
         Err(fault) => return Err(fault),
@@ -75,12 +79,12 @@ struct Fields<'a> {
     user: &'a [u8],
     pass: &'a [u8],
     root: &'a [u8],
-    rights: &'a [u8],
+    rights: Option<&'a [u8]>,
 }
 
 /// The fields of a line, if it has two colons.
 fn fields_of(line: &[u8]) -> Option<Fields<'_>>
-    ensures cut { IfSome result (λ fields. IsCut line.now fields.user.now fields.pass.now fields.root.now fields.rights.now) }
+    ensures cut { IfSome result (λ fields. IsCut line.now fields.user.now fields.pass.now fields.root.now (option_map (λ field. field.now) fields.rights)) }
     ensures few { IfNone result (HasFewFields line.now) }
 {
     let Some((user, rest)) = cut_at(line, b':') else {
@@ -98,14 +102,71 @@ fn fields_of(line: &[u8]) -> Option<Fields<'_>>
     })
 }
 
-/// The root and the rights that stand behind the second colon.
-fn ends_of(rest: &[u8]) -> (&[u8], &[u8])
-    ensures { EndsIn rest.now result.0.now result.1.now }
+/// The root and the rights that stand after the second colon; no rights where no third one does.
+fn ends_of(rest: &[u8]) -> (&[u8], Option<&[u8]>)
+    ensures { EndsIn rest.now result.0.now (option_map (λ field. field.now) result.1) }
 {
     match cut_at(rest, b':') {
-        Some(parts) => parts,
-        None => (rest, &[]),
+        Some((root, rights)) => (root, Some(rights)),
+        None => (rest, None),
     }
+}
+
+/// Whether a password is written as systems write digests: `$`, one to three letters or digits, and `$`.
+fn is_digest(pass: &[u8]) -> bool
+    ensures { result ≡ is_digest pass.now }
+{
+    match pass.split_first() {
+        Some((octet, rest)) => *octet == b'$' && names_kind(rest),
+        None => false,
+    }
+}
+
+/// Whether a text begins with one to three letters or digits, and `$`.
+fn names_kind(text: &[u8]) -> bool
+    ensures { result ≡ names_kind text.now }
+{
+    match text.split_first() {
+        Some((octet, rest)) => is_word(*octet) && ends_kind_within_two(rest),
+        None => false,
+    }
+}
+
+/// The same with at most two before it.
+fn ends_kind_within_two(text: &[u8]) -> bool
+    ensures { result ≡ ends_kind_within_two text.now }
+{
+    match text.split_first() {
+        Some((octet, rest)) => *octet == b'$' || is_word(*octet) && ends_kind_within_one(rest),
+        None => false,
+    }
+}
+
+/// The same with at most one.
+fn ends_kind_within_one(text: &[u8]) -> bool
+    ensures { result ≡ ends_kind_within_one text.now }
+{
+    match text.split_first() {
+        Some((octet, rest)) => *octet == b'$' || is_word(*octet) && ends_kind(rest),
+        None => false,
+    }
+}
+
+/// Whether a text begins with `$`.
+fn ends_kind(text: &[u8]) -> bool
+    ensures { result ≡ ends_kind text.now }
+{
+    match text.split_first() {
+        Some((octet, _)) => *octet == b'$',
+        None => false,
+    }
+}
+
+/// An ASCII letter or digit.
+fn is_word(octet: u8) -> bool
+    ensures { result ≡ is_word octet }
+{
+    matches!(octet, b'0'..=b'9' | b'A'..=b'Z' | b'a'..=b'z')
 }
 
 /// The path from `/` that a text names.
@@ -124,15 +185,15 @@ fn root_of<A: Allocator + Copy>(alloc: A, root: &[u8]) -> Result<Path<A>, LineFa
     }
 }
 
-/// What a field of rights says.
-fn rights_of(field: &[u8]) -> Option<Rights>
-    ensures { result ≡ rights_said field.now }
+/// What a field of rights says, or that there is none.
+fn rights_of(field: Option<&[u8]>) -> Option<Rights>
+    ensures { result ≡ rights_said (option_map (λ octets. octets.now) field.entry) }
 {
     match field {
-        [] => Some(Rights::All),
-        [b'r'] => Some(Rights::Look),
-        [b'w'] => Some(Rights::Put),
-        _ => None,
+        None => Some(Rights::All),
+        Some([b'r']) => Some(Rights::Look),
+        Some([b'w']) => Some(Rights::Put),
+        Some(_) => None,
     }
 }
 
