@@ -1,19 +1,19 @@
 // The subcommand `serve`: its words.
-ghost use Rattle.std.specs.Prelude.{ℕ, IfOk, IfSome, IfNone, OnErr};
+ghost use Rattle.std.specs.Prelude.{ℕ, Option, IfOk, IfSome, IfNone, OnErr};
 ghost use Rattle.std.specs.Net.Grammar.{IsIpText};
 ghost use Rattle.std.specs.declared.net.IpAddr.{IpAddr};
 ghost use Rattle.ftp_tool_serve.specs.declared.serving.Serving.{Serving};
 ghost use Rattle.ftp_tool_sockets.specs.declared.patience.Limits.{Limits};
 ghost use Rattle.ftp_tool_words.specs.Words.{SaysPorts, SaysSessions};
 ghost use Rattle.ftp_tool_words.specs.declared.words.Sessions.{Sessions};
-ghost use Rattle.ftp_tool_command.specs.Serving.{AreWaits, Asks};
+ghost use Rattle.ftp_tool_command.specs.Serving.{AreWaits, Asks, SaysAddress};
 
 use crate::help;
 use crate::refusal::Refusal;
 use crate::words::{Form, MOST, Subcommand, Value, Word, chosen, text_in};
 use clap::ArgMatches;
 use ftp_tool_files::number_of;
-use ftp_tool_serve::{Limits, Log, Others, Serving, Sessions};
+use ftp_tool_serve::{Limits, Log, Odd, Others, Serving, Sessions};
 use ftp_tool_words::{port_of, ports_of, sessions_of};
 use std::net::IpAddr;
 
@@ -86,9 +86,29 @@ const OPTIONS: &[Word<'static>] = &[
         help: "the same while another client waits to be served",
     },
     Word {
+        name: "session-while-waited",
+        form: Form::Else(SECONDS, "60"),
+        help: "ends one, whatever its client does, once another client waits for so long; 0: never",
+    },
+    Word {
+        name: "login-while-waited",
+        form: Form::Else(SECONDS, "10"),
+        help: "the same where nobody logged in",
+    },
+    Word {
         name: "passive-ports",
         form: Form::Else(Value::Text("A-B"), "49152-65535"),
         help: "the ports of passive data connections, each tried in turn",
+    },
+    Word {
+        name: "passive-address",
+        form: Form::Given(Value::Text("A")),
+        help: "the address that PASV names, of a server that clients reach by another one than its own",
+    },
+    Word {
+        name: "skip",
+        form: Form::Flag,
+        help: "leaves out at the start too what of the folder can't be served, and tells it",
     },
 ];
 
@@ -103,6 +123,8 @@ pub(crate) struct ServeWords<'a> {
     log: Log,
     others: Others,
     passive: &'a str,
+    passive_address: Option<&'a str>,
+    odd: Odd,
     waits: WaitWords<'a>,
 }
 
@@ -112,6 +134,8 @@ pub(crate) struct WaitWords<'a> {
     login: &'a str,
     idle: &'a str,
     idle_while_waited: &'a str,
+    session_while_waited: &'a str,
+    login_while_waited: &'a str,
 }
 
 /// What is to be served; refused where a value is none of its option.
@@ -125,10 +149,14 @@ pub fn serving_of<'a>(words: &'a ArgMatches<'_>) -> Result<Serving<'a>, Refusal<
         log: chosen(words, "log", Log::Told, Log::Silent),
         others: chosen(words, "keep", Others::Keep, Others::Change),
         passive: text_in(words, "passive-ports"),
+        passive_address: words.get_str("passive-address"),
+        odd: chosen(words, "skip", Odd::LeaveOut, Odd::Refuse),
         waits: WaitWords {
             login: text_in(words, "login"),
             idle: text_in(words, "idle"),
             idle_while_waited: text_in(words, "idle-while-waited"),
+            session_while_waited: text_in(words, "session-while-waited"),
+            login_while_waited: text_in(words, "login-while-waited"),
         },
     })
 }
@@ -141,6 +169,7 @@ fn serving_by<'a>(words: ServeWords<'a>) -> Result<Serving<'a>, Refusal<'a>>
     let host = host_by(words.host)?;
     let sessions = sessions_by(words.sessions)?;
     let passive = passive_by(words.passive)?;
+    let passive_address = passive_address_by(words.passive_address)?;
     let Some(port) = port_of(words.port) else {
         return Err(Refusal::Number);
     };
@@ -156,7 +185,9 @@ fn serving_by<'a>(words: ServeWords<'a>) -> Result<Serving<'a>, Refusal<'a>>
         log: words.log,
         limits,
         passive,
+        passive_address,
         others: words.others,
+        odd: words.odd,
     })
 }
 
@@ -198,6 +229,23 @@ fn passive_by(word: &str) -> Result<(u16, u16), Refusal<'_>>
     }
 }
 
+fn passive_address_by(word: Option<&str>) -> Result<Option<IpAddr>, Refusal<'_>>
+    ensures some { IfOk result (λ address. SaysAddress word.entry address) }
+    ensures none { OnErr result ((address : Option IpAddr) → ¬ SaysAddress word.entry address) }
+{
+    let Some(word) = word else {
+        return Ok(None);
+    };
+    match word.parse() {
+        Ok(address) => Ok(Some(address)),
+        Err(_) => Err(Refusal::of(
+            "--passive-address <A>",
+            word,
+            "an address in numbers is wanted",
+        )),
+    }
+}
+
 fn limits_by(words: WaitWords<'_>) -> Option<Limits>
     ensures some { IfSome result (λ limits. AreWaits words.entry limits) }
     ensures none { IfNone result ((limits : Limits) → ¬ AreWaits words.entry limits) }
@@ -205,9 +253,13 @@ fn limits_by(words: WaitWords<'_>) -> Option<Limits>
     let login = number_of(words.login)?;
     let idle = number_of(words.idle)?;
     let idle_while_waited = number_of(words.idle_while_waited)?;
+    let session_while_waited = number_of(words.session_while_waited)?;
+    let login_while_waited = number_of(words.login_while_waited)?;
     Some(Limits {
         login,
         idle,
         idle_while_waited,
+        session_while_waited,
+        login_while_waited,
     })
 }

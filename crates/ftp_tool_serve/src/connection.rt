@@ -1,4 +1,7 @@
 // One control connection, from its greeting to its end.
+ghost use Rattle.std.specs.Prelude.{◌≡◌};
+ghost use Rattle.ftp_tool_serve.specs.Listening.{told_host};
+
 use crate::guard::Guard;
 use crate::heard::{CountedPorts, HeardReader, SaidWriter};
 use crate::journal::{Journal, Log};
@@ -11,16 +14,19 @@ use ftp_server_model::Far;
 use ftp_server_parts::ServerTransfer;
 use ftp_server_transfer::TreeTransfer;
 use ftp_tool_accounts::Grants;
+use ftp_tool_guesses::Guesses;
+use ftp_tool_log::Lines;
 use ftp_tool_sockets::{
     ControlReader, ControlWriter, PassivePorts, Patience, SocketPorts, SystemWatch, host_of,
-    keep_alive, say_goodbye,
+    keep_alive, say_at_once, say_goodbye,
 };
 use ftp_tree::Tree;
 use ftp_tree_folder::Reasons;
 use std::alloc::{AllocError, Global};
+use std::cell::RefCell;
 use std::io;
 use std::io::Eprint;
-use std::net::{Net, SocketAddr, TcpListener, TcpStream};
+use std::net::{IpAddr, Net, SocketAddr, TcpListener, TcpStream};
 use std::time::Clock;
 
 /// The host of a control connection that the client reached, and the client's address.
@@ -28,6 +34,17 @@ fn ends_of(stream: &TcpStream) -> io::Result<(Host, SocketAddr)> {
     stream.set_nodelay(true)?;
     keep_alive(stream)?;
     Ok((host_of(stream.local_addr()?), stream.peer_addr()?))
+}
+
+/// The host that PASV names: the one that was asked for, where it is of the family of the one that the client reached.
+fn told_host(asked: Option<IpAddr>, reached: Host) -> Host
+    ensures { result ≡ told_host asked reached }
+{
+    match (asked, reached) {
+        (Some(IpAddr::V4(ip)), Host::V4(_)) => Host::V4(ip.octets()),
+        (Some(IpAddr::V6(ip)), Host::V6(_)) => Host::V6(ip.octets()),
+        _ => reached,
+    }
 }
 
 /// What a session needs of whoever serves it.
@@ -40,6 +57,12 @@ pub struct Service<'a> {
     pub reasons: &'a Reasons,
     pub patience: &'a Patience<'a>,
     pub passive: &'a PassivePorts,
+    /// The address that PASV names in place of that which the client reached, where both are of one family.
+    pub passive_address: Option<IpAddr>,
+    /// Where the log goes.
+    pub lines: &'a Lines,
+    /// The logins that were refused, over all sessions.
+    pub guesses: &'a RefCell<Guesses<Global>>,
 }
 
 /// Serves one control connection over a tree, and gives the tree back and whether no read, no write and no growth outside of the server failed.
@@ -55,8 +78,13 @@ where
     T: Tree<Global>,
 {
     match ends_of(stream) {
-        Ok(ends) => session_between::<R, T, TreeTransfer<Global>>(
-            rt, tree, accounts, stream, ends, service,
+        Ok((reached, peer)) => session_between::<R, T, TreeTransfer<Global>>(
+            rt,
+            tree,
+            accounts,
+            stream,
+            (told_host(service.passive_address, reached), peer),
+            service,
         ),
         Err(_) => (tree, Err(Failed)),
     }
@@ -224,7 +252,11 @@ where
     let ended = drive_server(&mut clocked, &mut control, &mut ports).is_ok();
     let Clocked { server, watch: _ } = clocked;
     ports.inner.finish();
-    if ended {
+    let last = journal.last_reply();
+    if let Some(last) = last {
+        say_at_once(stream, last);
+    }
+    if ended || last.is_some() {
         let _gone = say_goodbye(stream);
     }
     journal.finish();

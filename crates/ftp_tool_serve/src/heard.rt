@@ -54,12 +54,13 @@ impl<'a, R: Tells> SaidWriter<'a, R> {
 
 impl<'a, R: Tells> Write for SaidWriter<'a, R> {
     fn write(&mut self, octets: &[u8]) -> io::Result<usize> {
-        if self.journal.is_over() {
+        if self.told == 0 && self.journal.is_over() {
             return Err(io::Error::from(ErrorKind::TimedOut));
         }
         let (_, fresh) = octets.split_at(self.told.min(octets.len()));
         self.journal.say(fresh);
         self.told = octets.len();
+        self.journal.write();
         let count = self.inner.write(octets)?;
         self.told = octets.len().saturating_sub(count);
         if self.told == 0 {
@@ -142,7 +143,10 @@ impl<'a, R: Net<Listener = TcpListener, Stream = TcpStream> + Clock + Eprint> Po
 
     fn connect(&mut self, endpoint: Endpoint) -> Option<CountedLink<'a, R>> {
         let journal = self.journal;
-        let inner = self.inner.connect(endpoint)?;
+        let Some(inner) = self.inner.connect(endpoint) else {
+            journal.give_up();
+            return None;
+        };
         Some(CountedLink { inner, journal })
     }
 

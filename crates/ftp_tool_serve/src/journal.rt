@@ -2,13 +2,14 @@
 ghost use Rattle.std.specs.Prelude.{◌≤◌, ◌<◌, length};
 
 use crate::connection::Service;
+use crate::goodbye::{guessed_from, last_reply};
 use crate::line::Line;
 use crate::manner::{Manner, Pace};
 use crate::talk::{Answered, Talk, Told};
 use crate::telling::{Asked, Guest, tells, touched_by};
 use crate::tells::{Entry, Fate, Note, Outcome, Tells};
 use ftp_operation::Rights;
-use ftp_tool_sockets::{Over, pause};
+use ftp_tool_sockets::{Over, monotonic_seconds, pause};
 use ftp_tree_folder::Touches;
 use std::alloc::{AllocError, Global};
 use std::cell::{Cell, RefCell};
@@ -45,6 +46,8 @@ pub(crate) struct Journal<'a, R: Tells> {
     known: RefCell<Known>,
     moved: Cell<u64>,
     fate: Cell<Fate>,
+    /// Whether what was written is whole replies.
+    is_whole: Cell<bool>,
 }
 
 impl<'a, R: Tells> Journal<'a, R> {
@@ -70,6 +73,7 @@ impl<'a, R: Tells> Journal<'a, R> {
             known: RefCell::new(known),
             moved: Cell::new(0),
             fate: Cell::new(Fate::Ended),
+            is_whole: Cell::new(true),
         })
     }
 
@@ -77,7 +81,7 @@ impl<'a, R: Tells> Journal<'a, R> {
     pub(crate) fn note(&self, what: &str) {
         if self.service.log == Log::Told {
             let peer = self.peer;
-            self.rt.tell(&Note { peer, what });
+            self.rt.tell(self.service.lines, &Note { peer, what });
         }
     }
 
@@ -85,10 +89,13 @@ impl<'a, R: Tells> Journal<'a, R> {
     pub(crate) fn end(&self, is_whole: bool) {
         let ended = match self.service.patience.over() {
             None if is_whole => "ends",
+            None if !self.is_whole.get() => "breaks off: its last reply was not sent whole",
             None => "breaks off",
             Some(Over::Login) => "is ended: nobody logged in",
             Some(Over::Idle) => "is ended: nothing was said or sent",
             Some(Over::Waited) => "is ended: nothing was said or sent, and others wait",
+            Some(Over::Session) => "is ended: its time is over, since others wait",
+            Some(Over::LoginWaited) => "is ended: nobody logged in, and others wait",
             Some(Over::Refused) => "is ended: ten logins were refused",
         };
         self.note(ended);
@@ -156,22 +163,62 @@ impl<'a, R: Tells> Journal<'a, R> {
         if manner.logged_in {
             self.service.patience.log_in();
         }
-        let waits = !manner.logged_in || before.refused < manner.refused;
-        if waits && manner.pace() != Pace::AtOnce {
+        let was_refused = before.refused < manner.refused;
+        if was_refused {
+            self.refuse();
+        }
+        let waits = !manner.logged_in || was_refused;
+        if waits && self.is_slow(manner) && !self.service.patience.is_spent() {
             pause(SLOW_MILLIS);
         }
     }
 
+    /// A login was refused: that is counted of the client's address too. Where memory is refused, it is not.
+    fn refuse(&self) {
+        if let Ok(mut guesses) = self.service.guesses.try_borrow_mut() {
+            let _counted = guesses.refuse(guessed_from(self.peer.ip()), monotonic_seconds());
+        }
+    }
+
+    /// Whether an answer waits, since logins were refused on this connection, or on others from this address.
+    fn is_slow(&self, manner: Manner) -> bool {
+        if manner.pace() != Pace::AtOnce {
+            return true;
+        }
+        match self.service.guesses.try_borrow() {
+            Ok(guesses) => guesses.is_slow(guessed_from(self.peer.ip()), monotonic_seconds()),
+            Err(_) => true,
+        }
+    }
+
+    /// Octets are about to be written, and may be so in part.
+    pub(crate) fn write(&self) {
+        self.is_whole.set(false);
+    }
+
     /// What was told was written: behind the last answer nothing more is heard.
     pub(crate) fn written(&self) {
+        let is_whole = match self.known.try_borrow() {
+            Ok(known) => known.talk.is_between_replies(),
+            Err(_) => false,
+        };
+        self.is_whole.set(is_whole);
         if self.manner.get().pace() == Pace::Last {
             self.service.patience.end(Over::Refused);
         }
     }
 
-    /// Whether the server has ended the session.
+    /// Whether the server has ended the session, or no time is left of it.
     pub(crate) fn is_over(&self) -> bool {
-        self.service.patience.over().is_some()
+        self.service.patience.is_spent()
+    }
+
+    /// What the client is told before the server ends the session, where it does that, and where no reply was written in part.
+    pub(crate) fn last_reply(&self) -> Option<&'static [u8]> {
+        if !self.is_whole.get() {
+            return None;
+        }
+        last_reply(self.service.patience.over()?)
     }
 
     /// A data connection, or the wait for one, was given up.
@@ -242,12 +289,12 @@ impl<'a, R: Tells> Journal<'a, R> {
             return;
         };
         if is_told(answered) {
-            self.write(answered, &guest, &names);
+            self.tell_entry(answered, &guest, &names);
         }
     }
 
     /// Tells a line.
-    fn write(&self, answered: &Answered, guest: &Guest, names: &Line) {
+    fn tell_entry(&self, answered: &Answered, guest: &Guest, names: &Line) {
         let entry = Entry {
             peer: self.peer,
             user: guest.user(),
@@ -260,7 +307,7 @@ impl<'a, R: Tells> Journal<'a, R> {
                 why: self.service.reasons.take(),
             },
         };
-        self.rt.tell(&entry);
+        self.rt.tell(self.service.lines, &entry);
     }
 }
 

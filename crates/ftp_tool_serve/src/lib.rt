@@ -2,6 +2,7 @@
 #![tactic(auto)]
 
 mod connection;
+mod goodbye;
 mod guard;
 mod heard;
 mod journal;
@@ -10,6 +11,7 @@ mod line;
 mod manner;
 mod mend;
 mod serving;
+mod starting;
 mod talk;
 mod telling;
 mod tells;
@@ -17,8 +19,10 @@ mod users;
 
 pub use connection::{Service, session};
 pub use ftp_tool_accounts::Users;
+pub use ftp_tool_guesses::Guesses;
+pub use ftp_tool_log::Lines;
 pub use ftp_tool_sockets::{Limits, PassivePorts, Patience};
 pub use ftp_tool_words::Sessions;
 pub use journal::Log;
-pub use serving::{Others, Serving, serve};
+pub use serving::{Odd, Others, Serving, serve};
 pub use users::users_of;

@@ -4,14 +4,19 @@ ghost use Rattle.ftp_tool_serve.specs.Listening.{MayListen};
 
 use crate::connection::{Service, session};
 use crate::journal::Log;
+use crate::starting::{Shown, is_folder, opened, tell_left, tell_roots};
+use crate::tells::{NoClient, Told};
 use crate::users::{roots_of, users_of};
 use ftp_control::{TURNS, Watch};
 use ftp_tool_accounts::Users;
+use ftp_tool_guesses::Guesses;
+use ftp_tool_log::Lines;
 use ftp_tool_sockets::{Limits, PassivePorts, Patience, SystemWatch, pause};
 use ftp_tool_status::Status;
 use ftp_tool_words::Sessions;
-use ftp_tree_folder::{DiskFolder, LeftOut, Mirror, Reasons, Seen, open, reloaded};
+use ftp_tree_folder::{DiskFolder, LoadFault, Mirror, Reasons, Seen, reloaded};
 use std::alloc::Global;
+use std::cell::RefCell;
 use std::fmt::Display;
 use std::fs::Files;
 use std::io::{Eprint, Print};
@@ -39,7 +44,10 @@ pub struct Serving<'a> {
     pub limits: Limits,
     /// The first and the last port of passive data connections.
     pub passive: (u16, u16),
+    /// The address that PASV names, of a server that clients reach by another one than its own.
+    pub passive_address: Option<IpAddr>,
     pub others: Others,
+    pub odd: Odd,
 }
 
 /// Whether anybody else changes the folder while it is served.
@@ -51,6 +59,15 @@ pub enum Others {
     Keep,
 }
 
+/// What is done at the start with what of the folder can't be served. A session that begins later leaves it out.
+#[derive(Clone, Copy)]
+pub enum Odd {
+    /// The first of that is told, and nothing is served.
+    Refuse,
+    /// It is left out, and told.
+    LeaveOut,
+}
+
 /// What stays the same over all sessions.
 #[derive(Clone, Copy)]
 struct Desk<'a> {
@@ -58,6 +75,8 @@ struct Desk<'a> {
     listener: &'a TcpListener,
     reasons: &'a Reasons,
     passive: &'a PassivePorts,
+    lines: &'a Lines,
+    guesses: &'a RefCell<Guesses<Global>>,
 }
 
 impl<'a> Serving<'a> {
@@ -85,10 +104,10 @@ where
     if !job.may_listen() {
         return refuse_address(rt);
     }
-    if users_told(rt, job.accounts).is_none() {
-        return Ok(Status::Failed);
+    match users_of(rt, job.accounts) {
+        Ok(_) => serve_dir(rt, &job),
+        Err(fault) => refuse(rt, "accounts: ", &fault),
     }
-    serve_dir(rt, &job)
 }
 
 /// Tells that an address is none to listen at.
@@ -123,14 +142,14 @@ fn tell_address<R: Print>(rt: &R, listener: &TcpListener) -> io::Result<()> {
 }
 
 /// Who may log in; where that can't be had, it is told why.
-fn users_told<R>(rt: &R, file: Option<&str>) -> Option<Users<Global>>
+fn users_told<R>(rt: &R, file: Option<&str>, lines: &Lines) -> Option<Users<Global>>
 where
-    R: Files + Eprint + AllocGlobal,
+    R: Files + Clock + AllocGlobal,
 {
     match users_of(rt, file) {
         Ok(users) => Some(users),
         Err(fault) => {
-            let _told = eprintln!(rt; "error: accounts: {fault}");
+            lines.tell(rt, &Told("error: accounts: ", &fault));
             None
         }
     }
@@ -153,10 +172,27 @@ where
         Err(fault) => return refuse(rt, "accounts: ", &fault),
     };
     let reasons = Reasons::new();
-    match open(rt, job.dir, roots.as_slice(), &reasons) {
-        Ok(mirror) => serve_mirror(rt, mirror, job, &reasons),
-        Err(fault) => refuse(rt, "", &fault),
+    let lines = Lines::new();
+    match opened(rt, job, roots.as_slice(), &reasons, &lines) {
+        Ok(mirror) => {
+            tell_roots(rt, &mirror, job.accounts, roots.as_slice(), &lines);
+            serve_mirror(rt, mirror, job, &reasons, &lines)
+        }
+        Err(fault) => refuse_folder(rt, job, &fault),
     }
+}
+
+/// Tells why the folder is not served, and what serves the rest of it.
+fn refuse_folder<R: Files + Eprint>(
+    rt: &R,
+    job: &Serving<'_>,
+    fault: &LoadFault,
+) -> io::Result<Status> {
+    let status = refuse(rt, "", &Shown(fault))?;
+    if job.odd == Odd::Refuse && is_folder(rt, job.dir) {
+        eprintln!(rt; "note: with --skip what can't be served is left out")?;
+    }
+    Ok(status)
 }
 
 /// Tries whether the folder can be written, where nobody is served: by an empty file of a name that no client can say.
@@ -176,6 +212,7 @@ fn serve_mirror<'a, R>(
     mirror: Mirror<Global, DiskFolder<'a, R>>,
     job: &Serving<'_>,
     reasons: &Reasons,
+    lines: &Lines,
 ) -> io::Result<Status>
 where
     R: Net<Listener = TcpListener, Stream = TcpStream>
@@ -188,7 +225,7 @@ where
         + Drop,
 {
     match listener_for(rt, job) {
-        Ok(Some(listener)) => Ok(serve_by(rt, mirror, job, &listener, reasons)),
+        Ok(Some(listener)) => Ok(serve_by(rt, mirror, job, &listener, reasons, lines)),
         Ok(None) => Ok(Status::Failed),
         Err(error) => Err(error),
     }
@@ -226,6 +263,7 @@ fn serve_by<'a, R>(
     job: &Serving<'_>,
     listener: &TcpListener,
     reasons: &Reasons,
+    lines: &Lines,
 ) -> Status
 where
     R: Net<Listener = TcpListener, Stream = TcpStream>
@@ -237,11 +275,14 @@ where
         + Drop,
 {
     let passive = PassivePorts::new(job.passive.0, job.passive.1);
+    let guesses = RefCell::new(Guesses::nothing(rt.alloc()));
     let desk = Desk {
         job,
         listener,
         reasons,
         passive: &passive,
+        lines,
+        guesses: &guesses,
     };
     serve_at(rt, mirror, desk)
 }
@@ -294,13 +335,13 @@ where
         + Clone
         + Drop,
 {
-    let Some(stream) = next_client(rt, desk.listener) else {
+    let Some(stream) = next_client(rt, desk.listener, desk.lines) else {
         return (mirror, false);
     };
-    let Some(Users { accounts, grants }) = users_told(rt, desk.job.accounts) else {
+    let Some(Users { accounts, grants }) = users_told(rt, desk.job.accounts, desk.lines) else {
         return (mirror, false);
     };
-    let mirror = looked_at(rt, mirror, seen, desk.job);
+    let mirror = looked_at(rt, mirror, seen, desk);
     let patience = Patience::new(desk.job.limits, Some(desk.listener));
     let service = Service {
         log: desk.job.log,
@@ -308,6 +349,9 @@ where
         reasons: desk.reasons,
         patience: &patience,
         passive: desk.passive,
+        passive_address: desk.job.passive_address,
+        lines: desk.lines,
+        guesses: desk.guesses,
     };
     let (mirror, ended) = session(rt, mirror, accounts, &stream, service);
     (mirror, ended.is_ok())
@@ -318,11 +362,12 @@ fn looked_at<'a, R>(
     rt: &'a R,
     mirror: Mirror<Global, DiskFolder<'a, R>>,
     seen: &mut Seen,
-    job: &Serving<'_>,
+    desk: Desk<'_>,
 ) -> Mirror<Global, DiskFolder<'a, R>>
 where
     R: Files + Clock + Eprint + AllocGlobal + Clone + Drop,
 {
+    let job = desk.job;
     if job.others == Others::Keep {
         return mirror;
     }
@@ -331,29 +376,15 @@ where
     };
     let now = SystemWatch::new(rt).moment().seconds;
     let (mirror, left) = reloaded(rt, job.dir, roots.as_slice(), mirror, seen, now);
-    tell_left(rt, &left);
+    tell_left(rt, &left, desk.lines);
     mirror
 }
 
-/// Tells what of the folder is not served.
-fn tell_left<R: Eprint>(rt: &R, left: &LeftOut) {
-    if let Some(first) = &left.first {
-        let _told = eprintln!(rt;
-            "note: {} of the folder's entries are not served; the first is {first}",
-            left.count
-        );
-    }
-}
-
 /// Waits for the next client. Where the system refuses to give one, that is told once, and tried again each second.
-fn next_client<R: Eprint>(rt: &R, listener: &TcpListener) -> Option<TcpStream> {
+fn next_client<R: Clock>(rt: &R, listener: &TcpListener, lines: &Lines) -> Option<TcpStream> {
     match listener.accept() {
         Ok((stream, _)) => return Some(stream),
-        Err(error) => {
-            let _told = eprintln!(rt;
-                "error: no client can be taken: {error}; it is tried again each second"
-            );
-        }
+        Err(error) => lines.tell(rt, &NoClient(error)),
     }
     for _ in 0..TURNS {
         pause(AGAIN_MILLIS);

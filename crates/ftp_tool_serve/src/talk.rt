@@ -34,6 +34,8 @@ pub(crate) struct Talk {
     asked: Vec<Asked, Global>,
     /// Whether the greeting was said, which answers no line.
     greeted: bool,
+    /// Whether lines of a reply were said, and not its last one.
+    in_reply: bool,
     /// Whether each line and each reply was heard: memory may be refused for one, and then which reply answers which line is not known any more.
     whole: bool,
 }
@@ -46,6 +48,7 @@ impl Talk {
             replies: Reader::new(alloc),
             asked: Vec::new(alloc),
             greeted: false,
+            in_reply: false,
             whole: true,
         })
     }
@@ -78,6 +81,11 @@ impl Talk {
     /// Whether it is known which reply answers which line.
     pub(crate) fn is_whole(&self) -> bool {
         self.whole
+    }
+
+    /// Whether all that was said is whole replies.
+    pub(crate) fn is_between_replies(&self) -> bool {
+        self.whole && !self.in_reply && self.said.unfinished() == 0
     }
 
     /// The verb of the line that is answered next.
@@ -125,8 +133,14 @@ impl Talk {
     /// The code of the reply that ends with the line that was said now.
     fn reply(&mut self) -> Option<u16> {
         match self.replies.line(self.said.line()) {
-            Ok(Some(reply)) => Some(reply.code),
-            Ok(None) => None,
+            Ok(Some(reply)) => {
+                self.in_reply = false;
+                Some(reply.code)
+            }
+            Ok(None) => {
+                self.in_reply = true;
+                None
+            }
             Err(_) => {
                 self.whole = false;
                 None

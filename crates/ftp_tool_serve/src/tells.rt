@@ -1,26 +1,21 @@
 // Who tells of sessions on standard error, and what a line of that says.
 use crate::telling::Quoted;
 use ftp_command::Verb;
-use ftp_control::Watch;
-use ftp_facts::moment_text;
-use ftp_tool_sockets::SystemWatch;
+use ftp_tool_log::Lines;
 use std::fmt::{Display, Formatter};
-use std::io::Eprint;
 use std::net::SocketAddr;
 use std::time::Clock;
 use std::{fmt, io};
 
-/// A clock and standard error as one trait without types of its own: what stands on it is proved for less.
+/// A clock as one trait without types of its own: what stands on it is proved for less.
 pub(crate) trait Tells {
-    /// Writes a line, behind the moment. What standard error refuses is dropped.
-    fn tell<T: Display>(&self, what: &T);
+    /// Writes a line of the log, behind the moment.
+    fn tell<T: Display>(&self, lines: &Lines, what: &T);
 }
 
-impl<R: Clock + Eprint> Tells for R {
-    fn tell<T: Display>(&self, what: &T) {
-        let now = moment_text(SystemWatch::new(self).moment());
-        let now = str::from_utf8(&now).unwrap_or("-");
-        let _told = eprintln!(self; "{now} {what}");
+impl<R: Clock> Tells for R {
+    fn tell<T: Display>(&self, lines: &Lines, what: &T) {
+        lines.tell(self, what);
     }
 }
 
@@ -42,6 +37,30 @@ pub(crate) struct Note<'a> {
 impl<'a> Display for Note<'a> {
     fn fmt<W: fmt::Write>(&self, formatter: &mut Formatter<W>) -> fmt::Result {
         write!(formatter, "{} {}", self.peer, self.what)
+    }
+}
+
+/// What is told of the server itself, behind how it begins.
+#[derive(Clone, Copy)]
+pub(crate) struct Told<'a, T>(pub(crate) &'static str, pub(crate) &'a T);
+
+impl<'a, T: Display> Display for Told<'a, T> {
+    fn fmt<W: fmt::Write>(&self, formatter: &mut Formatter<W>) -> fmt::Result {
+        write!(formatter, "{}{}", self.0, self.1)
+    }
+}
+
+/// Why the system gives no connection.
+#[derive(Drop)]
+pub(crate) struct NoClient(pub(crate) io::Error);
+
+impl Display for NoClient {
+    fn fmt<W: fmt::Write>(&self, formatter: &mut Formatter<W>) -> fmt::Result {
+        write!(
+            formatter,
+            "error: no client can be taken: {}; it is tried again each second",
+            self.0
+        )
     }
 }
 

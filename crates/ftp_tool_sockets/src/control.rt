@@ -282,6 +282,11 @@ fn look(stream: &TcpStream) -> Waiting {
     }
 }
 
+/// Says a reply, the last one, as far as there is room for it at once.
+pub fn say_at_once(stream: &TcpStream, reply: &[u8]) {
+    let _sent = send_now(stream, reply);
+}
+
 /// Closes a control connection behind its last reply: sends nothing more, and reads what the peer sent behind it, for a second in all,
 /// since a connection that is dropped with unread octets is reset, and loses the reply.
 pub fn say_goodbye(stream: &TcpStream) -> io::Result<()> {

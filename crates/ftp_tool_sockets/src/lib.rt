@@ -4,6 +4,7 @@
 
 mod control;
 mod host;
+pub mod laws;
 mod link;
 mod options;
 mod passive;
@@ -13,13 +14,13 @@ mod sockets;
 mod wait;
 mod watch;
 
-pub use control::{ControlReader, ControlWriter, say_goodbye};
+pub use control::{ControlReader, ControlWriter, say_at_once, say_goodbye};
 pub use host::host_of;
 pub use link::Link;
 pub use options::keep_alive;
 pub use passive::PassivePorts;
-pub use patience::{Limits, Over, Patience};
+pub use patience::{Limits, Over, Patience, monotonic_seconds};
 pub use ports::SocketPorts;
 pub use sockets::Sockets;
-pub use wait::pause;
+pub use wait::{has_room_now, pause};
 pub use watch::SystemWatch;

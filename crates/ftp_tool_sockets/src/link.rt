@@ -16,7 +16,7 @@ const LAST_MILLIS: u64 = 30_000;
 /// A data connection. A read that would wait ends where the control connection does; one that hears fails as `WouldBlock` where
 /// the control connection has octets or ended, and so does a write. A write that doesn't hear goes on after the end of the control connection
 /// while the peer takes octets within 30 seconds. Where patience is over, what would wait fails, and so does a connection whose peer takes nothing of what
-/// was written for as long.
+/// was written for as long. Where no time is left of the session, each read and each write fails.
 #[derive(Drop)]
 pub struct Link<'a> {
     control: &'a TcpStream,
@@ -60,6 +60,15 @@ impl<'a> Link<'a> {
             outlives: false,
             has_ended: false,
         })
+    }
+
+    /// Fails where no time is left of the session, also where octets or room are there.
+    fn check_time(&self) -> io::Result<()> {
+        if self.patience.is_spent() {
+            Err(lost())
+        } else {
+            Ok(())
+        }
     }
 
     /// So many octets went over the connection.
@@ -154,6 +163,7 @@ impl<'a> Link<'a> {
 
 impl<'a> Read for Link<'a> {
     fn read(&mut self, room: &mut [u8]) -> io::Result<usize> {
+        self.check_time()?;
         for _ in 0..TURNS {
             match self.stream.read(room) {
                 Err(error) if error.kind() == ErrorKind::WouldBlock => {}
@@ -181,6 +191,7 @@ impl<'a> Read for Link<'a> {
 
 impl<'a> Write for Link<'a> {
     fn write(&mut self, octets: &[u8]) -> io::Result<usize> {
+        self.check_time()?;
         for _ in 0..TURNS {
             match self.stream.write(octets) {
                 Err(error) if error.kind() == ErrorKind::WouldBlock => {}

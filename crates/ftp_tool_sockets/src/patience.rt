@@ -1,5 +1,6 @@
 // How long an end waits for its peer.
 ghost use Rattle.std.specs.Prelude.{◌≡◌};
+ghost use Rattle.ftp_tool_sockets.specs.Patience.{fixed_term, quiet_term, term_of_session};
 ghost use Rattle.ftp_tool_sockets.specs.Waiting.{sooner_of, stricter, term_after};
 
 use crate::wait::{Polled, ask, asking};
@@ -12,6 +13,9 @@ use std::net::TcpListener;
 /// The longest wait in one piece, in milliseconds: so often it is looked at whether other clients wait.
 const LOOK_MILLIS: i32 = 1_000;
 
+/// The same, as time is counted.
+const LOOK: u64 = 1_000;
+
 /// How long a server waits for its peer, in seconds; 0: without a limit.
 #[derive(Clone, Copy)]
 pub struct Limits {
@@ -21,6 +25,10 @@ pub struct Limits {
     pub idle: u32,
     /// The same, while another client waits to be served.
     pub idle_while_waited: u32,
+    /// In all, whatever is said or sent, from when another client began to wait.
+    pub session_while_waited: u32,
+    /// The same before a login.
+    pub login_while_waited: u32,
 }
 
 /// Why nothing is waited for any more.
@@ -32,6 +40,10 @@ pub enum Over {
     Idle,
     /// Nothing was said or sent for so long, and another client waits.
     Waited,
+    /// Another client waits for so long.
+    Session,
+    /// Another client waits for so long, and nobody logged in.
+    LoginWaited,
     /// Too many logins were refused.
     Refused,
 }
@@ -41,6 +53,15 @@ pub enum Over {
 pub(crate) struct Term {
     pub(crate) left: u64,
     pub(crate) over: Over,
+}
+
+/// How a session stands: milliseconds since it began, since something was done in it, and since another client began to wait, if one does.
+#[derive(Clone, Copy)]
+pub(crate) struct Stand {
+    pub(crate) begun: u64,
+    pub(crate) quiet: u64,
+    pub(crate) waited: Option<u64>,
+    pub(crate) logged_in: bool,
 }
 
 /// How a wait ended.
@@ -65,6 +86,9 @@ pub struct Patience<'a> {
     last: Cell<u64>,
     logged_in: Cell<bool>,
     over: Cell<Option<Over>>,
+    /// Since when another client waits, and when it is looked at next whether one does.
+    waited: Cell<Option<u64>>,
+    look: Cell<u64>,
 }
 
 impl<'a> Patience<'a> {
@@ -78,6 +102,8 @@ impl<'a> Patience<'a> {
             last: Cell::new(now),
             logged_in: Cell::new(false),
             over: Cell::new(None),
+            waited: Cell::new(None),
+            look: Cell::new(now),
         }
     }
 
@@ -87,6 +113,8 @@ impl<'a> Patience<'a> {
             login: 0,
             idle: seconds,
             idle_while_waited: 0,
+            session_while_waited: 0,
+            login_while_waited: 0,
         };
         Patience::new(limits, None)
     }
@@ -133,28 +161,55 @@ impl<'a> Patience<'a> {
         self.term().is_some_and(|term| term.left == 0)
     }
 
-    /// What is left of the limits. Whether another client waits is looked at once its limit is over, and not at each wait.
+    /// Ends patience where a limit is passed that nothing puts off which the client says or sends: says whether it is over.
+    pub fn is_spent(&self) -> bool {
+        if self.over.get().is_some() {
+            return true;
+        }
+        match fixed_term(self.limits, self.stand()) {
+            Some(term) if term.left == 0 => {
+                self.over.set(Some(term.over));
+                true
+            }
+            _ => false,
+        }
+    }
+
+    /// What is left of the limits.
     fn term(&self) -> Option<Term> {
-        if let Some(over) = self.over.get() {
-            return Some(Term { left: 0, over });
+        match self.over.get() {
+            Some(over) => Some(Term { left: 0, over }),
+            None => term_of_session(self.limits, self.stand()),
         }
+    }
+
+    /// How the session stands now.
+    fn stand(&self) -> Stand {
         let now = monotonic_millis();
-        let quiet = now.saturating_sub(self.last.get());
-        let idle = term_of(self.limits.idle, quiet, Over::Idle);
-        let term = match term_of(self.limits.idle_while_waited, quiet, Over::Waited) {
-            Some(waited) if waited.left == 0 && !self.is_waited() => idle,
-            waited => sooner(idle, waited),
-        };
-        if self.logged_in.get() {
-            return term;
+        Stand {
+            begun: now.saturating_sub(self.begun),
+            quiet: now.saturating_sub(self.last.get()),
+            waited: self
+                .waited_since(now)
+                .map(|since| now.saturating_sub(since)),
+            logged_in: self.logged_in.get(),
         }
-        let spent = now.saturating_sub(self.begun);
-        sooner(term, term_of(self.limits.login, spent, Over::Login))
+    }
+
+    /// Since when another client waits, if one does. That is looked at each second until one does; one that waits is served only after this session.
+    fn waited_since(&self, now: u64) -> Option<u64> {
+        if self.waited.get().is_none() && now >= self.look.get() {
+            self.look.set(now.saturating_add(LOOK));
+            if self.is_waited() {
+                self.waited.set(Some(now));
+            }
+        }
+        self.waited.get()
     }
 
     /// How long octets may wait for the peer to take them, in milliseconds: as long as nothing may be said or sent now; 0: without a limit.
     pub(crate) fn untaken_millis(&self) -> i32 {
-        let seconds = if self.is_waited() {
+        let seconds = if self.waited_since(monotonic_millis()).is_some() {
             stricter(self.limits.idle, self.limits.idle_while_waited)
         } else {
             self.limits.idle
@@ -169,6 +224,48 @@ impl<'a> Patience<'a> {
         };
         let mut asked = [asking(door, c::POLLIN)];
         ask(&mut asked, 0) == Polled::Told
+    }
+}
+
+/// What is left of the limits of a session that stands so; none where it has none.
+fn term_of_session(limits: Limits, stand: Stand) -> Option<Term>
+    ensures { result ≡ term_of_session limits stand }
+{
+    sooner(quiet_term(limits, stand), fixed_term(limits, stand))
+}
+
+/// What is left of those that a sign of life puts off.
+fn quiet_term(limits: Limits, stand: Stand) -> Option<Term>
+    ensures { result ≡ quiet_term limits stand }
+{
+    let idle = term_of(limits.idle, stand.quiet, Over::Idle);
+    match stand.waited {
+        Some(_) => sooner(
+            idle,
+            term_of(limits.idle_while_waited, stand.quiet, Over::Waited),
+        ),
+        None => idle,
+    }
+}
+
+/// What is left of those that nothing puts off.
+fn fixed_term(limits: Limits, stand: Stand) -> Option<Term>
+    ensures { result ≡ fixed_term limits stand }
+{
+    let session = match stand.waited {
+        Some(since) => term_of(limits.session_while_waited, since, Over::Session),
+        None => None,
+    };
+    if stand.logged_in {
+        return session;
+    }
+    let login = term_of(limits.login, stand.begun, Over::Login);
+    match stand.waited {
+        Some(since) => {
+            let waited = term_of(limits.login_while_waited, since, Over::LoginWaited);
+            sooner(session, sooner(login, waited))
+        }
+        None => login,
     }
 }
 
@@ -226,4 +323,9 @@ pub(crate) fn monotonic_millis() -> u64 {
     seconds
         .saturating_mul(1_000)
         .saturating_add(nanos / 1_000_000)
+}
+
+/// The same in seconds.
+pub fn monotonic_seconds() -> u64 {
+    monotonic_millis() / 1_000
 }

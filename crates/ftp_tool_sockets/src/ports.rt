@@ -5,7 +5,7 @@ ghost use Rattle.ftp_control.specs.Asking.{Closes};
 use crate::host::{addr_of, host_of};
 use crate::link::Link;
 use crate::passive::{PassivePorts, listen_at};
-use crate::patience::Patience;
+use crate::patience::{Patience, monotonic_millis, piece_of};
 use crate::sockets::Sockets;
 use crate::wait::{Heeds, Woke, look_at, wait, wait_millis};
 use ftp_control::{Accepted, For, Ports, Ready, Spoken, TURNS, Whole};
@@ -13,9 +13,10 @@ use ftp_endpoint::{Endpoint, Host};
 use std::io;
 use std::io::ErrorKind;
 use std::net::{IpAddr, SocketAddr, TcpListener, TcpStream};
+use std::os::fd::AsRawFd;
 
 /// How long an opening may take, in milliseconds.
-const OPENING_MILLIS: i32 = 30_000;
+const OPENING_MILLIS: u64 = 30_000;
 
 /// How long the end of the last data connection is waited for, in milliseconds.
 const LEAVING_MILLIS: u64 = 500;
@@ -124,10 +125,10 @@ impl<'a, R: Sockets> SocketPorts<'a, R> {
         Ok(port)
     }
 
-    /// Opens a connection; ends as failed where the control connection does.
+    /// Opens a connection; ends as failed where the control connection does, and where patience is over.
     fn open(&self, addr: SocketAddr) -> io::Result<Option<TcpStream>> {
         let begun = self.net.connecting(addr)?;
-        if wait_millis(self.control, &begun, For::Room, Heeds::End, OPENING_MILLIS) != Woke::Ready {
+        if !is_open_in_time(self.control, &begun, self.patience) {
             return Ok(None);
         }
         match begun.take_error()? {
@@ -179,6 +180,23 @@ fn take_next(listener: &TcpListener, served: Option<Served<'_>>) -> Option<Waite
         Err(error) if error.kind() == ErrorKind::WouldBlock => None,
         Err(_) => Some(Waited::Refused),
     }
+}
+
+/// Whether a connection that was begun is open, or was refused, within 30 seconds and while patience and the control connection last.
+fn is_open_in_time<S: AsRawFd>(control: &TcpStream, begun: &S, patience: &Patience<'_>) -> bool {
+    let until = monotonic_millis().saturating_add(OPENING_MILLIS);
+    for _ in 0..TURNS {
+        let left = until.saturating_sub(monotonic_millis());
+        if left == 0 || patience.is_over() {
+            return false;
+        }
+        match wait_millis(control, begun, For::Room, Heeds::End, piece_of(left)) {
+            Woke::Ready => return true,
+            Woke::TimeOver => {}
+            Woke::Spoken | Woke::Ended | Woke::Failed => return false,
+        }
+    }
+    false
 }
 
 /// Waits at a port for a connection, or where `hears` for octets of the control connection.

@@ -186,6 +186,16 @@ fn woken(control: Spoken, other: Other, heeds: Heeds) -> Woke
     }
 }
 
+/// Whether a descriptor has room for 4,096 octets now, as a pipe, a terminal, a file or a socket has it that says so; not where its reader is gone.
+pub fn has_room_now(fd: i32) -> bool {
+    let mut asked = [pollfd {
+        fd,
+        events: c::POLLOUT,
+        revents: 0,
+    }];
+    ask(&mut asked, 0) == Polled::Told && asked[0].revents == c::POLLOUT
+}
+
 /// Waits so many milliseconds; a signal may end that early.
 pub fn pause(millis: u16) {
     let mut nothing: [pollfd; 0] = [];

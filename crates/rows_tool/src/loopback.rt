@@ -1,11 +1,14 @@
 // A session over the loopback, with both ends in one thread: the client says all its lines, and then the server serves them.
 use crate::handle::Handle;
 use crate::made::file;
-use ftp_tool_serve::{Limits, Log, PassivePorts, Patience, Service, Users, session, users_of};
+use ftp_tool_serve::{
+    Guesses, Limits, Lines, Log, PassivePorts, Patience, Service, Users, session, users_of,
+};
 use ftp_tree::Tree;
 use ftp_tree_folder::{DiskFolder, Mirror, Reasons, open};
 use rows_base::{Paper, cut};
 use std::alloc::Global;
+use std::cell::RefCell;
 use std::io::{ErrorKind, Write};
 use std::net::{SocketAddr, TcpListener, TcpStream};
 use std::{fs, io};
@@ -36,6 +39,8 @@ const LIMITS: Limits = Limits {
     login: 30,
     idle: 30,
     idle_while_waited: 30,
+    session_while_waited: 30,
+    login_while_waited: 30,
 };
 
 /// What stands before each line of a reply.
@@ -123,6 +128,8 @@ where
 {
     let patience = Patience::new(LIMITS, None);
     let passive = PassivePorts::new(0, 0);
+    let lines = Lines::new();
+    let guesses = RefCell::new(Guesses::nothing(rt.alloc()));
     let Users { accounts, grants } = users;
     let service = Service {
         log: Log::Told,
@@ -130,6 +137,9 @@ where
         reasons,
         patience: &patience,
         passive: &passive,
+        passive_address: None,
+        lines: &lines,
+        guesses: &guesses,
     };
     let (tree, ended) = session(&Handle::meeting(rt), tree, accounts, stream, service);
     (tree, ended.is_ok())

@@ -1,7 +1,7 @@
 // What `serve` answers where nobody is served.
 use crate::made::{deep, file};
 use crate::statuses::put;
-use ftp_tool_serve::{Limits, Log, Others, Serving, Sessions, serve, users_of};
+use ftp_tool_serve::{Limits, Log, Odd, Others, Serving, Sessions, serve, users_of};
 use ftp_tree_folder::{LoadFault, Reasons, open};
 use rows_base::Paper;
 use std::net::{IpAddr, Ipv4Addr, Net, SocketAddr, TcpListener};
@@ -69,9 +69,13 @@ fn nobody<'a>(dir: &'a str) -> Serving<'a> {
             login: 0,
             idle: 0,
             idle_while_waited: 0,
+            session_while_waited: 0,
+            login_while_waited: 0,
         },
         passive: (0, 0),
+        passive_address: None,
         others: Others::Keep,
+        odd: Odd::Refuse,
     }
 }
 
