@@ -31,6 +31,8 @@ pub struct Drive {
     pub fails: u64,
     /// How many seconds the clock is further after each look.
     pub ticks: u64,
+    /// Whether the row tells what was asked of who opens and closes data connections.
+    pub is_asked: bool,
 }
 
 /// A call of the control connection.
@@ -60,7 +62,7 @@ pub enum Owner<'a> {
     Page(&'a [u8]),
 }
 
-/// What is said of connections: `moves 7 sends 3 silent 7 full 1000 breaks 2`, `fixed 1000 takes 7 fails 3 ticks 1`.
+/// What is said of connections: `moves 7 sends 3 silent 7 full 1000 breaks 2`, `fixed 1000 takes 7 fails 3 ticks 1 asked 1`.
 pub fn drive_of(text: &[u8]) -> Drive {
     Drive {
         moves: value(text, b"moves").unwrap_or(1) as usize,
@@ -72,6 +74,7 @@ pub fn drive_of(text: &[u8]) -> Drive {
         takes: value(text, b"takes").unwrap_or(NEVER as u64) as usize,
         fails: value(text, b"fails").unwrap_or(NEVER as u64),
         ticks: value(text, b"ticks").unwrap_or(0),
+        is_asked: value(text, b"asked").is_some(),
     }
 }
 

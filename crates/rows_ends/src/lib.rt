@@ -7,6 +7,7 @@ mod desk;
 mod driven;
 mod embedded;
 mod event;
+mod history;
 mod lines;
 mod peer;
 mod plays;

@@ -1,11 +1,13 @@
 // The other side of data connections that is the same each time: it opens each at once, sends so many octets, has no room at first, breaks the
 // first ones, moves few octets a call, fails at a call, and the control connection speaks at a time of its choice.
-ghost use Rattle.std.specs.Prelude.{None};
+ghost use Rattle.std.specs.Prelude.{◌≡◌, None, Some};
 ghost use Rattle.ftp_control.specs.Asking.{Closes};
+ghost use Rattle.rows_ends.specs.History.{asked_in};
 
 use crate::driven::Drive;
 use crate::embedded::sockets::Sockets;
 use crate::event::YEAR_2000;
+use crate::history::{Deed, History};
 use ftp_control::{Accepted, Failed, For, Ports, Ready, Spoken, Watch, Whole, get, put};
 use ftp_endpoint::{Endpoint, Host};
 use ftp_ends::Wants;
@@ -39,7 +41,9 @@ pub struct Link {
 
 impl Link {
     /// Counts a call; whether it fails.
-    fn fails(&mut self) -> bool {
+    fn fails(&mut self) -> bool
+        ensures { self.new.taken ≡ self.old.taken }
+    {
         if self.calls == 0 {
             return true;
         }
@@ -76,20 +80,27 @@ impl Read for Link {
 }
 
 impl Write for Link {
+    ghost contents = { λ link. Some link.taken.items };
+
     fn write(&mut self, octets: &[u8]) -> io::Result<usize> {
         if self.full > 0 {
             self.full -= 1;
             return Err(Error::from(ErrorKind::WouldBlock));
         }
-        if self.room == 0 || self.fails() {
+        if self.room == 0 {
+            return Err(Error::from(ErrorKind::BrokenPipe));
+        }
+        if self.fails() {
             return Err(Error::from(ErrorKind::BrokenPipe));
         }
         let count = octets.len().min(self.room).min(self.drive.takes);
-        if self.taken.extend_from_slice(&octets[..count]).is_err() {
-            return Err(Error::from(ErrorKind::OutOfMemory));
+        match self.taken.extend_from_slice(&octets[..count]) {
+            Ok(()) => {
+                self.room -= count;
+                Ok(count)
+            }
+            Err(_) => Err(Error::from(ErrorKind::OutOfMemory)),
         }
-        self.room -= count;
-        Ok(count)
     }
 
     fn flush(&mut self) -> io::Result<()> {
@@ -108,6 +119,7 @@ pub struct Peer {
     resets: u64,
     /// The one that is open for the program of a page.
     opened: Option<Link>,
+    history: History,
 }
 
 impl Peer {
@@ -118,16 +130,20 @@ impl Peer {
             taken: Tally::new(),
             resets: 0,
             opened: None,
+            history: History::new(alloc),
         }
     }
 
-    /// Writes what came over the data connections, and how many were reset.
+    /// Writes what came over the data connections, how many were reset, and what was asked, where the row wants that.
     pub fn show(&self, paper: &mut Paper) {
         paper.put(b"= data ");
         self.taken.show(paper);
         paper.put(b", resets ");
         paper.number(self.resets);
         paper.put(b"\n");
+        if self.drive.is_asked {
+            self.history.show(paper);
+        }
     }
 
     pub fn clock(&self) -> Clock {
@@ -137,12 +153,15 @@ impl Peer {
         }
     }
 
-    fn link(&mut self) -> Link {
+    fn link(&mut self) -> Link
+        ensures { self.new.history ≡ self.old.history }
+    {
+        let room = self.room();
         Link {
             rest: self.drive.sends,
             given: 0,
             full: self.drive.full,
-            room: self.room(),
+            room,
             taken: Vec::new(self.alloc),
             calls: self.drive.fails,
             drive: self.drive,
@@ -150,7 +169,9 @@ impl Peer {
     }
 
     /// How many octets the next data connection takes.
-    fn room(&mut self) -> usize {
+    fn room(&mut self) -> usize
+        ensures { self.new.history ≡ self.old.history }
+    {
         if self.drive.breaks == 0 {
             return AMPLE;
         }
@@ -162,16 +183,24 @@ impl Peer {
 impl Ports for Peer {
     type Stream = Link;
 
+    ghost history = { λ peer. Some (asked_in peer.history.log.items) };
+
     fn listen(&mut self) -> Option<u16> {
-        Some(1930)
+        let port = Some(1930);
+        self.history.note(Deed::Listened(port));
+        port
     }
 
     fn accept(&mut self, _hears: bool) -> Accepted<Link> {
-        Accepted::Came(self.link(), PEER)
+        let link = self.link();
+        self.history.note_of(Deed::Came(PEER), &link.taken);
+        Accepted::Came(link, PEER)
     }
 
-    fn connect(&mut self, _endpoint: Endpoint) -> Option<Link> {
-        Some(self.link())
+    fn connect(&mut self, endpoint: Endpoint) -> Option<Link> {
+        let link = self.link();
+        self.history.note_of(Deed::Connected(endpoint), &link.taken);
+        Some(link)
     }
 
     fn wait(&mut self, _stream: &mut Link, _what: For, hears: bool) -> Ready {
@@ -190,14 +219,21 @@ impl Ports for Peer {
     }
 
     fn close(&mut self, stream: Option<Whole<Link>>)
-        ensures { Closes (λ link. None) (λ link. None) stream None None }
+        ensures { Closes (λ link. None) (λ link. Some link.taken.items) stream
+            (Some (asked_in self.old.history.log.items)) (Some (asked_in self.new.history.log.items)) }
     {
-        if let Some(whole) = stream {
-            self.taken.take(whole.into_stream().taken.as_slice());
+        match stream {
+            Some(whole) => {
+                let link = whole.into_stream();
+                self.history.note_of(Deed::Ended, &link.taken);
+                self.taken.take(link.taken.as_slice());
+            }
+            None => self.history.note(Deed::Shut),
         }
     }
 
     fn reset(&mut self, stream: Link) {
+        self.history.note_of(Deed::Reset, &stream.taken);
         self.taken.take(stream.taken.as_slice());
         self.resets = self.resets.wrapping_add(1);
     }

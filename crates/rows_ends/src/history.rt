@@ -1,0 +1,107 @@
+// What was asked of the other side of data connections, and what it answered, in order (RFC 959, section 3.2).
+ghost use Rattle.std.specs.Prelude.{◌≡◌, ◌∷◌, [], false};
+ghost use Rattle.rows_ends.specs.History.{IsSaid, asked_by, asked_in};
+
+use ftp_endpoint::{Endpoint, Host, write_extended};
+use http_server::Log;
+use rows_base::Paper;
+use std::alloc::Global;
+
+/// What was asked and answered.
+#[derive(Clone, Copy)]
+pub enum Deed {
+    /// A port was asked for, and had or not.
+    Listened(Option<u16>),
+    /// A data connection came from this host.
+    Came(Host),
+    Connected(Endpoint),
+    NotCame,
+    NotConnected(Endpoint),
+    /// A data connection was closed by an end, or reset.
+    Ended,
+    Reset,
+    /// The port alone was closed.
+    Shut,
+    /// It was told that the control connection ended.
+    Lost,
+}
+
+/// What was asked so far: a list for rows, as long as memory was had for it, and one that only proofs read.
+#[derive(Drop)]
+pub struct History {
+    alloc: Global,
+    deeds: Vec<Deed>,
+    is_short: bool,
+    /// Each deed, with the octets that were written to its data connection by then.
+    pub(crate) log: Log<Deed, Vec<u8>>,
+    ghost said: { IsSaid is_short deeds.items log.items },
+}
+
+impl History {
+    pub fn new(alloc: Global) -> History
+        ensures { result.log.items ≡ [] }
+    {
+        History {
+            alloc,
+            deeds: Vec::new(alloc),
+            is_short: false,
+            log: Log::new(),
+        }
+    }
+
+    /// This was asked too, of no data connection that stands.
+    pub fn note(&mut self, deed: Deed)
+        ensures { asked_in self.new.log.items ≡ asked_by deed [] ∷ asked_in self.old.log.items }
+    {
+        let none = Vec::new(self.alloc);
+        self.note_of(deed, &none);
+    }
+
+    /// This was asked too, of a data connection to which these octets were written by then.
+    pub fn note_of(&mut self, deed: Deed, written: &Vec<u8>)
+        ensures { asked_in self.new.log.items ≡ asked_by deed written.now.items ∷ asked_in self.old.log.items }
+    {
+        let log = self.log.and(&deed, written);
+        if self.deeds.push(deed).is_err() {
+            self.is_short = true;
+        }
+        self.log = log;
+    }
+
+    /// Writes what was asked, in order; nothing where memory was refused for that.
+    pub fn show(&self, paper: &mut Paper) {
+        if self.is_short {
+            paper.fill();
+            return;
+        }
+        paper.put(b"= asked");
+        for deed in self.deeds.as_slice() {
+            show_deed(*deed, paper);
+        }
+        paper.put(b"\n");
+    }
+}
+
+fn show_deed(deed: Deed, paper: &mut Paper) {
+    match deed {
+        Deed::Listened(Some(port)) => {
+            paper.put(b", listened ");
+            paper.number(port as u64);
+        }
+        Deed::Listened(None) => paper.put(b", no port"),
+        Deed::Came(host) => show_endpoint(b", came ", Endpoint { host, port: 0 }, paper),
+        Deed::Connected(endpoint) => show_endpoint(b", connected ", endpoint, paper),
+        Deed::NotCame => paper.put(b", did not come"),
+        Deed::NotConnected(endpoint) => show_endpoint(b", not connected ", endpoint, paper),
+        Deed::Ended => paper.put(b", ended"),
+        Deed::Reset => paper.put(b", reset"),
+        Deed::Shut => paper.put(b", shut"),
+        Deed::Lost => paper.put(b", lost"),
+    }
+}
+
+/// An endpoint as in EPRT.
+fn show_endpoint(words: &[u8], endpoint: Endpoint, paper: &mut Paper) {
+    paper.put(words);
+    paper.put(write_extended(endpoint).as_slice());
+}
