@@ -52,7 +52,12 @@ pub const MIRROR: Subcommand<'static> = Subcommand {
         Word {
             name: "delete",
             form: Form::Flag,
-            help: "removes from TARGET what SOURCE has not",
+            help: "removes from TARGET what SOURCE has not, half of it at most",
+        },
+        Word {
+            name: "delete-any",
+            form: Form::Flag,
+            help: "the same, however much of TARGET that is",
         },
         Word {
             name: "dry-run",
@@ -154,7 +159,12 @@ fn rules_of(words: &ArgMatches<'_>, way: Way) -> Rules {
     Rules {
         way,
         check: chosen(words, "checksum", Check::ByOctets, Check::ByFacts),
-        extra: chosen(words, "delete", Extra::Removed, Extra::Kept),
+        extra: chosen(
+            words,
+            "delete-any",
+            Extra::Any,
+            chosen(words, "delete", Extra::Removed, Extra::Kept),
+        ),
     }
 }
 

@@ -18,6 +18,9 @@ pub(crate) trait Disk {
     /// What stands at a name, where links are followed.
     fn standing_at(&self, name: &str) -> io::Result<Standing>;
 
+    /// The permissions of the file that has this very name; none where no file has it, as where a link has.
+    fn mode_at(&self, name: &str) -> io::Result<Option<u32>>;
+
     fn exists(&self, name: &str) -> io::Result<bool>;
 
     /// The name that a link has, from the directory that the link is in; none where no link has this name.
@@ -44,6 +47,10 @@ impl<R: Files + AllocGlobal> Disk for R {
 
     fn standing_at(&self, name: &str) -> io::Result<Standing> {
         standing_at(self, name)
+    }
+
+    fn mode_at(&self, name: &str) -> io::Result<Option<u32>> {
+        mode_at(self, name)
     }
 
     fn exists(&self, name: &str) -> io::Result<bool> {
@@ -83,6 +90,17 @@ fn standing_at<R: Files>(files: &R, name: &str) -> io::Result<Standing> {
     match fs::metadata(files, name) {
         Ok(found) => Ok(Standing::of(&found)),
         Err(error) if error.kind() == ErrorKind::NotFound => Ok(Standing::Nothing),
+        Err(error) => Err(error),
+    }
+}
+
+fn mode_at<R: Files>(files: &R, name: &str) -> io::Result<Option<u32>> {
+    match fs::symlink_metadata(files, name) {
+        Ok(found) => match Standing::of(&found) {
+            Standing::File(mode) => Ok(Some(mode)),
+            _ => Ok(None),
+        },
+        Err(error) if error.kind() == ErrorKind::NotFound => Ok(None),
         Err(error) => Err(error),
     }
 }

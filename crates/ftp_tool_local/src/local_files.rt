@@ -3,7 +3,7 @@
 use crate::change::{Change, changed};
 use crate::content::{Reading, read_from};
 use crate::kept::{Beside, kept_beside, remove_kept};
-use crate::part::{write_over, write_part};
+use crate::part::{write_at, write_over, write_part};
 use crate::writing::Flush;
 use ftp_facts::{Moment, Text};
 use std::alloc::Global;
@@ -20,6 +20,16 @@ pub trait LocalFiles {
     fn write_over(
         &self,
         file: &str,
+        pieces: &[Text<Global>],
+        moment: Option<Moment>,
+        flush: Flush,
+    ) -> io::Result<()>;
+
+    /// Writes the octets of a file beside this very name, and moves it over what has the name, which may be a link: none is followed. It keeps the
+    /// permissions of a file that it replaces; its last change was at the moment, where there is one.
+    fn write_at(
+        &self,
+        name: &str,
         pieces: &[Text<Global>],
         moment: Option<Moment>,
         flush: Flush,
@@ -59,6 +69,16 @@ impl<R: Files + AllocGlobal> LocalFiles for R {
         flush: Flush,
     ) -> io::Result<()> {
         write_over(self, self.alloc(), file, pieces, moment, flush)
+    }
+
+    fn write_at(
+        &self,
+        name: &str,
+        pieces: &[Text<Global>],
+        moment: Option<Moment>,
+        flush: Flush,
+    ) -> io::Result<()> {
+        write_at(self, name, pieces, moment, flush)
     }
 
     fn write_part(

@@ -39,6 +39,24 @@ pub(crate) fn write_over<D: Disk>(
     }
 }
 
+/// Writes the octets of a file beside this very name, and moves it over what has the name: no link is followed.
+pub(crate) fn write_at<D: Disk>(
+    disk: &D,
+    name: &str,
+    pieces: &[Text<Global>],
+    moment: Option<Moment>,
+    flush: Flush,
+) -> io::Result<()> {
+    let writing = Writing {
+        pieces,
+        kept: disk.mode_at(name)?,
+        moment,
+        flush,
+        is_part: false,
+    };
+    replace(disk, name, writing)
+}
+
 /// Writes a file beside its name, flushes it where that comes first, and moves it over the name. Where that fails, what was written beside is removed
 /// again.
 fn replace<D: Disk>(disk: &D, file: &str, writing: Writing<'_>) -> io::Result<()> {

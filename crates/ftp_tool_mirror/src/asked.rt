@@ -37,12 +37,7 @@ pub struct Mirror<'a> {
 }
 
 impl<'a> Mirror<'a> {
-    /// The place on this machine of what is called `below` in the tree.
-    pub(crate) fn here(&self, alloc: Global, below: &str) -> Result<String<Global>, AllocError> {
-        joined(alloc, self.folder, below)
-    }
-
-    /// Its path at the server.
+    /// The path at the server of what is called `below` in the tree.
     pub(crate) fn there(&self, alloc: Global, below: &str) -> Result<String<Global>, AllocError> {
         joined(alloc, self.path, below)
     }

@@ -5,7 +5,7 @@ use crate::trouble::Trouble;
 use ftp_facts::Text;
 use ftp_operation::Op;
 use ftp_tool_connection::ClientSession;
-use ftp_tool_local::{Change, LocalFiles};
+use ftp_tool_local::Change;
 use std::alloc::Global;
 
 /// What a change does, as it is told.
@@ -23,19 +23,6 @@ fn op_of(change: Change, path: Text<Global>) -> Op<Text<Global>> {
         Change::RemoveFile => Op::Delete(path),
         Change::RemoveDir => Op::RemoveDir(path),
     }
-}
-
-/// Changes the folder of this machine.
-pub(crate) fn change_here<R: LocalFiles>(
-    rt: &R,
-    alloc: Global,
-    mirror: &Mirror<'_>,
-    change: Change,
-    below: &str,
-) -> Result<(), Trouble> {
-    let place = mirror.here(alloc, below)?;
-    rt.change(change, place.as_str())?;
-    Ok(())
 }
 
 /// Changes the directory of the server.

@@ -6,23 +6,27 @@ use ftp_facts::{Moment, Text};
 use ftp_operation::{Answer, How, Op};
 use ftp_tool_connection::{ClientSession, Request};
 use ftp_tool_listing::Facts;
-use ftp_tool_local::{Content, LocalFiles, Reading};
+use ftp_tool_local::{Content, Reading};
+use ftp_tool_places::Places;
 use ftp_tool_status::Arrival;
 use ftp_tool_transfer::{Came, Downloading, Stamp};
 use std::alloc::{AllocError, Global};
 use std::io::Eprint;
 
-/// Writes what came of a file here, last changed at the moment that is known of it. Gives how many octets it has.
-pub(crate) fn leave<R: LocalFiles>(
+/// Writes what came of a file here, last changed at the moment that the server told last of it. Gives how many octets it has.
+pub(crate) fn leave<R: Places + Eprint>(
     rt: &R,
-    alloc: Global,
     mirror: &Mirror<'_>,
     below: &str,
     facts: Facts,
-    came: &Came,
+    downloading: &Downloading<'_, R>,
 ) -> Result<u64, Trouble> {
-    let here = mirror.here(alloc, below)?;
-    rt.write_over(here.as_str(), came.pieces(), moment_of(facts), mirror.flush)?;
+    let moment = match downloading.moment() {
+        Some(moment) => Some(moment),
+        None => moment_of(facts),
+    };
+    let came = downloading.came();
+    rt.write_below(mirror.folder, below, came.pieces(), moment, mirror.flush)?;
     Ok(came.count())
 }
 
@@ -92,48 +96,41 @@ fn check_whole(arrived: Arrival, count: u64, limit: u64) -> Result<(), Trouble> 
 }
 
 /// Whether a file here has the octets that came.
-pub(crate) fn is_same<R: LocalFiles>(
+pub(crate) fn is_same<R: Places>(
     rt: &R,
-    alloc: Global,
     mirror: &Mirror<'_>,
     below: &str,
     came: &Came,
 ) -> Result<bool, Trouble> {
-    let here = mirror.here(alloc, below)?;
-    match rt.read_from(here.as_str(), 0, came.count())? {
+    match rt.read_below(mirror.folder, below, came.count())? {
         Reading::Content(content) => Ok(came.is(content.octets.as_slice())),
         Reading::TooLarge(_) => Ok(false),
     }
 }
 
-/// Uploads a file, over breaks; the server has to have its size then. Gives how many octets it has.
+/// Uploads a file to a place below the directory of the server, over breaks; the server has to have its size then. Gives how many octets it has.
 pub(crate) fn copy_up<R, S>(
     rt: &R,
     alloc: Global,
     seat: &mut S,
     mirror: &Mirror<'_>,
     below: &str,
+    to: &str,
 ) -> Result<u64, Trouble>
 where
-    R: LocalFiles,
+    R: Places,
     S: ClientSession,
 {
-    let octets = octets_of(rt, alloc, mirror, below)?;
+    let octets = octets_of(rt, mirror, below)?;
     let count = octets.as_slice().len() as u64;
-    upload(seat, mirror.path(alloc, below)?, octets, mirror.how)?;
-    check_size(seat, mirror.path(alloc, below)?, mirror.how, count)?;
+    upload(seat, mirror.path(alloc, to)?, octets, mirror.how)?;
+    check_size(seat, mirror.path(alloc, to)?, mirror.how, count)?;
     Ok(count)
 }
 
 /// The octets of a file here.
-fn octets_of<R: LocalFiles>(
-    rt: &R,
-    alloc: Global,
-    mirror: &Mirror<'_>,
-    below: &str,
-) -> Result<Text<Global>, Trouble> {
-    let here = mirror.here(alloc, below)?;
-    match rt.read_from(here.as_str(), 0, mirror.limit)? {
+fn octets_of<R: Places>(rt: &R, mirror: &Mirror<'_>, below: &str) -> Result<Text<Global>, Trouble> {
+    match rt.read_below(mirror.folder, below, mirror.limit)? {
         Reading::Content(Content { octets, changed: _ }) => Ok(Text::from_vec(octets)),
         Reading::TooLarge(size) => Err(Trouble::TooLarge(size, mirror.limit)),
     }

@@ -1,57 +1,54 @@
 // What stands in a folder of this machine.
-use crate::trouble::Trouble;
 use ftp_facts::Text;
 use ftp_tool_listing::{Facts, Item, Kind, Listing, is_excluded};
-use ftp_tool_words::joined;
+use ftp_tool_places::{Places, Sighting, Sightings};
 use std::alloc::{AllocError, Global};
-use std::fs::{DirEntry, Files, Metadata, ReadDir};
+use std::fs::Metadata;
+use std::io;
 use std::os::unix::fs::MetadataExt;
-use std::{fs, io};
 
 /// The most entries of a directory that are taken.
 pub(crate) const MOST_ENTRIES: usize = 1_000_000;
 
-/// The entries of the directory at a place, which is called `below` in the tree. Links are not followed.
-pub(crate) fn entries_here<R: Files + AllocGlobal + Clone + Drop>(
-    files: &R,
-    place: &str,
-    below: &str,
-    excluded: &[&str],
-) -> Result<Listing<Global>, Trouble> {
-    let entries = fs::read_dir(files, place)?;
-    Ok(items_of(files.alloc(), entries, below, excluded)?)
-}
-
-fn items_of<R: Files + Clone + Drop>(
+/// The entries of the directory `below` a folder. Links are not followed.
+pub(crate) fn entries_here<R: Places>(
+    rt: &R,
     alloc: Global,
-    entries: ReadDir<R, Global>,
+    folder: &str,
     below: &str,
     excluded: &[&str],
 ) -> io::Result<Listing<Global>> {
+    match rt.sightings(folder, below, MOST_ENTRIES)? {
+        Sightings::All(all) => Ok(items_of(alloc, all.as_slice(), below, excluded)?),
+        Sightings::TooMany => Ok(Listing::CutOff),
+    }
+}
+
+fn items_of(
+    alloc: Global,
+    all: &[Sighting],
+    below: &str,
+    excluded: &[&str],
+) -> Result<Listing<Global>, AllocError> {
     let mut items = Vec::new(alloc);
-    for entry in entries {
-        if items.len() >= MOST_ENTRIES {
-            return Ok(Listing::CutOff);
-        }
-        put_entry(alloc, &mut items, entry, below, excluded)?;
+    for sighting in all {
+        let kind = match &sighting.found {
+            Some(found) => kind_of(found),
+            None => Kind::Other,
+        };
+        put_item(
+            alloc,
+            &mut items,
+            sighting.name.as_slice(),
+            kind,
+            below,
+            excluded,
+        )?;
     }
     Ok(Listing::Whole(items))
 }
 
-fn put_entry<R: Files + Drop>(
-    alloc: Global,
-    items: &mut Vec<Item<Global>, Global>,
-    entry: io::Result<DirEntry<R, Global>>,
-    below: &str,
-    excluded: &[&str],
-) -> io::Result<()> {
-    let entry = entry?;
-    let kind = kind_of(&entry.metadata()?);
-    let name = entry.file_name();
-    Ok(put_item(alloc, items, name.as_bytes(), kind, below, excluded)?)
-}
-
-/// Puts an entry of this name and this kind, unless it is left alone. One whose name is no text is below no path, and refused by its name.
+/// Puts an entry of this name and this kind, unless it is left alone.
 pub(crate) fn put_item(
     alloc: Global,
     items: &mut Vec<Item<Global>, Global>,
@@ -60,9 +57,13 @@ pub(crate) fn put_item(
     below: &str,
     excluded: &[&str],
 ) -> Result<(), AllocError> {
-    let text = std::str::from_utf8(name).unwrap_or("");
-    let path = joined(alloc, below, text)?;
-    let kind = if is_excluded(excluded, path.as_str(), text) {
+    let mut path: Vec<u8, Global> = Vec::new(alloc);
+    path.extend_from_slice(below.as_bytes())?;
+    if !below.is_empty() {
+        path.extend_from_slice(b"/")?;
+    }
+    path.extend_from_slice(name)?;
+    let kind = if is_excluded(excluded, path.as_slice(), name) {
         Kind::Excluded
     } else {
         kind

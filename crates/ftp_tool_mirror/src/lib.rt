@@ -8,6 +8,8 @@ mod copying;
 mod folder;
 mod machine;
 mod mirroring;
+mod removals;
+mod replacing;
 mod sentence;
 mod server;
 mod tally;

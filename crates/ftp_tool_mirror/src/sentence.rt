@@ -1,5 +1,6 @@
 // Why something was not done, as it is told behind the path.
 use crate::trouble::Trouble;
+use ftp_tool_listing::Reason;
 use std::fmt;
 use std::fmt::{Display, Formatter};
 
@@ -20,6 +21,18 @@ impl Display for Sentence {
             Sentence::Around(text, number, end) => write!(formatter, "{text}{number}{end}"),
             Sentence::Between(first, text, second) => write!(formatter, "{first}{text}{second}"),
         }
+    }
+}
+
+/// Why an entry is refused.
+pub(crate) fn reason_told(reason: Reason) -> Sentence {
+    match reason {
+        Reason::Emptied(count) => Sentence::Around(
+            "the source lists nothing there, and ",
+            count as u64,
+            " entries of the target would be removed; nothing is, without --delete-any",
+        ),
+        _ => Sentence::Plain(reason.sentence()),
     }
 }
 
@@ -47,8 +60,15 @@ pub(crate) fn sentence_of(trouble: Trouble) -> Sentence {
         ),
         Trouble::Spent => Sentence::Plain("the control connection ended in the last of 16 tries"),
         Trouble::Stands => {
-            Sentence::Plain("the server has it, though its listing lacked it; it is not removed")
+            Sentence::Plain("the source has it, though its listing lacked it; it is not removed")
         }
+        Trouble::Keeps => Sentence::Plain(
+            "what stands there has entries that are left alone or can't be looked at; it stays",
+        ),
+        Trouble::Aside => Sentence::Plain(
+            "it stood where something else is now, and stays under this name, since not all went well",
+        ),
+        Trouble::NoName => Sentence::Plain("no name is free beside it; it stays"),
         Trouble::Here(_) => Sentence::Plain("this machine refuses it"),
         Trouble::TooMuch => Sentence::Plain(
             "more is to be done than a mirror takes on; another run goes on",

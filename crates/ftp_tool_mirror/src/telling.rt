@@ -1,4 +1,5 @@
 // What is told of a path, in a line.
+use crate::removals::Counts;
 use crate::sentence::sentence_of;
 use crate::trouble::Trouble;
 use ftp_tool_listing::put_shown;
@@ -15,6 +16,34 @@ pub(crate) fn shown(alloc: Global, below: &str) -> Result<String<Global>, AllocE
     let mut octets = Vec::new(alloc);
     put_shown(below.as_bytes(), &mut octets)?;
     String::from_str(alloc, std::str::from_utf8(octets.as_slice()).unwrap_or("?"))
+}
+
+/// The path of an entry of a directory, as a terminal is to show it; its name need be no text.
+pub(crate) fn shown_below(
+    alloc: Global,
+    below: &str,
+    name: &[u8],
+) -> Result<String<Global>, AllocError> {
+    let mut octets = Vec::new(alloc);
+    if !below.is_empty() {
+        put_shown(below.as_bytes(), &mut octets)?;
+        octets.extend_from_slice(b"/")?;
+    }
+    put_shown(name, &mut octets)?;
+    String::from_str(alloc, std::str::from_utf8(octets.as_slice()).unwrap_or("?"))
+}
+
+/// Tells that an entry, whose path is shown so, has a name that is no text.
+pub(crate) fn tell_no_text<R: Eprint>(rt: &R, shown: &str) -> io::Result<()> {
+    eprintln!(rt; "error: {shown}: the name is no text (UTF-8), and can't be sent; it is left out")
+}
+
+/// Tells that so many entries of the target would be removed that none is.
+pub(crate) fn tell_too_many<R: Eprint>(rt: &R, counts: Counts) -> io::Result<()> {
+    let Counts { held, removed } = counts;
+    eprintln!(rt;
+        "error: {removed} of the {held} entries of the target would be removed; nothing is, without --delete-any"
+    )
 }
 
 /// Tells of a path on standard error, in a line: what kind of a line it is, the path, and what is told of it.

@@ -1,8 +1,11 @@
 // What is still to be done, one thing after another.
+use crate::removals::{Counts, Settled};
+use crate::telling::shown_below;
 use crate::trouble::Trouble;
-use ftp_tool_listing::{Deed, Listing, Rules, Step, Way, plan};
+use ftp_tool_listing::{Deed, Extra, Item, Kind, Listing, Rules, Step, is_name, may_remove, plan};
 use ftp_tool_words::joined;
 use std::alloc::{AllocError, Global};
+use std::mem;
 
 /// How many things are done at most.
 const MOST_STEPS: u64 = 1_000_000;
@@ -24,11 +27,21 @@ impl Drop for Work {
 #[derive(Clone, Copy)]
 pub(crate) enum Chore {
     Deed(Deed),
-    /// This removes here what the server's listing lacked, once the server says of it alone that it has none: a listing that was cut at the end of a line
-    /// looks whole.
+    /// This removes what the listing of the source lacked, once the source says of it alone that it has none: a listing that was cut at the end of a
+    /// line looks whole.
     RemoveLacking(Deed),
     /// The directory is removed, from which all was removed.
     RemoveEmptied,
+    /// What stands there is removed by the first, once the second is done in its place.
+    Replace(Deed, Deed),
+    /// What stands below a directory that is to be removed is counted, for the removal of this number.
+    Count(usize),
+    /// What was renamed aside is removed, unless more than so many things failed.
+    RemoveAside(Deed, u64),
+    /// What stands there has entries that are not to be removed.
+    Keep,
+    /// The name of the entry is no text, and its path is told as it is.
+    NoText,
 }
 
 /// What is still to be done.
@@ -37,10 +50,15 @@ pub(crate) struct Todo {
     alloc: Global,
     /// The last comes next.
     waiting: Vec<Work, Global>,
+    /// What is removed or replaced, once all else is done and all is counted.
+    removals: Vec<Work, Global>,
+    counts: Counts,
     /// How many things were planned.
     planned: u64,
     /// How many were taken up.
     taken: u64,
+    /// Whether the removals have begun.
+    is_removing: bool,
 }
 
 impl Todo {
@@ -49,14 +67,20 @@ impl Todo {
         Todo {
             alloc,
             waiting: Vec::new(alloc),
+            removals: Vec::new(alloc),
+            counts: Counts {
+                held: 0,
+                removed: 0,
+            },
             planned: 0,
             taken: 0,
+            is_removing: false,
         }
     }
 
     /// How many things wait.
     pub(crate) fn count(&self) -> usize {
-        self.waiting.len()
+        self.waiting.len().saturating_add(self.removals.len())
     }
 
     /// How many were taken up, and not put back.
@@ -73,6 +97,20 @@ impl Todo {
         work
     }
 
+    /// Once all else is done: the removals are next, where so many may be done; else they are forgotten.
+    pub(crate) fn settle(&mut self, extra: Extra) -> Settled {
+        let removals = mem::replace(&mut self.removals, Vec::new(self.alloc));
+        if removals.is_empty() {
+            return Settled::Nothing;
+        }
+        self.is_removing = true;
+        if !may_remove(extra, self.counts.held, self.counts.removed) {
+            return Settled::TooMany(self.counts);
+        }
+        self.waiting = removals;
+        Settled::Begun
+    }
+
     /// Puts back what was taken up: it is next once more.
     pub(crate) fn put_back(&mut self, work: Work) -> Result<(), AllocError> {
         self.taken = self.taken.saturating_sub(1);
@@ -87,7 +125,7 @@ impl Todo {
         Ok(())
     }
 
-    /// What is planned of two listings of a directory waits, the first of it at the end.
+    /// What is planned of two listings of a directory waits, the first of it at the end; removals wait until all else is done.
     pub(crate) fn plan(
         &mut self,
         rules: Rules,
@@ -100,47 +138,142 @@ impl Todo {
         if self.planned > MOST_STEPS {
             return Err(Trouble::TooMuch);
         }
-        self.put_steps(rules.way, below, steps.as_slice())?;
+        if let Listing::Whole(items) = target {
+            self.counts.add_held(items.len());
+        }
+        self.put_steps(below, steps.as_slice())?;
         Ok(())
     }
 
-    fn put_steps(
-        &mut self,
-        way: Way,
-        below: &str,
-        steps: &[Step<Global>],
-    ) -> Result<(), AllocError> {
-        let mut next = None;
+    fn put_steps(&mut self, below: &str, steps: &[Step<Global>]) -> Result<(), AllocError> {
+        let mut next: Option<&Step<Global>> = None;
         for step in steps.iter().rev() {
-            self.put_step(chore_of(way, step, next), below, step)?;
+            match next {
+                Some(after) if is_replaced(step, after) => {
+                    let _combined = self.waiting.pop();
+                    self.put_step(Chore::Replace(step.deed, after.deed), below, step)?;
+                }
+                _ => self.put_step(chore_of(step.deed), below, step)?,
+            }
             next = Some(step);
         }
         Ok(())
     }
 
+    /// Puts what is done of a name, unless that is no text: then nothing but a note can be.
     fn put_step(
         &mut self,
         chore: Chore,
         below: &str,
         step: &Step<Global>,
     ) -> Result<(), AllocError> {
-        let name = std::str::from_utf8(step.name.as_slice()).unwrap_or("?");
-        let below = joined(self.alloc, below, name)?;
-        self.waiting.push(Work { chore, below })?;
+        match std::str::from_utf8(step.name.as_slice()) {
+            Ok(name) => {
+                let below = joined(self.alloc, below, name)?;
+                self.put_work(Work { chore, below })
+            }
+            Err(_) => self.put_no_text(below, step.name.as_slice()),
+        }
+    }
+
+    /// That an entry of a directory has a name that is no text.
+    fn put_no_text(&mut self, below: &str, name: &[u8]) -> Result<(), AllocError> {
+        let below = shown_below(self.alloc, below, name)?;
+        self.waiting.push(Work {
+            chore: Chore::NoText,
+            below,
+        })?;
         Ok(())
+    }
+
+    /// A work waits: a removal until all else is done, as long as the removals have not begun, and what it removes is counted.
+    fn put_work(&mut self, work: Work) -> Result<(), AllocError> {
+        let (Chore::RemoveLacking(removal) | Chore::Replace(removal, _)) = work.chore else {
+            self.waiting.push(work)?;
+            return Ok(());
+        };
+        if self.is_removing {
+            self.waiting.push(work)?;
+            return Ok(());
+        }
+        self.counts.add_removed(1);
+        if matches!(removal, Deed::RemoveDir) {
+            self.put(Chore::Count(self.removals.len()), work.below.as_str())?;
+        }
+        self.removals.push(work)?;
+        Ok(())
+    }
+
+    /// What stands in a directory that is to be removed is counted, and all below it then; where that is more than a mirror takes on, it stays.
+    pub(crate) fn put_counts(
+        &mut self,
+        number: usize,
+        below: &str,
+        items: &[Item<Global>],
+    ) -> Result<(), Trouble> {
+        self.counts.add_held(items.len());
+        self.counts.add_removed(items.len());
+        if self.counts.removed > MOST_STEPS {
+            self.keep(number);
+            return Err(Trouble::TooMuch);
+        }
+        for item in items {
+            self.put_count(number, below, item)?;
+        }
+        Ok(())
+    }
+
+    fn put_count(
+        &mut self,
+        number: usize,
+        below: &str,
+        item: &Item<Global>,
+    ) -> Result<(), AllocError> {
+        match (item.kind, std::str::from_utf8(item.name.as_slice())) {
+            (Kind::Excluded, _) | (_, Err(_)) => self.spare(number),
+            (Kind::Dir, Ok(name)) if is_name(name.as_bytes()) => {
+                let below = joined(self.alloc, below, name)?;
+                self.waiting.push(Work {
+                    chore: Chore::Count(number),
+                    below,
+                })?;
+            }
+            _ => {}
+        }
+        Ok(())
+    }
+
+    /// What stands in the place of something else has entries that stay: it is not replaced. What is only removed goes as far as it can.
+    fn spare(&mut self, number: usize) {
+        if let Some(work) = self.removals.get_mut(number) {
+            if matches!(work.chore, Chore::Replace(_, _)) {
+                work.chore = Chore::Keep;
+            }
+        }
+    }
+
+    /// The removal of this number is not done: what it removes can't be counted.
+    pub(crate) fn keep(&mut self, number: usize) {
+        if let Some(work) = self.removals.get_mut(number) {
+            work.chore = Chore::Keep;
+        }
     }
 }
 
-/// What a step of a plan is, before the next one: what is removed here and not replaced is what the server's listing lacked.
-fn chore_of(way: Way, step: &Step<Global>, next: Option<&Step<Global>>) -> Chore {
-    let is_replaced = match next {
-        Some(next) => next.name.as_slice() == step.name.as_slice(),
-        None => false,
-    };
-    match (way, step.deed) {
-        (Way::Down, Deed::RemoveFile | Deed::RemoveDir) if !is_replaced => {
-            Chore::RemoveLacking(step.deed)
-        }
-        (_, deed) => Chore::Deed(deed),
+/// Whether what a step removes gives way to what the next one makes.
+fn is_replaced(step: &Step<Global>, next: &Step<Global>) -> bool {
+    is_removal(step.deed) && !is_removal(next.deed) && step.name.as_slice() == next.name.as_slice()
+}
+
+fn is_removal(deed: Deed) -> bool {
+    matches!(deed, Deed::RemoveFile | Deed::RemoveDir)
+}
+
+/// What a step of a plan is: what is removed and not replaced is what the listing of the source lacked.
+fn chore_of(deed: Deed) -> Chore {
+    if is_removal(deed) {
+        Chore::RemoveLacking(deed)
+    } else {
+        Chore::Deed(deed)
     }
 }

@@ -24,8 +24,14 @@ pub(crate) enum Trouble {
     Past(u64),
     /// The control connection ended in the last try that there is of a file.
     Spent,
-    /// The server has it, though its listing lacked it.
+    /// The source has it, though its listing lacked it.
     Stands,
+    /// What stands there is not to be replaced: entries below it are left alone, or can't be looked at.
+    Keeps,
+    /// No name is free beside it.
+    NoName,
+    /// Something failed since this was renamed aside.
+    Aside,
     /// This machine refused it.
     Here(io::Error),
     /// More is to be done than a mirror takes on.

@@ -1,11 +1,14 @@
 // The way through a tree, one thing after another.
 use crate::asked::{Doing, Mirror};
-use crate::changing::{change_here, change_there, word_of};
+use crate::changing::{change_there, word_of};
 use crate::copying::{begun, copy_up, download, is_same, leave};
+use crate::folder::entries_here;
 use crate::machine::Machine;
+use crate::removals::Settled;
+use crate::sentence::reason_told;
 use crate::server::{MISSING, entries_there, stands_there};
 use crate::tally::{Progress, Tally};
-use crate::telling::{shown, tell, tell_trouble};
+use crate::telling::{shown, tell, tell_no_text, tell_too_many, tell_trouble};
 use crate::todo::{Chore, Todo, Work};
 use crate::trouble::Trouble;
 use ftp_operation::{Answer, Op};
@@ -18,10 +21,10 @@ use std::io::ErrorKind;
 
 /// A mirror on its way.
 pub(crate) struct Walk<'a, R> {
-    rt: &'a R,
-    alloc: Global,
-    mirror: &'a Mirror<'a>,
-    todo: Todo,
+    pub(crate) rt: &'a R,
+    pub(crate) alloc: Global,
+    pub(crate) mirror: &'a Mirror<'a>,
+    pub(crate) todo: Todo,
     /// The download of what comes next, where a control connection ended in its middle.
     cut: Option<Downloading<'a, R>>,
     /// What was done so far.
@@ -109,24 +112,90 @@ impl<'a, R: Machine> Walk<'a, R> {
             Chore::Deed(deed) => self.do_deed(seat, deed, below),
             Chore::RemoveLacking(deed) => self.remove_lacking(seat, deed, below),
             Chore::RemoveEmptied => self.change(seat, Change::RemoveDir, below),
+            Chore::Replace(removal, deed) => self.replace(seat, removal, deed, below),
+            Chore::Count(number) => self.count(seat, number, below),
+            Chore::RemoveAside(removal, failed) => self.remove_aside(seat, removal, failed, below),
+            Chore::Keep => Err(Trouble::Keeps),
+            Chore::NoText => {
+                self.tally.add_failed();
+                let _told = tell_no_text(self.rt, below);
+                Ok(())
+            }
         }
     }
 
-    /// Removes something here, unless the server says that it has it.
+    /// Counts what stands in a directory of the target that is to be removed; where it can't be listed, it stays.
+    fn count<S: ClientSession>(
+        &mut self,
+        seat: &mut S,
+        number: usize,
+        below: &str,
+    ) -> Result<(), Trouble> {
+        let target = self.target(seat, below);
+        match &target {
+            Ok(Listing::Whole(items)) => self.todo.put_counts(number, below, items.as_slice()),
+            Ok(Listing::CutOff) => {
+                self.todo.keep(number);
+                Ok(())
+            }
+            Err(trouble) => {
+                if !matches!(trouble, Trouble::Lost | Trouble::Memory) {
+                    self.todo.keep(number);
+                }
+                Err(*trouble)
+            }
+        }
+    }
+
+    /// Once all else is done: the removals are next, where so many may be done. Says whether there is more to do.
+    fn settle(&mut self) -> bool {
+        match self.todo.settle(self.mirror.rules.extra) {
+            Settled::Nothing => false,
+            Settled::Begun => true,
+            Settled::TooMany(counts) => {
+                self.tally.add_failed();
+                let _told = tell_too_many(self.rt, counts);
+                false
+            }
+        }
+    }
+
+    /// Whether the source has something of a path, as it says of that alone.
+    fn stands_at_source<S: ClientSession>(
+        &self,
+        seat: &mut S,
+        below: &str,
+    ) -> Result<bool, Trouble> {
+        match self.mirror.rules.way {
+            Way::Down => stands_there(seat, self.mirror.path(self.alloc, below)?),
+            Way::Up => self.stands_here(below),
+        }
+    }
+
+    /// Whether something stands in the folder of this machine; where its directory does not, or is none, nothing does.
+    fn stands_here(&self, below: &str) -> Result<bool, Trouble> {
+        match self.rt.stands(self.mirror.folder, below) {
+            Ok(stands) => Ok(stands),
+            Err(error) if error.kind() == ErrorKind::NotFound => Ok(false),
+            Err(error) if error.kind() == ErrorKind::NotADirectory => Ok(false),
+            Err(error) => Err(Trouble::Here(error)),
+        }
+    }
+
+    /// Removes something, unless the source says that it has it.
     fn remove_lacking<S: ClientSession>(
         &mut self,
         seat: &mut S,
         deed: Deed,
         below: &str,
     ) -> Result<(), Trouble> {
-        let path = self.mirror.path(self.alloc, below)?;
-        if stands_there(seat, path)? {
+        if self.stands_at_source(seat, below)? {
             return Err(Trouble::Stands);
         }
         self.do_deed(seat, deed, below)
     }
 
-    fn do_deed<S: ClientSession>(
+    pub(crate) fn do_deed<S: ClientSession>(
         &mut self,
         seat: &mut S,
         deed: Deed,
@@ -140,16 +209,28 @@ impl<'a, R: Machine> Walk<'a, R> {
             Deed::RemoveFile => self.change(seat, Change::RemoveFile, below),
             Deed::RemoveDir => self.empty_dir(seat, below),
             Deed::PassOver => {
-                let what = "neither file nor directory; it is left out";
-                let _told = tell(self.rt, self.alloc, "note: ", below, &what);
+                self.pass_over(below);
                 Ok(())
             }
             Deed::Refuse(reason) => {
                 self.tally.add_failed();
-                let _told = tell(self.rt, self.alloc, "error: ", below, &reason.sentence());
+                let _told = tell(self.rt, self.alloc, "error: ", below, &reason_told(reason));
                 Ok(())
             }
         }
+    }
+
+    /// Leaves out what is neither file nor directory. Of this machine that is a failure: a copy of it lacks what a link leads to.
+    fn pass_over(&mut self, below: &str) {
+        let kind = match self.mirror.rules.way {
+            Way::Down => "note: ",
+            Way::Up => {
+                self.tally.add_failed();
+                "error: "
+            }
+        };
+        let what = "neither file nor directory; it is left out";
+        let _told = tell(self.rt, self.alloc, kind, below, &what);
     }
 
     /// Copies a file.
@@ -163,7 +244,18 @@ impl<'a, R: Machine> Walk<'a, R> {
             self.tally.add_file(facts.size.unwrap_or(0));
             return Ok(());
         }
-        let count = self.copied(seat, below, facts)?;
+        self.copy_to(seat, below, facts, below)
+    }
+
+    /// Copies a file to a place of the target.
+    pub(crate) fn copy_to<S: ClientSession>(
+        &mut self,
+        seat: &mut S,
+        below: &str,
+        facts: Facts,
+        to: &str,
+    ) -> Result<(), Trouble> {
+        let count = self.copied(seat, below, facts, to)?;
         self.tally.add_file(count);
         self.tell_progress(below);
         Ok(())
@@ -175,10 +267,11 @@ impl<'a, R: Machine> Walk<'a, R> {
         seat: &mut S,
         below: &str,
         facts: Facts,
+        to: &str,
     ) -> Result<u64, Trouble> {
         match self.mirror.rules.way {
-            Way::Down => self.copy_down(seat, below, facts),
-            Way::Up => copy_up(self.rt, self.alloc, seat, self.mirror, below),
+            Way::Down => self.copy_down(seat, below, facts, to),
+            Way::Up => copy_up(self.rt, self.alloc, seat, self.mirror, below, to),
         }
     }
 
@@ -187,16 +280,10 @@ impl<'a, R: Machine> Walk<'a, R> {
         seat: &mut S,
         below: &str,
         facts: Facts,
+        to: &str,
     ) -> Result<u64, Trouble> {
         let downloading = self.downloaded(seat, below, facts)?;
-        leave(
-            self.rt,
-            self.alloc,
-            self.mirror,
-            below,
-            facts,
-            downloading.came(),
-        )
+        leave(self.rt, self.mirror, to, facts, &downloading)
     }
 
     /// Downloads a file, all of it: behind what came before, where a control connection ended in its middle.
@@ -247,7 +334,7 @@ impl<'a, R: Machine> Walk<'a, R> {
         facts: Facts,
     ) -> Result<bool, Trouble> {
         let downloading = self.downloaded(seat, below, facts)?;
-        is_same(self.rt, self.alloc, self.mirror, below, downloading.came())
+        is_same(self.rt, self.mirror, below, downloading.came())
     }
 
     /// Makes a directory of the target, and goes into it. One that is there already, as where its making was answered over a connection that ended, is
@@ -309,7 +396,7 @@ impl<'a, R: Machine> Walk<'a, R> {
     }
 
     /// What stands in a directory at the end that is copied from this way.
-    fn listed_from<S: ClientSession>(
+    pub(crate) fn listed_from<S: ClientSession>(
         &self,
         seat: &mut S,
         below: &str,
@@ -322,26 +409,30 @@ impl<'a, R: Machine> Walk<'a, R> {
                 entries_there(self.alloc, seat, op, below, mirror.excluded)
             }
             Way::Up => {
-                let here = mirror.here(self.alloc, below)?;
-                self.rt.entries(here.as_str(), below, mirror.excluded)
+                let folder = mirror.folder;
+                Ok(entries_here(self.rt, self.alloc, folder, below, mirror.excluded)?)
             }
         }
     }
 
     /// Removes all that stands in a directory of the target, and the directory behind that.
-    fn empty_dir<S: ClientSession>(&mut self, seat: &mut S, below: &str) -> Result<(), Trouble> {
+    pub(crate) fn empty_dir<S: ClientSession>(
+        &mut self,
+        seat: &mut S,
+        below: &str,
+    ) -> Result<(), Trouble> {
         let target = self.target(seat, below)?;
         self.todo.put(Chore::RemoveEmptied, below)?;
         let nothing = Listing::Whole(Vec::new(self.alloc));
         let rules = Rules {
-            extra: Extra::Removed,
+            extra: Extra::Any,
             ..self.mirror.rules
         };
         self.todo.plan(rules, below, &nothing, &target)
     }
 
     /// Changes the target beside the octets of files.
-    fn change<S: ClientSession>(
+    pub(crate) fn change<S: ClientSession>(
         &mut self,
         seat: &mut S,
         change: Change,
@@ -349,7 +440,7 @@ impl<'a, R: Machine> Walk<'a, R> {
     ) -> Result<(), Trouble> {
         if !self.is_told_only(word_of(change), below)? {
             match self.mirror.rules.way {
-                Way::Down => change_here(self.rt, self.alloc, self.mirror, change, below)?,
+                Way::Down => self.rt.change_below(change, self.mirror.folder, below)?,
                 Way::Up => change_there(self.alloc, seat, self.mirror, change, below)?,
             }
         }
@@ -392,6 +483,9 @@ impl<'a, R: Machine> SessionTask<Result<Answer<Global>, SessionFault>> for Walk<
     fn play<S: ClientSession>(&mut self, seat: &mut S) -> Result<Answer<Global>, SessionFault> {
         for _ in 0..u64::MAX {
             let Some(work) = self.todo.next() else {
+                if self.settle() {
+                    continue;
+                }
                 return Ok(Answer::Done);
             };
             if let Some(trouble) = self.turn(seat, work) {

@@ -1,0 +1,151 @@
+// What comes in the place of something else: it is made beside it, that is renamed aside, and removed last.
+use crate::asked::Doing;
+use crate::machine::Machine;
+use crate::server::{done_by, stands_there};
+use crate::todo::Chore;
+use crate::trouble::Trouble;
+use crate::walk::Walk;
+use ftp_operation::Op;
+use ftp_tool_connection::ClientSession;
+use ftp_tool_listing::{Deed, Listing, Way};
+use ftp_tool_local::Change;
+use ftp_tool_words::last_part;
+use itoa::Buffer;
+use std::alloc::{AllocError, Global};
+
+/// What stands behind the name of something in that of what comes in its place, until it is whole.
+const COMING: &str = ".ftp-new";
+
+/// And in that of what stood there.
+const ASIDE: &str = ".ftp-old";
+
+/// How many names are tried.
+const NAMES: u32 = 10;
+
+impl<'a, R: Machine> Walk<'a, R> {
+    /// Puts something in the place of something else, which is removed then.
+    pub(crate) fn replace<S: ClientSession>(
+        &mut self,
+        seat: &mut S,
+        removal: Deed,
+        deed: Deed,
+        below: &str,
+    ) -> Result<(), Trouble> {
+        match (self.mirror.doing, deed) {
+            (Doing::Nothing, _) => {
+                self.do_deed(seat, deed, below)?;
+                self.do_deed(seat, removal, below)
+            }
+            (Doing::All, Deed::Copy(facts)) => {
+                let coming = self.free_beside(seat, below, COMING)?;
+                self.copy_to(seat, below, facts, coming.as_str())?;
+                self.exchange(seat, removal, coming.as_str(), below)
+            }
+            (Doing::All, _) => self.replace_by_dir(seat, removal, below),
+        }
+    }
+
+    /// Puts a directory in the place of something else, once it is known what stands in it at the source.
+    fn replace_by_dir<S: ClientSession>(
+        &mut self,
+        seat: &mut S,
+        removal: Deed,
+        below: &str,
+    ) -> Result<(), Trouble> {
+        let rules = self.mirror.rules;
+        let source = self.listed_from(seat, below, rules.way)?;
+        let coming = self.free_beside(seat, below, COMING)?;
+        self.change(seat, Change::MakeDir, coming.as_str())?;
+        self.exchange(seat, removal, coming.as_str(), below)?;
+        let nothing = Listing::Whole(Vec::new(self.alloc));
+        self.todo.plan(rules, below, &source, &nothing)
+    }
+
+    /// Renames what stands there aside, and what came into its place; the first is removed then. Where the second can't be, the first is back.
+    fn exchange<S: ClientSession>(
+        &mut self,
+        seat: &mut S,
+        removal: Deed,
+        coming: &str,
+        below: &str,
+    ) -> Result<(), Trouble> {
+        let aside = self.free_beside(seat, below, ASIDE)?;
+        self.rename(seat, below, aside.as_str())?;
+        if let Err(trouble) = self.rename(seat, coming, below) {
+            let _back = self.rename(seat, aside.as_str(), below);
+            return Err(trouble);
+        }
+        let failed = self.tally.failed;
+        self.todo
+            .put(Chore::RemoveAside(removal, failed), aside.as_str())?;
+        Ok(())
+    }
+
+    /// Removes what was renamed aside, unless something failed since, which may have been in its place.
+    pub(crate) fn remove_aside<S: ClientSession>(
+        &mut self,
+        seat: &mut S,
+        removal: Deed,
+        failed: u64,
+        below: &str,
+    ) -> Result<(), Trouble> {
+        if self.tally.failed > failed {
+            return Err(Trouble::Aside);
+        }
+        self.do_deed(seat, removal, below)
+    }
+
+    /// A name beside something of the target that nothing has there.
+    fn free_beside<S: ClientSession>(
+        &self,
+        seat: &mut S,
+        below: &str,
+        end: &str,
+    ) -> Result<String<Global>, Trouble> {
+        for number in 0..NAMES {
+            let name = named(self.alloc, below, end, number)?;
+            if !self.stands_at_target(seat, name.as_str())? {
+                return Ok(name);
+            }
+        }
+        Err(Trouble::NoName)
+    }
+
+    /// Whether the target has something of a path.
+    fn stands_at_target<S: ClientSession>(
+        &self,
+        seat: &mut S,
+        below: &str,
+    ) -> Result<bool, Trouble> {
+        match self.mirror.rules.way {
+            Way::Down => Ok(self.rt.stands(self.mirror.folder, below)?),
+            Way::Up => stands_there(seat, self.mirror.path(self.alloc, below)?),
+        }
+    }
+
+    /// Gives something of the target another name in its directory.
+    fn rename<S: ClientSession>(&self, seat: &mut S, below: &str, to: &str) -> Result<(), Trouble> {
+        match self.mirror.rules.way {
+            Way::Down => Ok(
+                self.rt
+                    .rename_below(self.mirror.folder, below, last_part(to))?,
+            ),
+            Way::Up => {
+                let from = self.mirror.path(self.alloc, below)?;
+                let to = self.mirror.path(self.alloc, to)?;
+                done_by(seat, Op::Rename(from, to))
+            }
+        }
+    }
+}
+
+/// The name of this number beside something.
+fn named(alloc: Global, below: &str, end: &str, number: u32) -> Result<String<Global>, AllocError> {
+    let mut name: String<Global> = String::from_str(alloc, below)?;
+    name.push_str(end)?;
+    if number > 0 {
+        name.push_str("-")?;
+        name.push_str(Buffer::new().format(number))?;
+    }
+    Ok(name)
+}

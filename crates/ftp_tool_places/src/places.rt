@@ -1,0 +1,189 @@
+// What is asked of the places below a folder, as one trait without types of its own: what stands on it is proved for less than on the system's files.
+use crate::folder::Folder;
+use ftp_facts::{Moment, Text};
+use ftp_tool_local::{Change, Flush, LocalFiles, Reading};
+use std::alloc::Global;
+use std::fs::{Files, Metadata};
+use std::io::{Error, ErrorKind};
+use std::{fs, io};
+
+/// What stands under a name of a directory.
+#[derive(Drop)]
+pub struct Sighting {
+    /// Its octets, which need be no text.
+    pub name: Text<Global>,
+    /// What the system says of it, of a link itself; none where its name is no text.
+    pub found: Option<Metadata>,
+}
+
+/// What stands in a directory.
+#[derive(Drop)]
+pub enum Sightings {
+    All(Vec<Sighting, Global>),
+    /// More than were asked for.
+    TooMany,
+}
+
+/// Who has folders. A path `below` a root has slashes between its parts, and is empty for the root itself; no link below the root is followed.
+pub trait Places {
+    /// What stands in the directory there, `most` entries at most, without `.` and `..`.
+    fn sightings(&self, root: &str, below: &str, most: usize) -> io::Result<Sightings>;
+
+    /// Whether anything stands there.
+    fn stands(&self, root: &str, below: &str) -> io::Result<bool>;
+
+    /// The octets of the file there, where it has `limit` octets at most.
+    fn read_below(&self, root: &str, below: &str, limit: u64) -> io::Result<Reading>;
+
+    /// Writes the octets of the file there, beside its name, and moves it over what has the name.
+    fn write_below(
+        &self,
+        root: &str,
+        below: &str,
+        pieces: &[Text<Global>],
+        moment: Option<Moment>,
+        flush: Flush,
+    ) -> io::Result<()>;
+
+    /// Changes what stands there, beside the octets of files. The root itself can be made alone.
+    fn change_below(&self, change: Change, root: &str, below: &str) -> io::Result<()>;
+
+    /// Gives what stands there another name in its directory, where nothing has that name.
+    fn rename_below(&self, root: &str, below: &str, name: &str) -> io::Result<()>;
+}
+
+impl<R: Files + AllocGlobal> Places for R {
+    fn sightings(&self, root: &str, below: &str, most: usize) -> io::Result<Sightings> {
+        let folder = Folder::reach(self.alloc(), root, below)?;
+        seen(self, self.alloc(), &folder, most)
+    }
+
+    fn stands(&self, root: &str, below: &str) -> io::Result<bool> {
+        let (folder, name) = parent(self.alloc(), root, below)?;
+        is_there(self, folder.path_of(self.alloc(), name)?.as_str())
+    }
+
+    fn read_below(&self, root: &str, below: &str, limit: u64) -> io::Result<Reading> {
+        let (folder, name) = parent(self.alloc(), root, below)?;
+        let path = folder.path_of(self.alloc(), name)?;
+        if !fs::symlink_metadata(self, path.as_str())?.is_file() {
+            return Err(Error::new(ErrorKind::InvalidInput, "it is no file any more"));
+        }
+        self.read_from(path.as_str(), 0, limit)
+    }
+
+    fn write_below(
+        &self,
+        root: &str,
+        below: &str,
+        pieces: &[Text<Global>],
+        moment: Option<Moment>,
+        flush: Flush,
+    ) -> io::Result<()> {
+        let (folder, name) = parent(self.alloc(), root, below)?;
+        let path = folder.path_of(self.alloc(), name)?;
+        self.write_at(path.as_str(), pieces, moment, flush)
+    }
+
+    fn change_below(&self, change: Change, root: &str, below: &str) -> io::Result<()> {
+        if below.is_empty() {
+            return self.change(change, root);
+        }
+        let (folder, name) = parent(self.alloc(), root, below)?;
+        match change {
+            Change::MakeDir => { self.change(change, folder.path_of(self.alloc(), name)?.as_str()) }
+            Change::RemoveFile => folder.remove_file(name),
+            Change::RemoveDir => folder.remove_dir(name),
+        }
+    }
+
+    fn rename_below(&self, root: &str, below: &str, name: &str) -> io::Result<()> {
+        let (folder, before) = parent(self.alloc(), root, below)?;
+        let from = folder.path_of(self.alloc(), before)?;
+        let to = folder.path_of(self.alloc(), name)?;
+        if is_there(self, to.as_str())? {
+            return Err(Error::from(ErrorKind::AlreadyExists));
+        }
+        fs::rename(self, from.as_str(), to.as_str())
+    }
+}
+
+/// The directory in which something stands below a root, and its name there.
+fn parent<'a>(alloc: Global, root: &str, below: &'a str) -> io::Result<(Folder, &'a str)> {
+    let (dir, name) = match below.rsplit_once('/') {
+        Some((dir, name)) => (dir, name),
+        None => ("", below),
+    };
+    if name.is_empty() || name == "." || name == ".." {
+        return Err(Error::from(ErrorKind::InvalidInput));
+    }
+    Ok((Folder::reach(alloc, root, dir)?, name))
+}
+
+/// Whether anything has a name, be it a link.
+fn is_there<R: Files>(files: &R, path: &str) -> io::Result<bool> {
+    match fs::symlink_metadata(files, path) {
+        Ok(_) => Ok(true),
+        Err(error) if error.kind() == ErrorKind::NotFound => Ok(false),
+        Err(error) => Err(error),
+    }
+}
+
+/// What stands in a directory that is open.
+fn seen<R: Files>(files: &R, alloc: Global, folder: &Folder, most: usize) -> io::Result<Sightings> {
+    let mut all = Vec::new(alloc);
+    let mut room = Folder::room();
+    for _ in 0..u64::MAX {
+        let count = folder.read_names(&mut room)?;
+        if count == 0 {
+            return Ok(Sightings::All(all));
+        }
+        put_names(files, alloc, folder, &room[..count], &mut all)?;
+        if all.len() > most {
+            return Ok(Sightings::TooMany);
+        }
+    }
+    Ok(Sightings::TooMany)
+}
+
+/// Puts what stands under names, each with a NUL behind it.
+fn put_names<R: Files>(
+    files: &R,
+    alloc: Global,
+    folder: &Folder,
+    names: &[u8],
+    all: &mut Vec<Sighting, Global>,
+) -> io::Result<()> {
+    for name in names.split(|octet| *octet == 0) {
+        if !is_dots(name) {
+            put_sighting(files, alloc, folder, name, all)?;
+        }
+    }
+    Ok(())
+}
+
+/// Whether a name is of the directory itself, or of the one that it is in, or none.
+fn is_dots(name: &[u8]) -> bool {
+    matches!(name, [] | [b'.'] | [b'.', b'.'])
+}
+
+/// Puts what stands under a name; what went meanwhile is none.
+fn put_sighting<R: Files>(
+    files: &R,
+    alloc: Global,
+    folder: &Folder,
+    name: &[u8],
+    all: &mut Vec<Sighting, Global>,
+) -> io::Result<()> {
+    let found = match std::str::from_utf8(name) {
+        Ok(text) => match fs::symlink_metadata(files, folder.path_of(alloc, text)?.as_str()) {
+            Ok(found) => Some(found),
+            Err(error) if error.kind() == ErrorKind::NotFound => return Ok(()),
+            Err(error) => return Err(error),
+        },
+        Err(_) => None,
+    };
+    let name = Text::copy_of(alloc, name)?;
+    all.push(Sighting { name, found })?;
+    Ok(())
+}
