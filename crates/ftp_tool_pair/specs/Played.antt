@@ -1,43 +1,51 @@
 -- What is written where a script is played.
-use Rattle.std.specs.Prelude.{◌≡◌, ◌++◌, ◌⊎◌, ℕ, Bool, true, List, Option, Ok, Err, map, flat_map}
+use Rattle.std.specs.Prelude.{◌≡◌, ◌++◌, ◌⊎◌, ℕ, Bool, List, Option, Ok, Err, map, flat_map}
 use Rattle.std.specs.Io.KnownBytes.{Appends}
 use Rattle.ftp_operation.specs.Answer.{Said, said_of}
 use Rattle.ftp_operation.specs.declared.answer.Answer.{Answer}
 use Rattle.ftp_pair.specs.Session.{Seen}
 use Rattle.ftp_pair_world.specs.Claims.{Beginning}
+use Rattle.ftp_pair_world.specs.World.{World}
 use Rattle.ftp_tool_script.specs.Report.{report}
 use Rattle.ftp_tool_script.specs.Script.{script_value}
 use Rattle.ftp_tool_script.specs.declared.order.Order.{Order}
 use Rattle.ftp_tool_script.specs.Reading.{GivesAll}
 use Rattle.ftp_tool_script.specs.Status.{worst_of}
 use Rattle.ftp_tool_status.specs.declared.status.Status.{Status}
-use Rattle.ftp_tool_status.specs.declared.status.Status.TheVariants.{BadWords, Done, Failed}
-use Rattle.ftp_tool_pair.specs.Leading.{Led}
+use Rattle.ftp_tool_status.specs.declared.status.Status.TheVariants.{BadWords, Failed}
+use Rattle.ftp_tool_pair.specs.Leading.{Led, LeadsTo, first_second, orders_at}
 use Rattle.ftp_tool_pair.specs.Making.{own_beginning}
+use Rattle.ftp_tool_pair.specs.Transcript.{Delivery, transcript}
 
--- a text was written, and after it the report of each of these answers; the status is their worst. A is the type of an allocator, and says nothing
-pub record Reports (A : Type 0) (said : List Said) (old new : Option (List ℕ)) (status : Status) : Type 0 where
-  pub front : List ℕ
+-- this text was written, and after it the report of each of these answers; the status is their worst. A is the type of an allocator, and says nothing
+pub record Reports (A : Type 0) (front : List ℕ) (said : List Said) (old new : Option (List ℕ)) (status : Status) : Type 0 where
   pub answers : List (Answer A)
   pub same : map said_of answers ≡ said
   pub wrote : Appends old new (front ++ flat_map report answers)
   pub worst : status ≡ worst_of answers
 
--- the reports are those of a world, to which the orders led from this beginning, where no end was refused memory: so it was where all is said to be done
-pub record Plays (A : Type 0) (from : Beginning) (orders : List (Order (List ℕ))) (old new : Option (List ℕ)) (status : Status) : Type 0 where
-  pub world : Seen
-  pub reports : Reports A world.world.reports old new status
-  pub led : world.calm ≡ true → Led from orders world.world
-  pub sure : status ≡ Done → world.calm ≡ true
+-- the orders led from one world to another; the transcript of what was taken on the way was written, where it is wanted, and then all reports
+pub record PlaysIn (A : Type 0) (wanted : Bool) (orders : List (Order (List ℕ))) (first last : Seen) (old new : Option (List ℕ)) (status : Status) : Type 0 where
+  pub took : List Delivery
+  pub leads : LeadsTo (orders_at first_second orders) took first last
+  pub reports : Reports A (transcript wanted took) last.world.reports old new status
 
--- a reader gave a script, which was played, with roots or without
-pub record PlaysAll (A : Type 0) (roots : Bool) (known left old new : Option (List ℕ)) (status : Status) : Type 0 where
+-- the orders led from this beginning to a world, and no end was refused memory; the transcript of what was taken on the way was written, where it is
+-- wanted, and then the reports of that world
+pub record Plays (A : Type 0) (wanted : Bool) (from : Beginning) (orders : List (Order (List ℕ))) (old new : Option (List ℕ)) (status : Status) : Type 0 where
+  pub took : List Delivery
+  pub world : World
+  pub led : Led from orders took world
+  pub reports : Reports A (transcript wanted took) world.reports old new status
+
+-- a reader gave a script, which was played, with a transcript or without, with roots or without
+pub record PlaysAll (A : Type 0) (wanted roots : Bool) (known left old new : Option (List ℕ)) (status : Status) : Type 0 where
   pub text : List ℕ
   pub gave : GivesAll known left text
   pub login : List ℕ × List ℕ
   pub orders : List (Order (List ℕ))
   pub said : script_value text ≡ Ok (login, orders)
-  pub plays : Plays A (own_beginning roots login) orders old new status
+  pub plays : Plays A wanted (own_beginning roots login) orders old new status
 
 -- a reader gave a text that is no script, and nothing was written
 pub record IsUnfit (known left old new : Option (List ℕ)) (status : Status) : Type 0 where
@@ -48,6 +56,6 @@ pub record IsUnfit (known left old new : Option (List ℕ)) (status : Status) : 
   pub same : new ≡ old
   pub told : status ≡ BadWords
 
--- a script was played; or it is none; or something failed
-abbrev pub Tells : (A : Type 0) (roots : Bool) (known left old new : Option (List ℕ)) (status : Status) → Type 0
-Tells A roots known left old new status = PlaysAll A roots known left old new status ⊎ (IsUnfit known left old new status ⊎ (status ≡ Failed))
+-- a script was played; or it is none; or something failed, or was refused memory
+abbrev pub Tells : (A : Type 0) (wanted roots : Bool) (known left old new : Option (List ℕ)) (status : Status) → Type 0
+Tells A wanted roots known left old new status = PlaysAll A wanted roots known left old new status ⊎ (IsUnfit known left old new status ⊎ (status ≡ Failed))

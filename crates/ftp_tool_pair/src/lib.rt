@@ -7,6 +7,7 @@ mod making;
 mod orders;
 mod playing;
 mod rounds;
+pub mod rows;
 mod transcript;
 mod typed;
 

@@ -1,7 +1,8 @@
 // The orders of a script, one after another.
 ghost use Rattle.std.specs.Prelude.{◌≡◌, ◌+◌, ◌∷◌, [], true, IfOk, OnOk};
-ghost use Rattle.ftp_pair.specs.Session.{LeadsSmall, SettlesAfter};
+ghost use Rattle.ftp_pair_world.specs.Events.{IsQuiet};
 ghost use Rattle.ftp_tool_pair.specs.Leading.{LeadsTo, Rests, first_second, order_at, orders_at};
+ghost use Rattle.ftp_tool_pair.specs.Telling.{LeadsTelling};
 
 use crate::rounds::round;
 use crate::transcript::Transcript;
@@ -16,8 +17,8 @@ use std::alloc::{AllocError, Allocator};
 use std::io;
 use std::io::{Error, ErrorKind};
 
-/// Does orders: rounds until one in which nothing moves and no order begins, and then all comes to rest. An order begins once the one before has its
-/// report.
+/// Does orders: rounds until one in which nothing moves and no order begins, where all has come to rest. An order begins once the one before has its
+/// report. The transcript is told of all that is taken.
 pub(crate) fn obey<A, T, N, S>(
     world: &mut World<A, T, N, S>,
     piece: u32,
@@ -29,7 +30,7 @@ where
     T: Tree<A>,
     N: Near<A>,
     S: Far<A, T>,
-    ensures leads { OnOk result (LeadsTo (orders_at first_second orders.items) world.old world.new) }
+    ensures leads { OnOk result (LeadsTelling (orders_at first_second orders.items) world.old world.new transcript.old transcript.new) }
     ensures rests { OnOk result (Rests (orders_at first_second orders.items) world.old world.new) }
 {
     let mut number = 0u64;
@@ -41,21 +42,19 @@ where
         number = number.saturating_add(1);
     }
     until_still(world, piece, transcript)?;
-    rest(world)
+    at_rest(world)
 }
 
-/// All that is left moves; fails where that is not all that was ordered.
-fn rest<A, T, N, S>(world: &mut World<A, T, N, S>) -> io::Result<()>
+/// Fails where something is in flight, or not all that was ordered has its report.
+fn at_rest<A, T, N, S>(world: &World<A, T, N, S>) -> io::Result<()>
 where
     A: Allocator + Copy,
     T: Tree<A>,
     N: Near<A>,
     S: Far<A, T>,
-    ensures leads { LeadsSmall world.old world.new }
-    ensures settles { SettlesAfter world.old world.new }
+    ensures quiet { OnOk result (IsQuiet world.now.world) }
 {
-    world.settle();
-    if world.finished() && world.is_quiet() {
+    if world.is_quiet() && world.finished() {
         Ok(())
     } else {
         Err(unreported())
@@ -90,7 +89,7 @@ where
     T: Tree<A>,
     N: Near<A>,
     S: Far<A, T>,
-    ensures { IfOk result (λ possible. possible ≡ true → LeadsTo (order_at moment.seconds order ∷ []) world.old world.new) }
+    ensures { IfOk result (λ possible. possible ≡ true → LeadsTo (order_at moment.seconds order ∷ []) [] world.old world.new) }
 {
     match order.into_parts() {
         Ok(op) => world.step(Event::Next(op, moment)),
@@ -99,7 +98,7 @@ where
 }
 
 /// Rounds until each order that began has its report, or nothing moves any more; one at least.
-#[tactic(auto, using(crate::proofs::Leading::nothing))]
+#[tactic(auto, using(crate::proofs::Leading::nothing_told_of))]
 fn until_finished<A, T, N, S>(
     world: &mut World<A, T, N, S>,
     piece: u32,
@@ -110,7 +109,7 @@ where
     T: Tree<A>,
     N: Near<A>,
     S: Far<A, T>,
-    ensures { OnOk result (LeadsTo [] world.old world.new) }
+    ensures { OnOk result (LeadsTelling [] world.old world.new transcript.old transcript.new) }
 {
     for _ in 0..TURNS {
         if !round(world, piece, transcript)? || world.finished() {
@@ -121,7 +120,7 @@ where
 }
 
 /// Rounds until nothing moves any more.
-#[tactic(auto, using(crate::proofs::Leading::nothing))]
+#[tactic(auto, using(crate::proofs::Leading::nothing_told_of))]
 fn until_still<A, T, N, S>(
     world: &mut World<A, T, N, S>,
     piece: u32,
@@ -132,7 +131,7 @@ where
     T: Tree<A>,
     N: Near<A>,
     S: Far<A, T>,
-    ensures { OnOk result (LeadsTo [] world.old world.new) }
+    ensures { OnOk result (LeadsTelling [] world.old world.new transcript.old transcript.new) }
 {
     for _ in 0..TURNS {
         if !round(world, piece, transcript)? {

@@ -1,11 +1,11 @@
 // A script between a reader and a writer.
 ghost use Rattle.std.specs.Prelude.{◌≡◌, true, IfOk, OnOk};
 ghost use Rattle.ftp_tool_pair.specs.Begun.{begun};
-ghost use Rattle.ftp_tool_status.specs.declared.status.Status.TheVariants.{Done, Failed};
-ghost use Rattle.ftp_tool_pair.specs.Leading.{LeadsTo, Rests, first_second, orders_at};
+ghost use Rattle.ftp_tool_status.specs.declared.status.Status.TheVariants.{Failed};
+ghost use Rattle.ftp_tool_pair.specs.Leading.{Rests, first_second, orders_at};
 ghost use Rattle.ftp_tool_pair.specs.Making.{own_beginning};
 ghost use Rattle.ftp_tool_script.specs.Status.{status_without};
-ghost use Rattle.ftp_tool_pair.specs.Played.{Plays, Reports, Tells};
+ghost use Rattle.ftp_tool_pair.specs.Played.{Plays, PlaysIn, Tells};
 
 use crate::beginning::Beginning;
 use crate::ends::world_of;
@@ -43,7 +43,7 @@ pub struct PairSettings {
 /// The ends are `ftp_client` and `ftp_server` over a new tree in memory, where `guest` with the password `secret` and `anonymous` without one may log
 /// in; what lies between them is the world of `ftp_pair`. The first order has the first second of the year 2000, each other the next one. `Done`: each
 /// order was answered as wanted. `Refused`: an order was refused or failed. `BadWords`: a line of the script fits no form, and nothing was done.
-/// `Failed`: a read or a write failed, or memory was refused outside of the ends. `faults` is told of the last two.
+/// `Failed`: a read or a write failed, or memory was refused, also to one of the ends. `faults` is told of the last two.
 #[tactic(auto, using(crate::proofs::Reporting::tells_none, crate::proofs::Reporting::tells_script))]
 pub fn play<A, R, W, F>(
     alloc: A,
@@ -57,7 +57,7 @@ where
     R: Read,
     W: Write,
     F: Write,
-    ensures { Tells A settings.roots (R.remaining reader.old) (R.remaining reader.new) (W.contents writer.old) (W.contents writer.new) result }
+    ensures { Tells A settings.transcript settings.roots (R.remaining reader.old) (R.remaining reader.new) (W.contents writer.old) (W.contents writer.new) result }
 {
     let script = match read_script(alloc, reader) {
         Ok(script) => script,
@@ -96,7 +96,7 @@ fn play_script<A: Allocator + Copy, W: Write>(
     script: Script<A>,
     writer: &mut W,
 ) -> io::Result<Status>
-    ensures { IfOk result (λ status. Plays A (own_beginning settings.roots (script.login.user, script.login.pass)) script.orders.items
+    ensures { IfOk result (λ status. Plays A settings.transcript (own_beginning settings.roots (script.login.user, script.login.pass)) script.orders.items
         (W.contents writer.old) (W.contents writer.new) status) }
 {
     let Script { login, orders } = script;
@@ -112,14 +112,14 @@ fn play_from<A: Allocator + Copy, C: ClientTransfer<A>, J: ServerTransfer<A, Mem
     orders: Vec<Order<Text<A>>, A>,
     writer: &mut W,
 ) -> io::Result<Status>
-    ensures { IfOk result (λ status. Plays A (begun of.login.user of.login.pass of.accounts of.tree of.near_host of.far_host) orders.items
+    ensures { IfOk result (λ status. Plays A settings.transcript (begun of.login.user of.login.pass of.accounts of.tree of.near_host of.far_host) orders.items
         (W.contents writer.old) (W.contents writer.new) status) }
 {
     let mut world = world_of::<A, MemTree<A>, C, J>(alloc, of)?;
     play_in(alloc, settings, &mut world, orders, writer)
 }
 
-/// Plays orders in a world: the transcript, where it is wanted, and then the reports.
+/// Plays orders in a world: the transcript, where it is wanted, and then the reports. Fails where an end was refused memory.
 fn play_in<A, T, N, S, W>(
     alloc: A,
     settings: PairSettings,
@@ -133,28 +133,17 @@ where
     N: Near<A>,
     S: Far<A, T>,
     W: Write,
-    ensures reports { IfOk result (λ status. Reports A world.new.world.reports (W.contents writer.old) (W.contents writer.new) status) }
-    ensures leads { OnOk result (LeadsTo (orders_at first_second orders.items) world.old world.new) }
+    ensures plays { IfOk result (λ status. PlaysIn A settings.transcript orders.items world.old world.new
+        (W.contents writer.old) (W.contents writer.new) status) }
     ensures rests { OnOk result (Rests (orders_at first_second orders.items) world.old world.new) }
-    ensures sure { IfOk result (λ status. status ≡ Done → world.new.calm ≡ true) }
+    ensures calm { OnOk result (world.new.calm ≡ true) }
 {
     let mut transcript = Transcript::new(alloc, settings.transcript);
     obey(world, settings.piece, orders, &mut transcript)?;
     writer.write_all(transcript.lines())?;
     let status = write_reports(alloc, world.reports(), writer)?;
-    surely(status, world.is_calm())
-}
-
-/// That all was done is said only where no end was refused memory.
-fn surely(status: Status, calm: bool) -> io::Result<Status>
-    ensures same { IfOk result (λ said. said ≡ status) }
-    ensures sure { IfOk result (λ said. said ≡ Done → calm ≡ true) }
-{
-    if calm {
-        return Ok(status);
+    if !world.is_calm() {
+        return Err(Error::from(ErrorKind::OutOfMemory));
     }
-    match status {
-        Status::Done => Err(Error::from(ErrorKind::OutOfMemory)),
-        other => Ok(other),
-    }
+    Ok(status)
 }

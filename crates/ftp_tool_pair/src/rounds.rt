@@ -1,6 +1,9 @@
 // Rounds of a world.
-ghost use Rattle.std.specs.Prelude.{OnOk, []};
-ghost use Rattle.ftp_tool_pair.specs.Leading.{LeadsTo};
+ghost use Rattle.std.specs.Prelude.{IfOk, OnOk, []};
+ghost use Rattle.ftp_pair_parts.specs.Shown.{queue_of};
+ghost use Rattle.ftp_pair_world.specs.Events.{Deliver};
+ghost use Rattle.ftp_tool_pair.specs.Leading.{LeadsTo, delivered_by};
+ghost use Rattle.ftp_tool_pair.specs.Telling.{LeadsTelling};
 
 use crate::transcript::Transcript;
 use ftp_client_model::Near;
@@ -15,7 +18,6 @@ const DELIVERY: usize = 4096;
 
 /// One round: octets of the control connection to the server and to the client, data to the server and to the client, at most so many of each
 /// (0: all), and then openings and ends; says whether anything moved.
-#[tactic(auto, using(crate::proofs::Leading::nothing))]
 pub(crate) fn round<A, T, N, S>(
     world: &mut World<A, T, N, S>,
     piece: u32,
@@ -26,7 +28,7 @@ where
     T: Tree<A>,
     N: Near<A>,
     S: Far<A, T>,
-    ensures { OnOk result (LeadsTo [] world.old world.new) }
+    ensures { OnOk result (LeadsTelling [] world.old world.new transcript.old transcript.new) }
 {
     let asked = flow(world, Queue::ControlToServer, piece, transcript)?;
     let answered = flow(world, Queue::ControlToClient, piece, transcript)?;
@@ -45,7 +47,7 @@ where
     T: Tree<A>,
     N: Near<A>,
     S: Far<A, T>,
-    ensures { OnOk result (LeadsTo [] world.old world.new) }
+    ensures { OnOk result (LeadsTo [] [] world.old world.new) }
 {
     let left = tell(world, Queue::ControlToServer)?;
     let parted = tell(world, Queue::ControlToClient)?;
@@ -61,7 +63,7 @@ where
     T: Tree<A>,
     N: Near<A>,
     S: Far<A, T>,
-    ensures { OnOk result (LeadsTo [] world.old world.new) }
+    ensures { OnOk result (LeadsTo [] [] world.old world.new) }
 {
     world.step(Event::End(queue))
 }
@@ -74,7 +76,7 @@ where
     T: Tree<A>,
     N: Near<A>,
     S: Far<A, T>,
-    ensures { OnOk result (LeadsTo [] world.old world.new) }
+    ensures { OnOk result (LeadsTo [] [] world.old world.new) }
 {
     world.step(Event::Open)
 }
@@ -90,13 +92,13 @@ where
     T: Tree<A>,
     N: Near<A>,
     S: Far<A, T>,
-    ensures { OnOk result (LeadsTo [] world.old world.new) }
+    ensures { IfOk result (λ possible. LeadsTo [] (delivered_by (Deliver (queue_of queue) count) possible world.new.world) world.old world.new) }
 {
     world.step(Event::Deliver(queue, count))
 }
 
 /// Octets go over a queue, at most so many (0: all); says whether any moved.
-#[tactic(auto, using(crate::proofs::Leading::nothing))]
+#[tactic(auto, using(crate::proofs::Leading::nothing_told_of))]
 fn flow<A, T, N, S>(
     world: &mut World<A, T, N, S>,
     queue: Queue,
@@ -108,7 +110,7 @@ where
     T: Tree<A>,
     N: Near<A>,
     S: Far<A, T>,
-    ensures { OnOk result (LeadsTo [] world.old world.new) }
+    ensures { OnOk result (LeadsTelling [] world.old world.new transcript.old transcript.new) }
 {
     let mut left = most_of(piece);
     let mut moved = false;
@@ -145,7 +147,7 @@ where
     T: Tree<A>,
     N: Near<A>,
     S: Far<A, T>,
-    ensures { OnOk result (LeadsTo [] world.old world.new) }
+    ensures { OnOk result (LeadsTelling [] world.old world.new transcript.old transcript.new) }
 {
     if !carry(world, queue, count)? {
         return Ok(None);
