@@ -3,7 +3,7 @@ use Rattle.std.proofs.Common.{◌≡◌, ◌∙◌, Bool, true, List, [], ◌∷
 use Rattle.std.specs.Prelude.{IfOk, OnOk}
 use Rattle.std.specs.declared.result.Result.{Result}
 use Rattle.ftp_pair_agreement.proofs.Theorems.{agrees-always, headline, quiet-is-answered, rest-is-quiet}
-use Rattle.ftp_server_model.specs.Machine.{Reading}
+use Rattle.ftp_server_model.specs.Machine.{IsReading, Reading}
 use Rattle.ftp_pair_world.specs.Agreement.{AreHonest, IsHonest, Leads, Order, begun_by}
 use Rattle.ftp_pair_world.specs.Claims.{AreTimed, Beginning, IsTimed, world_of}
 use Rattle.ftp_pair_world.specs.Events as events
@@ -13,7 +13,7 @@ use Rattle.ftp_pair_world.specs.World.{World}
 use Rattle.ftp_pair_parts.specs.Happening.{IsSmall, event_of}
 use Rattle.ftp_pair_parts.specs.Shown.{Steps}
 use Rattle.ftp_pair_parts.specs.declared.event.Event.{Event as Given}
-use Rattle.ftp_pair.specs.Session.{AgreesAfter, AreSmall, IsSettled, LeadsCalmly, LeadsSmall, Seen, Session, SettlesAfter}
+use Rattle.ftp_pair.specs.Session.{AgreesAfter, AgreesBy, AreSmall, GoesOn, IsSettled, LeadsCalmly, LeadsSmall, Seen, Session, SettlesAfter}
 use Rattle.ftp_pair.proofs.Reaching.{timed}
 
 -- ---- events behind events
@@ -72,11 +72,16 @@ session_on read from before given begun more old new s in_time leads = record {
 }
 
 -- and there is agreement
+goes_on : (read : Reading) (reads : IsReading read) (given : List Event) (more : List Order) (old new : World) → AreTimed given → Leads read old given more new → GoesOn read given more old new
+goes_on read reads given more old new in_time leads from before begun session =
+    let on = session_on read from before given begun more old new session in_time leads in
+    (on, agrees-always read reads from on.fair (before ++ given) (begun ++ more) new on.timed on.leads)
+
+-- by the operations that were begun on the way
 pub agrees_after : (given : List Event) (old new : Seen) → AreTimed given → LeadsCalmly given old new → AgreesAfter given old new
-agrees_after given old new in_time leads calm read reads from before begun session =
+agrees_after given old new in_time leads calm read reads =
     let so = (leads calm).1 read reads in
-    let on = session_on read from before given begun so.0 old.world new.world session in_time so.1 in
-    (so.0, on, agrees-always read reads from on.fair (before ++ given) (begun ++ so.0) new.world on.timed on.leads)
+    (so.0, so.1, goes_on read reads given so.0 old.world new.world in_time so.1)
 
 -- by turns to rest
 pub settles : (old new : Seen) → LeadsSmall old new → (new.calm ≡ true → IsStill new.world) → SettlesAfter old new
@@ -104,15 +109,13 @@ pub all_timed : {A : Type 0} (given : List (Given A)) → AreTimed (map event_of
 all_timed [] = tt
 all_timed (event ∷ given) = (timed event, all_timed given)
 
--- one event alone leads on
-one_leads : (event : Event) (possible : Bool) (old new : Seen) → Steps old.calm new.calm (λ read. Happens read event old.world possible new.world) → LeadsCalmly (event ∷ []) old new
-one_leads event possible old new steps calm =
-    let did = steps calm in (did.0, λ read reads. (begun_by event possible ++ [], (possible, new.world, [], did.1 read reads, refl, (refl, refl))))
-
--- so after it there is agreement
+-- so after one event there is agreement, with what it began
 pub agrees_step : {A E : Type 0} (event : Given A) (result : Result Bool E) (old new : Seen)
-    → IfOk result (λ possible. Steps old.calm new.calm (λ read. Happens read (event_of event) old.world possible new.world)) → OnOk result (AgreesAfter (event_of event ∷ []) old new)
-agrees_step event (Ok possible) old new did = agrees_after (event_of event ∷ []) old new (timed event, tt) (one_leads (event_of event) possible old new did)
+    → IfOk result (λ possible. Steps old.calm new.calm (λ read. Happens read (event_of event) old.world possible new.world))
+    → IfOk result (λ possible. AgreesBy (event_of event) (begun_by (event_of event) possible) old new)
+agrees_step event (Ok possible) old new did = λ calm read reads.
+    goes_on read reads (event_of event ∷ []) (begun_by (event_of event) possible) old.world new.world (timed event, tt)
+    (possible, new.world, [], (did calm).1 read reads, sym (append-nil (begun_by (event_of event) possible)), (refl, refl))
 agrees_step event (Err e) old new did = tt
 
 -- and after a run

@@ -62,12 +62,20 @@ IsReached s = s.calm ≡ true → Reached s.world
 
 -- ---- what is known then
 
--- a session that comes to the first world comes to the other by these events, and reports and map agree with what was begun
+-- each session that comes to the first world comes to the other by these events, having begun these operations more, and reports and map agree with all
+abbrev pub GoesOn : Reading → List Event → List Order → World → World → Type 0
+GoesOn read given more old new =
+    (from : Beginning) (before : List Event) (begun : List Order) → Session read from before begun old
+    → Session read from (before ++ given) (begun ++ more) new × WorldAgrees (state_of from) (begun ++ more) new
+
+-- so it is after one event, which began these
+abbrev pub AgreesBy : Event → List Order → Seen → Seen → Type 0
+AgreesBy event more old new = new.calm ≡ true → (read : Reading) → IsReading read → GoesOn read (event ∷ []) more old.world new.world
+
+-- and after events: these began the operations that they began on the way from the first world to the other
 abbrev pub AgreesAfter : List Event → Seen → Seen → Type 0
 AgreesAfter given old new =
-    new.calm ≡ true → (read : Reading) → IsReading read → (from : Beginning) (before : List Event) (begun : List Order) → Session read from before begun old.world
-    → (more : List Order) × Session read from (before ++ given) (begun ++ more) new.world
-    × WorldAgrees (state_of from) (begun ++ more) new.world
+    new.calm ≡ true → (read : Reading) → IsReading read → (more : List Order) × Leads read old.world given more new.world × GoesOn read given more old.world new.world
 
 -- a session at rest: nothing is in flight, each operation begun has its report, and on honest connections, where none is an upload over breaks, all
 -- is as in the direct run

@@ -1,13 +1,14 @@
 // A world of two ends.
-ghost use Rattle.std.specs.Prelude.{◌≡◌, [], ◌∷◌, true, length, map, nat_eq, option_map, IfErr, IfOk, OnErr, OnOk};
+ghost use Rattle.std.specs.Prelude.{◌≡◌, true, length, map, nat_eq, option_map, IfErr, IfOk, OnErr, OnOk};
 ghost use Rattle.std.specs.List.{slice_get};
 ghost use Rattle.ftp_operation.specs.Answer.{said_of};
+ghost use Rattle.ftp_pair_world.specs.Agreement.{begun_by};
 ghost use Rattle.ftp_pair_world.specs.Claims.{Beginning, IsFair, world_of};
 ghost use Rattle.ftp_pair_world.specs.Events.{Happens, IsQuiet};
 ghost use Rattle.ftp_pair_world.specs.World.{world};
 ghost use Rattle.ftp_pair_parts.specs.Happening.{event_of};
 ghost use Rattle.ftp_pair_parts.specs.Shown.{HasRoom, Steps, mark_of};
-ghost use Rattle.ftp_pair.specs.Session.{AgreesAfter, AgreesHere, IsReached, LeadsCalmly, LeadsPartly, Reached, seen};
+ghost use Rattle.ftp_pair.specs.Session.{AgreesAfter, AgreesBy, AgreesHere, IsReached, LeadsCalmly, LeadsPartly, Reached, seen};
 
 use ftp_client_model::Near;
 use ftp_operation::Answer;
@@ -70,7 +71,7 @@ impl<A: Allocator + Copy, T: Tree<A>, N: Near<A>, F: Far<A, T>> World<A, T, N, F
     /// it has changed nothing.
     pub fn step(&mut self, event: Event<A>) -> Result<bool, AllocError>
         ensures does { IfOk result (λ possible. Steps self.old.calm self.new.calm (λ read. Happens read (event_of event) self.old.world possible self.new.world)) }
-        ensures agrees { OnOk result (AgreesAfter (event_of event ∷ []) self.old self.new) }
+        ensures agrees { IfOk result (λ possible. AgreesBy (event_of event) (begun_by (event_of event) possible) self.old self.new) }
         ensures err { OnErr result (self.new ≡ self.old) }
     {
         self.parts.step(self.alloc, event)
