@@ -36,12 +36,14 @@ where
     let (data, ended) = drive_end::<Serves<A, T>, Clocked<F, C>, R, W, P>(clocked, control, ports);
     match ended {
         Ok(()) => {
-            data.finish::<Serves<A, T>, Clocked<F, C>, P>(clocked, ports);
+            data.finish(ports);
             Ok(())
         }
         Err(cause) => {
-            data.finish::<Serves<A, T>, Clocked<F, C>, P>(clocked, ports);
+            let mut data = data;
+            data.note::<Serves<A, T>, Clocked<F, C>>(clocked);
             clocked.server.control_end();
+            data.finish(ports);
             Err(cause)
         }
     }
