@@ -2,7 +2,7 @@
 """A download whose data connection ends cleanly before all octets came is never taken for the whole file.
 
 In stream mode the end of the data connection is the end of the file, so a middlebox that cuts it cleanly makes a short file. Where the server
-tells the size, `get` goes on by REST, and FILE is whole with status 0 or the older one stands with status 1.
+tells size and moment, `get` goes on by REST, and FILE is whole with status 0 or the older one stands with status 1.
 """
 import os
 import random
@@ -16,8 +16,8 @@ WHOLE = bytes(range(256)) * 400
 class File:
     """A file of a fake server. Its first transfers are cut behind so many octets each; `shown` is what SIZE tells."""
 
-    def __init__(self, octets, cuts, shown=None):
-        self.octets, self.cuts = octets, list(cuts)
+    def __init__(self, octets, cuts, shown=None, moment="213 20260101000000"):
+        self.octets, self.cuts, self.moment = octets, list(cuts), moment
         self.shown = shown if shown is not None else (lambda: f"213 {len(self.octets)}")
 
     def size(self, session, _):
@@ -31,19 +31,29 @@ class File:
 def get(rows, file, words=(), more=()):
     """Downloads a file over an older one: status, what FILE has then, standard error, the commands."""
     (rows.folder / "out").write_bytes(OLDER)
-    server = FakeServer({"SIZE": file.size, "RETR": file.retr, **dict(more)})
+    server = FakeServer({"SIZE": file.size, "MDTM": file.moment, "RETR": file.retr, **dict(more)})
     status, _, told = rows.tool("get", f"127.0.0.1:{server.port}/f", "out", *words)
     server.close()
     return status, (rows.folder / "out").read_bytes(), told, server.commands
 
 
+def first_then(first, rest):
+    """Tells the one, and from then on the other."""
+    told = [first]
+    return lambda: told.pop() if told else rest
+
+
 def fakes(rows):
     status, octets, told, commands = get(rows, File(WHOLE, []))
-    rows.row("whole at once, with one question for the size", (status, octets, commands.count("SIZE f")) == (0, WHOLE, 1), (status, told, commands))
+    asked = (commands.count("SIZE f"), commands.count("MDTM f"), commands.count("RETR f"))
+    rows.row("whole at once, with size and moment asked before and after", (status, octets, asked) == (0, WHOLE, (2, 2, 1)), (status, told, commands))
     for cut in (0, 1, 4096, len(WHOLE) - 1):
         status, octets, told, commands = get(rows, File(WHOLE, [cut]))
         went_on = cut == 0 or f"REST {cut}" in commands
         rows.row(f"cut behind {cut} octets: goes on there", (status, octets, went_on) == (0, WHOLE, True), (status, len(octets), told, commands))
+    status, octets, told, commands = get(rows, File(WHOLE, [4096], moment="500 what"))
+    is_anew = not any(command.startswith("REST") for command in commands)
+    rows.row("cut, and no moment is told: begins anew", (status, octets, is_anew) == (0, WHOLE, True), (status, len(octets), told, commands))
     status, octets, told, _ = get(rows, File(WHOLE, [5000] * 5))
     rows.row("cut five times: whole", (status, octets) == (0, WHOLE), (status, len(octets), told))
     status, octets, told, commands = get(rows, File(WHOLE, [7] * 100))
@@ -53,11 +63,9 @@ def fakes(rows):
     rows.row("cut, and no restart: status 1, the older file", (status, octets) == (1, OLDER), (status, len(octets), told))
     status, octets, told, _ = get(rows, File(WHOLE, [], lambda: "213 1000"))
     rows.row("more than SIZE tells: status 1, the older file", (status, octets) == (1, OLDER), (status, len(octets), told))
-    sizes = ["213 1000", f"213 {len(WHOLE)}"]
-    status, octets, told, _ = get(rows, File(WHOLE, [], lambda: sizes.pop(0)))
+    status, octets, told, _ = get(rows, File(WHOLE, [], first_then("213 1000", f"213 {len(WHOLE)}")))
     rows.row("grown between SIZE and RETR: whole", (status, octets) == (0, WHOLE), (status, len(octets), told))
-    sizes = [f"213 {len(WHOLE) + 9}", f"213 {len(WHOLE)}"]
-    status, octets, told, _ = get(rows, File(WHOLE, [], lambda: sizes.pop(0)))
+    status, octets, told, _ = get(rows, File(WHOLE, [], first_then(f"213 {len(WHOLE) + 9}", f"213 {len(WHOLE)}")))
     rows.row("shrunk between SIZE and RETR: whole", (status, octets) == (0, WHOLE), (status, len(octets), told))
 
 

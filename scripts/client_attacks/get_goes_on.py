@@ -111,13 +111,13 @@ def over_control_connections(rows):
 
 
 def keep(rows, octets=WHOLE, moment="20260101000000", *words):
-    """Leaves a part, of a download whose data connection breaks each time."""
+    """Leaves a part, of a download whose data connection breaks each time; it begins anew each time where no moment is told."""
     clear(rows)
     file = File(octets, moments=[moment])
     cuts = [3000]
 
     def retr(session, _):
-        count = cuts.pop(0) if cuts else 0
+        count = cuts.pop(0) if cuts else 0 if moment else 3000
         rest, session.offset = octets[session.offset:], 0
         session.send(rest[:count], "426 broken")
 

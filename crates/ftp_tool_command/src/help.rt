@@ -93,9 +93,10 @@ not stop the others, and the status is the worst. The file is written beside its
 it keeps the permissions of the file that it replaces. A file of that name stays, and FILE.ftp-part-1 is written in its place, and so on to
 99. Where FILE is a link, that is done where it leads; what is no file, as a pipe, is written as it stands and never replaced; - is standard
 output.
-In type I and file structure the server is asked for the size first. Where it tells that, the file is whole once what came has it; where a
-data connection was cut, or broke, the download goes on there, by at most 16 tries in all, and ends with 1 where it is not whole then. In
-type A, and where the server tells no size, a cut that looks like the end of the file is not noticed; with --progress a note says so.
+In type I and file structure the server is asked for size and moment first, and again after each try. Where it tells the size, the file is
+whole once what came has it; where a data connection was cut, or broke, the download goes on there if both are told and are as before, and else
+begins anew, as where the file changed meanwhile; by at most 16 tries in all, and it ends with 1 where it is not whole then. In type A, and where
+the server tells no size, a cut that looks like the end of the file is not noticed; with --progress a note says so.
 With --keep what came of a file that is not whole stays beside it; standard error has its name, and FILE.ftp-part.note says of which file
 it is. With --continue a download goes on behind such a part, where the server tells the size and the moment that stand there; else it
 begins anew, and a note says so. With --moment FILE has the moment at which PATH was changed last; where the server does not know it,
@@ -105,9 +106,10 @@ Where the control connection ends, another one is made, at most four times, behi
 The download goes on there where size and moment are those of before, and else begins anew. A server that says, takes and sends nothing for
 the seconds of --timeout counts as one that ended it.
 Who logs in is the user of --user, else that of a URL, else that of the first entry that .netrc has for HOST, else anonymous. The password
-of anonymous is none; that of another user is the first of: the file that --password-file names; FTP_PASSWORD in the environment; that of a
-URL that names the same user or where --user names none; the first entry that .netrc has for HOST and the user. That is the file that NETRC
-in the environment names, or .netrc in HOME; like the file of --password-file it is refused where others may use it: mode 600 or 400.
+of anonymous is none; that of another user is the first of: that of a URL that names the same user or where --user names none; the file that
+--password-file names; the first entry that .netrc has for HOST and the user; FTP_PASSWORD in the environment, which is not sent for a user
+whom a URL names. .netrc is the file that NETRC in the environment names, or .netrc in HOME; like the file of --password-file it is refused
+where others may use it (mode 600 or 400), and where it is no file.
 Everything goes in cleartext, passwords too.
 Status: 0 done; 1 refused, or not all came; 2 bad command line, login or path; 3 the control connection or a device failed, or memory
 was refused. All but 0 are told on standard error, a refusal with the server's text.

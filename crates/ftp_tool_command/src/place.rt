@@ -56,6 +56,7 @@ pub fn user_in<'a>(words: &'a ArgMatches<'_>, url: Option<&'a UrlPlace>) -> User
         },
         password_file: words.get_str("password-file"),
         password: password_of(url, named),
+        is_of_url: named.is_none() && user_of(url).is_some(),
     }
 }
 

@@ -60,6 +60,7 @@ pub fn script_user_of<'a>(words: &'a ArgMatches<'_>) -> Result<Option<User<'a>>,
             name,
             password_file,
             password: None,
+            is_of_url: false,
         })),
     }
 }

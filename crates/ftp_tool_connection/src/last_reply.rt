@@ -1,12 +1,10 @@
 // What is noticed of a server beside its answer: the line of its replies that came last, how many data connections were opened, and that it fell silent.
+use ftp_tool_listing::Shown;
 use std::fmt;
 use std::fmt::{Display, Formatter};
 
 /// The most octets of a line that are kept.
 const LINE_LIMIT: usize = 512;
-
-/// What stands for an octet that a terminal might obey, or that is of no text.
-const HIDDEN: char = '?';
 
 /// The code of a server that ends the control connection (RFC 959, section 4.2.2).
 const NOT_AVAILABLE: u16 = 421;
@@ -158,7 +156,7 @@ impl<'a> Display for Refusal<'a> {
         if self.line.is_empty() {
             return write!(formatter, "{}", self.code);
         }
-        write_plain(self.line, formatter)
+        Shown(self.line).fmt(formatter)
     }
 }
 
@@ -178,29 +176,6 @@ impl<'a> Display for Said<'a> {
             return Ok(());
         }
         formatter.write_str(": ")?;
-        write_plain(self.line, formatter)
+        Shown(self.line).fmt(formatter)
     }
-}
-
-/// Writes octets of a server for a terminal: none of its control characters, by which a hostile server could rule it.
-fn write_plain<W: fmt::Write>(octets: &[u8], formatter: &mut Formatter<W>) -> fmt::Result {
-    for chunk in octets.utf8_chunks() {
-        write_text(chunk.valid(), formatter)?;
-        if !chunk.invalid().is_empty() {
-            formatter.write_char(HIDDEN)?;
-        }
-    }
-    Ok(())
-}
-
-fn write_text<W: fmt::Write>(text: &str, formatter: &mut Formatter<W>) -> fmt::Result {
-    for each in text.chars() {
-        formatter.write_char(shown(each))?;
-    }
-    Ok(())
-}
-
-/// A character as a terminal is shown it.
-fn shown(each: char) -> char {
-    if each.is_control() { HIDDEN } else { each }
 }

@@ -5,5 +5,6 @@ pub mod Entry
 pub mod Netrc
 pub mod Placing
 pub mod Rows
+pub mod Secret
 pub mod Spot
 pub mod UrlPlace

@@ -1,8 +1,9 @@
 // Who asks: a user name and the password, each from where it is said.
 use crate::entry::NetrcEntry;
-use crate::netrc_file::{no_password, suited};
+use crate::netrc_file::{no_password, no_password_of_url, suited};
 use crate::private::NotPrivate;
 use crate::secrets::Secrets;
+use crate::source::{Known, Source, source_of};
 use ftp_facts::Text;
 use ftp_operation::Login;
 use std::alloc::Global;
@@ -20,6 +21,8 @@ pub struct User<'a> {
     pub password_file: Option<&'a str>,
     /// The password that a URL has.
     pub password: Option<&'a str>,
+    /// Whether it is a URL that names who logs in.
+    pub is_of_url: bool,
 }
 
 /// The user who needs no password.
@@ -31,8 +34,8 @@ const GUEST: &[u8] = b"anonymous@";
 /// The most octets of a file that has a password.
 const FILE_LIMIT: u64 = 1024;
 
-/// The login of a user at a host. The password is the first of these: that in the file that is named, that in the environment, in FTP_PASSWORD, that
-/// of a URL, and that of the user's entry in a `.netrc`. `anonymous` needs none, and is not sent the one in the environment.
+/// The login of a user at a host. The password is the first of these: that of a URL, that in the file that is named, that of the user's entry in a
+/// `.netrc`, and that in the environment, in FTP_PASSWORD, which is not sent for a user whom a URL names. `anonymous` needs none.
 pub fn login_of<R>(rt: &R, host: &str, user: User<'_>) -> io::Result<Login<Global>>
 where
     R: Files + Env + AllocGlobal,
@@ -53,7 +56,7 @@ fn login_by<S: Secrets>(
     }
 }
 
-/// The login of a user who is named; a `.netrc` is read where the password is nowhere else.
+/// The login of a user who is named; a `.netrc` is read where neither a URL nor a file has the password, and the user needs one.
 fn login_of_name<S: Secrets>(
     rt: &S,
     alloc: Global,
@@ -61,24 +64,24 @@ fn login_of_name<S: Secrets>(
     user: User<'_>,
     name: &str,
 ) -> io::Result<Login<Global>> {
-    let pass = match password_said(rt, alloc, user, name.as_bytes())? {
-        Some(pass) => pass,
-        None => password_for(rt, alloc, host, name.as_bytes())?,
+    let is_said = user.password.is_some() || user.password_file.is_some();
+    let kept = if is_said || name == ANONYMOUS {
+        None
+    } else {
+        password_of(suited(rt, alloc, host, name.as_bytes())?)
     };
-    login(Text::copy_of(alloc, name.as_bytes())?, pass)
+    login_with(
+        rt,
+        alloc,
+        user,
+        Text::copy_of(alloc, name.as_bytes())?,
+        kept,
+    )
 }
 
-/// The password that a `.netrc` has for a user at a host.
-fn password_for<S: Secrets>(
-    rt: &S,
-    alloc: Global,
-    host: &str,
-    name: &[u8],
-) -> io::Result<Text<Global>> {
-    match suited(rt, alloc, host, name)? {
-        Some(entry) => password_kept(entry.password),
-        None => Err(no_password()),
-    }
+/// The password of an entry, if there is one.
+fn password_of(entry: Option<NetrcEntry<Text<Global>>>) -> Option<Text<Global>> {
+    entry?.password
 }
 
 /// The login of whom a `.netrc` has for the host, and else of `anonymous`.
@@ -89,26 +92,23 @@ fn login_of_nobody<S: Secrets>(
     user: User<'_>,
 ) -> io::Result<Login<Global>> {
     match suited(rt, alloc, host, b"")? {
-        Some(entry) => login_of_entry(rt, alloc, user, entry),
+        Some(entry) => {
+            let NetrcEntry { login, password } = entry;
+            login_with(rt, alloc, user, login, password)
+        }
         None => login_of_name(rt, alloc, host, user, ANONYMOUS),
     }
 }
 
-/// The login of whom an entry of a `.netrc` names.
-fn login_of_entry<S: Secrets>(
+/// The login of a user for whom a `.netrc` has this password, or none.
+fn login_with<S: Secrets>(
     rt: &S,
     alloc: Global,
     user: User<'_>,
-    entry: NetrcEntry<Text<Global>>,
+    name: Text<Global>,
+    kept: Option<Text<Global>>,
 ) -> io::Result<Login<Global>> {
-    let NetrcEntry {
-        login: name,
-        password,
-    } = entry;
-    let pass = match password_said(rt, alloc, user, name.as_slice())? {
-        Some(pass) => pass,
-        None => password_kept(password)?,
-    };
+    let pass = password_from(rt, alloc, user, name.as_slice(), kept)?;
     login(name, pass)
 }
 
@@ -122,47 +122,39 @@ fn login(name: Text<Global>, pass: Text<Global>) -> io::Result<Login<Global>> {
     }
 }
 
-/// The password that an entry of a `.netrc` has.
-fn password_kept(password: Option<Text<Global>>) -> io::Result<Text<Global>> {
-    match password {
-        Some(pass) => Ok(pass),
-        None => Err(no_password()),
-    }
-}
-
-/// The password of a user, where it is said: in a file, in the environment, or in a URL; that of `anonymous` is not in the environment, and is
-/// what stands for none where no other is said.
-fn password_said<S: Secrets>(
+/// The password of a user, from where it is taken.
+fn password_from<S: Secrets>(
     rt: &S,
     alloc: Global,
     user: User<'_>,
     name: &[u8],
-) -> io::Result<Option<Text<Global>>> {
-    if let Some(file) = user.password_file {
-        return Ok(Some(password_in(rt, alloc, file)?));
-    }
-    if name == ANONYMOUS.as_bytes() {
-        return Ok(Some(Text::copy_of(alloc, guest_password(user))?));
-    }
-    match rt.variable("FTP_PASSWORD")? {
-        Some(pass) => Ok(Some(Text::copy_of(alloc, pass.as_bytes())?)),
-        None => password_of_url(alloc, user),
+    kept: Option<Text<Global>>,
+) -> io::Result<Text<Global>> {
+    let said = rt.variable("FTP_PASSWORD")?;
+    let known = Known {
+        in_url: user.password.is_some(),
+        in_file: user.password_file.is_some(),
+        in_netrc: kept.is_some(),
+        in_environment: said.is_some(),
+        is_of_url: user.is_of_url,
+        is_anonymous: name == ANONYMOUS.as_bytes(),
+    };
+    match source_of(known) {
+        Source::Url => Ok(Text::copy_of(alloc, user.password.unwrap_or("").as_bytes())?),
+        Source::File => password_in(rt, alloc, user.password_file.unwrap_or("")),
+        Source::Netrc => kept.ok_or(no_password()),
+        Source::Environment => copied(alloc, said.as_ref()),
+        Source::Guest => Ok(Text::copy_of(alloc, GUEST)?),
+        Source::Nowhere if user.is_of_url => Err(no_password_of_url()),
+        Source::Nowhere => Err(no_password()),
     }
 }
 
-/// The password of `anonymous`, where no file has it.
-fn guest_password<'a>(user: User<'a>) -> &'a [u8] {
-    match user.password {
-        Some(pass) => pass.as_bytes(),
-        None => GUEST,
-    }
-}
-
-/// The password that a URL has, if it has one.
-fn password_of_url(alloc: Global, user: User<'_>) -> io::Result<Option<Text<Global>>> {
-    match user.password {
-        Some(pass) => Ok(Some(Text::copy_of(alloc, pass.as_bytes())?)),
-        None => Ok(None),
+/// The octets of a password, if there is one.
+fn copied(alloc: Global, said: Option<&String<Global>>) -> io::Result<Text<Global>> {
+    match said {
+        Some(pass) => Ok(Text::copy_of(alloc, pass.as_bytes())?),
+        None => Err(no_password()),
     }
 }
 

@@ -73,7 +73,12 @@ fn octets_of<S: Secrets>(rt: &S, name: &str) -> io::Result<Vec<u8, Global>> {
             ErrorKind::PermissionDenied,
             "others may use .netrc: its owner alone may (mode 600)",
         )),
-        Err(NotPrivate::System(error)) => Err(error),
+        Err(NotPrivate::System(error)) if error.kind() == ErrorKind::NotFound => Err(error),
+        Err(NotPrivate::System(error)) if error.kind() == ErrorKind::OutOfMemory => Err(error),
+        Err(NotPrivate::System(_)) => Err(Error::new(
+            ErrorKind::PermissionDenied,
+            ".netrc can't be read, or another user owns it; NETRC names another file",
+        )),
     }
 }
 
@@ -82,6 +87,14 @@ pub(crate) fn no_password() -> Error {
     Error::new(
         ErrorKind::NotFound,
         "this user needs FTP_PASSWORD, --password-file or an entry in .netrc",
+    )
+}
+
+/// A user whom a URL names has no password that may be sent.
+pub(crate) fn no_password_of_url() -> Error {
+    Error::new(
+        ErrorKind::NotFound,
+        "the user of a URL needs --password-file or an entry in .netrc; FTP_PASSWORD is sent for the user of --user alone",
     )
 }
 

@@ -4,9 +4,9 @@ ghost use Rattle.ftp_tool_words.specs.Private.{access_of};
 
 use std::alloc::Global;
 use std::fs::{File, Files, OpenFile};
-use std::io;
 use std::io::{Error, ErrorKind, Read};
 use std::os::unix::fs::{MetadataExt, PermissionsExt};
+use std::{fs, io};
 
 /// The system's number of root.
 const ROOT: u32 = 0;
@@ -46,6 +46,7 @@ pub fn read_private<R: Files + AllocGlobal>(
     file: &str,
     most: u64,
 ) -> Result<Vec<u8, Global>, NotPrivate> {
+    check_file(files, file)?;
     let mut opened = match File::open(files, file) {
         Ok(opened) => opened,
         Err(error) => return Err(NotPrivate::System(error)),
@@ -54,6 +55,15 @@ pub fn read_private<R: Files + AllocGlobal>(
     let mut octets = Vec::new(files.alloc());
     match opened.read_to_end(&mut octets) {
         Ok(_) => Ok(octets),
+        Err(error) => Err(NotPrivate::System(error)),
+    }
+}
+
+/// Fails where what has a name is no file: a pipe that nobody writes is not waited for.
+fn check_file<R: Files>(files: &R, file: &str) -> Result<(), NotPrivate> {
+    match fs::metadata(files, file) {
+        Ok(found) if found.is_file() => Ok(()),
+        Ok(_) => Err(NotPrivate::Kind),
         Err(error) => Err(NotPrivate::System(error)),
     }
 }

@@ -43,7 +43,7 @@ fn tell(
     known: Known,
 ) -> Result<(), AllocError> {
     match (known, Moment::new(5)) {
-        (Known::Listed, moment) => downloading.expect(TOTAL, moment),
+        (Known::Listed, Some(moment)) => downloading.expect(TOTAL, moment),
         (Known::Kept, Some(moment)) => {
             let octets = Text::copy_of(rt.alloc(), b"0123")?;
             downloading.begin_with(octets, TOTAL, moment)?;
@@ -96,5 +96,6 @@ fn put_arrival(paper: &mut Paper, arrival: Arrival) {
         Arrival::Wrong(_) => paper.put(b"wrong"),
         Arrival::TooLarge(_) => paper.put(b"too large"),
         Arrival::Past => paper.put(b"past"),
+        Arrival::Changed => paper.put(b"changed"),
     }
 }

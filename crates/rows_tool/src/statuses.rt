@@ -47,6 +47,7 @@ fn asked(has_password: bool) -> Target<'static> {
             name: Some(if has_password { "anonymous" } else { "guest" }),
             password_file: if has_password { None } else { Some(NONE) },
             password: None,
+            is_of_url: false,
         },
         how: HOW,
         timeout: 60,
