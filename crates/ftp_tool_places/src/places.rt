@@ -138,7 +138,8 @@ fn seen<R: Files>(files: &R, alloc: Global, folder: &Folder, most: usize) -> io:
         if count == 0 {
             return Ok(Sightings::All(all));
         }
-        put_names(files, alloc, folder, &room[..count], &mut all)?;
+        let names = room.get(..count).unwrap_or(&[]);
+        put_names(files, alloc, folder, names, &mut all)?;
         if all.len() > most {
             return Ok(Sightings::TooMany);
         }
