@@ -46,8 +46,10 @@ const FILES: &[(&str, &str, u32)] = &[
     ("a root without a slash", "a::/a\nb::b\n", 0o600),
     ("a user twice", "a::/a\na::/b\n", 0o600),
     ("a root below another", "a::/a\nb::/a/b\n", 0o600),
-    ("rights", "a::/a:r\nb:b:/b:w\nc::/c:\n", 0o600),
+    ("rights", "a::/a:r\nb:b:/b:w\nc::/c\n", 0o600),
     ("rights that are none", "a::/a:r\nb::/b:rw\n", 0o600),
+    ("a colon without rights", "a::/a\nb::/b:\n", 0o600),
+    ("a password as a digest", "a::/a\n\nb:$6$salt$x:/b\n", 0o600),
     ("a byte order mark", "\u{feff}guest:secret:/\n", 0o600),
 ];
 

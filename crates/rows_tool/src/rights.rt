@@ -10,7 +10,7 @@ const OVER: Over<'static> = Over {
     accounts: Some("rows_of_serve/rights"),
 };
 
-const ACCOUNTS: &str = "look::/:r\nput::/:w\nall::/:\n";
+const ACCOUNTS: &str = "look::/:r\nput::/:w\nall::/\n";
 
 /// What the client says: who may look alone may make nothing; who may put makes what does not stand, and changes nothing; who may all takes away.
 const SAID: &[u8] = b"USER look\r\nTYPE I\r\nPASV\r\nSTOR new\r\nMKD d\r\nSIZE a\r\n\
