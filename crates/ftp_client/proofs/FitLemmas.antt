@@ -1,5 +1,5 @@
 -- A client stays fit with each call, and so holds little.
-use Rattle.std.proofs.Common.{◌≡◌, ℕ, ◌⊎◌, inl, inr, Bool, true, false, List, Option, Some, None, refl, sym, subst, ◌+◌, ◌≤◌}
+use Rattle.std.proofs.Common.{◌≡◌, ℕ, ◌⊎◌, inl, inr, Bool, true, false, List, Option, Some, None, refl, sym, subst, arith, ◌+◌, ◌≤◌}
 use Rattle.std.proofs.Math.Logic.{∥∥₁_prop, ∥∥₁_elim}
 use Rattle.std.proofs.Props.{props}
 use Rattle.std.specs.Prelude.{IsTrue}
@@ -7,14 +7,14 @@ use Rattle.ftp_operation.specs.Account.{is_password, is_user}
 use Rattle.ftp_operation.specs.declared.op.Op.{Op}
 use Rattle.ftp_endpoint.specs.Written.{IsTypedHost}
 use Rattle.ftp_endpoint.specs.declared.host.Host.{Host}
-use Rattle.ftp_ends.specs.Limits.{block_limit, held_limit}
+use Rattle.ftp_ends.specs.Limits.{held_limit}
 use Rattle.ftp_client_model.proofs.NearLemmas.{near_stays_fit}
 use Rattle.ftp_client_model.proofs.Theorems.{fit_holds_little, start_is_fit}
 use Rattle.ftp_client_model.specs.Fit.{IsFit, IsCalmAt, IsTied}
 use Rattle.ftp_client_model.specs.Losses.{NearIsFit}
 use Rattle.ftp_client_model.specs.Calls.{is_busy, starts, uploads}
 use Rattle.ftp_client_model.specs.Failing.{Client, Holds, HoldsIfRoom, starts_short, uploads_short}
-use Rattle.ftp_client_model.specs.Held.{held}
+use Rattle.ftp_client_model.specs.Held.{held, stored_limit}
 use Rattle.ftp_client_model.specs.Tries.{over_breaks}
 use Rattle.ftp_client_model.specs.View.{View, client, Transferring, Transfer, Flow}
 use Rattle.ftp_client_model.specs.declared.client.ClientLink.{ClientLink}
@@ -69,8 +69,8 @@ fit_alike A F one other d k = fit_by A F one other d.op d.place (view_of one d) 
 le_once : (m n : ℕ) → IsProp (m ≤ n)
 le_once m n = hlevel props
 
-pub holds_little : (A F : Type 0) (flow : Op (List ℕ) → F → Flow) (c : Counted A F) → ∥ StaysFit c ∥₁ → held (counted_of flow c).view + block_limit ≤ held_limit
-holds_little A F flow c fit = ∥∥₁_elim fit (le_once _ _) (λ k. fit_holds_little (view_of flow c.dialogue) (fit_alike A F unseen flow c.dialogue k))
+pub holds_little : (A F : Type 0) (flow : Op (List ℕ) → F → Flow) (c : Counted A F) → ∥ StaysFit c ∥₁ → held stored_limit (counted_of flow c).view ≤ held_limit
+holds_little A F flow c fit = ∥∥₁_elim fit (le_once _ _) (λ k. fit_holds_little stored_limit (view_of flow c.dialogue) (omega arith) (fit_alike A F unseen flow c.dialogue k))
 
 -- ---- at the start
 

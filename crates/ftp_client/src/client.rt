@@ -1,14 +1,14 @@
 // The client: what its owner begins, and how much it holds (RFC 959, sections 2.3 and 5.4).
-ghost use Rattle.std.specs.Prelude.{◌≡◌, ◌+◌, ◌<◌, ◌≤◌, IfErr, IfOk, length};
+ghost use Rattle.std.specs.Prelude.{◌≡◌, ◌<◌, ◌≤◌, IfErr, IfOk, length};
 ghost use Rattle.std.specs.List.{AllByRecursion};
 ghost use Rattle.ftp_endpoint.specs.Written.{IsTypedHost};
-ghost use Rattle.ftp_ends.specs.Limits.{block_limit, held_limit};
-ghost use Rattle.ftp_client_model.specs.Held.{held};
+ghost use Rattle.ftp_ends.specs.Limits.{held_limit};
+ghost use Rattle.ftp_client_model.specs.Held.{held, stored_limit};
 ghost use Rattle.ftp_client_model.specs.View as view;
 ghost use Rattle.ftp_client.specs.Counted.{StaysFit};
 
 use crate::counted::Counted;
-use ftp_client_steps::ClientTransfer;
+use ftp_client_steps::{ClientTransfer, CountedTransfer};
 use ftp_endpoint::Host;
 use ftp_operation::Login;
 use std::alloc::Allocator;
@@ -41,14 +41,21 @@ impl<A: Allocator + Copy, F: ClientTransfer<A>> Client<A, F> {
             Err(login) => Err(login),
         }
     }
+}
+
+impl<A: Allocator + Copy, F: CountedTransfer<A>> Client<A, F> {
+    ghost use Rattle.ftp_client.specs.Calls.{client_of};
+    ghost use Rattle.ftp_client_session.specs.Stored.{stored_in};
 
     /// How many octets it holds, beside the texts of an operation and what its report brings: the login, the line that is being read, the
-    /// reply that it is of, and what is owed. With the block that it sends these are never more than 24,576 (own choice of the limits).
+    /// reply that it is of, what is owed, and what its transfer stores; at most 24,576 (own choice of the limits). There is room in them for
+    /// all that a transfer may ever store.
     pub fn held(&self) -> usize
-        ensures exact { result ≡ held (client_of F.flow self.now).view }
-        ensures little { result + block_limit ≤ held_limit }
+        ensures exact { result ≡ held (stored_in F.stored self.now.counted.dialogue.place) (client_of F.flow self.now).view }
+        ensures little { result ≤ held_limit }
+        ensures room { held stored_limit (client_of F.flow self.now).view ≤ held_limit }
     {
-        self.counted.held()
+        self.counted.stored_len() + self.counted.talk_len()
     }
 }
 

@@ -6,7 +6,7 @@ ghost use Rattle.ftp_ends.specs.Limits.{held_limit};
 ghost use Rattle.ftp_ends.specs.Octets.{has_octets};
 ghost use Rattle.ftp_client_model.specs.Calls.{control_end, data_closed, data_end, data_fault, data_opened, data_refused, gives_control, gives_data, handed_back, is_busy, listen_refused, listening, may_hear, may_receive, report_of, reports, starts, to_give, uploads, wants};
 ghost use Rattle.ftp_client_model.specs.Failing.{HearsIfRoom, Holds, HoldsIfRoom, ReceivesIfRoom, data_end_short, data_fault_short, data_opened_short, data_refused_short, listen_refused_short, listening_short, short, starts_short, uploads_short};
-ghost use Rattle.ftp_client_model.specs.Held.{held};
+ghost use Rattle.ftp_client_model.specs.Held.{stored_limit, talk_len};
 ghost use Rattle.ftp_client_model.specs.Most.{IsMostHeard, IsMostReceived};
 ghost use Rattle.ftp_client_model.specs.Tries.{over_breaks};
 ghost use Rattle.ftp_client_model.specs.View as view;
@@ -16,7 +16,7 @@ use ftp_client_session::{
     Dialogue, data_end, data_fault, data_opened, data_refused, hear_octet, listen_refused,
     listening,
 };
-use ftp_client_steps::ClientTransfer;
+use ftp_client_steps::{ClientTransfer, CountedTransfer};
 use ftp_endpoint::Host;
 use ftp_ends::Wants;
 use ftp_facts::Text;
@@ -282,12 +282,12 @@ impl<A: Allocator + Copy, F: ClientTransfer<A>> Counted<A, F> {
         self.dialogue.data_closed();
     }
 
-    /// How many octets it holds, beside the texts of an operation and what its report brings.
-    pub(crate) fn held(&self) -> usize
-        requires { held (counted_of F.flow self.now).view ≤ held_limit }
-        ensures { result ≡ held (counted_of F.flow self.now).view }
+    /// How many octets it holds, beside the texts of an operation, what its report brings, and what its transfer stores.
+    pub(crate) fn talk_len(&self) -> usize
+        requires { talk_len (counted_of F.flow self.now).view ≤ held_limit }
+        ensures { result ≡ talk_len (counted_of F.flow self.now).view }
     {
-        self.dialogue.held()
+        self.dialogue.talk_len()
     }
 
     /// A growth was refused: the client is short of memory.
@@ -297,5 +297,17 @@ impl<A: Allocator + Copy, F: ClientTransfer<A>> Counted<A, F> {
     {
         self.dialogue.fail(Failure::Memory);
         self.refusals = self.refusals.wrapping_add(1);
+    }
+}
+
+impl<A: Allocator + Copy, F: CountedTransfer<A>> Counted<A, F> {
+    ghost use Rattle.ftp_client_session.specs.Stored.{stored_in};
+
+    /// What its transfer stores.
+    pub(crate) fn stored_len(&self) -> usize
+        ensures sum { result ≡ stored_in F.stored self.now.dialogue.place }
+        ensures few { result ≤ stored_limit }
+    {
+        self.dialogue.stored_len()
     }
 }

@@ -126,16 +126,16 @@ start_is_fit user pass here peer named worded typed = record {
 }
 
 pub fit_holds_little : FitHoldsLittle
-fit_holds_little v k =
+fit_holds_little stored v few k =
     let s = k.sound in
     let name = and_parts (nat_le 1 (length v.user) && nat_le (length v.user) 255) _ s.user_fits in
     let user = leb-true (length v.user) 255 (and_parts (nat_le 1 (length v.user)) (nat_le (length v.user) 255) name.0).1 in
     let pass = leb-true (length v.pass) 255 (and_parts (nat_le (length v.pass) 255) _ s.pass_fits).0 in
-    omega (arith, user, pass, s.reading.text, s.reading.count, s.reply, k.room)
+    omega (arith, few, user, pass, s.reading.text, s.reading.count, s.reply, k.room)
 
 all_fit : (calls : List Call) (v : View) → AreTypedCalls calls → IsFit v → IsFit (called_all calls v)
 all_fit [] v typed k = k
 all_fit (call ∷ calls) v typed k = all_fit calls (called call v) typed.1 (calls_stay_fit call v typed.0 k)
 
 pub client_holds_little : ClientHoldsLittle
-client_holds_little user pass here peer calls named worded typed ports = fit_holds_little _ (all_fit calls _ ports (start_is_fit user pass here peer named worded typed))
+client_holds_little user pass here peer calls stored named worded typed ports few = fit_holds_little stored _ few (all_fit calls _ ports (start_is_fit user pass here peer named worded typed))

@@ -1,11 +1,12 @@
--- How many octets a client holds, beside the texts of an operation and what its report brings (own choice of the limits). Of an upload
--- the view has all that is still to be given, which is the operation's; a block of it, as it is sent, is held at once.
+-- How many octets a client holds, beside the texts of an operation and what its report brings (own choice of the limits): the sum of the
+-- lengths of all else that it stores. What an upload is still to give is the operation's; what came of a download is its report's.
 use Rattle.std.specs.Prelude.{ℕ, ◌+◌, ◌<◌, ◌≤◌, List, [], ◌∷◌, length, IsTrue, if◌then◌else◌}
 use Rattle.ftp_endpoint.specs.declared.host.Host.{Host}
 use Rattle.ftp_endpoint.specs.Written.{IsTypedHost}
 use Rattle.ftp_operation.specs.Account.{is_user, is_password}
 use Rattle.ftp_operation.specs.declared.op.Op.{Op}
-use Rattle.ftp_ends.specs.Limits.{block_limit, held_limit}
+use Rattle.ftp_ends.specs.Limits.{held_limit}
+use Rattle.ftp_wire.specs.Stored.{encoder_limit}
 use Rattle.ftp_reply.specs.Lines.{Text}
 use Rattle.ftp_reply.specs.Reader.{Gathered, Between, Begun}
 use Rattle.ftp_client_model.specs.Calls.{starts, uploads, is_busy, reports, hears_octet, may_hear, gives_control, control_end, listening}
@@ -25,8 +26,16 @@ gathered_len Between = 0
 gathered_len (Begun code texts) = texts_len texts
 
 -- the login, the line that is being read, the reply that it is of, and what is owed
-abbrev pub held : View → ℕ
-held v = length v.user + length v.pass + (length v.ear.line.text + (gathered_len v.gathered + length v.owed))
+abbrev pub talk_len : View → ℕ
+talk_len v = length v.user + length v.pass + (length v.ear.line.text + (gathered_len v.gathered + length v.owed))
+
+-- the most octets that a transfer stores: a block as it is filled and written
+abbrev pub stored_limit : ℕ
+stored_limit = encoder_limit
+
+-- all of it, where so many octets are stored of a transfer
+abbrev pub held : ℕ → View → ℕ
+held stored v = stored + talk_len v
 
 -- ---- after every list of calls
 
@@ -87,9 +96,9 @@ abbrev pub AreTypedCalls : List Call → Type 0
 AreTypedCalls [] = Unit {0}
 AreTypedCalls (call ∷ calls) = IsTypedCall call × AreTypedCalls calls
 
--- whatever is called, a client never holds more, with the block that it sends
+-- whatever is called, a client never holds more, whatever it may store of a transfer
 abbrev pub ClientHoldsLittle : Type 0
 ClientHoldsLittle =
-    (user pass : List ℕ) (here peer : Host) (calls : List Call)
+    (user pass : List ℕ) (here peer : Host) (calls : List Call) (stored : ℕ)
     → IsTrue (is_user user) → IsTrue (is_password pass) → IsTypedHost here → AreTypedCalls calls
-    → held (called_all calls (client user pass here peer)) + block_limit ≤ held_limit
+    → stored ≤ stored_limit → held stored (called_all calls (client user pass here peer)) ≤ held_limit

@@ -1,10 +1,10 @@
 -- A client is fit at the start, stays so with each call, and so never holds much (own choice of the limits).
-use Rattle.std.specs.Prelude.{ℕ, ◌+◌, ◌≤◌, List, IsTrue}
+use Rattle.std.specs.Prelude.{ℕ, ◌≤◌, List, IsTrue}
 use Rattle.ftp_endpoint.specs.declared.host.Host.{Host}
 use Rattle.ftp_endpoint.specs.Written.{IsTypedHost}
-use Rattle.ftp_ends.specs.Limits.{block_limit, held_limit}
+use Rattle.ftp_ends.specs.Limits.{held_limit}
 use Rattle.ftp_operation.specs.Account.{is_user, is_password}
-use Rattle.ftp_client_model.specs.Held.{Call, IsTypedCall, called, held}
+use Rattle.ftp_client_model.specs.Held.{Call, IsTypedCall, called, held, stored_limit}
 use Rattle.ftp_client_model.specs.View.{View, client}
 use Rattle.ftp_client_model.specs.Fit.{IsFit}
 
@@ -16,6 +16,6 @@ StartIsFit = (user pass : List ℕ) (here peer : Host) → IsTrue (is_user user)
 abbrev pub CallsStayFit : Type 0
 CallsStayFit = (call : Call) (v : View) → IsTypedCall call → IsFit v → IsFit (called call v)
 
--- so it holds no more than it may
+-- so it holds no more than it may, whatever it may store of a transfer
 abbrev pub FitHoldsLittle : Type 0
-FitHoldsLittle = (v : View) → IsFit v → held v + block_limit ≤ held_limit
+FitHoldsLittle = (stored : ℕ) (v : View) → stored ≤ stored_limit → IsFit v → held stored v ≤ held_limit

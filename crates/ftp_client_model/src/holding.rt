@@ -3,8 +3,8 @@ ghost use Rattle.ftp_client_model.specs.Laws.{CallsStayFit, FitHoldsLittle, Star
 ghost use Rattle.ftp_client_model.specs.Losses.{NearStaysFit};
 ghost use Rattle.ftp_client_model.specs.Held.{ClientHoldsLittle};
 
-/// Whatever is called, a client never holds more than 24,576 octets, with the block that it sends, beside the texts of an operation and what its
-/// report brings: at most one command is owed behind what may stand when an octet is heard.
+/// Whatever is called, a client never holds more than 24,576 octets, beside the texts of an operation and what its report brings, where of a
+/// transfer it stores at most 8,216 of them: at most one command is owed behind what may stand when an octet is heard.
 pub fn clients_hold_little()
     ensures start { StartIsFit }
     ensures calls { CallsStayFit }

@@ -2,3 +2,4 @@ pub mod Calm
 pub mod Client
 pub mod Judged
 pub mod Replies
+pub mod Stored

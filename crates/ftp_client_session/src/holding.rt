@@ -1,20 +1,22 @@
 // How many octets a client holds, beside the texts of an operation and what its report brings (own choice of the limits).
 ghost use Rattle.std.specs.Prelude.{◌≡◌, ◌+◌, ◌≤◌, length};
 ghost use Rattle.ftp_ends.specs.Limits.{held_limit};
-ghost use Rattle.ftp_client_model.specs.Held.{gathered_len, held};
+ghost use Rattle.ftp_client_model.specs.Held.{gathered_len, stored_limit, talk_len};
+ghost use Rattle.ftp_client_session.specs.Stored.{stored_in};
 
 use crate::dialogue::Dialogue;
+use crate::task::Task;
 use ftp_client_model::client::Standing;
-use ftp_client_steps::ClientTransfer;
+use ftp_client_steps::{ClientTransfer, CountedTransfer};
 use std::alloc::Allocator;
 
 impl<A: Allocator + Copy, F: ClientTransfer<A>> Dialogue<A, F> {
     ghost use Rattle.ftp_client_session.specs.Client.{view_of};
 
     /// The login, the line that is being read, the reply that it is of, and what is owed; after a failure nothing is read any more.
-    pub fn held(&self) -> usize
-        requires { held (view_of F.flow self.now) ≤ held_limit }
-        ensures { result ≡ held (view_of F.flow self.now) }
+    pub fn talk_len(&self) -> usize
+        requires { talk_len (view_of F.flow self.now) ≤ held_limit }
+        ensures { result ≡ talk_len (view_of F.flow self.now) }
     {
         let login = self.login.user().len() + self.login.pass().len();
         login + (self.read() + self.output.len())
@@ -22,7 +24,7 @@ impl<A: Allocator + Copy, F: ClientTransfer<A>> Dialogue<A, F> {
 
     /// What was read of a reply that has not ended.
     fn read(&self) -> usize
-        requires { held (view_of F.flow self.now) ≤ held_limit }
+        requires { talk_len (view_of F.flow self.now) ≤ held_limit }
         ensures { result ≡ length (view_of F.flow self.now).ear.line.text + gathered_len (view_of F.flow self.now).gathered }
     {
         match self.standing {
@@ -30,6 +32,19 @@ impl<A: Allocator + Copy, F: ClientTransfer<A>> Dialogue<A, F> {
             Standing::Greeting | Standing::User | Standing::Pass | Standing::Entered => {
                 self.hearing.unfinished() + self.hearing.gathered()
             }
+        }
+    }
+}
+
+impl<A: Allocator + Copy, F: CountedTransfer<A>> Dialogue<A, F> {
+    /// What its transfer stores; nothing where none is under way.
+    pub fn stored_len(&self) -> usize
+        ensures sum { result ≡ stored_in F.stored self.now.place }
+        ensures few { result ≤ stored_limit }
+    {
+        match &self.place {
+            Task::Transferring(transfer) => transfer.flow.stored_len(),
+            Task::Idle | Task::Waiting | Task::Doing(_) | Task::Told(_) => 0,
         }
     }
 }

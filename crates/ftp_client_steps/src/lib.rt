@@ -3,6 +3,7 @@
 #![tactic(auto)]
 
 mod command;
+mod counted;
 mod hearing;
 mod judgement;
 mod line;
@@ -17,6 +18,7 @@ mod verdict;
 pub use command::{
     own_command, passive_command, port_command, restart_command, set_command, source_command,
 };
+pub use counted::CountedTransfer;
 pub use hearing::Hearing;
 pub use judgement::judged;
 pub use line::Spoken;

@@ -3,6 +3,7 @@
 #![tactic(auto)]
 
 mod content;
+mod counted;
 mod download;
 mod listing;
 mod transfer;

@@ -13,3 +13,4 @@ pub mod FaultText
 pub mod Reading
 pub mod Deframing
 pub mod Laws
+pub mod Stored

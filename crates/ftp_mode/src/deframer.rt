@@ -69,7 +69,7 @@ pub struct Deframer {
     state: State,
     owed: Owed,
     place: u64,
-    marker: ArrayVec<u8, MARKER_LIMIT>,
+    pub(crate) marker: ArrayVec<u8, MARKER_LIMIT>,
 }
 
 impl Deframer {

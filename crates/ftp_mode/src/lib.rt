@@ -9,6 +9,7 @@ mod framer;
 pub mod laws;
 mod pouring;
 mod step;
+mod stored;
 pub mod written;
 
 pub use deframer::Deframer;

@@ -1,9 +1,8 @@
--- The name that waits for its PASS is no longer than the line that said it.
+-- The name that waits for its PASS is no longer than the one that a USER said.
 use Rattle.std.proofs.Common.{◌≡◌, ℕ, ◌≤◌, ◌+◌, Bool, true, false, List, [], ◌∷◌, Option, Some, None, refl, sym, subst, arith, length}
 use Rattle.std.specs.Prelude.{if◌then◌else◌}
 use Rattle.std.proofs.Math.Logic.{∥∥₁_elim}
 use Rattle.std.proofs.Props.{props}
-use Rattle.ftp_command.specs.Line.{line_of}
 use Rattle.ftp_command.specs.declared.command.Command.{Command}
 use Rattle.ftp_command.specs.declared.command.Command.TheVariants as command
 use Rattle.ftp_command.specs.declared.command.Passive.{Passive}
@@ -17,6 +16,7 @@ use Rattle.ftp_facts.specs.Moment.{moment_digits}
 use Rattle.ftp_operation.specs.Account.{login_root}
 use Rattle.ftp_operation.specs.declared.op.Op.{Op}
 use Rattle.ftp_operation.specs.declared.op.Op.TheVariants as Ops
+use Rattle.ftp_path.specs.Login.{login_limit}
 use Rattle.ftp_path.specs.Path.{Names}
 use Rattle.ftp_server_model.specs.Act.{act, decided, forgets, is_allowed, is_transfer}
 use Rattle.ftp_server_model.specs.Ask.{has_size, or_empty, size_of, stamp_of}
@@ -43,7 +43,7 @@ use Rattle.ftp_server_model.specs.declared.session.ServerLink.TheVariants as Dat
 use Rattle.ftp_server_model.specs.declared.session.Facts.{Facts}
 use Rattle.ftp_server_model.specs.declared.session.Pending.{Pending}
 use Rattle.ftp_server_model.specs.declared.session.Pending.TheVariants as Pendings
-use Rattle.ftp_server.specs.Busy.{HasRoom, MayWait, is_busy, waiting_limit}
+use Rattle.ftp_server.specs.Busy.{HasRoom, MayWait, heard_name_len, is_busy, name_len, waiting_limit}
 
 -- ---- a turn leaves a name of at most so many octets
 
@@ -127,14 +127,9 @@ within_rnto most (Pendings.Rename from) text s k =
 within_rnto most Pendings.Nothing text s k = k
 within_rnto most (Pendings.Restart place) text s k = k
 
--- the line of USER is longer than its name
-name_said : (most : ℕ) (name : List ℕ) → length (line_of (command.User name)) ≤ most → length name ≤ most
-name_said most [] short = omega arith
-name_said most (c ∷ name) short = omega (arith, short)
-
-within_acted : (most : ℕ) (footing : Footing) (command : Command (List ℕ)) (pending : Pending Names) (s : Session) → Named most s → length (line_of command) ≤ most
+within_acted : (most : ℕ) (footing : Footing) (command : Command (List ℕ)) (pending : Pending Names) (s : Session) → Named most s → name_len command ≤ most
     → Within most (act footing command pending s)
-within_acted most footing (command.User name) pending s k short = within_named most (open_root footing.accounts name) name s (name_said most name short)
+within_acted most footing (command.User name) pending s k short = within_named most (open_root footing.accounts name) name s short
 within_acted most footing (command.Pass word) pending s k short = within_pass most s.access footing.accounts word s k
 within_acted most footing (command.Acct text) pending s k short = k
 within_acted most footing (command.Cwd text) pending s k short = within_performs most (Ops.ChangeDir text) (Replies.Fixed Texts.Done) s k
@@ -188,7 +183,7 @@ forgets_named : (most : ℕ) (b : Bool) (s : Session) → Named most s → Named
 forgets_named most true s k = k
 forgets_named most false s k = k
 
-within_decided : (most : ℕ) (footing : Footing) (heard : HeardLine (List ℕ)) (pending : Pending Names) (s : Session) → Named most s → waiting_len (Some heard) ≤ most
+within_decided : (most : ℕ) (footing : Footing) (heard : HeardLine (List ℕ)) (pending : Pending Names) (s : Session) → Named most s → heard_name_len heard ≤ most
     → Within most (decided footing heard pending s)
 within_decided most footing TooLong pending s k short = k
 within_decided most footing (Bad fault) pending s k short = k
@@ -198,9 +193,9 @@ within_decided most footing (Asks command) pending s k short =
 
 -- so a server keeps the limit behind each line
 pub decided_named : (turn : Turn) (footing : Footing) (heard : HeardLine (List ℕ)) (pending : Pending Names) (s : Session) → turn ≡ decided footing heard pending s
-    → access_len s.access ≤ waiting_limit → waiting_len (Some heard) ≤ waiting_limit → access_len turn.0.access ≤ waiting_limit
+    → access_len s.access ≤ login_limit → heard_name_len heard ≤ login_limit → access_len turn.0.access ≤ login_limit
 decided_named turn footing heard pending s is named short =
-    subst (Within waiting_limit) (sym is) (within_decided waiting_limit footing heard pending s named short)
+    subst (Within login_limit) (sym is) (within_decided login_limit footing heard pending s named short)
 
 -- ---- the line that waits, and all that is held
 
@@ -214,11 +209,15 @@ short_if_waits (Some heard) waits = waits.1
 pub waiting_short : (waiting : Option (HeardLine (List ℕ))) → ∥ MayWait waiting ∥₁ → waiting_len waiting ≤ waiting_limit
 waiting_short waiting was = ∥∥₁_elim was (within_once _ _) (short_if_waits waiting)
 
+-- the name that the line that waits says
+pub name_if_waits : (heard : HeardLine (List ℕ)) (waiting : Option (HeardLine (List ℕ))) → waiting ≡ Some heard → ∥ MayWait waiting ∥₁ → heard_name_len heard ≤ login_limit
+name_if_waits heard waiting is was = ∥∥₁_elim was (within_once _ _) (λ h. let waits : MayWait (Some heard) = subst MayWait is h in waits.2)
+
 -- while a transfer stands less is owed, and without one the session holds less
 pub holds_little : {J : Type 0} (c : ServerLink J) (owed : List ℕ) (count unfinished waits rest : ℕ) → count ≡ length owed → count ≤ 8192 → HasRoom c owed → unfinished ≤ 1024
-    → waits ≤ waiting_limit → rest ≤ 14867 → (is_busy c ≡ false → rest ≤ 4748) → count + (unfinished + (waits + rest)) ≤ held_limit
+    → waits ≤ waiting_limit → rest ≤ 16307 → (is_busy c ≡ false → rest ≤ 2955) → count + (unfinished + (waits + rest)) ≤ held_limit
 holds_little c owed count unfinished waits rest same within room read short all free = by_case (is_busy c) room free
   where
-    by_case : (b : Bool) → (b ≡ true → length owed ≤ 5120) → (b ≡ false → rest ≤ 4748) → count + (unfinished + (waits + rest)) ≤ held_limit
+    by_case : (b : Bool) → (b ≡ true → length owed ≤ 5120) → (b ≡ false → rest ≤ 2955) → count + (unfinished + (waits + rest)) ≤ held_limit
     by_case true few little = let owes = few refl in omega (arith, same, owes, read, short, all)
     by_case false few little = let holds = little refl in omega (arith, within, read, short, holds)

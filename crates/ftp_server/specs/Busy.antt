@@ -2,9 +2,13 @@
 use Rattle.std.specs.Prelude.{◌≡◌, ℕ, ◌+◌, ◌≤◌, Bool, true, false, List, length, Option, Some, None}
 use Rattle.ftp_path.specs.Path.{Names}
 use Rattle.ftp_command.specs.Line.{line_limit}
+use Rattle.ftp_command.specs.declared.command.Command.{Command}
+use Rattle.ftp_command.specs.declared.command.Command.TheVariants as command
+use Rattle.ftp_path.specs.Login.{login_limit}
 use Rattle.ftp_server_session.specs.Line.{HeardPaths}
 use Rattle.ftp_server_model.specs.Held.{waiting_len}
 use Rattle.ftp_server_model.specs.declared.heard.HeardLine.{HeardLine}
+use Rattle.ftp_server_model.specs.declared.heard.HeardLine.TheVariants.{TooLong, Bad, Asks}
 use Rattle.ftp_server_model.specs.declared.reply.ReplyKind.{ReplyKind}
 use Rattle.ftp_server_model.specs.declared.reply.ReplyKind.TheVariants as Replies
 use Rattle.ftp_server_model.specs.declared.session.ServerLink.{ServerLink}
@@ -49,7 +53,18 @@ is_short other = false
 abbrev pub waiting_limit : ℕ
 waiting_limit = line_limit + line_limit
 
--- the texts of paths in the line that waits are path texts, and it keeps the limit
+-- the octets of the name that a USER says
+abbrev pub name_len : Command (List ℕ) → ℕ
+name_len (command.User name) = length name
+name_len other = 0
+
+-- the same of a line
+abbrev pub heard_name_len : HeardLine (List ℕ) → ℕ
+heard_name_len TooLong = 0
+heard_name_len (Bad fault) = 0
+heard_name_len (Asks command) = name_len command
+
+-- the texts of paths in the line that waits are path texts, it keeps the limit, and so does the name that it says
 abbrev pub MayWait : Option (HeardLine (List ℕ)) → Type 0
 MayWait None = Unit {0}
-MayWait (Some heard) = HeardPaths heard × (waiting_len (Some heard) ≤ waiting_limit)
+MayWait (Some heard) = HeardPaths heard × (waiting_len (Some heard) ≤ waiting_limit) × (heard_name_len heard ≤ login_limit)

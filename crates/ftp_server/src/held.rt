@@ -2,7 +2,7 @@
 ghost use Rattle.std.specs.Prelude.{◌≡◌, ◌≤◌, false};
 ghost use Rattle.ftp_ends.specs.Limits.{held_limit};
 ghost use Rattle.ftp_server.specs.Busy.{is_busy};
-ghost use Rattle.ftp_server_model.specs.Held.{connection_len, held, sending_limit, session_len};
+ghost use Rattle.ftp_server_model.specs.Held.{connection_len, held, session_len, stored_limit};
 
 use crate::server::Server;
 use ftp_server_model::ServerLink;
@@ -13,10 +13,12 @@ use std::alloc::Allocator;
 impl<A: Allocator + Copy, T: Tree<A>, J: Counted<A, T>> Server<A, T, J> {
     ghost use Rattle.ftp_server.specs.Server.{view_of};
 
-    /// How many octets it holds beside the tree, the accounts and what came of an upload: those that are owed, the line that is
-    /// being read, the line that waits as it would be written, and those of the session; at most 24,576. A download or a listing counts as 10,119.
+    /// How many octets it holds beside the tree, the accounts, what came of an upload, and what a transfer shares with the tree: those that
+    /// are owed, the line that is being read, the line that waits as it would be written, the names and paths of the session, and what its
+    /// transfer stores; at most 24,576.
     pub fn held(&self) -> usize
-        ensures len { result ≡ held (view_of T.table J.view self.now) }
+        ensures len { let stored = connection_len J.stored self.now.session.connection in
+            result ≡ held stored (view_of T.table J.view self.now) }
         ensures little { result ≤ held_limit }
     {
         let waiting = waiting_len(&self.waiting);
@@ -25,9 +27,10 @@ impl<A: Allocator + Copy, T: Tree<A>, J: Counted<A, T>> Server<A, T, J> {
 
     /// Those of the session: names, paths and the transfer.
     fn session_len(&self) -> usize
-        ensures len { result ≡ session_len (view_of T.table J.view self.now).session }
-        ensures short { result ≤ 14867 }
-        ensures free { is_busy self.now.session.connection ≡ false → result ≤ 4748 }
+        ensures len { let stored = connection_len J.stored self.now.session.connection in
+            result ≡ session_len stored (view_of T.table J.view self.now).session }
+        ensures short { result ≤ 16307 }
+        ensures free { is_busy self.now.session.connection ≡ false → result ≤ 2955 }
     {
         let session = &self.session;
         let paths = path_len(&session.cwd)
@@ -37,13 +40,13 @@ impl<A: Allocator + Copy, T: Tree<A>, J: Counted<A, T>> Server<A, T, J> {
 
     /// Those of the transfer.
     fn connection_len(&self) -> usize
-        ensures len { result ≡ connection_len (view_of T.table J.view self.now).session.connection }
-        ensures short { result ≤ sending_limit }
+        ensures sum { result ≡ connection_len J.stored self.now.session.connection }
+        ensures few { result ≤ stored_limit }
         ensures free { is_busy self.now.session.connection ≡ false → result ≡ 0 }
     {
         match &self.session.connection {
-            ServerLink::Opening(transfer, _) => transfer.held(),
-            ServerLink::Transferring(transfer) => transfer.held(),
+            ServerLink::Opening(transfer, _) => transfer.stored_len(),
+            ServerLink::Transferring(transfer) => transfer.stored_len(),
             _ => 0,
         }
     }

@@ -1,9 +1,9 @@
 // A line is acted on, or waits (RFC 959, sections 4.1.3 and 5.4).
-ghost use Rattle.std.specs.Prelude.{◌≡◌, ◌≤◌, OnErr, OnOk, Some, true, false};
+ghost use Rattle.std.specs.Prelude.{◌≡◌, ◌≤◌, OnErr, OnOk, true, false};
 ghost use Rattle.ftp_server_model.specs.Machine.{completed, is_idle, later, obeyed};
 ghost use Rattle.ftp_server_model.specs.Failing.{LineFails, WaitingFails};
-ghost use Rattle.ftp_server_model.specs.Held.{waiting_len};
-ghost use Rattle.ftp_server.specs.Busy.{waiting_limit};
+ghost use Rattle.ftp_path.specs.Login.{login_limit};
+ghost use Rattle.ftp_server.specs.Busy.{heard_name_len};
 ghost use Rattle.ftp_server_session.specs.Line.{HeardPaths};
 
 use crate::say::say;
@@ -47,7 +47,7 @@ impl<A: Allocator + Copy, T: Tree<A>, J: ServerTransfer<A, T>> Server<A, T, J> {
     fn obey(&mut self, heard: HeardLine<Argument<A>>) -> Result<(), Failed>
         requires idle { is_idle (view_of T.table J.view self.old) ≡ true }
         requires paths { HeardPaths heard }
-        requires short { waiting_len (Some heard) ≤ waiting_limit }
+        requires named { heard_name_len heard ≤ login_limit }
         ensures done { OnOk result (view_of T.table J.view self.new ≡ obeyed heard (view_of T.table J.view self.old)) }
         ensures steady { OnOk result (T.failures self.new.session.tree ≡ T.failures self.old.session.tree) }
         ensures lost { OnErr result (LineFails heard (view_of T.table J.view self.old) (view_of T.table J.view self.new)) }

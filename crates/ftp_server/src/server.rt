@@ -1,7 +1,8 @@
 // What a server holds (RFC 959, sections 3.2 and 4.1).
 ghost use Rattle.std.specs.Prelude.{◌≡◌, ◌≤◌};
 ghost use Rattle.ftp_server_model.specs.Held.{access_len};
-ghost use Rattle.ftp_server.specs.Busy.{HasRoom, MayWait, waiting_limit};
+ghost use Rattle.ftp_path.specs.Login.{login_limit};
+ghost use Rattle.ftp_server.specs.Busy.{HasRoom, MayWait};
 
 use crate::reader::Reader;
 use ftp_command::Argument;
@@ -22,7 +23,7 @@ pub struct Server<A: Allocator + Copy, T: Drop, J: Drop> {
     pub(crate) refusals: u64,
     ghost room: { HasRoom session.connection output },
     ghost paths: { ∥ MayWait waiting ∥₁ },
-    ghost named: { access_len session.access ≤ waiting_limit },
+    ghost named: { access_len session.access ≤ login_limit },
 }
 
 /// By hand: a derived drop is proved again, part by part, wherever a server is let go.

@@ -5,7 +5,6 @@ pub mod ViewLemmas
 pub mod Theorems
 pub mod LossLemmas
 pub mod FarLemmas
-pub mod SenderLemmas
 pub mod SeenLemmas
 pub mod TurnLemmas
 pub mod PartLemmas

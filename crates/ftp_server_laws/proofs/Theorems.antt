@@ -91,7 +91,7 @@ start_is_small table accounts here peer within typed files = record {
 }
 
 pub small_holds_little : SmallHoldsLittle
-small_holds_little v k = keeps_little v k.keeps (omega (arith, k.short.reading.text, k.short.reading.count)) k.short.waiting
+small_holds_little stored v may k = keeps_little stored v may k.keeps (omega (arith, k.short.reading.text, k.short.reading.count)) k.short.waiting
 
 left_small : (read : Reading) (cues : List Cue) (v : View) → IsReading read → AreTypedCues cues → IsSmall v → IsSmall (left_by read cues v)
 unfolding left_by
@@ -99,5 +99,5 @@ left_small read [] v reading typed k = k
 left_small read (cue ∷ cues) v reading typed k = left_small read cues (call read cue v).1 reading typed.1 (calls_stay_small read cue v reading typed.0 k)
 
 pub holds_little : HoldsLittle
-holds_little read table accounts here peer cues reading within typed files ports =
-    small_holds_little _ (left_small read cues _ reading ports (start_is_small table accounts here peer within typed files))
+holds_little read table accounts here peer cues stored reading within typed files ports may =
+    small_holds_little stored _ may (left_small read cues _ reading ports (start_is_small table accounts here peer within typed files))

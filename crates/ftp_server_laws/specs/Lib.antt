@@ -2,5 +2,4 @@
 pub mod Small
 pub mod Laws
 pub mod Losses
-pub mod Senders
 pub mod Apart

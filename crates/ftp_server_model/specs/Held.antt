@@ -1,13 +1,13 @@
--- How many octets a server holds, beside the map, the accounts and what came of an upload (own choice of the limits). Of a download and of
--- a listing the view has all that is still to be given, which is the map's; here is what of it a server may hold at once.
+-- How many octets a server holds, beside the map, the accounts, what came of an upload, and what a transfer shares with the tree (own choice
+-- of the limits): the sum of the lengths of all else that it stores.
 use Rattle.std.specs.Prelude.{ℕ, ◌+◌, ◌<◌, ◌≤◌, List, [], ◌∷◌, length, Option, Some}
 use Rattle.ftp_endpoint.specs.Written.{IsTypedHost}
 use Rattle.ftp_endpoint.specs.declared.host.Host.{Host}
 use Rattle.ftp_command.specs.Line.{line_of}
 use Rattle.ftp_path.specs.Path.{Names, text_limit, text_of}
-use Rattle.ftp_settings.specs.declared.marker.TheConstants.{MARKER_LIMIT}
 use Rattle.ftp_tree.specs.Tree.{Table, file_limit, octets_or_none}
-use Rattle.ftp_ends.specs.Limits.{block_limit, held_limit}
+use Rattle.ftp_wire.specs.Stored.{encoder_limit}
+use Rattle.ftp_ends.specs.Limits.{held_limit}
 use Rattle.ftp_server_model.specs.View.{Accounts, Session, Transfer, View, line_limit}
 use Rattle.ftp_server_model.specs.Calls.{start}
 use Rattle.ftp_server_model.specs.Machine.{Reading, IsReading}
@@ -22,11 +22,27 @@ use Rattle.ftp_server_model.specs.declared.session.Pending.{Pending}
 use Rattle.ftp_server_model.specs.declared.session.Pending.TheVariants as Pendings
 use Rattle.ftp_server_model.specs.declared.session.ServerLink.{ServerLink}
 use Rattle.ftp_server_model.specs.declared.session.ServerLink.TheVariants as Data
-use Rattle.ftp_server_model.specs.declared.session.Transfer.TheVariants as Transfers
 
--- a sender holds a block, a line of a listing, and the path of its file or directory
-abbrev pub sending_limit : ℕ
-sending_limit = block_limit + (line_limit + text_limit)
+-- ---- what a transfer stores
+
+-- the most octets of lines that a listing makes at once: up to 511, and then a line of NLST, which is the argument, `/`, a name and its end
+abbrev pub lines_limit : ℕ
+lines_limit = 511 + (text_limit + 257)
+
+-- the most octets that a transfer stores: a block as it is filled and written, the path, the argument of NLST, the lines that are given, and
+-- those after them, which are made in advance so that refused memory leaves something to give
+abbrev pub stored_limit : ℕ
+stored_limit = encoder_limit + (text_limit + (text_limit + (lines_limit + lines_limit)))
+
+-- what is stored of a transfer that waits for its data connection, or has it; nothing where none stands
+abbrev pub connection_len : {J : Type 0} → (J → ℕ) → ServerLink J → ℕ
+connection_len stored (Data.Opening transfer way) = stored transfer
+connection_len stored (Data.Transferring transfer) = stored transfer
+connection_len stored Data.Free = 0
+connection_len stored (Data.Active endpoint) = 0
+connection_len stored (Data.Asked asked) = 0
+connection_len stored Data.Passive = 0
+connection_len stored Data.Ready = 0
 
 -- ---- what each part holds
 
@@ -46,19 +62,6 @@ pending_len Pendings.Nothing = 0
 pending_len (Pendings.Rename from) = path_len from
 pending_len (Pendings.Restart offset) = 0
 
--- an upload: its path, and a marker that comes
-abbrev pub transfer_len : Transfer → ℕ
-transfer_len (Transfers.Upload path keep d) = path_len path + MARKER_LIMIT
-transfer_len Transfers.OverLimit = 0
-transfer_len (Transfers.Download rest) = sending_limit
-transfer_len (Transfers.Listing rest) = sending_limit
-
--- a transfer that waits for its data connection, or has it
-abbrev pub connection_len : ServerLink Transfer → ℕ
-connection_len (Data.Opening transfer way) = transfer_len transfer
-connection_len (Data.Transferring transfer) = transfer_len transfer
-connection_len other = 0
-
 -- a line that waits
 abbrev pub waiting_len : Option (HeardLine (List ℕ)) → ℕ
 waiting_len (Some (Asks command)) = length (line_of command)
@@ -66,19 +69,24 @@ waiting_len other = 0
 
 -- ---- all of it
 
--- a session
-abbrev pub session_len : Session → ℕ
-session_len s = access_len s.access + (path_len s.root + (path_len s.cwd + (pending_len s.pending + connection_len s.connection)))
+-- a session, where so many octets are stored of its transfer
+abbrev pub session_len : ℕ → Session → ℕ
+session_len stored s = access_len s.access + (path_len s.root + (path_len s.cwd + (pending_len s.pending + stored)))
 
 -- a server: its control output, the line that is being read, the line that waits, and the session
-abbrev pub held : View → ℕ
-held v = length v.owed + (length v.ear.line.text + (waiting_len v.waiting + session_len v.session))
+abbrev pub held : ℕ → View → ℕ
+held stored v = length v.owed + (length v.ear.line.text + (waiting_len v.waiting + session_len stored v.session))
+
+-- so many octets may be stored of a transfer
+abbrev pub MayStore : ℕ → ServerLink Transfer → Type 0
+MayStore stored connection = stored ≤ connection_len (λ transfer. stored_limit) connection
 
 -- a server that keeps its limits holds no more than it may, where the line that is being read keeps its limit, and the one that waits,
 -- as it would be written, is at most twice as long
 abbrev pub KeepsLittle : Type 0
 KeepsLittle =
-    (v : View) → ServerKeeps v → length v.ear.line.text ≤ line_limit → waiting_len v.waiting ≤ line_limit + line_limit → held v ≤ held_limit
+    (stored : ℕ) (v : View) → MayStore stored v.session.connection → ServerKeeps v
+    → length v.ear.line.text ≤ line_limit → waiting_len v.waiting ≤ line_limit + line_limit → held stored v ≤ held_limit
 
 -- each file is within the limit of files, so that the octets of an upload behind it can be told
 abbrev pub HasShortFiles : Table → Type 0
@@ -97,6 +105,6 @@ AreTypedCues (cue ∷ cues) = IsTypedCue cue × AreTypedCues cues
 -- whatever is called, a server never holds more
 abbrev pub HoldsLittle : Type 0
 HoldsLittle =
-    (read : Reading) (table : Table) (accounts : Accounts) (here peer : Host) (cues : List Cue)
+    (read : Reading) (table : Table) (accounts : Accounts) (here peer : Host) (cues : List Cue) (stored : ℕ)
     → IsReading read → AreWithinLimits accounts → IsTypedHost here → HasShortFiles table → AreTypedCues cues
-    → held (left_by read cues (start table accounts here peer)) ≤ held_limit
+    → let v = left_by read cues (start table accounts here peer) in MayStore stored v.session.connection → held stored v ≤ held_limit

@@ -15,7 +15,7 @@ mod reply;
 mod text;
 mod transfer;
 
-pub use counted::{Counted, SENDING_LIMIT};
+pub use counted::Counted;
 pub use decision::{fault_text, is_free, is_in, is_transfer, pending_for};
 pub use endpoint::is_taken;
 pub use fault::Fault;

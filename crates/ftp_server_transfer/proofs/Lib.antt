@@ -1,6 +1,8 @@
 pub mod DownloadLemmas
 pub mod EndLemmas
 pub mod InstallLemmas
+pub mod LengthLemmas
+pub mod StoredLemmas
 pub mod ListLemmas
 pub mod ListingLemmas
 pub mod MarkLemmas

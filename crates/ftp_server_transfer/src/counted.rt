@@ -1,15 +1,20 @@
-// How much a transfer counts as held.
+// How much a transfer stores.
 use crate::transfer::TreeTransfer;
-use ftp_server_parts::{Counted, SENDING_LIMIT};
+use ftp_server_parts::Counted;
 use ftp_tree::Tree;
 use std::alloc::Allocator;
 
 impl<A: Allocator + Copy, T: Tree<A>> Counted<A, T> for TreeTransfer<A> {
-    fn held(&self) -> usize {
+    ghost use Rattle.ftp_server_transfer.specs.Stored.{stored_of};
+
+    ghost stored = { stored_of };
+
+    fn stored_len(&self) -> usize {
         match self {
-            TreeTransfer::Upload(upload) => upload.held(),
+            TreeTransfer::Upload(upload) => upload.stored(),
             TreeTransfer::OverLimit => 0,
-            TreeTransfer::Download(_) | TreeTransfer::Listing(_) => SENDING_LIMIT,
+            TreeTransfer::Download(download) => download.stored(),
+            TreeTransfer::Listing(listing) => listing.stored(),
         }
     }
 }

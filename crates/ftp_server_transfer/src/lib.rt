@@ -5,11 +5,12 @@
 mod came;
 mod counted;
 mod download;
-mod held;
 mod install;
 mod line;
 mod list_line;
 mod listing;
+mod named;
+mod stored;
 mod transfer;
 mod upload;
 
@@ -17,5 +18,6 @@ pub use download::Download;
 pub use line::{What, put_chosen};
 pub use list_line::{put_dir_line, put_file_line};
 pub use listing::{Listing, Made};
+pub use named::Named;
 pub use transfer::TreeTransfer;
 pub use upload::{Arrived, Upload};

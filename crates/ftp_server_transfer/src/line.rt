@@ -1,18 +1,20 @@
 // One line of a listing.
-ghost use Rattle.std.specs.Prelude.{◌≡◌, ◌<◌, ◌++◌, [], IfOk, OnOk, true, length, Some, None, Option, is_some, option_map, if◌then◌else◌, List, ℕ};
+ghost use Rattle.std.specs.Prelude.{◌≡◌, ◌+◌, ◌<◌, ◌≤◌, ◌++◌, [], IfOk, OnOk, true, length, Some, None, Option, is_some, option_map, if◌then◌else◌, List, ℕ};
 ghost use Rattle.std.specs.Option.{ForSome, unwrap_or};
 ghost use Rattle.ftp_endpoint.specs.Number.{IsShort};
 ghost use Rattle.ftp_facts.specs.Fact.{IsOtherWord, IsValue};
 ghost use Rattle.ftp_facts.specs.declared.entry.EntryKind.TheVariants.{Other};
-ghost use Rattle.ftp_path.specs.Path.{IsPathText, Names, fits};
+ghost use Rattle.ftp_path.specs.Path.{IsPathText, Names, fits, text_limit};
 ghost use Rattle.ftp_tree.specs.Tree.{Dir, Node, Table, node_at, under};
 ghost use Rattle.ftp_operation.specs.Answer.{listed_of};
 ghost use Rattle.ftp_direct.specs.Direct.{behind, child, entry_in, file_in, listed, size_fact};
 ghost use Rattle.ftp_server_model.specs.Entries.{listed_line};
+ghost use Rattle.ftp_server_model.specs.Held.{lines_limit};
 ghost use Rattle.ftp_server_model.specs.Listing.{child_line, last_name, lines_file, node_line};
 ghost use Rattle.ftp_server_transfer.specs.Lines.{IsOf, Puts, line_of, lines_from};
 
 use crate::list_line::{put_dir_line, put_file_line};
+use crate::named::Named;
 use ftp_facts::{Entry, EntryKind, Moment, Text, write_entry};
 use ftp_operation::is_number;
 use ftp_path::{Name, Path};
@@ -21,7 +23,7 @@ use ftp_tree::{DirEntry, FileFacts, Tree};
 use std::alloc::{AllocError, Allocator};
 
 /// The most octets of a canonical text of a path (own choice).
-const TEXT_LIMIT: usize = 900;
+pub(crate) const TEXT_LIMIT: usize = 900;
 
 /// With so many octets no further line is put.
 const ENOUGH: usize = 512;
@@ -31,7 +33,7 @@ pub enum What<A: Allocator + Copy> {
     /// LIST: a line as many clients read it.
     Lines,
     /// NLST: the pathname of a file, behind the text that named the directory.
-    Names(Text<A>),
+    Names(Named<A>),
     /// MLSD: these facts and the name.
     Entries(Facts),
 }
@@ -56,10 +58,11 @@ pub(crate) fn put_next<A: Allocator + Copy, T: Tree<A>>(
     from: usize,
     line: &mut Vec<u8, A>,
 ) -> Result<Option<usize>, AllocError>
-    requires { line.old.items ≡ [] }
+    requires empty { line.old.items ≡ [] }
     ensures lines { IfOk result (λ next. let part = under (T.table tree.now) root.now in
         lines_file (lines_from what.now part path.now (Some from)) ≡ line.new.items ++ lines_file (lines_from what.now part path.now next)) }
     ensures some { IfOk result (λ next. is_some next ≡ true → 0 < length line.new.items) }
+    ensures few { OnOk result (length line.new.items ≤ lines_limit) }
 {
     let mut place = from;
     while let Some(found) = tree.nth_entry(root, path, place) {
@@ -83,7 +86,8 @@ fn put_line<A: Allocator + Copy>(
     found: DirEntry<'_>,
     line: &mut Vec<u8, A>,
 ) -> Result<(), AllocError>
-    ensures { (table : Table) → IsOf found.entry.file (node_at table (child path.now found.entry.name.octets.now)) → OnOk result (Puts (line_of what.now table path.now found.entry.name.octets.now) line.old.items line.new.items) }
+    ensures line { (table : Table) → IsOf found.entry.file (node_at table (child path.now found.entry.name.octets.now)) → OnOk result (Puts (line_of what.now table path.now found.entry.name.octets.now) line.old.items line.new.items) }
+    ensures few { OnOk result (length line.new.items ≤ length line.old.items + (text_limit + 257)) }
 {
     match what {
         What::Lines => put_child(path, found, line),
@@ -105,7 +109,8 @@ fn put_child<A: Allocator + Copy>(
     found: DirEntry<'_>,
     line: &mut Vec<u8, A>,
 ) -> Result<(), AllocError>
-    ensures { (table : Table) → IsOf found.entry.file (node_at table (child path.now found.entry.name.octets.now)) → OnOk result (Puts (child_line table path.now found.entry.name.octets.now) line.old.items line.new.items) }
+    ensures line { (table : Table) → IsOf found.entry.file (node_at table (child path.now found.entry.name.octets.now)) → OnOk result (Puts (child_line table path.now found.entry.name.octets.now) line.old.items line.new.items) }
+    ensures few { OnOk result (length line.new.items ≤ length line.old.items + (text_limit + 257)) }
 {
     if !fits_below(path, found.name) {
         return Ok(());
@@ -120,7 +125,8 @@ fn put_shown<A: Allocator + Copy>(
     found: DirEntry<'_>,
     line: &mut Vec<u8, A>,
 ) -> Result<(), AllocError>
-    ensures { (node : Option Node) → IsOf found.entry.file node → OnOk result (line.new.items ≡ line.old.items ++ node_line found.entry.name.octets.now (unwrap_or node Dir)) }
+    ensures line { (node : Option Node) → IsOf found.entry.file node → OnOk result (line.new.items ≡ line.old.items ++ node_line found.entry.name.octets.now (unwrap_or node Dir)) }
+    ensures few { OnOk result (length line.new.items ≤ length line.old.items + (100 + length found.entry.name.octets.now)) }
 {
     match found.file {
         Some(file) => put_file_line(found.name.octets(), file.size, file.moment, line),
@@ -135,7 +141,8 @@ fn put_file<A: Allocator + Copy>(
     found: DirEntry<'_>,
     line: &mut Vec<u8, A>,
 ) -> Result<(), AllocError>
-    ensures { (table : Table) → IsOf found.entry.file (node_at table (child path.now found.entry.name.octets.now)) → OnOk result (Puts (file_in table path.now text.now found.entry.name.octets.now) line.old.items line.new.items) }
+    ensures line { (table : Table) → IsOf found.entry.file (node_at table (child path.now found.entry.name.octets.now)) → OnOk result (Puts (file_in table path.now text.now found.entry.name.octets.now) line.old.items line.new.items) }
+    ensures few { OnOk result (length line.new.items ≤ length line.old.items + (length text.now + 257)) }
 {
     if !fits_below(path, found.name) {
         return Ok(());
@@ -156,7 +163,8 @@ fn put_entry<A: Allocator + Copy>(
     found: DirEntry<'_>,
     line: &mut Vec<u8, A>,
 ) -> Result<(), AllocError>
-    ensures { (table : Table) → IsOf found.entry.file (node_at table (child path.now found.entry.name.octets.now)) → OnOk result (Puts (option_map (listed_line facts) (entry_in table path.now found.entry.name.octets.now)) line.old.items line.new.items) }
+    ensures line { (table : Table) → IsOf found.entry.file (node_at table (child path.now found.entry.name.octets.now)) → OnOk result (Puts (option_map (listed_line facts) (entry_in table path.now found.entry.name.octets.now)) line.old.items line.new.items) }
+    ensures few { OnOk result (length line.new.items ≤ length line.old.items + (text_limit + 257)) }
 {
     if !fits_below(path, found.name) {
         return Ok(());
@@ -173,7 +181,8 @@ fn put_behind<A: Allocator + Copy>(
     name: &[u8],
     line: &mut Vec<u8, A>,
 ) -> Result<(), AllocError>
-    ensures { OnOk result (line.new.items ≡ line.old.items ++ behind text.now name.now) }
+    ensures line { OnOk result (line.new.items ≡ line.old.items ++ behind text.now name.now) }
+    ensures few { OnOk result (length line.new.items ≤ length line.old.items + (length text.now + 1 + length name.now)) }
 {
     line.extend_from_slice(text)?;
     if !text.is_empty() && !text.ends_with(b"/") {
@@ -229,7 +238,8 @@ pub(crate) fn put_node<A: Allocator + Copy, T: Tree<A>>(
     name: &[u8],
     line: &mut Vec<u8, A>,
 ) -> Result<(), AllocError>
-    ensures { OnOk result (line.new.items ≡ line.old.items ++ node_line name.now (unwrap_or (node_at (under (T.table tree.now) root.now) path.now) Dir)) }
+    ensures line { OnOk result (line.new.items ≡ line.old.items ++ node_line name.now (unwrap_or (node_at (under (T.table tree.now) root.now) path.now) Dir)) }
+    ensures few { OnOk result (length line.new.items ≤ length line.old.items + (100 + length name.now)) }
 {
     let Some(size) = tree.size(root, path) else {
         put_dir_line(name, line)?;
@@ -303,7 +313,8 @@ fn chosen_perm<A: Allocator + Copy>(chosen: bool, perm: Option<Text<A>>) -> Opti
 
 /// The last name of a path; no octets for the root.
 pub(crate) fn last_name<A: Allocator + Copy>(path: &Path<A>) -> &[u8]
-    ensures { result.now ≡ last_name path.now }
+    ensures name { result.now ≡ last_name path.now }
+    ensures few { length result.now ≤ text_limit }
 {
     let octets = path.key();
     let start = path.parent_key().len() + 1;

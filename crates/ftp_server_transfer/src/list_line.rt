@@ -1,5 +1,5 @@
 // The lines of LIST, as many clients read them (RFC 959, section 4.1.3; the form is an own choice).
-ghost use Rattle.std.specs.Prelude.{◌≡◌, ◌+◌, ◌-◌, ◌*◌, ◌++◌, [], OnOk, codes};
+ghost use Rattle.std.specs.Prelude.{◌≡◌, ◌≤◌, ◌+◌, ◌-◌, ◌*◌, ◌++◌, [], OnOk, codes, length};
 ghost use Rattle.ftp_server_model.specs.Listing.{date_text, list_line, month_word, right_in};
 
 use ftp_facts::{Moment, moment_text};
@@ -19,7 +19,8 @@ pub fn put_file_line<A: Allocator + Copy>(
     moment: Moment,
     out: &mut Vec<u8, A>,
 ) -> Result<(), AllocError>
-    ensures { OnOk result (out.new.items ≡ out.old.items ++ list_line (codes "-rw-r--r--") size moment.seconds name.now) }
+    ensures line { OnOk result (out.new.items ≡ out.old.items ++ list_line (codes "-rw-r--r--") size moment.seconds name.now) }
+    ensures few { OnOk result (length out.new.items ≤ length out.old.items + (100 + length name.now)) }
 {
     out.extend_from_slice(b"-rw-r--r--")?;
     put_columns(name, size, moment, out)?;
@@ -31,7 +32,8 @@ pub fn put_dir_line<A: Allocator + Copy>(
     name: &[u8],
     out: &mut Vec<u8, A>,
 ) -> Result<(), AllocError>
-    ensures { OnOk result (out.new.items ≡ out.old.items ++ list_line (codes "drwxr-xr-x") 0 0 name.now) }
+    ensures line { OnOk result (out.new.items ≡ out.old.items ++ list_line (codes "drwxr-xr-x") 0 0 name.now) }
+    ensures few { OnOk result (length out.new.items ≤ length out.old.items + (100 + length name.now)) }
 {
     out.extend_from_slice(b"drwxr-xr-x")?;
     put_columns(name, 0, Moment { seconds: 0 }, out)?;

@@ -1,6 +1,8 @@
 // A listing that is given.
 ghost use Rattle.std.specs.Prelude.{◌≡◌, ◌<◌, ◌≤◌, ◌+◌, ◌⊎◌, ◌↔◌, ◌++◌, [], length, take, true, false, is_some, IsTrue, IfOk, OnOk, OnErr};
+ghost use Rattle.ftp_path.specs.Path.{text_limit};
 ghost use Rattle.ftp_tree.specs.Tree.{Table, under};
+ghost use Rattle.ftp_server_model.specs.Held.{lines_limit};
 ghost use Rattle.ftp_server_model.specs.Listing.{listing_wire, list_lines, lines_file};
 ghost use Rattle.ftp_direct.specs.Direct.{names_for};
 ghost use Rattle.ftp_server_transfer.specs.declared.line.What.TheVariants.{Lines, Names};
@@ -27,18 +29,20 @@ pub struct Made {
 /// The octets of a listing that are still to be given. It holds some lines, and some behind them, and makes the others from the tree.
 pub struct Listing<A: Allocator + Copy> {
     alloc: A,
-    what: What<A>,
-    path: Path<A>,
-    encoder: Encoder,
+    pub(crate) what: What<A>,
+    pub(crate) path: Path<A>,
+    pub(crate) encoder: Encoder,
     /// The lines that are being given, and how many of their octets were taken.
-    lines: Vec<u8, A>,
+    pub(crate) lines: Vec<u8, A>,
     given: usize,
     /// Those behind them; no octets where there are none.
-    ahead: Vec<u8, A>,
+    pub(crate) ahead: Vec<u8, A>,
     /// The place of the first name that was not looked at; none where no further line is to be made.
     place: Option<usize>,
     ghost within: { given ≤ length lines.items },
     ghost known: { is_some place ≡ true → 0 < length ahead.items },
+    ghost few: { length lines.items ≤ lines_limit },
+    ghost few_ahead: { length ahead.items ≤ lines_limit },
 }
 
 /// By hand: a derived drop is proved again, part by part, wherever a listing is let go.
@@ -203,6 +207,7 @@ fn put_first<A: Allocator + Copy, T: Tree<A>>(
     ensures lines { IfOk result (λ next. let part = under (T.table tree.now) root.now in
         lines_file (lines_of what.now part path.now) ≡ line.new.items ++ lines_file (lines_from what.now part path.now next)) }
     ensures some { IfOk result (λ next. is_some next ≡ true → 0 < length line.new.items) }
+    ensures few { OnOk result (length line.new.items ≤ lines_limit) }
 {
     match what {
         What::Lines => {
@@ -235,6 +240,7 @@ fn put_first_line<A: Allocator + Copy, T: Tree<A>>(
     ensures lines { IfOk result (λ next. let part = under (T.table tree.now) root.now in
         lines_file (list_lines part path.now) ≡ line.new.items ++ lines_file (lines_from what.now part path.now next)) }
     ensures some { IfOk result (λ next. is_some next ≡ true → 0 < length line.new.items) }
+    ensures few { OnOk result (length line.new.items ≤ lines_limit) }
 {
     match tree.kind(root, path) {
         Some(NodeKind::File) => {
@@ -262,10 +268,12 @@ fn put_first_name<A: Allocator + Copy, T: Tree<A>>(
     line: &mut Vec<u8, A>,
 ) -> Result<Option<usize>, AllocError>
     requires what { what.now ≡ Names text.now }
+    requires short { length text.now ≤ text_limit }
     requires empty { line.old.items ≡ [] }
     ensures lines { IfOk result (λ next. let part = under (T.table tree.now) root.now in
         lines_file (names_for part path.now text.now) ≡ line.new.items ++ lines_file (lines_from what.now part path.now next)) }
     ensures some { IfOk result (λ next. is_some next ≡ true → 0 < length line.new.items) }
+    ensures few { OnOk result (length line.new.items ≤ lines_limit) }
 {
     if is_file(tree, root, path) {
         line.extend_from_slice(text)?;

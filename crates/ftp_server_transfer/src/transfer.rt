@@ -5,9 +5,10 @@ ghost use Rattle.ftp_server_transfer.specs.TreeTransfer.{transfer_of};
 
 use crate::line::What;
 use crate::listing::Listing;
+use crate::named::Named;
 use crate::{Download, Upload};
 use ftp_command::Argument;
-use ftp_facts::{Moment, Text};
+use ftp_facts::Moment;
 use ftp_path::Path;
 use ftp_server_model::{Facts, FixedReply};
 use ftp_server_parts::{Fault, Given, Received, ServerTransfer, Told};
@@ -183,11 +184,11 @@ impl<A: Allocator + Copy, T: Tree<A>> ServerTransfer<A, T> for TreeTransfer<A> {
 }
 
 /// The text that named what is listed; none is empty.
-fn named<A: Allocator + Copy>(alloc: A, text: &Option<Argument<A>>) -> Result<Text<A>, AllocError>
+fn named<A: Allocator + Copy>(alloc: A, text: &Option<Argument<A>>) -> Result<Named<A>, AllocError>
     ensures { IfOk result (λ named. named ≡ or_empty text.now) }
 {
     match text {
-        Some(text) => Text::copy_of(alloc, text.octets()),
-        None => Text::copy_of(alloc, &[]),
+        Some(text) => Named::copy_of(alloc, text.octets()),
+        None => Named::copy_of(alloc, &[]),
     }
 }

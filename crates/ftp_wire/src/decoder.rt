@@ -5,7 +5,7 @@ ghost use Rattle.ftp_wire.specs.Hearing.{Hears, TellsNothing};
 use crate::decoded::Taken;
 use crate::intake::{Intake, RETURN};
 use crate::sink::Sink;
-use ftp_settings::Representation;
+use ftp_settings::{MARKER_LIMIT, Representation};
 use std::alloc::AllocError;
 use std::marker::Model;
 
@@ -61,6 +61,14 @@ impl<S: Sink> Decoder<S> {
         ensures { result.now ≡ self.now.marker }
     {
         self.intake.deframer.marker()
+    }
+
+    /// How many octets it stores beside those that are settled: a restart marker that comes, or came last; at most 255.
+    pub fn stored(&self) -> usize
+        ensures sum { result ≡ length self.now.marker }
+        ensures few { result ≤ MARKER_LIMIT }
+    {
+        self.intake.deframer.stored()
     }
 
     /// How many octets of the file are settled.

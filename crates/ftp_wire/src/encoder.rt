@@ -27,9 +27,9 @@ pub struct Encoded {
 #[derive(Drop)]
 pub struct Encoder {
     sender: Sender,
-    framer: Framer,
+    pub(crate) framer: Framer,
     /// The second octet of CR LF or CR NUL, where the first is out and the second had no room.
-    half: Option<u8>,
+    pub(crate) half: Option<u8>,
     ghost over: { has_sent_end sender ≡ true → (half ≡ None) × (manner (writing framer) ≡ Closed) },
     ghost going: { has_sent_end sender ≡ false → manner (writing framer) ≢ Closed },
     ghost copies: { manner (writing framer) ≡ Copies → (sender_form sender).structure ≡ File },

@@ -8,6 +8,7 @@ mod encoder;
 mod intake;
 pub mod laws;
 mod sink;
+mod stored;
 
 pub use decoded::{Decoded, Taken};
 pub use decoder::Decoder;

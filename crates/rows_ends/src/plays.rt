@@ -3,7 +3,7 @@ use crate::driven::Owner;
 use crate::event::{Event, Told};
 use crate::peer::Peer;
 use ftp_client::Client;
-use ftp_client_steps::ClientTransfer;
+use ftp_client_steps::CountedTransfer;
 use ftp_ends::Wants;
 use ftp_server::Server;
 use ftp_server_parts::Counted;
@@ -16,7 +16,7 @@ pub trait Holds: Drop {
     fn held(&self) -> usize;
 }
 
-impl<A: Allocator + Copy, C: ClientTransfer<A>> Holds for Client<A, C> {
+impl<A: Allocator + Copy, C: CountedTransfer<A>> Holds for Client<A, C> {
     fn held(&self) -> usize {
         self.held()
     }

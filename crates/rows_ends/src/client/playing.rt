@@ -6,7 +6,7 @@ use crate::plays::Holds;
 use crate::turn::Turn;
 use ftp_client::Client;
 use ftp_client_model::Near;
-use ftp_client_steps::ClientTransfer;
+use ftp_client_steps::CountedTransfer;
 use ftp_client_transfer::OperationTransfer;
 use ftp_facts::Text;
 use ftp_operation::Login;
@@ -42,7 +42,7 @@ fn enter<A: Allocator + Copy>(heap: A, login: Login<A>, turn: Turn<'_>, desk: &m
 }
 
 /// The same with such transfers: who names a client does not name them.
-fn enter_by<A: Allocator + Copy, J: ClientTransfer<A>>(
+fn enter_by<A: Allocator + Copy, J: CountedTransfer<A>>(
     heap: A,
     login: Login<A>,
     turn: Turn<'_>,

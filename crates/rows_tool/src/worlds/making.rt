@@ -3,7 +3,7 @@ use crate::worlds::desk::Desk;
 use crate::worlds::lines::play_in;
 use crate::worlds::world::Played;
 use ftp_client_model::Near;
-use ftp_client_steps::ClientTransfer;
+use ftp_client_steps::CountedTransfer;
 use ftp_client_transfer::OperationTransfer;
 use ftp_operation::Login;
 use ftp_pair::World;
@@ -53,7 +53,7 @@ fn enter<A: Allocator + Copy>(heap: A, login: Login<A>, row: &[u8], desk: &mut D
 }
 
 /// Plays a row in a world over such a tree, with such transfers: who names both ends does not name these.
-fn begin<A: Allocator + Copy, T: Tree<A>, C: ClientTransfer<A>, J: Counted<A, T>>(
+fn begin<A: Allocator + Copy, T: Tree<A>, C: CountedTransfer<A>, J: Counted<A, T>>(
     heap: A,
     of: Beginning<A, T>,
     row: &[u8],

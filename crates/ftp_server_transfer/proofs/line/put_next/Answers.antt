@@ -11,7 +11,7 @@ returns-then-len-ge-ENOUGH-clause-lines g c =
     let part = under (g.T.Tree.table c.args.tree.now) c.args.root.now in
     let next : c.loop-found.place + 1 ≡ c.in-Some-checked_add.next = search rules in
     with_line (line_of c.args.what.now part c.args.path.now) (children part c.args.path.now) c.loop-found.place c.in-Some-checked_add.next c.in-Some.found.name.octets.now _ c.loop-found.line.items
-    c.put_line.new.line.items c.in-Some.ensures.name next (c.in_ok-put_line.ensures part c.in-Some.ensures.file) c.loop-found.invariant.left
+    c.put_line.new.line.items c.in-Some.ensures.name next (c.in_ok-put_line.ensures.line part c.in-Some.ensures.file) c.loop-found.invariant.left
 
 pub loop-found-smaller : goal.loop-found-smaller
 loop-found-smaller g c =
@@ -27,8 +27,9 @@ loop-found-preserved g c =
     let part = under (g.T.Tree.table c.args.tree.now) c.args.root.now in
     let next : c.loop-found.place + 1 ≡ c.in-Some-checked_add.next = search rules in
     record {
+      few = search rules;
       left = with_line (line_of c.args.what.now part c.args.path.now) (children part c.args.path.now) c.loop-found.place c.in-Some-checked_add.next c.in-Some.found.name.octets.now _ c.loop-found.line.items
-          c.put_line.new.line.items c.in-Some.ensures.name next (c.in_ok-put_line.ensures part c.in-Some.ensures.file) c.loop-found.invariant.left;
+          c.put_line.new.line.items c.in-Some.ensures.name next (c.in_ok-put_line.ensures.line part c.in-Some.ensures.file) c.loop-found.invariant.left;
     }
 
 pub returns-clause-lines : goal.returns-clause-lines

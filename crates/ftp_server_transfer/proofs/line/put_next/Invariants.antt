@@ -1,4 +1,4 @@
-use Rattle.std.proofs.Common.{◌≡◌, ◌-◌, ◌++◌, length, Some}
+use Rattle.std.proofs.Common.{◌≡◌, ◌≤◌, ◌-◌, ◌++◌, length, Some}
 use Rattle.ftp_tree.specs.Tree.{children, under}
 use Rattle.ftp_server_model.specs.Listing.{lines_file}
 use Rattle.ftp_server_transfer.specs.Lines.{lines_from}
@@ -8,6 +8,7 @@ abbrev pub invariant-loop-found : goal.invariant-loop-found
 invariant-loop-found g l =
     let part = under (g.T.Tree.table l.tree) l.root in
     record {
+      few : length l.line.items ≤ 511;
       left : lines_file (lines_from l.what part l.path (Some l.from)) ≡ l.line.items ++ lines_file (lines_from l.what part l.path (Some l.place));
     }
 

@@ -29,7 +29,7 @@ invariant_of-self g c =
           c.say.ensures.short (idle_room v c.requires.idle)
           (busy_seen (view (under (table new.tree) new.root)) new.connection ∙ busy);
       paths = c.args.self.now.paths;
-      named = decided_named (session_of table view new, c.in-Ok.kind) v.footing c.args.heard v.session.pending s c.in-Ok.ensures.0 c.args.self.now.named c.requires.short;
+      named = decided_named (session_of table view new, c.in-Ok.kind) v.footing c.args.heard v.session.pending s c.in-Ok.ensures.0 c.args.self.now.named c.requires.named;
     }
 
 pub returns-in-Ok-clause-done : goal.returns-in-Ok-clause-done

@@ -1,0 +1,20 @@
+// A transfer that tells how much it stores.
+ghost use Rattle.std.specs.Prelude.{◌≡◌, ◌≤◌};
+ghost use Rattle.ftp_client_model.specs.Held.{stored_limit};
+
+use crate::transfer::ClientTransfer;
+use std::alloc::Allocator;
+
+/// A transfer that tells how many octets it stores.
+pub trait CountedTransfer<A: Allocator + Copy>: ClientTransfer<A> {
+    ghost use Rattle.std.specs.Prelude.{ℕ};
+
+    /// The sum of the lengths of all that it stores, said by its fields. Not among it are the octets that came of a download, and what it
+    /// shares with its operation.
+    ghost stored: { Self → ℕ };
+
+    /// So many octets, at most 8,216.
+    fn stored_len(&self) -> usize
+        ensures sum { result ≡ stored self.now }
+        ensures few { result ≤ stored_limit };
+}

@@ -1,0 +1,21 @@
+-- How many octets each transfer of a client stores: the sum of the lengths of its fields that have any. Not among it are the octets that came of
+-- a download, which are its report's; an upload shares its file with its operation.
+use Rattle.std.specs.Prelude.{ℕ, length}
+use Rattle.ftp_wire.specs.Stored.{encoder_len}
+use Rattle.ftp_client_transfer.specs.declared.download.Download.{Download}
+use Rattle.ftp_client_transfer.specs.declared.upload.Upload.{Upload}
+use Rattle.ftp_client_transfer.specs.declared.transfer.OperationTransfer.{OperationTransfer}
+use Rattle.ftp_client_transfer.specs.declared.transfer.OperationTransfer.TheVariants as Carryings
+
+-- an upload: what its encoder stores
+abbrev pub upload_len : Upload → ℕ
+upload_len u = encoder_len u.encoder
+
+-- a download: the restart marker in its decoder
+abbrev pub download_len : {A : Type 0} → Download A → ℕ
+download_len d = length d.decoder.marker
+
+-- either
+abbrev pub stored_of : {A : Type 0} → OperationTransfer A → ℕ
+stored_of (Carryings.Upload upload) = upload_len upload
+stored_of (Carryings.Download download) = download_len download

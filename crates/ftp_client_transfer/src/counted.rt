@@ -1,0 +1,17 @@
+// How much a transfer stores.
+use crate::transfer::OperationTransfer;
+use ftp_client_steps::CountedTransfer;
+use std::alloc::Allocator;
+
+impl<A: Allocator + Copy> CountedTransfer<A> for OperationTransfer<A> {
+    ghost use Rattle.ftp_client_transfer.specs.Stored.{stored_of};
+
+    ghost stored = { stored_of };
+
+    fn stored_len(&self) -> usize {
+        match self {
+            OperationTransfer::Upload(upload) => upload.encoder.stored(),
+            OperationTransfer::Download(download) => download.decoder.stored(),
+        }
+    }
+}

@@ -1,0 +1,53 @@
+-- How many octets each transfer stores: the sum of the lengths of its fields that have any. Not among it are the octets that came of an upload.
+use Rattle.std.specs.Prelude.{◌≡◌, ℕ, ◌+◌, length}
+use Rattle.ftp_wire.specs.Stored.{encoder_len}
+use Rattle.ftp_server_model.specs.Held.{path_len}
+use Rattle.ftp_server_transfer.specs.declared.download.Download.{Download}
+use Rattle.ftp_server_transfer.specs.declared.line.What.{What}
+use Rattle.ftp_server_transfer.specs.declared.line.What.TheVariants as Whats
+use Rattle.ftp_server_transfer.specs.declared.listing.Listing.{Listing}
+use Rattle.ftp_server_transfer.specs.declared.upload.Upload.{Upload}
+use Rattle.ftp_server_transfer.specs.declared.transfer.TreeTransfer.{TreeTransfer}
+use Rattle.ftp_server_transfer.specs.declared.transfer.TreeTransfer.TheVariants as Kinds
+
+-- a download: its path, and what its encoder stores
+abbrev pub download_len : {A : Type 0} → Download A → ℕ
+download_len d = path_len d.path + encoder_len d.encoder
+
+-- an upload: its path, and the restart marker in its decoder
+abbrev pub upload_len : {A : Type 0} → Upload A → ℕ
+upload_len u = path_len u.path + length u.decoder.marker
+
+-- the argument of NLST
+abbrev pub what_len : {A : Type 0} → What A → ℕ
+what_len Whats.Lines = 0
+what_len (Whats.Names text) = length text
+what_len (Whats.Entries facts) = 0
+
+-- a listing: its path, the argument, what its encoder stores, the lines that are given, and those after them
+abbrev pub listing_len : {A : Type 0} → Listing A → ℕ
+listing_len l = path_len l.path + (what_len l.what + (encoder_len l.encoder + (length l.lines.items + length l.ahead.items)))
+
+-- a transfer of any kind
+abbrev pub stored_of : {A : Type 0} → TreeTransfer A → ℕ
+stored_of (Kinds.Upload upload) = upload_len upload
+stored_of Kinds.OverLimit = 0
+stored_of (Kinds.Download download) = download_len download
+stored_of (Kinds.Listing listing) = listing_len listing
+
+-- ---- nothing else is stored: each is what the sums count, and numbers
+
+-- a download is its path, a place in its file, and its encoder
+abbrev pub IsWholeDownload : {A : Type 0} → Download A → Type 0
+IsWholeDownload {A} d = (e : Download A) → e.path ≡ d.path → e.at ≡ d.at → e.encoder ≡ d.encoder → e ≡ d
+
+-- an upload is its path, how much it keeps, and its decoder, which has what came
+abbrev pub IsWholeUpload : {A : Type 0} → Upload A → Type 0
+IsWholeUpload {A} u = (e : Upload A) → e.path ≡ u.path → e.keep ≡ u.keep → e.decoder ≡ u.decoder → e ≡ u
+
+-- a listing is its allocator, what is listed, its encoder, the lines, how many of their octets were taken, those after them, and a place in the
+-- directory
+abbrev pub IsWholeListing : {A : Type 0} → Listing A → Type 0
+IsWholeListing {A} l =
+    (e : Listing A) → e.alloc ≡ l.alloc → e.what ≡ l.what → e.path ≡ l.path → e.encoder ≡ l.encoder
+    → e.lines ≡ l.lines → e.given ≡ l.given → e.ahead ≡ l.ahead → e.place ≡ l.place → e ≡ l

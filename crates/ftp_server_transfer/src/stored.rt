@@ -1,0 +1,58 @@
+// How many octets a transfer stores, beside those that came of an upload.
+ghost use Rattle.std.specs.Prelude.{◌≡◌, ◌≤◌};
+ghost use Rattle.ftp_path.specs.Path.{text_limit};
+ghost use Rattle.ftp_server_model.specs.Held.{stored_limit};
+ghost use Rattle.ftp_server_transfer.specs.Stored.{IsWholeDownload, IsWholeListing, IsWholeUpload, download_len, listing_len, upload_len, what_len};
+
+use crate::download::Download;
+use crate::line::What;
+use crate::listing::Listing;
+use crate::upload::Upload;
+use std::alloc::Allocator;
+
+impl<A: Allocator + Copy> Download<A> {
+    /// How many octets it stores: its path, and what its encoder does; beside these it is numbers.
+    pub fn stored(&self) -> usize
+        ensures sum { result ≡ download_len self.now }
+        ensures whole { IsWholeDownload self.now }
+        ensures few { result ≤ stored_limit }
+    {
+        self.path.text().len() + self.encoder.stored()
+    }
+}
+
+impl<A: Allocator + Copy> Upload<A> {
+    /// How many octets it stores beside those that came: its path, and what its decoder does; beside these it is numbers.
+    pub fn stored(&self) -> usize
+        ensures sum { result ≡ upload_len self.now }
+        ensures whole { IsWholeUpload self.now }
+        ensures few { result ≤ stored_limit }
+    {
+        self.path.text().len() + self.decoder.stored()
+    }
+}
+
+impl<A: Allocator + Copy> Listing<A> {
+    /// How many octets it stores: its path, the argument of NLST, the lines that are given and those after them, and what its encoder does.
+    pub fn stored(&self) -> usize
+        ensures sum { result ≡ listing_len self.now }
+        ensures whole { IsWholeListing self.now }
+        ensures few { result ≤ stored_limit }
+    {
+        let lines = self.lines.len() + self.ahead.len();
+        self.path.text().len() + (self.what.stored() + (self.encoder.stored() + lines))
+    }
+}
+
+impl<A: Allocator + Copy> What<A> {
+    /// How many octets it stores: the argument of NLST.
+    pub(crate) fn stored(&self) -> usize
+        ensures sum { result ≡ what_len self.now }
+        ensures few { result ≤ text_limit }
+    {
+        match self {
+            What::Names(text) => text.as_slice().len(),
+            What::Lines | What::Entries(_) => 0,
+        }
+    }
+}
