@@ -198,7 +198,8 @@ impl Todo {
         }
         self.counts.add_removed(1);
         if matches!(removal, Deed::RemoveDir) {
-            self.put(Chore::Count(self.removals.len()), work.below.as_str())?;
+            let number = self.removals.len();
+            self.put(Chore::Count(number), work.below.as_str())?;
         }
         self.removals.push(work)?;
         Ok(())
