@@ -1,5 +1,5 @@
 -- What the values of `serve` ask to be served (own choice).
-use Rattle.std.specs.Prelude.{◌≡◌, ◌^◌, Option, Some, None}
+use Rattle.std.specs.Prelude.{◌≡◌, ◌^◌, ⊤, ℕ, List, Option, Some, None, option_map}
 use Rattle.std.specs.Net.Grammar.{IsIpText}
 use Rattle.std.specs.declared.net.IpAddr.{IpAddr}
 use Rattle.ftp_tool_command.specs.declared.serving.ServeWords.{ServeWords}
@@ -17,11 +17,11 @@ pub record AreWaits (words : WaitWords) (limits : Limits) : Type 0 where
   pub login_while_waited : SaysBelow (2 ^ 32) words.login_while_waited.now limits.login_while_waited
 
 -- an address in numbers, if a word is given
-abbrev pub SaysAddress : Option Word → Option IpAddr → Type 0
-SaysAddress None None = Unit {0}
+abbrev pub SaysAddress : Option (List ℕ) → Option IpAddr → Type 0
+SaysAddress None None = ⊤
 SaysAddress None (Some address) = ⊥
-SaysAddress (Some word) None = ⊥
-SaysAddress (Some word) (Some address) = IsIpText word.now address
+SaysAddress (Some text) None = ⊥
+SaysAddress (Some text) (Some address) = IsIpText text address
 
 -- each value is what its word says, and the folder and the file of accounts are their words
 pub record Asks (words : ServeWords) (serving : Serving) : Type 0 where
@@ -33,6 +33,6 @@ pub record Asks (words : ServeWords) (serving : Serving) : Type 0 where
   pub log : serving.log ≡ words.log
   pub others : serving.others ≡ words.others
   pub passive : SaysPorts words.passive.now serving.passive.0 serving.passive.1
-  pub passive_address : SaysAddress words.passive_address serving.passive_address
+  pub passive_address : SaysAddress (option_map (λ word. word.now) words.passive_address) serving.passive_address
   pub odd : serving.odd ≡ words.odd
   pub limits : AreWaits words.waits serving.limits

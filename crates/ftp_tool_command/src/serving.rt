@@ -1,5 +1,5 @@
 // The subcommand `serve`: its words.
-ghost use Rattle.std.specs.Prelude.{ℕ, Option, IfOk, IfSome, IfNone, OnErr};
+ghost use Rattle.std.specs.Prelude.{ℕ, Option, IfOk, IfSome, IfNone, OnErr, option_map};
 ghost use Rattle.std.specs.Net.Grammar.{IsIpText};
 ghost use Rattle.std.specs.declared.net.IpAddr.{IpAddr};
 ghost use Rattle.ftp_tool_serve.specs.declared.serving.Serving.{Serving};
@@ -230,8 +230,8 @@ fn passive_by(word: &str) -> Result<(u16, u16), Refusal<'_>>
 }
 
 fn passive_address_by(word: Option<&str>) -> Result<Option<IpAddr>, Refusal<'_>>
-    ensures some { IfOk result (λ address. SaysAddress word.entry address) }
-    ensures none { OnErr result ((address : Option IpAddr) → ¬ SaysAddress word.entry address) }
+    ensures some { IfOk result (λ address. SaysAddress (option_map (λ word. word.now) word.entry) address) }
+    ensures none { OnErr result ((address : Option IpAddr) → ¬ SaysAddress (option_map (λ word. word.now) word.entry) address) }
 {
     let Some(word) = word else {
         return Ok(None);
