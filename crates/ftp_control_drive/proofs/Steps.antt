@@ -3,9 +3,9 @@ use Rattle.std.proofs.Common.{◌≡◌, ◌⊎◌, ℕ, [], inl, inr, refl, sub
 use Rattle.std.specs.Prelude.{Bool, IsErr, true, false}
 use Rattle.ftp_control.specs.Asking.{Adds, Asked, told_lost}
 use Rattle.ftp_control.specs.Deeds.{Stand, with_owner}
-use Rattle.ftp_control.specs.Driving.{Fails, Leads}
-use Rattle.ftp_control.specs.Lane.{IsLeft, IsRead, Lane, lane_of, with_fate, with_untold}
-use Rattle.ftp_control.specs.Machine.{IsBroken, IsFairEnd, Machine, MayLeave, held, leaves as goes_without, side_of, stand_of}
+use Rattle.ftp_control.specs.Driving.{Fails, Goes, Leads}
+use Rattle.ftp_control.specs.Lane.{IsLeft, IsRead, Lane, lane_of, with_asked, with_fate, with_untold}
+use Rattle.ftp_control.specs.Machine.{GetsOn, Stirs, awaits, IsBroken, IsFairEnd, Machine, MayLeave, held, leaves as goes_without, side_of, stand_of}
 use Rattle.ftp_control.specs.Outcome.{IsDropped, IsReset}
 use Rattle.ftp_control.specs.Whole.{is_well}
 use Rattle.ftp_control.specs.declared.data.DataConnection.{DataConnection}
@@ -16,9 +16,9 @@ use Rattle.ftp_control.specs.declared.data.Halt.{Halt}
 use Rattle.ftp_control.specs.declared.data.Halt.TheVariants as Halts
 use Rattle.ftp_control.specs.declared.whole.Fate.{Fate}
 use Rattle.ftp_control.specs.declared.whole.Fate.TheVariants as Fates
-use Rattle.ftp_control.proofs.Idling.{breaks_told, came, came_none, idles_asked, leaves}
+use Rattle.ftp_control.proofs.Idling.{asked_waits, breaks_told, came, came_none, leaves, waits}
 use Rattle.ftp_control.proofs.Lanes.{same_lane}
-use Rattle.ftp_control.proofs.Leading.{leads_then}
+use Rattle.ftp_control.proofs.Getting.{gets_goes, stirs_lead, then_stirs}
 use Rattle.ftp_ends.specs.declared.link.Wants.{Wants}
 use Rattle.ftp_ends.specs.declared.link.Wants.TheVariants as Want
 use Rattle.ftp_control_drive.specs.Calling.{Ends}
@@ -71,17 +71,25 @@ module _ (machine : Machine) where
   -- it is told that it broke, and it is reset
   pub loses : (old new : Stand (side_of machine)) (here : machine.Here) (asked : Asked) → machine.Break old.owner.end here
       → IsBroken (machine.wants old.owner.end) old.owner.lane.stands old.owner.lane.fate → IsReset asked old.owner.lane new.owner.lane
-      → new ≡ with_owner (held here new.owner.lane) old → Leads old new
+      → new ≡ with_owner (held here new.owner.lane) old → Stirs machine old new
   loses old new here asked broke is reset same =
       let lane = with_fate Fates.Broken old.owner.lane in
       let mid = with_owner (held here lane) old in
-      leads_then old mid new (breaks_told machine old.owner.end here old.owner.lane broke is old.left old.unheard old.written)
+      then_stirs old mid new (breaks_told machine old.owner.end here old.owner.lane broke is old.left old.unheard old.written)
       (leaves machine asked mid new (left_broken asked old.owner.lane new.owner.lane reset.left) tt
       (dropped_fair (machine.wants here) lane old.owner.lane.stands asked refl reset.dropped) same)
 
   -- it was told that the control connection ended, or not
-  pub asks : (lost : Bool) (old : Stand (side_of machine)) (h1 : Option (List Asked)) → Adds old.owner.lane.asked h1 (told_lost lost) → Leads old (asked_before h1 old)
-  asks lost old h1 told = idles_asked machine lost old.owner.lane old.owner.lane.asked h1 told old.owner.end old.left old.unheard old.written
+  pub asks : (lost : Bool) (old : Stand (side_of machine)) (h1 : Option (List Asked)) → (awaits (machine.wants old.owner.end) ≡ true) ⊎ (old.owner.lane.fate ≡ Fates.Failed)
+      → Adds old.owner.lane.asked h1 (told_lost lost) → Leads old (asked_before h1 old)
+  asks lost old h1 due told =
+      let lane = old.owner.lane in
+      stirs_lead _ _ (waits machine lost old.owner.end lane (with_asked h1 lane) due (asked_waits machine lost lane lane.asked h1 told) old.left old.unheard old.written)
+
+  -- a turn leads on, or fails
+  pub turned : {T : Type 0} (a b : Stand (side_of machine)) (r : Result T Cause) {U : Type 0} → GetsOn machine a b r ⊎ (Goes a b r × U) → Goes a b r
+  turned a b r (inl gets) = gets_goes a b r gets
+  turned a b r (inr other) = other.0
 
   pub ends_err : {Over : Type 0} (last : Over → (old new : machine.Here) → Type 0) (a b : Stand (side_of machine)) (r : Result Over Cause) → IsErr r → Fails a b
       → Ends machine last a b r

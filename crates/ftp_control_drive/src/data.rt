@@ -5,7 +5,7 @@ ghost use Rattle.ftp_control.specs.Driving.{Quietly};
 ghost use Rattle.ftp_control.specs.Halting.{fate_by};
 ghost use Rattle.ftp_control.specs.Lane.{IsRead, IsWaited, no_lane, with_fate};
 ghost use Rattle.ftp_control.specs.Machine.{held, side_of};
-ghost use Rattle.ftp_control.specs.Outcome.{IsReset, IsSent, in_hand};
+ghost use Rattle.ftp_control.specs.Outcome.{IsReset, IsSent, IsWrote, in_hand};
 ghost use Rattle.ftp_control_drive.specs.Standing.{HasEnded, IsOpenAt, Leaving, lane_at};
 
 use crate::calls::EndCalls;
@@ -83,6 +83,7 @@ impl<S: Read + Write> Data<S> {
     pub(crate) fn write<K: EndCalls<E>, E>(&mut self) -> Result<(), Halt>
         requires { IsOpenAt self.old }
         ensures written { (asked : Option (List Asked)) → IsSent (lane_at S.remaining S.contents asked self.old []) (lane_at S.remaining S.contents asked self.new []) }
+        ensures some { self.old.connection.at < self.old.connection.end → (asked : Option (List Asked)) → IsWrote (lane_at S.remaining S.contents asked self.old []) (lane_at S.remaining S.contents asked self.new []) }
         ensures fate { self.new.connection.fate ≡ fate_by result Fate.Sound }
         ensures all { OnOk result (K.serves ≡ true → self.new.connection.rest ≡ Rest.Nothing → self.new.connection.at ≡ self.new.connection.end) }
     {
@@ -101,7 +102,7 @@ impl<S: Read + Write> Data<S> {
     fn write_all(&mut self) -> Result<(), Halt>
         requires ready { IsOpenAt self.old }
         requires some { self.old.connection.at < self.old.connection.end }
-        ensures written { (asked : Option (List Asked)) → IsSent (lane_at S.remaining S.contents asked self.old []) (lane_at S.remaining S.contents asked self.new []) }
+        ensures written { (asked : Option (List Asked)) → IsWrote (lane_at S.remaining S.contents asked self.old []) (lane_at S.remaining S.contents asked self.new []) }
         ensures fate { self.new.connection.fate ≡ fate_by result Fate.Sound }
         ensures all { OnOk result (self.new.connection.at ≡ self.new.connection.end) }
     {

@@ -2,8 +2,8 @@ use Rattle.std.proofs.Common.{refl, subst, take}
 use Rattle.ftp_control_drive.proofs.Words.{hears_first}
 use Rattle.ftp_control_drive.proofs.drive.Drive.hear.Goals as goal
 
-pub returns-clause-leads : goal.returns-clause-leads
-returns-clause-leads g c =
+pub returns-clause-stirs : goal.returns-clause-stirs
+returns-clause-stirs g c =
     let taken = c.hear-taken.result in
     let here = g.K.EndCalls.here in
     hears_first g.K.EndCalls.machine _ _ taken
