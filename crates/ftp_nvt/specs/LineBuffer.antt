@@ -2,7 +2,7 @@
 use Rattle.std.specs.Prelude.{◌≡◌, ℕ, ◌<◌, ◌≤◌, List, [], ◌∷◌, ◌++◌, length, take, ◌==◌, true, false, if◌then◌else◌}
 use Rattle.ftp_nvt.specs.Lines.{NvtEvent, Lacks, cut, last_octet, text_of, settled, lines}
 use Rattle.ftp_nvt.specs.declared.event.Event.{Event}
-use Rattle.ftp_nvt.specs.declared.event.Fed.{Fed}
+use Rattle.ftp_nvt.specs.declared.event.Heard.{Heard}
 use Rattle.ftp_nvt.specs.Event.{event_list}
 use Rattle.ftp_nvt.specs.declared.line.TheConstants.{LF, CR}
 use Rattle.ftp_nvt.specs.declared.telnet.TheConstants.{IAC}
@@ -37,7 +37,7 @@ pub record Reads {A : Type 0} (old : LineBuffer A) (taken : List ℕ) (added : L
   pub said : (octets : List ℕ) → HasRead old octets → lines old.limit (octets ++ taken) ≡ lines old.limit octets ++ added
 
 -- so many octets in front of a piece were read, one at least and none of them an IAC, and settled this
-pub record Bites {A : Type 0} (old : LineBuffer A) (piece : List ℕ) (heard : Fed) (new : LineBuffer A) : Type 0 where
+pub record Bites {A : Type 0} (old : LineBuffer A) (piece : List ℕ) (heard : Heard) (new : LineBuffer A) : Type 0 where
   pub within : heard.taken ≤ length piece
   pub some : 0 < heard.taken
   pub bare : Lacks IAC (take heard.taken piece)

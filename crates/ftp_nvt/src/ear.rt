@@ -1,6 +1,6 @@
 ghost use Rattle.std.specs.Prelude.{◌≡◌, ◌≢◌, ◌<◌, ◌≤◌, ◌∷◌, [], length, take, slice_index, IfOk, IfErr};
 
-use crate::event::{Event, Fed};
+use crate::event::{Event, Heard};
 use crate::fault::NvtFault;
 use crate::line::LineBuffer;
 use crate::run::run_before_command;
@@ -38,7 +38,7 @@ impl<A: Allocator + Copy> Ear<A> {
     /// room that `new` took is that of the limit, and stays.
     ///
     /// A line is lent by `line` until the next call. Octets behind those taken are for the next call.
-    pub fn feed(&mut self, piece: &[u8]) -> Fed
+    pub fn feed(&mut self, piece: &[u8]) -> Heard
         ensures within { result.taken ≤ length piece.now }
         ensures hears { Hears self.old (take result.taken piece.now)
             (event_list result.event (line_of self.new)) self.new }
@@ -53,10 +53,10 @@ impl<A: Allocator + Copy> Ear<A> {
             taken += heard.taken;
             match heard.event {
                 Event::More => {}
-                event => return Fed { taken, event },
+                event => return Heard { taken, event },
             }
         }
-        Fed {
+        Heard {
             taken,
             event: Event::More,
         }
@@ -78,7 +78,7 @@ impl<A: Allocator + Copy> Ear<A> {
     }
 
     // Takes a run of octets that settles nothing, or one octet.
-    fn bite(&mut self, piece: &[u8]) -> Fed
+    fn bite(&mut self, piece: &[u8]) -> Heard
         requires { 0 < length piece.now }
         ensures within { result.taken ≤ length piece.now }
         ensures hears { Hears self.old (take result.taken piece.now)
@@ -94,11 +94,11 @@ impl<A: Allocator + Copy> Ear<A> {
             }
         }
         let event = self.octet(octet);
-        Fed { taken: 1, event }
+        Heard { taken: 1, event }
     }
 
     // Skips octets of a subnegotiation in front of the next IAC.
-    fn skip(&mut self, piece: &[u8]) -> Fed
+    fn skip(&mut self, piece: &[u8]) -> Heard
         requires some { 0 < length piece.now }
         requires content { slice_index piece.now 0 ≢ IAC }
         requires place { self.old.place ≡ TelnetState.Inside }
@@ -107,7 +107,7 @@ impl<A: Allocator + Copy> Ear<A> {
             (event_list result.event (line_of self.new)) self.new }
         ensures some { 0 < result.taken }
     {
-        Fed {
+        Heard {
             taken: run_before_command(piece),
             event: Event::More,
         }

@@ -13,7 +13,7 @@ pub enum Event {
 
 /// How many octets of a piece were taken, and what they settled.
 #[derive(Clone, Copy, PartialEq, Eq)]
-pub struct Fed {
+pub struct Heard {
     pub taken: usize,
     pub event: Event,
 }

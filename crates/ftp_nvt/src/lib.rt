@@ -12,6 +12,6 @@ mod run;
 mod telnet;
 
 pub use ear::Ear;
-pub use event::{Event, Fed};
+pub use event::{Event, Heard};
 pub use fault::NvtFault;
 pub use put::put_line;

@@ -1,7 +1,7 @@
 ghost use Rattle.std.specs.Prelude.{◌≡◌, ◌≢◌, ◌+◌, ◌-◌, ◌<◌, ◌≤◌, ◌⊎◌, ◌++◌, ◌∷◌, []};
 ghost use Rattle.std.specs.Prelude.{length, take, slice_index, IfOk, vec_len, vec_capacity};
 
-use crate::event::{Event, Fed};
+use crate::event::{Event, Heard};
 use crate::run::{plain_run, skipped_run};
 use crate::telnet::IAC;
 use std::alloc::{AllocError, Allocator};
@@ -75,7 +75,7 @@ impl<A: Allocator + Copy> LineBuffer<A> {
     }
 
     /// Reads a run of octets in front of an IAC that adds no line, or one octet.
-    pub(crate) fn bite(&mut self, piece: &[u8]) -> Fed
+    pub(crate) fn bite(&mut self, piece: &[u8]) -> Heard
         requires some { 0 < length piece.now }
         requires bare { slice_index piece.now 0 ≢ IAC }
         ensures { Bites self.old piece.now result self.new }
@@ -117,7 +117,7 @@ impl<A: Allocator + Copy> LineBuffer<A> {
     }
 
     // Skips a line that is too long, up to its LF.
-    fn skip(&mut self, piece: &[u8]) -> Fed
+    fn skip(&mut self, piece: &[u8]) -> Heard
         requires some { 0 < length piece.now }
         requires bare { slice_index piece.now 0 ≢ IAC }
         requires stage { self.old.stage ≡ Stage.Past }
@@ -126,19 +126,19 @@ impl<A: Allocator + Copy> LineBuffer<A> {
         let taken = skipped_run(piece);
         if taken < piece.len() && piece[taken] == LF {
             self.stage = Stage::Start;
-            return Fed {
+            return Heard {
                 taken: taken + 1,
                 event: Event::More,
             };
         }
-        Fed {
+        Heard {
             taken,
             event: Event::More,
         }
     }
 
     // Reads the octets in front of the next CR, LF or IAC as far as they keep the limit, or one octet.
-    fn run(&mut self, piece: &[u8]) -> Fed
+    fn run(&mut self, piece: &[u8]) -> Heard
         requires some { 0 < length piece.now }
         requires bare { slice_index piece.now 0 ≢ IAC }
         requires stage { self.old.stage ≡ Stage.Inside }
@@ -150,7 +150,7 @@ impl<A: Allocator + Copy> LineBuffer<A> {
         }
         let (plain, _) = piece.split_at(taken);
         self.put_run(plain);
-        Fed {
+        Heard {
             taken,
             event: Event::More,
         }
@@ -171,14 +171,14 @@ impl<A: Allocator + Copy> LineBuffer<A> {
     }
 
     // Reads the first octet of a piece.
-    fn first(&mut self, piece: &[u8]) -> Fed
+    fn first(&mut self, piece: &[u8]) -> Heard
         requires some { 0 < length piece.now }
         requires bare { slice_index piece.now 0 ≢ IAC }
         requires stage { (self.old.stage ≡ Stage.Inside) ⊎ (self.old.stage ≡ Stage.AfterReturn) }
         ensures { Bites self.old piece.now result self.new }
     {
         let event = self.octet(piece[0]);
-        Fed { taken: 1, event }
+        Heard { taken: 1, event }
     }
 
     // Reads one octet of a line that keeps the limit so far.
