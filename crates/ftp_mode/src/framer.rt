@@ -15,12 +15,12 @@ use itoa::Buffer;
 
 /// How much of an item was taken, and how many octets of the room were made.
 #[derive(Clone, Copy, PartialEq, Eq)]
-pub struct Written {
+pub struct Moved {
     pub taken: usize,
     pub made: usize,
 }
 
-impl Written {
+impl Moved {
     /// What is left of the item, or nothing: it is to be put again.
     pub fn rest<'a>(self, item: Item<'a>) -> Option<Item<'a>>
         requires { self.taken ≤ length (signs item) }
@@ -141,7 +141,7 @@ impl Framer {
     ///
     /// `taken` counts octets of the item; of an end it is 1 once the end needs no further call. `made` counts the
     /// octets of the room that were written. Behind the end of file items are taken and nothing is written.
-    pub fn put(&mut self, item: Item<'_>, room: &mut [u8]) -> Written
+    pub fn put(&mut self, item: Item<'_>, room: &mut [u8]) -> Moved
         ensures within { (result.taken ≤ length (signs item.entry)) × (result.made ≤ length room.old) }
         ensures text { (more : List Sign) → still_to_write self.old (signs item.entry ++ more)
             ≡ take result.made room.new ++ still_to_write self.new (drop result.taken (signs item.entry) ++ more) }
@@ -157,7 +157,7 @@ impl Framer {
     {
         let first = self.pour(room, 0);
         if !self.is_clear() {
-            return Written {
+            return Moved {
                 taken: 0,
                 made: first,
             };
@@ -167,12 +167,12 @@ impl Framer {
             Item::EndRecord => {
                 let taken = usize::from(self.end_record());
                 let made = self.pour(room, first);
-                Written { taken, made }
+                Moved { taken, made }
             }
             Item::EndFile => {
                 self.end_file();
                 let made = self.pour(room, first);
-                Written {
+                Moved {
                     taken: usize::from(self.is_clear()),
                     made,
                 }
@@ -443,7 +443,7 @@ impl Framer {
     }
 
     /// Takes octets; behind an octet or an end that goes by itself a run too.
-    fn put_octets(&mut self, piece: &[u8], room: &mut [u8], at: usize) -> Written
+    fn put_octets(&mut self, piece: &[u8], room: &mut [u8], at: usize) -> Moved
         requires clear { IsClear self.old }
         requires within { at ≤ length room.old }
         ensures within { (result.taken ≤ length piece.now) × (at ≤ result.made) × (result.made ≤ length room.old) }
@@ -458,7 +458,7 @@ impl Framer {
         }
         let (_, rest) = piece.split_at(first.taken);
         let more = self.put_some(rest, room, first.made);
-        Written {
+        Moved {
             taken: first.taken + more.taken,
             made: more.made,
         }
@@ -466,7 +466,7 @@ impl Framer {
 
     /// Takes octets that go into the block or, as they are, into the room; where none stands in front, the first octet or
     /// what goes before it.
-    fn put_some(&mut self, piece: &[u8], room: &mut [u8], at: usize) -> Written
+    fn put_some(&mut self, piece: &[u8], room: &mut [u8], at: usize) -> Moved
         requires clear { IsClear self.old }
         requires within { at ≤ length room.old }
         ensures within { (result.taken ≤ length piece.now) × (at ≤ result.made) × (result.made ≤ length room.old) }
@@ -479,14 +479,14 @@ impl Framer {
         if fills > 0 {
             let (front, _) = piece.split_at(fills);
             self.fill_run(front);
-            return Written {
+            return Moved {
                 taken: fills,
                 made: at,
             };
         }
         let run = self.copy_run(piece, room, at);
         if run > 0 {
-            return Written {
+            return Moved {
                 taken: run,
                 made: at + run,
             };
@@ -527,7 +527,7 @@ impl Framer {
     }
 
     /// Takes the first octet, or decides what goes before it.
-    fn put_first(&mut self, piece: &[u8], room: &mut [u8], at: usize) -> Written
+    fn put_first(&mut self, piece: &[u8], room: &mut [u8], at: usize) -> Moved
         requires clear { IsClear self.old }
         requires within { at ≤ length room.old }
         ensures within { (result.taken ≤ length piece.now) × (at ≤ result.made) × (result.made ≤ length room.old) }
@@ -537,13 +537,13 @@ impl Framer {
         ensures some { at < length room.old → 0 < length piece.now → at < result.taken + result.made }
     {
         if piece.is_empty() {
-            return Written { taken: 0, made: at };
+            return Moved { taken: 0, made: at };
         }
         if self.octet(piece[0]) {
             let made = self.pour(room, at);
-            return Written { taken: 1, made };
+            return Moved { taken: 1, made };
         }
         let made = self.pour(room, at);
-        Written { taken: 0, made }
+        Moved { taken: 0, made }
     }
 }

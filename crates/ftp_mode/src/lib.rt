@@ -14,6 +14,6 @@ pub mod written;
 
 pub use deframer::Deframer;
 pub use fault::FrameFault;
-pub use framer::{Framer, Manner, Written};
+pub use framer::{Framer, Manner, Moved};
 pub use ftp_settings::Mode;
 pub use step::{FaultAt, Part, Step};

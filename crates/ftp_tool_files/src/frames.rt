@@ -17,7 +17,7 @@ ghost use Rattle.ftp_settings.specs.Representation.{form_of};
 
 use crate::receiving::to_file;
 use ftp_control::{Failed, PIECE_LIMIT, TURNS};
-use ftp_mode::{Framer, Written};
+use ftp_mode::{Framer, Moved};
 use ftp_repr::{Item, Sender};
 use ftp_settings::Representation;
 use std::alloc::Allocator;
@@ -151,7 +151,7 @@ impl<A: Allocator + Copy> Sending<A> {
 }
 
 /// Writes the front of an item into the room from `at` on.
-fn put_at(framer: &mut Framer, item: Item<'_>, room: &mut [u8], at: usize) -> Written
+fn put_at(framer: &mut Framer, item: Item<'_>, room: &mut [u8], at: usize) -> Moved
     requires { at ≤ length room.old }
     ensures within { (result.taken ≤ length (signs item.entry)) × (at + result.made ≤ length room.old) }
     ensures writes { Writes framer.old (signs item.entry) framer.new (drop result.taken (signs item.entry)) (take at room.old) (take (at + result.made) room.new) }
