@@ -103,7 +103,7 @@ first_one (c ∷ piece) some = refl
 
 pub refused_at : (old mid new : Deframer) (piece : List ℕ) (at : ℕ) (fault : FrameFault) → at < length piece → owed old ≡ [] → owed mid ≡ []
     → Moves (reading old) (reading mid) (take at piece) [] → IsGoing (reading mid) → Refuses mid (get_or (drop at piece) 0 0) fault new
-    → Fails old piece (record { taken = at + 1; fault = fault }) new
+    → Fails old piece (at + 1) fault (record new { with_fault = at + 1 })
 refused_at old mid new piece at fault less owes owed_mid moves fine refuses =
     let one : Moves (reading mid) (reading new) (take 1 (drop at piece)) [] =
     (let P : List ℕ → Type 0 = λ l. Moves (reading mid) (reading new) l [] in

@@ -6,7 +6,6 @@ use Rattle.ftp_mode.specs.declared.fault.FrameFault.{FrameFault}
 use Rattle.ftp_mode.specs.declared.step.Part.{Part}
 use Rattle.ftp_mode.specs.declared.step.Part.TheVariants.{Need, Data, EndRecord, EndFile, Marker}
 use Rattle.ftp_mode.specs.declared.step.Step.{Step}
-use Rattle.ftp_mode.specs.declared.step.FaultAt.{FaultAt}
 use Rattle.ftp_mode.specs.declared.deframer.State.{State}
 use Rattle.ftp_mode.specs.declared.deframer.State.TheVariants.{Plain, Outside, Escaped, Head, High, Low, Inside, Marking, Ended, Failed}
 use Rattle.ftp_mode.specs.declared.deframer.Owed.{Owed}
@@ -46,6 +45,10 @@ reading f = reading_of f.state f.place f.marker.items
 abbrev pub last_marker : Deframer → List ℕ
 last_marker f = f.marker.items
 
+-- how many octets of the last piece came with the fault that was given last
+abbrev pub taken_with_fault : Deframer → ℕ
+taken_with_fault f = f.with_fault
+
 -- what was read and not yet given: ends
 abbrev pub owed_said : Owed → List Said
 owed_said Nothing = []
@@ -72,12 +75,12 @@ pub record Hears (old : Deframer) (piece : List ℕ) (step : Step) (new : Defram
   pub fine : owed old ≡ [] → IsGoing (reading new)
 
 -- the octets that were taken give nothing, and the last of them is the first that stands in no text; of none, it was so before
-pub record Fails (old : Deframer) (piece : List ℕ) (met : FaultAt) (new : Deframer) : Type 0 where
-  pub within : met.taken ≤ length piece
-  pub state : reading new ≡ after reader (reading old) (take met.taken piece)
-  pub fails : reading new ≡ failed met.fault
-  pub first : 0 < met.taken → IsGoing (after reader (reading old) (take (met.taken - 1) piece))
-  pub quiet : owed old ++ gives reader (reading old) (take met.taken piece) ≡ []
+pub record Fails (old : Deframer) (piece : List ℕ) (taken : ℕ) (fault : FrameFault) (new : Deframer) : Type 0 where
+  pub within : taken ≤ length piece
+  pub state : reading new ≡ after reader (reading old) (take taken piece)
+  pub fails : reading new ≡ failed fault
+  pub first : 0 < taken → IsGoing (after reader (reading old) (take (taken - 1) piece))
+  pub quiet : owed old ++ gives reader (reading old) (take taken piece) ≡ []
   pub owes : owed new ≡ []
 
 -- what a bite gave: its octets, or the marker that they end

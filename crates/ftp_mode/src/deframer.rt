@@ -2,13 +2,13 @@ ghost use Rattle.std.specs.Prelude.{◌≡◌, ◌≢◌, ◌+◌, ◌<◌, ◌�
 ghost use Rattle.ftp_mode.specs.Block.{ends_of};
 ghost use Rattle.ftp_mode.specs.Count.{count_on};
 ghost use Rattle.ftp_mode.specs.Reading.{Reading, start, at_end, broken_state, going, failed, after_block, is_complete};
-ghost use Rattle.ftp_mode.specs.Deframing.{reading, owed, last_marker, part_said, gave_said, Hears, Fails, Bites, Reads, Refuses, IsControl};
+ghost use Rattle.ftp_mode.specs.Deframing.{reading, owed, last_marker, taken_with_fault, part_said, gave_said, Hears, Fails, Bites, Reads, Refuses, IsControl};
 
 use crate::Mode;
 use crate::descriptor::{END_OF_FILE, END_OF_RECORD, RESTART_MARKER, SUSPECTED_ERRORS};
 use crate::escape::{BOTH_CODE, ESCAPE, FILE_CODE, RECORD_CODE};
 use crate::fault::FrameFault;
-use crate::step::{FaultAt, Part, Step};
+use crate::step::{Part, Step};
 use arrayvec::ArrayVec;
 use ftp_repr::{Structure, first_ff};
 use ftp_settings::{MARKER_LIMIT, is_marker_octet};
@@ -69,6 +69,7 @@ pub struct Deframer {
     state: State,
     owed: Owed,
     place: u64,
+    with_fault: usize,
     pub(crate) marker: ArrayVec<u8, MARKER_LIMIT>,
 }
 
@@ -89,6 +90,7 @@ impl Deframer {
             state,
             owed: Owed::Nothing,
             place: 0,
+            with_fault: 0,
             marker: ArrayVec::new(),
         }
     }
@@ -98,26 +100,27 @@ impl Deframer {
     /// `piece` has the next octets of the data connection, any number of them; `taken` counts those used. A part may
     /// come with none taken: an end that stood behind another. Data is lent from `piece`; octets behind the end of
     /// file are taken and say nothing. Faults name their place, in wire octets from 0, and come with the octets taken
-    /// up to the wrong one. After one, each call answers it again and takes nothing.
-    pub fn feed<'a>(&mut self, piece: &'a [u8]) -> Result<Step<'a>, FaultAt>
+    /// up to the wrong one, which `taken_with_fault` counts. After one, each call answers it again and takes nothing.
+    pub fn feed<'a>(&mut self, piece: &'a [u8]) -> Result<Step<'a>, FrameFault>
         ensures ok { IfOk result (λ step. Hears self.old piece.now step self.new) }
-        ensures err { IfErr result (λ met. Fails self.old piece.now met self.new) }
+        ensures err { IfErr result (λ fault. Fails self.old piece.now (taken_with_fault self.new) fault self.new) }
     {
         if let Some(part) = self.owed_part() {
             return Ok(Step { taken: 0, part });
         }
         if let State::Failed(fault) = self.state {
-            return Err(FaultAt { taken: 0, fault });
+            self.with_fault = 0;
+            return Err(fault);
         }
         let mut at = 0;
         while at < piece.len() {
             let (_, rest) = piece.split_at(at);
             let bite = match self.bite(rest) {
                 Ok(bite) => bite,
-                Err(fault) => return Err(FaultAt {
-                    taken: at + 1,
-                    fault,
-                }),
+                Err(fault) => {
+                    self.with_fault = at + 1;
+                    return Err(fault);
+                }
             };
             let (octets, _) = rest.split_at(bite.taken);
             at += bite.taken;
@@ -139,6 +142,15 @@ impl Deframer {
         ensures { result.now ≡ last_marker self.now }
     {
         self.marker.as_slice()
+    }
+
+    /// How many octets of its piece `feed` took with the fault that it gave last: the last of them is the wrong one.
+    ///
+    /// None where the fault was met before.
+    pub fn taken_with_fault(&self) -> usize
+        ensures { result ≡ taken_with_fault self.now }
+    {
+        self.with_fault
     }
 
     /// The connection has ended: a fault where the end of file is missing (RFC 959, section 3.4).

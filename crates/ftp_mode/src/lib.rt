@@ -16,4 +16,4 @@ pub use deframer::Deframer;
 pub use fault::FrameFault;
 pub use framer::{Framer, Manner, Moved};
 pub use ftp_settings::Mode;
-pub use step::{FaultAt, Part, Step};
+pub use step::{Part, Step};

@@ -1,5 +1,3 @@
-use crate::fault::FrameFault;
-
 /// What the next octets of a wire gave.
 #[derive(Clone, Copy, PartialEq, Eq)]
 pub enum Part<'a> {
@@ -20,13 +18,4 @@ pub enum Part<'a> {
 pub struct Step<'a> {
     pub taken: usize,
     pub part: Part<'a>,
-}
-
-/// A fault, and how many octets of a piece were taken with it: the last of them is the wrong one.
-///
-/// Of a fault that was met before, none.
-#[derive(Clone, Copy, PartialEq, Eq)]
-pub struct FaultAt {
-    pub taken: usize,
-    pub fault: FrameFault,
 }

@@ -13,7 +13,6 @@ use Rattle.ftp_mode.specs.declared.deframer.Deframer.{Deframer}
 use Rattle.ftp_mode.specs.declared.fault.FrameFault.{FrameFault}
 use Rattle.ftp_mode.specs.declared.step.Part.TheVariants.{Need}
 use Rattle.ftp_mode.specs.declared.step.Step.{Step}
-use Rattle.ftp_mode.specs.declared.step.FaultAt.{FaultAt}
 use Rattle.ftp_mode.specs.Said.{Said, says, marker, file_signs, octets_said}
 use Rattle.ftp_mode.specs.Reading.{Reading, IsGoing, failed, reader, start}
 use Rattle.ftp_mode.specs.Deframing.{reading, owed, part_said, last_marker, Hears, Fails}
@@ -139,21 +138,21 @@ hear_all {A} r wire written piece old new mid step hearing hears same receives n
     (stands_of r (wire ++ xs) written new next (ap owed same ∙ all.1) (subst P (sym (ap reading same) ∙ next.state) going))
 
 -- an octet of the piece stands in no text
-pub hear_fault : {A : Type 0} (r : Representation) (wire written piece : List ℕ) (ended : Bool) (old new : Receiving A) (met : FaultAt)
-    → Hearing r wire written old → Fails old.deframer piece met new.deframer → new.settled.items ≡ old.settled.items
-    → FaultyAfter r (wire ++ piece) written ended met.fault new
-hear_fault r wire written piece ended old new met hearing fails same =
+pub hear_fault : {A : Type 0} (r : Representation) (wire written piece : List ℕ) (ended : Bool) (old new : Receiving A) (taken : ℕ) (fault : FrameFault)
+    → Hearing r wire written old → Fails old.deframer piece taken fault new.deframer → new.settled.items ≡ old.settled.items
+    → FaultyAfter r (wire ++ piece) written ended fault new
+hear_fault r wire written piece ended old new taken fault hearing fails same =
     let s = start r.mode r.structure in
     let f = form_of r in
-    let t = take met.taken piece in
-    let d = drop met.taken piece in
-    let cut : t ++ d ≡ piece = take-append-drop met.taken piece in
-    let at : after reader (reading old.deframer) t ≡ failed met.fault = sym fails.state ∙ fails.fails in
+    let t = take taken piece in
+    let d = drop taken piece in
+    let cut : t ++ d ≡ piece = take-append-drop taken piece in
+    let at : after reader (reading old.deframer) t ≡ failed fault = sym fails.state ∙ fails.fails in
     let owes : owed old.deframer ≡ [] = left_none _ _ fails.quiet in
     let nothing : gives reader (reading old.deframer) piece ≡ [] =
     ap (gives reader (reading old.deframer)) (sym cut) ∙ gives-append reader (reading old.deframer) t d
     ∙ ap (λ l. l ++ gives reader (after reader (reading old.deframer) t) d) (right_none _ _ fails.quiet)
-    ∙ ap (λ z. gives reader z d) at ∙ failed_gives met.fault d in
+    ∙ ap (λ z. gives reader z d) at ∙ failed_gives fault d in
     let said : said_by r (wire ++ piece) ≡ hearing.said =
     gives-append reader s wire piece ∙ ap (λ z. said_by r wire ++ gives reader z piece) (sym hearing.state)
     ∙ ap (λ l. said_by r wire ++ l) nothing ∙ append-nil (said_by r wire)
@@ -161,7 +160,7 @@ hear_fault r wire written piece ended old new met hearing fails same =
     record {
       stops = inl (after-append reader s wire piece ∙ ap (λ z. after reader z piece) (sym hearing.state)
           ∙ ap (after reader (reading old.deframer)) (sym cut) ∙ after-append reader (reading old.deframer) t d
-          ∙ ap (λ z. after reader z d) at ∙ failed_after met.fault d);
+          ∙ ap (λ z. after reader z d) at ∙ failed_after fault d);
       settled = ap (λ l. written ++ l) same ∙ hearing.settled ∙ gives-receiving f (file_signs hearing.said)
           ∙ ap (λ l. content f (file_signs l)) (sym said);
     }

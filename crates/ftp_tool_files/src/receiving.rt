@@ -69,7 +69,7 @@ impl<A: Allocator + Copy> Receiving<A> {
             let (_, rest) = piece.split_at(at);
             let step = match self.deframer.feed(rest) {
                 Ok(step) => step,
-                Err(met) => return Ok(Outcome::Faulty(met.fault)),
+                Err(fault) => return Ok(Outcome::Faulty(fault)),
             };
             at += step.taken;
             self.receive(step.part)?;

@@ -93,10 +93,10 @@ impl<S: Sink> Intake<S> {
     {
         let step = match self.deframer.feed(piece) {
             Ok(step) => step,
-            Err(met) => return Taken {
-                count: met.taken.max(1),
+            Err(fault) => return Taken {
+                count: self.deframer.taken_with_fault().max(1),
                 mark: None,
-                heard: Decoded::Faulty(met.fault),
+                heard: Decoded::Faulty(fault),
             },
         };
         let mark = match step.part {

@@ -47,10 +47,10 @@ fn feed(alloc: Global, deframer: &mut Deframer, piece: &[u8], paper: &mut Paper)
             paper.number(step.taken as u64);
             put_part(step.part, paper)
         }
-        Err(met) => {
-            paper.number(met.taken as u64);
+        Err(fault) => {
+            paper.number(deframer.taken_with_fault() as u64);
             paper.put(b" ");
-            put_printed(alloc, &met.fault, paper);
+            put_printed(alloc, &fault, paper);
             false
         }
     };

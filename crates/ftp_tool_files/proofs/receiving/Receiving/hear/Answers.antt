@@ -1,7 +1,7 @@
 use Rattle.std.proofs.Common.{◌∙◌, ◌++◌, false, ap, sym, subst, take, append_assoc, append-nil, arith, refl}
 use Rattle.std.proofs.Math.Seq.{take-add}
 use Rattle.std.proofs.lemmas.List.{take-append-drop}
-use Rattle.ftp_mode.specs.Deframing.{last_marker}
+use Rattle.ftp_mode.specs.Deframing.{last_marker, taken_with_fault}
 use Rattle.ftp_tool_files.proofs.Hearing.{Hearing, hearing_of, hear_step, hear_all, hear_fault}
 use Rattle.ftp_tool_files.specs.Receiving.{StandsAfter, FaultyAfter}
 use Rattle.ftp_tool_files.proofs.receiving.Receiving.hear.Goals as goal
@@ -22,8 +22,8 @@ returns-in-Err g c = record {
       let new = record old { deframer = c.feed.new.self } in
       let fails = c.in-Err.ensures.err in
       let whole = append_assoc wire front rest ∙ ap (λ l. wire ++ (front ++ l)) c.split_at.ensures.back ∙ ap (λ l. wire ++ l) (take-append-drop c.loop-step.at piece) in
-      subst (λ w. FaultyAfter r w written false c.in-Err.met.fault new) whole
-      (hear_fault r (wire ++ front) written rest false old new c.in-Err.met (c.loop-step.invariant.hears r wire written stands) fails refl);
+      subst (λ w. FaultyAfter r w written false c.in-Err.fault new) whole
+      (hear_fault r (wire ++ front) written rest false old new (taken_with_fault c.feed.new.self) c.in-Err.fault (c.loop-step.invariant.hears r wire written stands) fails refl);
 }
 
 pub returns-in-Need : goal.returns-in-Need

@@ -4,7 +4,7 @@ use Rattle.ftp_repr.specs.Signs.{Sign}
 use Rattle.ftp_repr.specs.Items.{signs}
 use Rattle.ftp_mode.specs.Said.{Said, file_signs}
 use Rattle.ftp_mode.specs.Reading.{Reading, IsGoing, reader}
-use Rattle.ftp_mode.specs.Deframing.{owed, reading, last_marker, part_said}
+use Rattle.ftp_mode.specs.Deframing.{owed, reading, last_marker, taken_with_fault, part_said}
 use Rattle.ftp_mode.specs.declared.step.Part.TheVariants as Parts
 use Rattle.ftp_wire.specs.Decoder.{decoded}
 use Rattle.ftp_wire.specs.Hearing.{HasNoMarker, Hears}
@@ -19,10 +19,10 @@ returns-in-Err-clause-hears g c =
     let octets = g.S.Sink.octets in
     let most = length (octets c.args.self.now.sink) + c.args.room.now in
     let d = decoder_at octets c.args.self.now in
-    let met = c.in-Err.met in
+    let taken = taken_with_fault c.feed.new.self in
     let fails = c.in-Err.ensures.err in
-    fault_hears most d c.args.piece.now met.taken c.max.result met.fault (reading c.feed.new.self) (last_marker c.feed.new.self) c.requires.some (omega arith) fails.within
-    (λ e. omega (arith, e, c.max.ensures)) (λ some. omega (arith, some, c.max.ensures)) fails.state fails.fails fails.first (right_none _ _ fails.quiet)
+    fault_hears most d c.args.piece.now taken c.max.result c.in-Err.fault (reading c.feed.new.self) (last_marker c.feed.new.self) c.requires.some (omega arith) fails.within
+    (λ e. omega (arith, e, c.max.ensures, c.taken_with_fault.ensures)) (λ some. omega (arith, some, c.max.ensures, c.taken_with_fault.ensures)) fails.state fails.fails fails.first (right_none _ _ fails.quiet)
 
 pub overflow_sub-result : goal.overflow_sub-result
 overflow_sub-result g c =
