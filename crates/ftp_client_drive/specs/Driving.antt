@@ -2,6 +2,7 @@
 use Rattle.std.specs.Prelude.{◌≡◌, Bool, false, [], ◌∷◌, Option, Some, None, IsTrue}
 use Rattle.ftp_control.specs.Asking.{Asked, Shut}
 use Rattle.ftp_control.specs.Deeds.{Other, Stand, with_owner}
+use Rattle.ftp_control.specs.Lane.{IsLeft}
 use Rattle.ftp_control.specs.Machine.{Called, Closed, Held, IsCut, Left}
 use Rattle.ftp_control.specs.Outcome.{IsDropped}
 use Rattle.ftp_control.specs.declared.cause.Cause.{Cause}
@@ -31,10 +32,12 @@ pub record GivesUp (said : Option Said) (old new : Held Client) : Type 0 where
   pub is_cut : IsCut client_machine old cut
   pub asked : Asked
   pub mid : Held Client
-  pub leaves : Called client_machine (Left asked) cut mid
+  pub leaves : IsLeft asked cut.lane mid.lane
+  pub stays : mid.end ≡ cut.end
   pub dropped : IsDropped cut.lane.stands cut.lane.left cut.lane.written asked
   pub shut : Held Client
-  pub shuts : Called client_machine (Left Shut) mid shut
+  pub shuts : IsLeft Shut mid.lane shut.lane
+  pub keeps : shut.end ≡ mid.end
   pub closed : Held Client
   pub closes : Called client_machine Closed shut closed
   pub reports : Called client_machine (Report said) closed new

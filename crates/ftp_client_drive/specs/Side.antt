@@ -22,7 +22,8 @@ is_under_way (Doing op step) = true
 is_under_way (Transferring op transfer) = true
 is_under_way (Told answer) = false
 
--- it is told of a close only as it wants that, while an operation is under way and it has not failed
+-- it is told of a close only as it wants that, while an operation is under way and it has not failed; it is done with its data connections where
+-- none is under way
 abbrev pub client_machine : Machine
 client_machine = record {
   Here = Client;
@@ -45,8 +46,8 @@ client_machine = record {
   End = λ old new. HoldsIfRoom old new (data_end old.view) (data_end_short old.view);
   Break = λ old new. HoldsIfRoom old new (data_fault old.view) (data_fault_short old.view);
   Closed = λ old new. Holds old new (data_closed old.view);
-  IsGivenUp = λ client. ⊥;
   IsCloseDue = λ client. IsTrue (is_sound client.view.standing) → IsTrue (is_under_way client.view.job) → wants client.view ≡ Want.CloseData;
+  IsDone = λ client. is_under_way client.view.job ≡ false;
 }
 
 abbrev pub client_side : Side

@@ -6,8 +6,10 @@ use Rattle.ftp_control.proofs.Lanes.{adds_then}
 use Rattle.ftp_control.specs.Asking.{Asked, Adds}
 use Rattle.ftp_control.specs.Courses.{Course, Carries, IsFair, IsFairLeave, after, asked_by, asked_in, begun, course_of, move_in}
 use Rattle.ftp_control.specs.Deeds.{Deed, Heard, Said, Read, Ended, Other, Done, Led, Stand}
-use Rattle.ftp_control.specs.Lane.{IsEnded, Lane, Move, Moves, Stays, Waits, Reads, Writes, Gives, Takes, Ends, Stops, Asks, Opens, Leaves}
+use Rattle.ftp_control.specs.Lane.{IsEnded, Lane, Move, Moves, Stays, Waits, Reads, Writes, Gives, Takes, Fails, Ends, Breaks, Stops, with_fate, Asks, Opens, Leaves}
 use Rattle.ftp_control.specs.Side.{Side}
+use Rattle.ftp_control.specs.declared.whole.Fate.{Fate}
+use Rattle.ftp_control.specs.declared.whole.Fate.TheVariants.{Failed, Broken, Over}
 
 -- what is so of the data connection that stands, behind each move
 record Follows (course : Course) (lane : Lane) : Type 0 where
@@ -24,6 +26,10 @@ follows_begun : (at_first so_far : Option (List ℕ)) (lane : Lane) → lane.unw
     → Follows (begun at_first so_far) lane
 follows_begun at_first so_far lane unwritten untold consumed appended =
     record { given = sym unwritten; read = sym untold; consumed = λ e. consumed; appended = λ e. appended }
+
+-- whatever became of it
+fated : (fate : Fate) (course : Course) (lane : Lane) → Follows course lane → Follows course (with_fate fate lane)
+fated fate course lane before = record { given = before.given; read = before.read; consumed = before.consumed; appended = before.appended }
 
 follows : (move : Move) (course : Course) (old new : Lane) → Follows course old → Moves move old new → Follows (after move course) new
 follows Stays course old new before same = subst (λ l. Follows course l) (sym same) before
@@ -45,7 +51,7 @@ follows (Writes octets) course old new before wrote = record {
   consumed = λ e. never e;
   appended = λ e. Appends-trans course.so_far old.written new.written course.written octets (before.appended e) wrote.wrote;
 }
-follows (Gives octets) course old new before same = subst (λ l. Follows (after (Gives octets) course) l) (sym same) (record {
+follows (Gives octets) course old new before same = subst (λ l. Follows (after (Gives octets) course) l) (sym same.0) (record {
   given = ap (λ l. l ++ octets) before.given ∙ append_assoc course.written old.unwritten octets;
   read = before.read;
   consumed = before.consumed;
@@ -57,7 +63,9 @@ follows (Takes octets) course old new before took = subst (λ l. Follows (after 
   consumed = before.consumed;
   appended = before.appended;
 })
-follows Ends course old new before end = subst (λ l. Follows course l) (sym end.0) before
+follows Fails course old new before failed = subst (λ l. Follows course l) (sym failed.0) (fated Failed course old before)
+follows Ends course old new before end = subst (λ l. Follows course l) (sym end.0) (fated Over course old before)
+follows Breaks course old new before same = subst (λ l. Follows course l) (sym same) (fated Broken course old before)
 follows Stops course old new before stop = subst (λ l. Follows course l) (sym stop.0) before
 follows (Asks asked) course old new before asks =
     subst (λ l. Follows course l) (sym asks.1) (record { given = before.given; read = before.read; consumed = before.consumed; appended = before.appended })
@@ -79,8 +87,8 @@ ended_fair false asked course lane before is = subst (λ a. IsFairLeave a course
 
 fair : (move : Move) (course : Course) (old new : Lane) → Follows course old → Moves move old new → IsFair move course
 fair Ends course old new before end =
-    let all = told_all course old before end.2 in
-    (all, λ e. Consumes-whole course.at_first old.left course.read (λ whole. course.told ≡ whole) (before.consumed e) end.1 all)
+    let all = told_all course old before end.3 in
+    (all, λ e. Consumes-whole course.at_first old.left course.read (λ whole. course.told ≡ whole) (before.consumed e) end.2 all)
 fair (Leaves asked) course old new before left = ended_fair old.stands asked course old before left.ended
 fair Stays course old new before moved = tt
 fair (Waits lost) course old new before moved = tt
@@ -88,6 +96,8 @@ fair (Reads octets) course old new before moved = tt
 fair (Writes octets) course old new before moved = tt
 fair (Gives octets) course old new before moved = tt
 fair (Takes octets) course old new before moved = tt
+fair Fails course old new before moved = tt
+fair Breaks course old new before moved = tt
 fair Stops course old new before moved = tt
 fair (Asks asked) course old new before moved = tt
 fair (Opens host asked at_first so_far) course old new before moved = tt
@@ -101,8 +111,10 @@ adds Stays old new same = adds_none old.asked new.asked (ap (λ l. l.asked) same
 adds (Waits lost) old new waited = waited.asked
 adds (Reads octets) old new read = adds_none old.asked new.asked read.asked
 adds (Writes octets) old new wrote = adds_none old.asked new.asked wrote.asked
-adds (Gives octets) old new same = adds_none old.asked new.asked (ap (λ l. l.asked) same)
+adds (Gives octets) old new same = adds_none old.asked new.asked (ap (λ l. l.asked) same.0)
 adds (Takes octets) old new took = adds_none old.asked new.asked (ap (λ l. l.asked) took.1)
+adds Fails old new failed = adds_none old.asked new.asked (ap (λ l. l.asked) failed.0)
+adds Breaks old new same = adds_none old.asked new.asked (ap (λ l. l.asked) same)
 adds Ends old new end = adds_none old.asked new.asked (ap (λ l. l.asked) end.0)
 adds Stops old new stop = adds_none old.asked new.asked (ap (λ l. l.asked) stop.0)
 adds (Asks asked) old new asks = asks.0

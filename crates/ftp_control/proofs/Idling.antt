@@ -1,25 +1,26 @@
 -- How an end's data connection moves between its calls, whatever that end holds, and what deeds of it come to.
 use Rattle.std.proofs.Common.{◌≡◌, ◌∙◌, ◌⊎◌, ℕ, inl, inr, List, [], ◌++◌, take, drop, Option, Some, None, refl, sym, ap, subst}
-use Rattle.std.specs.Prelude.{◌≢◌, Bool, true}
+use Rattle.std.specs.Prelude.{◌≢◌, Bool, true, false}
 use Rattle.std.specs.Io.KnownBytes.{IsAtEnd}
 use Rattle.std.proofs.KnownBytes.{Keeps-refl}
 use Rattle.std.proofs.lemmas.List.{append-nil, take-append-drop}
 use Rattle.ftp_control.specs.Asking.{Adds, Asked, told_lost}
 use Rattle.ftp_control.specs.Deeds.{Heard, Other, Stand, with_owner}
 use Rattle.ftp_control.specs.Driving.{Breaks, Leads, Quietly}
-use Rattle.ftp_control.specs.Lane.{IsLeft, IsRead, IsWaited, IsWritten, Lane, with_asked, with_untold}
-use Rattle.ftp_control.specs.Machine.{AreWanted, Aside, Break, End, Gives, Got, Held, Idles, IsWanted, Left, LetGo, Machine, Received, Waited, Wrote, held, move_of, side_of}
+use Rattle.ftp_control.specs.Lane.{IsLeft, IsOpen, IsRead, IsWaited, IsWritten, Lane, with_asked, with_fate, with_untold}
+use Rattle.ftp_control.specs.Machine.{Aside, Break, End, Failed, Gives, Got, Held, Idles, IsBroken, IsFairEnd, Left, MayLeave, LetGo, Machine, Received, Waited, Wrote, held, move_of, side_of}
 use Rattle.ftp_control.proofs.Courses.{Carrier}
-use Rattle.ftp_control.proofs.Lanes.{asked_for}
-use Rattle.ftp_control.proofs.Leading.{leads_by, quiet_call, quiet_nothing}
-use Rattle.ftp_ends.specs.declared.link.Wants.{Wants}
+use Rattle.ftp_control.specs.Outcome.{IsSent}
+use Rattle.ftp_control.specs.declared.whole.Fate.TheVariants.{Broken, Failed as HasFailed, Over, Sound}
+use Rattle.ftp_control.proofs.Leading.{leads_by, leads_then, quiet_call, quiet_nothing, quiet_then}
 use Rattle.ftp_ends.specs.declared.link.Wants.TheVariants as Want
 
--- what is asked where one is had, after what stood, is wanted where that one is
-pub all_wanted : {S : Type 0} (remaining contents : S → Option (List ℕ)) (before : Option S) (had : Asked) (want : Wants) → IsWanted want had
-    → AreWanted want (asked_for remaining contents before had)
-all_wanted remaining contents (Some before) had want wanted = (tt, (wanted, tt))
-all_wanted remaining contents None had want wanted = (wanted, tt)
+-- one of which no read or write failed, or of which one did
+sound_so : (lane : Lane) → lane.fate ≡ Sound → with_fate Sound lane ≡ lane
+sound_so lane sound = ap (λ f. with_fate f lane) (sym sound)
+
+failed_so : (lane : Lane) → lane.fate ≡ HasFailed → lane ≡ with_fate HasFailed (with_fate Sound lane)
+failed_so lane failed = ap (λ f. with_fate f lane) failed
 
 module _ (machine : Machine) where
   pub idles_nothing : (lane : Lane) → Idles machine lane lane
@@ -28,11 +29,22 @@ module _ (machine : Machine) where
   pub idles_waited : (lost : Bool) (old new : Lane) → IsWaited lost old new → Idles machine old new
   idles_waited lost old new waited here = quiet_call (side_of machine) (Waited lost) (held here old) (held here new) (refl, waited, tt)
 
-  pub idles_read : (octets : List ℕ) (old new : Lane) → IsRead octets old new → Idles machine old new
-  idles_read octets old new read here = quiet_call (side_of machine) (Got octets) (held here old) (held here new) (refl, read, tt)
+  -- a read or a write of it failed
+  idles_failed : (old : Lane) → IsOpen old → Idles machine old (with_fate HasFailed old)
+  idles_failed old is_open here = quiet_call (side_of machine) Failed (held here old) (held here (with_fate HasFailed old)) (refl, (refl, is_open), tt)
 
-  pub idles_wrote : (octets : List ℕ) (old new : Lane) → IsWritten octets old new → Idles machine old new
-  idles_wrote octets old new wrote here = quiet_call (side_of machine) (Wrote octets) (held here old) (held here new) (refl, wrote, tt)
+  idles_then : (a b c : Lane) → Idles machine a b → Idles machine b c → Idles machine a c
+  idles_then a b c first second here = quiet_then (side_of machine) (held here a) (held here b) (held here c) (first here) (second here)
+
+  -- octets were written, or none were to be
+  pub idles_sent : (old new : Lane) → (new.fate ≡ Sound) ⊎ (new.fate ≡ HasFailed) → IsSent old new → Idles machine old new
+  idles_sent old new is (inl same) here = subst (λ l. Idles machine old l) (sym same) (idles_nothing old) here
+  idles_sent old new (inl is) (inr (octets, wrote)) here =
+      quiet_call (side_of machine) (Wrote octets) (held here old) (held here new) (refl, subst (λ l. IsWritten octets old l) (sound_so new is) wrote, tt)
+  idles_sent old new (inr is) (inr (octets, wrote)) here =
+      let mid = with_fate Sound new in
+      idles_then old mid new (λ there. quiet_call (side_of machine) (Wrote octets) (held there old) (held there mid) (refl, wrote, tt))
+      (subst (λ l. Idles machine mid l) (sym (failed_so new is)) (idles_failed mid (wrote.stands ∙ wrote.is_open.0, refl))) here
 
   pub idles_same : (old new : Lane) → new ≡ old → Idles machine old new
   idles_same old new same = subst (λ l. Idles machine old l) (sym same) (idles_nothing old)
@@ -40,7 +52,7 @@ module _ (machine : Machine) where
   -- it was told that the control connection ended, or not
   pub idles_asked : (lost : Bool) (lane : Lane) (h0 h1 : Option (List Asked)) → Adds h0 h1 (told_lost lost) → Idles machine (with_asked h0 lane) (with_asked h1 lane)
   idles_asked lost lane h0 h1 asked = idles_waited lost (with_asked h0 lane) (with_asked h1 lane) (record {
-    holds = record { stands = refl; unwritten = refl; untold = refl };
+    holds = record { stands = refl; fate = refl; unwritten = refl; untold = refl };
     left = Keeps-refl lane.left;
     written = Keeps-refl lane.written;
     asked = asked;
@@ -48,35 +60,50 @@ module _ (machine : Machine) where
 
   -- its data connection is left
   pub leaves : (asked : Asked) (old new : Stand (side_of machine)) → IsLeft asked old.owner.lane new.owner.lane
+      → MayLeave (machine.IsDone old.owner.end) (machine.wants old.owner.end) old.owner.lane.fate → IsFairEnd (machine.wants old.owner.end) old.owner.lane asked
       → new ≡ with_owner (held old.owner.end new.owner.lane) old → Leads old new
-  leaves asked old new left same =
-      leads_by (Other (Left asked)) old new ((ap (λ s. s.owner.end) same, left, tt), subst (λ s. new ≡ with_owner s old) (sym (ap (λ s. s.owner) same)) same)
+  leaves asked old new left may fair same =
+      leads_by (Other (Left asked)) old new ((ap (λ s. s.owner.end) same, left, (may, fair)), subst (λ s. new ≡ with_owner s old) (sym (ap (λ s. s.owner) same)) same)
 
   -- one of its own calls
   pub asides : (own : machine.Own) (old new : machine.Here) (lane : Lane) → machine.Owns own old new → Quietly (side_of machine) (held old lane) (held new lane)
   asides own old new lane did = quiet_call (side_of machine) (Aside own) (held old lane) (held new lane) (did, refl, tt)
 
-  -- it is told that its data connection, which stands and is at its end, ended; or that it broke
-  pub ends_told : (old new : machine.Here) (lane : Lane) → machine.End old new → lane.stands ≡ true → IsAtEnd lane.left → lane.untold ≡ []
-      → Quietly (side_of machine) (held old lane) (held new lane)
-  ends_told old new lane over stands ended none = quiet_call (side_of machine) End (held old lane) (held new lane) (over, (refl, ended, none), stands)
+  -- it is told that its data connection, which is is_open and at its end, ended; or that it broke
+  pub ends_told : (old new : machine.Here) (lane : Lane) → machine.End old new → machine.wants old ≡ Want.Receive → IsOpen lane → IsAtEnd lane.left → lane.untold ≡ []
+      → Quietly (side_of machine) (held old lane) (held new (with_fate Over lane))
+  ends_told old new lane over wants is_open ended none =
+      quiet_call (side_of machine) End (held old lane) (held new (with_fate Over lane)) (over, (refl, is_open, ended, none), wants)
 
-  pub breaks_told : (old new : machine.Here) (lane : Lane) → machine.Break old new → Quietly (side_of machine) (held old lane) (held new lane)
-  breaks_told old new lane broke = quiet_call (side_of machine) Break (held old lane) (held new lane) (broke, refl, tt)
+  pub breaks_told : (old new : machine.Here) (lane : Lane) → machine.Break old new → IsBroken (machine.wants old) lane.stands lane.fate
+      → Quietly (side_of machine) (held old lane) (held new (with_fate Broken lane))
+  breaks_told old new lane broke broken = quiet_call (side_of machine) Break (held old lane) (held new (with_fate Broken lane)) (broke, refl, broken)
 
   -- these came, and are in hand
-  pub came : (old : Stand (side_of machine)) (lane : Lane) (hand octets : List ℕ) → IsRead hand old.owner.lane (with_untold hand lane) → hand ≡ octets
+  pub came : (old : Stand (side_of machine)) (lane : Lane) (hand octets : List ℕ) → machine.wants old.owner.end ≡ Want.Receive
+      → IsRead hand old.owner.lane (with_fate Sound (with_untold hand lane)) → lane.fate ≡ Sound → hand ≡ octets
       → Leads old (with_owner (held old.owner.end (with_untold octets lane)) old)
-  came old lane hand octets read is =
-      subst (λ l. Leads old (with_owner (held old.owner.end (with_untold l lane)) old)) is
-      (idles_read hand old.owner.lane (with_untold hand lane) read old.owner.end old.left old.unheard old.written)
+  came old lane hand octets wants read sound is =
+      let end = old.owner.end in
+      subst (λ l. Leads old (with_owner (held end (with_untold l lane)) old)) is
+      (leads_by (Other (Got hand)) old _ ((refl, subst (λ l. IsRead hand old.owner.lane l) (sound_so (with_untold hand lane) sound) read, wants), refl))
+
+  -- none came, since that failed
+  pub came_none : (old : Stand (side_of machine)) (lane : Lane) → machine.wants old.owner.end ≡ Want.Receive → IsRead [] old.owner.lane (with_fate Sound lane)
+      → lane.fate ≡ HasFailed → Leads old (with_owner (held old.owner.end lane) old)
+  came_none old lane wants read failed =
+      let end = old.owner.end in
+      let mid = with_fate Sound lane in
+      leads_then old (with_owner (held end mid) old) (with_owner (held end lane) old) (leads_by (Other (Got [])) old _ ((refl, read, wants), refl))
+      (subst (λ l. Leads (with_owner (held end mid) old) (with_owner (held end l) old)) (sym (failed_so lane failed))
+      (idles_failed mid (read.stands ∙ read.is_open.0, refl) end old.left old.unheard old.written))
 
   -- it took so many of them
-  pub receives : (old new : machine.Here) (lane : Lane) (count : ℕ) (octets : List ℕ) → machine.Received octets count old new
+  pub receives : (old new : machine.Here) (lane : Lane) (count : ℕ) (octets : List ℕ) → IsOpen lane → machine.wants old ≡ Want.Receive → machine.Received octets count old new
       → Quietly (side_of machine) (held old (with_untold octets lane)) (held new (with_untold (drop count octets) lane))
-  receives old new lane count octets took =
+  receives old new lane count octets is_open wants took =
       quiet_call (side_of machine) (Received octets count) (held old (with_untold octets lane)) (held new (with_untold (drop count octets) lane))
-      (took, (sym (take-append-drop count octets), refl), tt)
+      (took, (sym (take-append-drop count octets), refl), (is_open, wants))
 
   -- octets that it no longer wants are let go
   pub lets_go : (here : machine.Here) (lane : Lane) (octets : List ℕ) → machine.wants here ≢ Want.Receive

@@ -1,6 +1,7 @@
 -- How an end comes to a data connection, as it wants it: a port is listened at, one is waited for or opened; or none is had.
 use Rattle.std.proofs.Common.{◌≡◌, ℕ, Bool, List, [], ◌∷◌, Option, Some, None, refl, subst}
-use Rattle.std.specs.Prelude.{not}
+use Rattle.std.specs.Prelude.{false, not}
+use Rattle.std.specs.Option.{is_some}
 use Rattle.ftp_control.specs.Asking.{Accepts, Adds, Asked, Came, Listened, NotCame, Replaces, told_lost}
 use Rattle.ftp_control.specs.Deeds.{Other, Stand, with_owner}
 use Rattle.ftp_control.specs.Driving.{Leads, Quietly}
@@ -8,10 +9,10 @@ use Rattle.ftp_control.specs.Lane.{IsHad, lane_of, with_asked}
 use Rattle.ftp_control.specs.Machine.{IsRefused, IsWanted, Listening, Machine, NoPort, Opened, Refused, held, side_of}
 use Rattle.ftp_control.specs.Whole.{IsWhole}
 use Rattle.ftp_control.specs.declared.data.DataConnection.{DataConnection}
+use Rattle.ftp_control.specs.declared.whole.Fate.TheVariants.{Sound}
 use Rattle.ftp_control.specs.declared.ports.Accepted.{Accepted}
 use Rattle.ftp_control.specs.declared.ports.Accepted.TheVariants as Answers
-use Rattle.ftp_control.proofs.Idling.{all_wanted}
-use Rattle.ftp_control.proofs.Lanes.{asked_for, opens}
+use Rattle.ftp_control.proofs.Lanes.{opens}
 use Rattle.ftp_control.proofs.Leading.{leads_by, quiet_call}
 use Rattle.ftp_endpoint.specs.declared.host.Host.{Host}
 use Rattle.ftp_ends.specs.declared.link.Wants.TheVariants as Want
@@ -46,18 +47,16 @@ module _ (machine : Machine) where
 
   -- none is had, and the end is told that
   pub has_none : (old : Stand (side_of machine)) (there : machine.Here) (h1 : Option (List Asked)) (asked : List Asked) → Adds old.owner.lane.asked h1 asked
-      → machine.Refused old.owner.end there → IsRefused (machine.IsGivenUp old.owner.end) (machine.wants old.owner.end) asked
+      → machine.Refused old.owner.end there → IsRefused (machine.wants old.owner.end) asked
       → Leads old (with_owner (held there (with_asked h1 old.owner.lane)) old)
   has_none old there h1 asked asks told wanted = leads_by (Other (Refused asked)) old _ ((told, (asks, refl), wanted), refl)
 
-  -- one that was asked for is had now, in place of what stood
+  -- one that was asked for is had now, where none stood
   pub has_one : {S : Type 0} (remaining contents : S → Option (List ℕ)) (old new : DataConnection S) (stream : S) (h0 h1 h2 : Option (List Asked)) (host : Host) (had : Asked)
       (room : List ℕ) (here there : machine.Here) → Adds h0 h1 (had ∷ []) → IsHad host had (remaining stream) (contents stream) → IsWanted (machine.wants here) had
-      → Replaces remaining contents old.stream h1 h2 → IsWhole new.at new.end new.rest → new.stream ≡ Some stream → machine.Opened host here there
+      → is_some old.stream ≡ false → Replaces remaining contents old.stream h1 h2 → IsWhole new.at new.end new.rest new.fate → new.fate ≡ Sound → new.stream ≡ Some stream
+      → machine.Opened host here there
       → Quietly (side_of machine) (held here (lane_of remaining contents h0 old room [])) (held there (lane_of remaining contents h2 new room []))
-  has_one remaining contents old new stream h0 h1 h2 host had room here there asks is_had wanted replaced whole is told =
-      quiet_call (side_of machine) (Opened host (asked_for remaining contents old.stream had) (remaining stream) (contents stream)) _ _ (
-        told,
-        opens remaining contents old new stream h0 h1 h2 host had room room [] asks is_had replaced whole is,
-        all_wanted remaining contents old.stream had (machine.wants here) wanted,
-      )
+  has_one remaining contents old new stream h0 h1 h2 host had room here there asks is_had wanted none replaced whole sound is told =
+      quiet_call (side_of machine) (Opened host (had ∷ []) (remaining stream) (contents stream)) _ _
+      (told, opens remaining contents old new stream h0 h1 h2 host had room room [] asks is_had none replaced whole sound is, wanted)

@@ -9,6 +9,7 @@ use Rattle.ftp_control.specs.declared.ports.Ready.{Ready}
 use Rattle.ftp_control.specs.declared.ports.Ready.TheVariants as Readies
 use Rattle.ftp_control.specs.declared.ports.Spoken.{Spoken}
 use Rattle.ftp_control.specs.declared.ports.Spoken.TheVariants as Speaks
+use Rattle.ftp_control.specs.declared.whole.Fate.{Fate}
 use Rattle.ftp_control.specs.declared.whole.Rest.{Rest}
 use Rattle.ftp_control.specs.declared.whole.Whole.{Whole}
 
@@ -81,7 +82,7 @@ module _ {S : Type 0} (remaining contents : S → Option (List ℕ)) where
   Drops None old new = Adds old new (Shut ∷ [])
 
   -- one is left, of which so much was written: closed by an end where it is whole, and else reset; where none stands, the port alone is closed
-  abbrev pub Leaves : Option S → (at end : ℕ) → Rest → (old new : Option (List Asked)) → Type 0
-  Leaves (Some stream) at end rest old new =
-      (IsWhole at end rest × Adds old new (Ended (remaining stream) (contents stream) ∷ [])) ⊎ (IsCut at end rest × Resets stream old new)
-  Leaves None at end rest old new = Adds old new (Shut ∷ [])
+  abbrev pub Leaves : Option S → (at end : ℕ) → Rest → Fate → (old new : Option (List Asked)) → Type 0
+  Leaves (Some stream) at end rest fate old new =
+      (IsWhole at end rest fate × Adds old new (Ended (remaining stream) (contents stream) ∷ [])) ⊎ (IsCut at end rest fate × Resets stream old new)
+  Leaves None at end rest fate old new = Adds old new (Shut ∷ [])

@@ -3,7 +3,7 @@ use Rattle.std.specs.Prelude.{◌≡◌, ⊤, ℕ, Bool, true, false, List, [], 
 use Rattle.std.specs.Io.KnownBytes.{Appends}
 use Rattle.ftp_control.specs.Asking.{Asked, Listened, Came, Connected, NotCame, NotConnected, Ended as EndedBy, Reset, Shut, Lost, Adds, told_lost}
 use Rattle.ftp_control.specs.Deeds.{Deed, Heard, Said, Read, Ended, Other}
-use Rattle.ftp_control.specs.Lane.{Lane, Move, Stays, Waits, Reads, Writes, Gives, Takes, Ends, Stops, Asks, Opens, Leaves}
+use Rattle.ftp_control.specs.Lane.{Lane, Move, Stays, Waits, Reads, Writes, Gives, Takes, Fails, Ends, Breaks, Stops, Asks, Opens, Leaves}
 use Rattle.ftp_control.specs.Side.{Side}
 
 -- what went over one so far: what was left to be read and what was written to it when it was opened; whether it was read and written; what
@@ -30,7 +30,9 @@ after (Reads octets) course = record course { is_read = true; read = course.read
 after (Writes octets) course = record course { is_written = true; written = course.written ++ octets }
 after (Gives octets) course = record course { given = course.given ++ octets }
 after (Takes octets) course = record course { told = course.told ++ octets }
+after Fails course = course
 after Ends course = course
+after Breaks course = course
 after Stops course = course
 after (Asks asked) course = course
 after (Opens host asked at_first so_far) course = begun at_first so_far
@@ -47,7 +49,9 @@ asked_by (Reads octets) = []
 asked_by (Writes octets) = []
 asked_by (Gives octets) = []
 asked_by (Takes octets) = []
+asked_by Fails = []
 asked_by Ends = []
+asked_by Breaks = []
 asked_by Stops = []
 
 -- these are the first of those
@@ -76,6 +80,8 @@ IsFair (Reads octets) course = ⊤
 IsFair (Writes octets) course = ⊤
 IsFair (Gives octets) course = ⊤
 IsFair (Takes octets) course = ⊤
+IsFair Fails course = ⊤
+IsFair Breaks course = ⊤
 IsFair Stops course = ⊤
 IsFair (Asks asked) course = ⊤
 IsFair (Opens host asked at_first so_far) course = ⊤

@@ -1,5 +1,5 @@
 -- What an end sees of its data connection, and how that moves (RFC 959, section 3.2).
-use Rattle.std.specs.Prelude.{◌≡◌, ◌⊎◌, ℕ, Bool, true, false, List, [], ◌∷◌, ◌++◌, Option, None}
+use Rattle.std.specs.Prelude.{◌≡◌, ◌⊎◌, ◌<◌, ℕ, Bool, true, false, List, [], ◌∷◌, ◌++◌, length, Option, None}
 use Rattle.std.specs.Option.{is_some}
 use Rattle.std.specs.Io.KnownBytes.{Appends, Consumes, IsAtEnd, Keeps}
 use Rattle.ftp_endpoint.specs.declared.host.Host.{Host}
@@ -7,11 +7,15 @@ use Rattle.ftp_endpoint.specs.declared.endpoint.Endpoint.{Endpoint}
 use Rattle.ftp_control.specs.Asking.{Asked, Came, Connected, Ended, Reset, Shut, Adds, told_lost}
 use Rattle.ftp_control.specs.Carrying.{carried_of, left_of, on_their_way}
 use Rattle.ftp_control.specs.declared.data.DataConnection.{DataConnection}
+use Rattle.ftp_control.specs.declared.whole.Fate.{Fate}
+use Rattle.ftp_control.specs.declared.whole.Fate.TheVariants.{Sound, Failed, Broken, Over}
 
--- whether one stands; what is left to be read of it and what was written to it, where its stream tells that; the octets that this end gave
--- and that are not written yet; those that were read and that this end was not told; what was asked of whatever opens and closes it
+-- whether one stands, and what became of it; what is left to be read of it and what was written to it, where its stream tells that; the octets
+-- that this end gave and that are not written yet; those that were read and that this end was not told; what was asked of whatever opens and
+-- closes it
 pub record Lane : Type 0 where
   pub stands : Bool
+  pub fate : Fate
   pub left : Option (List ℕ)
   pub written : Option (List ℕ)
   pub unwritten : List ℕ
@@ -22,6 +26,7 @@ pub record Lane : Type 0 where
 abbrev pub lane_of : {S : Type 0} → (remaining contents : S → Option (List ℕ)) → Option (List Asked) → DataConnection S → (room untold : List ℕ) → Lane
 lane_of remaining contents asked connection room untold = record {
   stands = is_some connection.stream;
+  fate = connection.fate;
   left = left_of remaining connection;
   written = carried_of contents connection;
   unwritten = on_their_way connection room;
@@ -31,7 +36,7 @@ lane_of remaining contents asked connection room untold = record {
 
 -- none stands
 abbrev pub no_lane : Option (List Asked) → Lane
-no_lane asked = record { stands = false; left = None; written = None; unwritten = []; untold = []; asked = asked }
+no_lane asked = record { stands = false; fate = Sound; left = None; written = None; unwritten = []; untold = []; asked = asked }
 
 -- what is not told is this
 abbrev pub with_untold : List ℕ → Lane → Lane
@@ -40,6 +45,14 @@ with_untold untold lane = record lane { untold = untold }
 -- this end gave these, too
 abbrev pub with_given : List ℕ → Lane → Lane
 with_given octets lane = record lane { unwritten = lane.unwritten ++ octets }
+
+-- this became of it
+abbrev pub with_fate : Fate → Lane → Lane
+with_fate fate lane = record lane { fate = fate }
+
+-- one stands, and octets may come and go
+abbrev pub IsOpen : Lane → Type 0
+IsOpen lane = (lane.stands ≡ true) × (lane.fate ≡ Sound)
 
 -- this was asked
 abbrev pub with_asked : Option (List Asked) → Lane → Lane
@@ -59,8 +72,11 @@ pub data Move : Type 0 where
   Gives : (octets : List ℕ) → Move
   -- this end is told of these, the first of those that were read and not told; or they are let go
   Takes : (octets : List ℕ) → Move
-  -- this end is told that it ended
+  -- a read or a write of it failed
+  Fails : Move
+  -- this end is told that it ended, or that it broke
   Ends : Move
+  Breaks : Move
   -- this end is told that none stands
   Stops : Move
   -- these are asked, and none is opened or closed
@@ -73,6 +89,7 @@ pub data Move : Type 0 where
 -- what is not read, written, opened or closed stays
 pub record Holds (old new : Lane) : Type 0 where
   pub stands : new.stands ≡ old.stands
+  pub fate : new.fate ≡ old.fate
   pub unwritten : new.unwritten ≡ old.unwritten
   pub untold : new.untold ≡ old.untold
 
@@ -82,17 +99,23 @@ pub record IsWaited (lost : Bool) (old new : Lane) : Type 0 where
   pub written : Keeps old.written new.written
   pub asked : Adds old.asked new.asked (told_lost lost)
 
--- where all that were read before are told
+-- where one is open, and all that were read before are told
 pub record IsRead (octets : List ℕ) (old new : Lane) : Type 0 where
+  pub is_open : IsOpen old
   pub stands : new.stands ≡ old.stands
+  pub fate : new.fate ≡ old.fate
   pub told : old.untold ≡ []
   pub read : Consumes old.left new.left octets
   pub untold : new.untold ≡ octets
   pub unwritten : new.unwritten ≡ old.unwritten
   pub asked : new.asked ≡ old.asked
 
+-- where one is open, and octets are to be written
 pub record IsWritten (octets : List ℕ) (old new : Lane) : Type 0 where
+  pub is_open : IsOpen old
+  pub some : 0 < length old.unwritten
   pub stands : new.stands ≡ old.stands
+  pub fate : new.fate ≡ old.fate
   pub first : old.unwritten ≡ octets ++ new.unwritten
   pub wrote : Appends old.written new.written octets
   pub untold : new.untold ≡ old.untold
@@ -103,17 +126,15 @@ abbrev pub IsHad : Host → Asked → (left written : Option (List ℕ)) → Typ
 IsHad host asked left written =
     (asked ≡ Came host left written) ⊎ ((endpoint : Endpoint) × (asked ≡ Connected endpoint left written) × (host ≡ endpoint.host))
 
--- one that stood before is reset
-abbrev pub IsReplaced : (stands : Bool) → (left written : Option (List ℕ)) → (had : Asked) → List Asked → Type 0
-IsReplaced true left written had asked = asked ≡ Reset left written ∷ had ∷ []
-IsReplaced false left written had asked = asked ≡ had ∷ []
-
+-- where none stands
 pub record IsOpened (host : Host) (asked : List Asked) (at_first so_far : Option (List ℕ)) (old new : Lane) : Type 0 where
   pub had : Asked
   pub is_had : IsHad host had at_first so_far
-  pub replaced : IsReplaced old.stands old.left old.written had asked
+  pub none : old.stands ≡ false
+  pub alone : asked ≡ had ∷ []
   pub adds : Adds old.asked new.asked asked
   pub stands : new.stands ≡ true
+  pub fate : new.fate ≡ Sound
   pub left : new.left ≡ at_first
   pub written : new.written ≡ so_far
   pub unwritten : new.unwritten ≡ []
@@ -128,6 +149,7 @@ pub record IsLeft (asked : Asked) (old new : Lane) : Type 0 where
   pub ended : IsEnded old.stands old.left old.written old.unwritten asked
   pub adds : Adds old.asked new.asked (asked ∷ [])
   pub stands : new.stands ≡ false
+  pub fate : new.fate ≡ Sound
   pub unwritten : new.unwritten ≡ []
   pub untold : new.untold ≡ []
 
@@ -136,9 +158,11 @@ Moves Stays old new = new ≡ old
 Moves (Waits lost) old new = IsWaited lost old new
 Moves (Reads octets) old new = IsRead octets old new
 Moves (Writes octets) old new = IsWritten octets old new
-Moves (Gives octets) old new = new ≡ with_given octets old
+Moves (Gives octets) old new = (new ≡ with_given octets old) × IsOpen old
 Moves (Takes octets) old new = (old.untold ≡ octets ++ new.untold) × (new ≡ with_untold new.untold old)
-Moves Ends old new = (new ≡ old) × IsAtEnd old.left × (old.untold ≡ [])
+Moves Fails old new = (new ≡ with_fate Failed old) × IsOpen old
+Moves Ends old new = (new ≡ with_fate Over old) × IsOpen old × IsAtEnd old.left × (old.untold ≡ [])
+Moves Breaks old new = new ≡ with_fate Broken old
 Moves Stops old new = (new ≡ old) × (old.stands ≡ false)
 Moves (Asks asked) old new = Adds old.asked new.asked asked × (new ≡ with_asked new.asked old)
 Moves (Opens host asked left written) old new = IsOpened host asked left written old new

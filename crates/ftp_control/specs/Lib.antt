@@ -4,6 +4,7 @@ pub mod Whole
 pub mod Asking
 pub mod Cause
 pub mod Carrying
+pub mod Halting
 pub mod Lane
 pub mod Side
 pub mod Deeds

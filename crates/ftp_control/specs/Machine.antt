@@ -1,13 +1,16 @@
 -- An end of a session and its data connection, whichever end it is: its calls, and what is done between them (RFC 959, section 2.3).
 use Rattle.std.proofs.Common.{◌∙◌, ap}
-use Rattle.std.specs.Prelude.{◌≡◌, ◌≢◌, ⊤, ℕ, Bool, true, List, [], ◌∷◌, take, Option, Some, None, refl}
-use Rattle.ftp_control.specs.Asking.{Asked, Listened, Came, Connected, NotCame, NotConnected}
+use Rattle.std.specs.Prelude.{◌≡◌, ◌≢◌, ◌⊎◌, ◌<◌, ⊤, ℕ, Bool, true, false, List, [], ◌∷◌, length, take, Option, Some, None, refl}
+use Rattle.ftp_control.specs.Asking.{Asked, Listened, Came, Connected, NotCame, NotConnected, Ended, Reset}
 use Rattle.ftp_control.specs.Deeds.{Stand}
 use Rattle.ftp_control.specs.Driving.{Quietly}
-use Rattle.ftp_control.specs.Lane.{Lane, Move, Moves, Stays, Waits, Reads, Writes, Gives as GivesOctets, Takes, Ends, Stops, Asks, Opens, Leaves, with_untold}
+use Rattle.ftp_control.specs.Lane.{IsOpen, Lane, Move, Moves, Stays, Waits, Reads, Writes, Gives as GivesOctets, Takes, Fails, Ends, Breaks, Stops, Asks, Opens, Leaves, with_untold}
 use Rattle.ftp_control.specs.Side.{Side}
 use Rattle.ftp_control.specs.Unheard.{left_of, unheard_of, written_of}
+use Rattle.ftp_control.specs.Whole.{is_well}
 use Rattle.ftp_control.specs.declared.control.Control.{Control}
+use Rattle.ftp_control.specs.declared.whole.Fate.{Fate}
+use Rattle.ftp_control.specs.declared.whole.Fate.TheVariants as Fates
 use Rattle.ftp_endpoint.specs.declared.host.Host.{Host}
 use Rattle.ftp_ends.specs.declared.link.Wants.{Wants}
 use Rattle.ftp_ends.specs.declared.link.Wants.TheVariants as Want
@@ -39,9 +42,9 @@ pub record Machine : Type 1 where
   pub End : (old new : Here) → Type 0
   pub Break : (old new : Here) → Type 0
   pub Closed : (old new : Here) → Type 0
-  -- when it is told of a refusal though nothing was asked, and when of a close
-  pub IsGivenUp : Here → Type 0
+  -- when it is told of a close, and when it is done with its data connections
   pub IsCloseDue : Here → Type 0
+  pub IsDone : Here → Type 0
 
 -- its calls that move no control octets, and what is done with its data connection between them
 pub data Call (Own : Type 0) : Type 0 where
@@ -52,9 +55,11 @@ pub data Call (Own : Type 0) : Type 0 where
   Received : (octets : List ℕ) → (count : ℕ) → Call Own
   Gave : (count : ℕ) → (octets : List ℕ) → Call Own
   NoPort End Break Closed : Call Own
-  -- it is waited at, or looked at the control connection, and that told that it ended, or not; octets are read, written, and let go; it is closed or reset
+  -- it is waited at, or looked at the control connection, and that told that it ended, or not; octets are read, written, and let go; a read or a
+  -- write of it failed, behind the octets that it moved; it is closed or reset
   Waited : (lost : Bool) → Call Own
   Got Wrote LetGo : (octets : List ℕ) → Call Own
+  Failed : Call Own
   Left : (asked : Asked) → Call Own
 
 -- what each of them does to the data connection
@@ -67,12 +72,13 @@ move_of (Received octets count) = Takes (take count octets)
 move_of (Gave count octets) = GivesOctets octets
 move_of NoPort = Asks (Listened None ∷ [])
 move_of End = Ends
-move_of Break = Stays
+move_of Break = Breaks
 move_of Closed = Stops
 move_of (Waited lost) = Waits lost
 move_of (Got octets) = Reads octets
 move_of (Wrote octets) = Writes octets
 move_of (LetGo octets) = Takes octets
+move_of Failed = Fails
 move_of (Left asked) = Leaves asked
 
 -- what is asked, as an end wants it: that one is waited for, or that one is opened, to just that endpoint; closing is asked at any time
@@ -84,17 +90,49 @@ IsWanted want (Connected endpoint left written) = want ≡ Want.Connect endpoint
 IsWanted want (NotConnected endpoint) = want ≡ Want.Connect endpoint
 IsWanted want other = ⊤
 
--- the same of all that is asked, one thing after another
+-- all of that is one thing, which is wanted
 abbrev pub AreWanted : Wants → List Asked → Type 0
-AreWanted want [] = ⊤
-AreWanted want (asked ∷ more) = IsWanted want asked × AreWanted want more
+AreWanted want (asked ∷ []) = IsWanted want asked
+AreWanted want other = ⊥
 
--- none is had, and one was wanted: the answer says so; or nothing was asked, where that is so
-abbrev pub IsRefused : (unasked : Type 0) → Wants → List Asked → Type 0
-IsRefused unasked want (NotCame ∷ []) = want ≡ Want.Accept
-IsRefused unasked want (NotConnected endpoint ∷ []) = want ≡ Want.Connect endpoint
-IsRefused unasked want [] = unasked
-IsRefused unasked want other = ⊥
+-- none is had, and one was wanted: the answer says so
+abbrev pub IsRefused : Wants → List Asked → Type 0
+IsRefused want (NotCame ∷ []) = want ≡ Want.Accept
+IsRefused want (NotConnected endpoint ∷ []) = want ≡ Want.Connect endpoint
+IsRefused want other = ⊥
+
+-- an end that wants this goes on without the data connection that stands: it wants it closed, or another
+abbrev pub leaves : Wants → Bool
+leaves Want.CloseData = true
+leaves Want.Accept = true
+leaves (Want.Connect endpoint) = true
+leaves other = false
+
+-- an end that wants this is told of a break of what doesn't stand: octets were to go over it, or to come
+abbrev pub moves_octets : Wants → Bool
+moves_octets Want.Receive = true
+moves_octets Want.Send = true
+moves_octets other = false
+
+-- one is left only where the end goes on without it or is done, or was told that it broke or ended; one that failed is told before, or it is done
+abbrev pub MayLeave : (done : Type 0) → Wants → Fate → Type 0
+MayLeave done want Fates.Sound = (leaves want ≡ true) ⊎ done
+MayLeave done want Fates.Failed = done
+MayLeave done want Fates.Broken = ⊤
+MayLeave done want Fates.Over = ⊤
+
+-- by an end only where none is unwritten and the end has no more to give; by a reset only where it failed, or octets are unwritten or still to be
+-- given. Where none stands the port alone is closed
+abbrev pub IsFairEnd : Wants → Lane → Asked → Type 0
+IsFairEnd want lane (Ended left written) = (lane.unwritten ≡ []) × (want ≢ Want.Send) × (is_well lane.fate ≡ true)
+IsFairEnd want lane (Reset left written) = (is_well lane.fate ≡ false) ⊎ (0 < length lane.unwritten) ⊎ (want ≡ Want.Send)
+IsFairEnd want lane other = ⊤
+
+-- an end is told of a break where a read or a write failed and it was not told; or where none stands, and octets were to come or go
+abbrev pub IsBroken : Wants → (stands : Bool) → Fate → Type 0
+IsBroken want stands Fates.Failed = ⊤
+IsBroken want stands Fates.Sound = (stands ≡ false) × (moves_octets want ≡ true)
+IsBroken want stands other = ⊥
 
 -- an end and its data connection
 pub record Held (Here : Type 0) : Type 0 where
@@ -120,16 +158,23 @@ module _ (machine : Machine) where
   Does (Waited lost) old new = new ≡ old
   Does (Got octets) old new = new ≡ old
   Does (Wrote octets) old new = new ≡ old
+  Does Failed old new = new ≡ old
   Does (LetGo octets) old new = (new ≡ old) × (machine.wants old ≢ Want.Receive)
   Does (Left asked) old new = new ≡ old
 
-  -- when each of them may be done: as the end wants it, and an end is told only while its data connection stands
+  -- when each of them may be done: as the end wants it; octets come and go, and an end is told, only while its data connection is open, and a break
+  -- only where it broke
   abbrev pub IsDue : Call machine.Own → Held machine.Here → Type 0
   IsDue (Listening port) old = machine.wants old.end ≡ Want.Listen
   IsDue NoPort old = machine.wants old.end ≡ Want.Listen
   IsDue (Opened host asked at_first so_far) old = AreWanted (machine.wants old.end) asked
-  IsDue (Refused asked) old = IsRefused (machine.IsGivenUp old.end) (machine.wants old.end) asked
-  IsDue End old = old.lane.stands ≡ true
+  IsDue (Refused asked) old = IsRefused (machine.wants old.end) asked
+  IsDue (Received octets count) old = IsOpen old.lane × (machine.wants old.end ≡ Want.Receive)
+  IsDue (Gave count octets) old = machine.wants old.end ≡ Want.Send
+  IsDue (Got octets) old = machine.wants old.end ≡ Want.Receive
+  IsDue End old = machine.wants old.end ≡ Want.Receive
+  IsDue Break old = IsBroken (machine.wants old.end) old.lane.stands old.lane.fate
+  IsDue (Left asked) old = MayLeave (machine.IsDone old.end) (machine.wants old.end) old.lane.fate × IsFairEnd (machine.wants old.end) old.lane asked
   IsDue Closed old = machine.IsCloseDue old.end
   IsDue other old = ⊤
 

@@ -1,10 +1,11 @@
 -- How a read of a data connection came out, and a reset of it.
-use Rattle.std.specs.Prelude.{◌≡◌, ℕ, Bool, true, false, List, [], take, Option}
+use Rattle.std.specs.Prelude.{◌≡◌, ◌⊎◌, ℕ, Bool, true, false, List, [], take, Option}
 use Rattle.std.specs.declared.result.Result.{Result}
 use Rattle.std.specs.declared.result.Result.TheVariants.{Ok, Err}
 use Rattle.ftp_control.specs.Asking.{Asked, Reset, Shut}
-use Rattle.ftp_control.specs.Lane.{IsLeft, Lane}
+use Rattle.ftp_control.specs.Lane.{IsLeft, IsWritten, Lane, with_fate}
 use Rattle.ftp_control.specs.declared.data.Halt.{Halt}
+use Rattle.ftp_control.specs.declared.whole.Fate.TheVariants.{Sound}
 
 -- the octets that were read and are in hand
 abbrev pub in_hand : Result ℕ Halt → (room : List ℕ) → List ℕ
@@ -20,3 +21,7 @@ IsDropped false left written asked = asked ≡ Shut
 pub record IsReset (asked : Asked) (old new : Lane) : Type 0 where
   pub dropped : IsDropped old.stands old.left old.written asked
   pub left : IsLeft asked old new
+
+-- octets were written, whether that failed behind them or not; or none were to be written
+abbrev pub IsSent : (old new : Lane) → Type 0
+IsSent old new = (new ≡ old) ⊎ ((octets : List ℕ) × IsWritten octets old (with_fate Sound new))

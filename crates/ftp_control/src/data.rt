@@ -4,11 +4,12 @@ ghost use Rattle.std.specs.Option.{is_some};
 ghost use Rattle.std.specs.Io.KnownBytes.{Appends, Consumes, IsAtEnd, Keeps};
 ghost use Rattle.ftp_control.specs.Asking.{Leaves};
 ghost use Rattle.std.specs.IoError.{error_kind};
+ghost use Rattle.ftp_control.specs.Halting.{fate_by, fate_halted};
 ghost use Rattle.ftp_control.specs.Whole.{IsCut, IsWhole};
 
 use crate::pieces::{Failed, TURNS};
 use crate::ports::{DATA_PIECE, For, Ports, Ready};
-use crate::whole::{Rest, whole_of};
+use crate::whole::{Fate, Rest, whole_of};
 use std::io::{Error, ErrorKind, Read, Write};
 
 /// The fewest octets of a download that are taken at once, unless it ends before.
@@ -37,6 +38,7 @@ pub struct DataConnection<S> {
     rest: Rest,
     /// How many octets went over it.
     went: usize,
+    fate: Fate,
     ghost order: { at ≤ end },
     ghost within: { end ≤ 262144 },
 }
@@ -47,8 +49,9 @@ impl<S: Read + Write> DataConnection<S> {
 
     /// No data connection.
     pub fn new() -> DataConnection<S>
-        ensures whole { IsWhole result.at result.end result.rest }
+        ensures whole { IsWhole result.at result.end result.rest result.fate }
         ensures none { result.stream ≡ None }
+        ensures sound { result.fate ≡ Fate.Sound }
     {
         DataConnection {
             stream: None,
@@ -56,18 +59,21 @@ impl<S: Read + Write> DataConnection<S> {
             end: 0,
             rest: Rest::Nothing,
             went: 0,
+            fate: Fate::Sound,
         }
     }
 
     /// It is open now; one that stood before is reset.
     pub fn begin<P: Ports<Stream = S>>(&mut self, ports: &mut P, stream: S)
-        ensures whole { IsWhole self.new.at self.new.end self.new.rest }
+        ensures whole { IsWhole self.new.at self.new.end self.new.rest self.new.fate }
         ensures stands { self.new.stream ≡ Some stream }
+        ensures sound { self.new.fate ≡ Fate.Sound }
         ensures asked { Replaces S.remaining S.contents self.old.stream (P.history ports.old) (P.history ports.new) }
     {
         self.at = self.end;
         self.rest = Rest::Nothing;
         self.went = 0;
+        self.fate = Fate::Sound;
         if let Some(before) = self.stream.replace(stream) {
             ports.reset(before);
         }
@@ -79,6 +85,7 @@ impl<S: Read + Write> DataConnection<S> {
         ensures at { self.new.at ≡ self.old.at }
         ensures end { self.new.end ≡ self.old.end }
         ensures stream { self.new.stream ≡ self.old.stream }
+        ensures fate { self.new.fate ≡ self.old.fate }
     {
         self.rest = rest;
     }
@@ -98,6 +105,31 @@ impl<S: Read + Write> DataConnection<S> {
         self.at < self.end
     }
 
+    /// Whether one stands.
+    pub fn stands(&self) -> bool
+        ensures { result ≡ is_some self.now.stream }
+    {
+        self.stream.is_some()
+    }
+
+    /// What became of it.
+    pub fn fate(&self) -> Fate
+        ensures { result ≡ self.now.fate }
+    {
+        self.fate
+    }
+
+    /// This end was told that it broke, or that the other end closed it.
+    pub fn told(&mut self, fate: Fate)
+        ensures told { self.new.fate ≡ fate }
+        ensures at { self.new.at ≡ self.old.at }
+        ensures end { self.new.end ≡ self.old.end }
+        ensures rest { self.new.rest ≡ self.old.rest }
+        ensures stream { self.new.stream ≡ self.old.stream }
+    {
+        self.fate = fate;
+    }
+
     /// How many octets are to be taken at once: an eighth of those that went so far, within 32,768 and 262,144. So the last octets, behind which
     /// nothing is heard until they are written, are few beside what the system took already, and it mostly has room for them.
     pub fn piece(&self) -> usize
@@ -114,6 +146,7 @@ impl<S: Read + Write> DataConnection<S> {
         ensures at { self.new.at ≡ 0 }
         ensures end { self.new.end ≡ count }
         ensures stream { self.new.stream ≡ self.old.stream }
+        ensures fate { self.new.fate ≡ self.old.fate }
     {
         self.at = 0;
         self.end = count;
@@ -138,12 +171,20 @@ impl<S: Read + Write> DataConnection<S> {
         ensures end { self.new.end ≡ self.old.end }
         ensures rest { self.new.rest ≡ self.old.rest }
         ensures stands { is_some self.new.stream ≡ is_some self.old.stream }
+        ensures fate { is_some self.old.stream ≡ true → self.new.fate ≡ fate_by result self.old.fate }
+        ensures none { is_some self.old.stream ≡ false → self.new.fate ≡ self.old.fate }
     {
         let unwritten = self.unwritten(room);
         let Some(stream) = &mut self.stream else {
             return Err(Halt::Broken);
         };
-        let count = write_some(stream, unwritten)?;
+        let count = match write_some(stream, unwritten) {
+            Ok(count) => count,
+            Err(halt) => {
+                self.fate = fate_by(halt, self.fate);
+                return Err(halt);
+            }
+        };
         self.at += count;
         self.went = self.went.saturating_add(count);
         Ok(())
@@ -157,6 +198,8 @@ impl<S: Read + Write> DataConnection<S> {
         ensures end { self.new.end ≡ self.old.end }
         ensures rest { self.new.rest ≡ self.old.rest }
         ensures stands { is_some self.new.stream ≡ is_some self.old.stream }
+        ensures sound { OnOk result (self.new.fate ≡ self.old.fate) }
+        ensures failed { OnErr result (self.new.fate ≡ Fate.Failed) }
     {
         for _ in 0..TURNS {
             if !self.has_unwritten() {
@@ -164,6 +207,7 @@ impl<S: Read + Write> DataConnection<S> {
             }
             self.write_more(room)?;
         }
+        self.fate = Fate::Failed;
         Err(Failed)
     }
 
@@ -174,10 +218,15 @@ impl<S: Read + Write> DataConnection<S> {
         ensures end { self.new.end ≡ self.old.end }
         ensures rest { self.new.rest ≡ self.old.rest }
         ensures stands { is_some self.new.stream ≡ is_some self.old.stream }
+        ensures sound { OnOk result (self.new.fate ≡ self.old.fate) }
+        ensures failed { OnErr result (self.new.fate ≡ Fate.Failed) }
     {
         match self.write(room) {
             Ok(()) | Err(Halt::Again) => Ok(()),
-            Err(Halt::Spoken | Halt::Broken) => Err(Failed),
+            Err(Halt::Spoken | Halt::Broken) => {
+                self.fate = Fate::Failed;
+                Err(Failed)
+            }
         }
     }
 
@@ -192,11 +241,19 @@ impl<S: Read + Write> DataConnection<S> {
         ensures length { self.new.end ≡ self.old.end }
         ensures rest { self.new.rest ≡ self.old.rest }
         ensures stands { is_some self.new.stream ≡ is_some self.old.stream }
+        ensures fate { is_some self.old.stream ≡ true → self.new.fate ≡ fate_by result self.old.fate }
+        ensures none { is_some self.old.stream ≡ false → self.new.fate ≡ self.old.fate }
     {
         let Some(stream) = &mut self.stream else {
             return Err(Halt::Broken);
         };
-        read_some(stream, room)
+        match read_some(stream, room) {
+            Ok(count) => Ok(count),
+            Err(halt) => {
+                self.fate = fate_by(halt, self.fate);
+                Err(halt)
+            }
+        }
     }
 
     /// Waits until octets can be read or written, or where `hears` until the control connection is to be served. Where none stands, the next
@@ -208,6 +265,7 @@ impl<S: Read + Write> DataConnection<S> {
         ensures end { self.new.end ≡ self.old.end }
         ensures rest { self.new.rest ≡ self.old.rest }
         ensures stands { is_some self.new.stream ≡ is_some self.old.stream }
+        ensures fate { self.new.fate ≡ self.old.fate }
         ensures asked { Adds (P.history ports.old) (P.history ports.new) (told_lost (is_lost result hears)) }
     {
         match &mut self.stream {
@@ -218,27 +276,31 @@ impl<S: Read + Write> DataConnection<S> {
 
     /// Closes it, if it is open, and the port that is listened at: by an end where all that was to go is written, and else by a reset.
     pub fn close<P: Ports<Stream = S>>(&mut self, ports: &mut P)
-        ensures whole { IsWhole self.new.at self.new.end self.new.rest }
+        ensures whole { IsWhole self.new.at self.new.end self.new.rest self.new.fate }
         ensures none { self.new.stream ≡ None }
-        ensures asked { Leaves S.remaining S.contents self.old.stream self.old.at self.old.end self.old.rest (P.history ports.old) (P.history ports.new) }
+        ensures sound { self.new.fate ≡ Fate.Sound }
+        ensures asked { Leaves S.remaining S.contents self.old.stream self.old.at self.old.end self.old.rest self.old.fate (P.history ports.old) (P.history ports.new) }
     {
-        let (at, end, rest) = (self.at, self.end, self.rest);
+        let (at, end, rest, fate) = (self.at, self.end, self.rest, self.fate);
         self.at = self.end;
         self.rest = Rest::Nothing;
+        self.fate = Fate::Sound;
         match self.stream.take() {
-            Some(stream) => close_by(ports, stream, at, end, rest),
+            Some(stream) => close_by(ports, stream, at, end, rest, fate),
             None => ports.close(None),
         }
     }
 
     /// Resets it, if it is open, and closes the port that is listened at: octets that are not written yet are dropped.
     pub fn reset<P: Ports<Stream = S>>(&mut self, ports: &mut P)
-        ensures whole { IsWhole self.new.at self.new.end self.new.rest }
+        ensures whole { IsWhole self.new.at self.new.end self.new.rest self.new.fate }
         ensures none { self.new.stream ≡ None }
+        ensures sound { self.new.fate ≡ Fate.Sound }
         ensures asked { Drops S.remaining S.contents self.old.stream (P.history ports.old) (P.history ports.new) }
     {
         self.at = self.end;
         self.rest = Rest::Nothing;
+        self.fate = Fate::Sound;
         match self.stream.take() {
             Some(stream) => ports.reset(stream),
             None => ports.close(None),
@@ -247,7 +309,7 @@ impl<S: Read + Write> DataConnection<S> {
 
     /// Closes it for good.
     pub fn finish<P: Ports<Stream = S>>(self, ports: &mut P)
-        ensures { Leaves S.remaining S.contents self.stream self.at self.end self.rest (P.history ports.old) (P.history ports.new) }
+        ensures { Leaves S.remaining S.contents self.stream self.at self.end self.rest self.fate (P.history ports.old) (P.history ports.new) }
     {
         let DataConnection {
             stream,
@@ -255,20 +317,28 @@ impl<S: Read + Write> DataConnection<S> {
             end,
             rest,
             went: _,
+            fate,
         } = self;
         match stream {
-            Some(stream) => close_by(ports, stream, at, end, rest),
+            Some(stream) => close_by(ports, stream, at, end, rest, fate),
             None => ports.close(None),
         }
     }
 }
 
 /// Closes a data connection of whose octets those up to `end` were taken and those up to `at` are written.
-fn close_by<P: Ports>(ports: &mut P, stream: P::Stream, at: usize, end: usize, rest: Rest)
+fn close_by<P: Ports>(
+    ports: &mut P,
+    stream: P::Stream,
+    at: usize,
+    end: usize,
+    rest: Rest,
+    fate: Fate,
+)
     requires { at ≤ end }
-    ensures { Leaves P.Stream.remaining P.Stream.contents (Some stream) at end rest (P.history ports.old) (P.history ports.new) }
+    ensures { Leaves P.Stream.remaining P.Stream.contents (Some stream) at end rest fate (P.history ports.old) (P.history ports.new) }
 {
-    match whole_of(stream, at, end, rest) {
+    match whole_of(stream, at, end, rest, fate) {
         Ok(whole) => ports.close(Some(whole)),
         Err(cut) => ports.reset(cut),
     }
@@ -300,6 +370,16 @@ fn write_some<S: Write>(stream: &mut S, octets: &[u8]) -> Result<usize, Halt>
         Ok(0) => Err(Halt::Broken),
         Ok(count) => Ok(count),
         Err(error) => Err(halt_of(&error)),
+    }
+}
+
+/// What became of a data connection where a read or a write moved none.
+fn fate_by(halt: Halt, before: Fate) -> Fate
+    ensures { result ≡ fate_halted halt before }
+{
+    match halt {
+        Halt::Broken => Fate::Failed,
+        Halt::Again | Halt::Spoken => before,
     }
 }
 

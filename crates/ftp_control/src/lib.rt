@@ -14,4 +14,4 @@ pub use control::Control;
 pub use data::{DataConnection, Halt};
 pub use pieces::{Failed, PIECE_LIMIT, TURNS, get, put};
 pub use ports::{Accepted, DATA_PIECE, For, Ports, Ready, Spoken, Watch};
-pub use whole::{Rest, Whole};
+pub use whole::{Fate, Rest, Whole};

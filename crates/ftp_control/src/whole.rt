@@ -10,6 +10,33 @@ pub enum Rest {
     More,
 }
 
+/// What became of a data connection.
+#[derive(Clone, Copy, PartialEq, Eq)]
+pub enum Fate {
+    /// Octets may come and go.
+    Sound,
+    /// A read or a write of it failed, and this end was not told.
+    Failed,
+    /// This end was told that it broke.
+    Broken,
+    /// This end was told that the other end closed it.
+    Over,
+}
+
+impl Fate {
+    ghost use Rattle.ftp_control.specs.Whole.{is_well};
+
+    /// Whether no read or write of it failed.
+    pub fn is_well(self) -> bool
+        ensures { result ≡ is_well self }
+    {
+        match self {
+            Fate::Sound | Fate::Over => true,
+            Fate::Failed | Fate::Broken => false,
+        }
+    }
+}
+
 /// A stream over which all octets went that were taken from this end, and for which it has no more: its peer may take its end for the end of
 /// the file (RFC 959, section 3.4.1). Only this crate makes one.
 pub struct Whole<S> {
@@ -18,7 +45,8 @@ pub struct Whole<S> {
     at: usize,
     end: usize,
     rest: Rest,
-    ghost whole: { IsWhole at end rest },
+    fate: Fate,
+    ghost whole: { IsWhole at end rest fate },
 }
 
 impl<S> Whole<S> {
@@ -31,6 +59,7 @@ impl<S> Whole<S> {
             at: _,
             end: _,
             rest: _,
+            fate: _,
         } = self;
         stream
     }
@@ -44,28 +73,37 @@ impl<S> Whole<S> {
             at,
             end,
             rest,
+            fate,
         } = self;
         Whole {
             stream: inner(stream),
             at,
             end,
             rest,
+            fate,
         }
     }
 }
 
 /// A stream as a whole one, where it is; else as it was.
-pub(crate) fn whole_of<S>(stream: S, at: usize, end: usize, rest: Rest) -> Result<Whole<S>, S>
+pub(crate) fn whole_of<S>(
+    stream: S,
+    at: usize,
+    end: usize,
+    rest: Rest,
+    fate: Fate,
+) -> Result<Whole<S>, S>
     requires { at ≤ end }
-    ensures whole { IfOk result (λ whole. (whole.stream ≡ stream) × IsWhole at end rest) }
-    ensures cut { IfErr result (λ kept. (kept ≡ stream) × IsCut at end rest) }
+    ensures whole { IfOk result (λ whole. (whole.stream ≡ stream) × IsWhole at end rest fate) }
+    ensures cut { IfErr result (λ kept. (kept ≡ stream) × IsCut at end rest fate) }
 {
-    if at == end && rest == Rest::Nothing {
+    if at == end && rest == Rest::Nothing && fate.is_well() {
         Ok(Whole {
             stream,
             at,
             end,
             rest,
+            fate,
         })
     } else {
         Err(stream)

@@ -1,16 +1,26 @@
 -- What a drive did, from what its turns lead to.
-use Rattle.std.proofs.Common.{◌≡◌, List, [], ◌++◌, subst, Result, Err}
+use Rattle.std.proofs.Common.{◌≡◌, inr, List, [], ◌++◌, subst, Result, Err}
 use Rattle.std.specs.Prelude.{Bool, IfErr}
 use Rattle.ftp_control.specs.Cause.{IsCause}
 use Rattle.ftp_control.specs.Deeds.{Deed, Led, Stand}
 use Rattle.ftp_control.specs.Driving.{Fails}
-use Rattle.ftp_control.specs.Machine.{Machine, move_of, side_of}
+use Rattle.ftp_control.specs.Machine.{Machine, MayLeave, move_of, side_of}
+use Rattle.ftp_control.specs.declared.whole.Fate.{Fate}
+use Rattle.ftp_control.specs.declared.whole.Fate.TheVariants as Fates
+use Rattle.ftp_ends.specs.declared.link.Wants.{Wants}
 use Rattle.ftp_control.specs.declared.cause.Cause.{Cause}
 use Rattle.ftp_control.proofs.Courses.{carries}
 use Rattle.ftp_control.proofs.Idling.{carrier, stood_so}
 use Rattle.ftp_control.proofs.Totals.{cuts, sums}
 use Rattle.ftp_control_drive.specs.Calling.{Ends}
 use Rattle.ftp_control_drive.specs.Driven.{BreaksOff, Did}
+
+-- an end that is done leaves what stands
+pub may_when_done : (done : Type 0) (want : Wants) (fate : Fate) → done → MayLeave done want fate
+may_when_done done want Fates.Sound is = inr is
+may_when_done done want Fates.Failed is = is
+may_when_done done want Fates.Broken is = tt
+may_when_done done want Fates.Over is = tt
 
 module _ (machine : Machine) (start : Stand (side_of machine)) (unwritten : start.owner.lane.unwritten ≡ []) (untold : start.owner.lane.untold ≡ []) where
   pub did : (last deeds : List (Deed (side_of machine))) (now : Stand (side_of machine)) → Led (last ++ deeds) start now → Did machine last start now

@@ -1,14 +1,26 @@
 -- What the parts of a drive say, put together.
-use Rattle.std.proofs.Common.{◌≡◌, ℕ, List, Option, Result, Ok, Err}
+use Rattle.std.proofs.Common.{◌≡◌, ◌⊎◌, ℕ, [], inl, inr, refl, subst, sym, List, Option, Result, Ok, Err}
 use Rattle.std.specs.Prelude.{Bool, IsErr, true, false}
 use Rattle.ftp_control.specs.Asking.{Adds, Asked, told_lost}
-use Rattle.ftp_control.specs.Deeds.{Stand}
+use Rattle.ftp_control.specs.Deeds.{Stand, with_owner}
 use Rattle.ftp_control.specs.Driving.{Fails, Leads}
-use Rattle.ftp_control.specs.Lane.{Lane, with_untold}
-use Rattle.ftp_control.specs.Machine.{Machine, held, side_of, stand_of}
+use Rattle.ftp_control.specs.Lane.{IsLeft, IsRead, Lane, lane_of, with_fate, with_untold}
+use Rattle.ftp_control.specs.Machine.{IsBroken, IsFairEnd, Machine, MayLeave, held, leaves as goes_without, side_of, stand_of}
+use Rattle.ftp_control.specs.Outcome.{IsDropped, IsReset}
+use Rattle.ftp_control.specs.Whole.{is_well}
+use Rattle.ftp_control.specs.declared.data.DataConnection.{DataConnection}
 use Rattle.ftp_control.specs.declared.control.Control.{Control}
+use Rattle.ftp_control.specs.Halting.{fate_by}
 use Rattle.ftp_control.specs.declared.cause.Cause.{Cause}
-use Rattle.ftp_control.proofs.Idling.{idles_asked}
+use Rattle.ftp_control.specs.declared.data.Halt.{Halt}
+use Rattle.ftp_control.specs.declared.data.Halt.TheVariants as Halts
+use Rattle.ftp_control.specs.declared.whole.Fate.{Fate}
+use Rattle.ftp_control.specs.declared.whole.Fate.TheVariants as Fates
+use Rattle.ftp_control.proofs.Idling.{breaks_told, came, came_none, idles_asked, leaves}
+use Rattle.ftp_control.proofs.Lanes.{same_lane}
+use Rattle.ftp_control.proofs.Leading.{leads_then}
+use Rattle.ftp_ends.specs.declared.link.Wants.{Wants}
+use Rattle.ftp_ends.specs.declared.link.Wants.TheVariants as Want
 use Rattle.ftp_control_drive.specs.Calling.{Ends}
 use Rattle.ftp_control_drive.specs.Standing.{asked_before}
 
@@ -16,7 +28,57 @@ use Rattle.ftp_control_drive.specs.Standing.{asked_before}
 abbrev pub handing : (machine : Machine) → {R W : Type 0} → (R → Option (List ℕ)) → (W → Option (List ℕ)) → machine.Here → Control R W → Lane → (untold : List ℕ) → Stand (side_of machine)
 handing machine remaining contents here control lane untold = stand_of machine remaining contents (held here (with_untold untold lane)) control
 
+-- a write that failed or not left it so
+pub sent_fate : {T : Type 0} (r : Result T Halt) (fate : Fate) → fate ≡ fate_by r Fates.Sound → (fate ≡ Fates.Sound) ⊎ (fate ≡ Fates.Failed)
+sent_fate (Ok value) fate is = inl is
+sent_fate (Err Halts.Again) fate is = inl is
+sent_fate (Err Halts.Spoken) fate is = inl is
+sent_fate (Err Halts.Broken) fate is = inr is
+
+-- what became of it is told, and all else is as it was
+pub fated_lane : {S : Type 0} (remaining contents : S → Option (List ℕ)) (old new : DataConnection S) (fate : Fate) (asked : Option (List Asked)) (room untold : List ℕ)
+    → new.stream ≡ old.stream → new.at ≡ old.at → new.end ≡ old.end → new.fate ≡ fate
+    → lane_of remaining contents asked new room untold ≡ with_fate fate (lane_of remaining contents asked old room untold)
+fated_lane remaining contents old new fate asked room untold stream at end is =
+    same_lane remaining contents (record old { fate = fate }) new asked room untold stream at end is
+
+-- one that an end wants no more may be left, where no read or write failed that it was not told
+pub may_leave : (done : Type 0) (want : Wants) (fate : Fate) → goes_without want ≡ true → (fate ≡ Fates.Failed → ⊥) → MayLeave done want fate
+may_leave done want Fates.Sound is told = inl is
+may_leave done want Fates.Failed is told = absurd (told refl)
+may_leave done want Fates.Broken is told = tt
+may_leave done want Fates.Over is told = tt
+
+-- where none stands, or it is told that it broke, a reset is fair
+pub dropped_fair : (want : Wants) (lane : Lane) (stands : Bool) (asked : Asked) → is_well lane.fate ≡ false → IsDropped stands lane.left lane.written asked
+    → IsFairEnd want lane asked
+dropped_fair want lane true asked broken is = subst (λ a. IsFairEnd want lane a) (sym is) (inl broken)
+dropped_fair want lane false asked broken is = subst (λ a. IsFairEnd want lane a) (sym is) tt
+
+-- whatever became of one, it is left as it was
+pub left_broken : (asked : Asked) (old new : Lane) → IsLeft asked old new → IsLeft asked (with_fate Fates.Broken old) new
+left_broken asked old new left =
+    record { ended = left.ended; adds = left.adds; stands = left.stands; fate = left.fate; unwritten = left.unwritten; untold = left.untold }
+
 module _ (machine : Machine) where
+  -- a read moved none, whether it failed or not
+  pub came_nothing : (old : Stand (side_of machine)) (lane : Lane) → machine.wants old.owner.end ≡ Want.Receive
+      → IsRead [] old.owner.lane (with_fate Fates.Sound (with_untold [] lane)) → (lane.fate ≡ Fates.Sound) ⊎ (lane.fate ≡ Fates.Failed)
+      → Leads old (with_owner (held old.owner.end (with_untold [] lane)) old)
+  came_nothing old lane wants read (inl sound) = came machine old lane [] [] wants read sound refl
+  came_nothing old lane wants read (inr failed) = came_none machine old (with_untold [] lane) wants read failed
+
+  -- it is told that it broke, and it is reset
+  pub loses : (old new : Stand (side_of machine)) (here : machine.Here) (asked : Asked) → machine.Break old.owner.end here
+      → IsBroken (machine.wants old.owner.end) old.owner.lane.stands old.owner.lane.fate → IsReset asked old.owner.lane new.owner.lane
+      → new ≡ with_owner (held here new.owner.lane) old → Leads old new
+  loses old new here asked broke is reset same =
+      let lane = with_fate Fates.Broken old.owner.lane in
+      let mid = with_owner (held here lane) old in
+      leads_then old mid new (breaks_told machine old.owner.end here old.owner.lane broke is old.left old.unheard old.written)
+      (leaves machine asked mid new (left_broken asked old.owner.lane new.owner.lane reset.left) tt
+      (dropped_fair (machine.wants here) lane old.owner.lane.stands asked refl reset.dropped) same)
+
   -- it was told that the control connection ended, or not
   pub asks : (lost : Bool) (old : Stand (side_of machine)) (h1 : Option (List Asked)) → Adds old.owner.lane.asked h1 (told_lost lost) → Leads old (asked_before h1 old)
   asks lost old h1 told = idles_asked machine lost old.owner.lane old.owner.lane.asked h1 told old.owner.end old.left old.unheard old.written

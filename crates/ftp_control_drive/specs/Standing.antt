@@ -8,17 +8,27 @@ use Rattle.ftp_control.specs.Carrying.{left_of}
 use Rattle.ftp_control.specs.Cause.{IsCause}
 use Rattle.ftp_control.specs.Deeds.{Stand, with_owner}
 use Rattle.ftp_control.specs.Driving.{Goes, Leads}
-use Rattle.ftp_control.specs.Lane.{Lane, lane_of, with_asked}
-use Rattle.ftp_control.specs.Machine.{Machine, held, side_of, stand_of}
+use Rattle.ftp_control.specs.Lane.{IsLeft, Lane, lane_of, with_asked}
+use Rattle.ftp_control.specs.Machine.{IsFairEnd, Machine, held, side_of, stand_of}
 use Rattle.ftp_control.specs.Unheard.{unheard_of}
 use Rattle.ftp_control.specs.declared.cause.Cause.{Cause}
 use Rattle.ftp_control.specs.declared.control.Control.{Control}
+use Rattle.ftp_control.specs.declared.whole.Fate.TheVariants.{Sound}
+use Rattle.ftp_ends.specs.declared.link.Wants.{Wants}
 use Rattle.ftp_control_drive.specs.declared.data.Data.{Data}
 use Rattle.ftp_control_drive.specs.declared.drive.Drive.{Drive}
 
 -- a data connection of which these octets were read and not told
 abbrev pub lane_at : {S : Type 0} → (remaining contents : S → Option (List ℕ)) → Option (List Asked) → Data S → (untold : List ℕ) → Lane
 lane_at remaining contents asked data_connection untold = lane_of remaining contents asked data_connection.connection data_connection.room untold
+
+-- one stands, and octets may come and go
+abbrev pub IsOpenAt : {S : Type 0} → Data S → Type 0
+IsOpenAt data_connection = (is_some data_connection.connection.stream ≡ true) × (data_connection.connection.fate ≡ Sound)
+
+-- one is left, as fairly as an end that wants this may
+abbrev pub Leaving : Wants → (old new : Lane) → Type 0
+Leaving want old new = (asked : Asked) × IsLeft asked old new × IsFairEnd want old asked
 
 -- one stands, and its stream is at its end
 abbrev pub HasEnded : {S : Type 0} → (remaining : S → Option (List ℕ)) → Data S → Type 0

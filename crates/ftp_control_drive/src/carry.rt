@@ -1,15 +1,19 @@
 // A transfer under way: octets go over the data connection, and control octets that come first are read.
-ghost use Rattle.std.specs.Prelude.{◌≡◌, ◌≢◌, ◌<◌, IsTrue, false, length};
+ghost use Rattle.std.specs.Prelude.{◌≡◌, ◌≢◌, ◌<◌, IsTrue, false, length, true};
+ghost use Rattle.std.specs.Option.{is_some};
 ghost use Rattle.ftp_control.specs.Asking.{Adds, is_over, told_lost};
 ghost use Rattle.ftp_control.specs.Cause.{HasLost};
+ghost use Rattle.ftp_control.specs.Halting.{fate_by};
+ghost use Rattle.ftp_control.specs.Machine.{IsBroken, MayLeave, moves_octets};
 ghost use Rattle.ftp_control.specs.Unheard.{unheard_of};
-ghost use Rattle.ftp_control_drive.specs.Standing.{Follows, HasEnded, IsKept, LeadsOn, Why};
+ghost use Rattle.ftp_control_drive.specs.Standing.{Follows, HasEnded, IsKept, IsOpenAt, LeadsOn, Why};
 
 use crate::calls::EndCalls;
 use crate::data::Data;
 use crate::drive::Drive;
 use crate::hand::hand;
-use ftp_control::{Cause, For, Halt, Ports, Ready, Spoken};
+use ftp_control::{Cause, Fate, For, Halt, Ports, Ready, Spoken};
+use ftp_ends::Wants;
 use std::io::{Read, Write};
 
 impl<'e, 'k, 'p, K, E, R, W, P, S> Drive<'e, 'k, 'p, K, E, R, W, P, S>
@@ -23,10 +27,16 @@ where
     /// Takes octets from an end that asks, which the turns behind it write; of one that serves sends them where there is room for them.
     #[tactic(auto, using(ftp_control::proofs::Going::goes_then, ftp_control::proofs::Leading::leads_then))]
     pub(crate) fn carry(&mut self) -> Result<(), Cause>
+        requires wants { K.machine.wants (K.here self.old.end.now) ≡ Wants.Send }
+        requires sound { self.old.data.connection.fate ≢ Fate.Failed }
         ensures goes { Follows K.machine K.here R.remaining W.contents P.history S.remaining S.contents self.old self.new result }
         ensures why { Why K.machine K.serves (K.here self.new.end.now) (P.history self.new.ports.now) self.new.control.now result }
         ensures kept { IsKept self.old self.new }
     {
+        if !self.data.is_open() {
+            self.miss();
+            return Ok(());
+        }
         if !K::serves() {
             self.fill();
             return Ok(());
@@ -42,10 +52,16 @@ where
     /// Receives octets where there are any, and reads the control connection where it has some first.
     #[tactic(auto, using(ftp_control::proofs::Going::goes_then))]
     pub(crate) fn receive(&mut self) -> Result<(), Cause>
+        requires wants { K.machine.wants (K.here self.old.end.now) ≡ Wants.Receive }
+        requires sound { self.old.data.connection.fate ≢ Fate.Failed }
         ensures goes { Follows K.machine K.here R.remaining W.contents P.history S.remaining S.contents self.old self.new result }
         ensures why { Why K.machine K.serves (K.here self.new.end.now) (P.history self.new.ports.now) self.new.control.now result }
         ensures kept { IsKept self.old self.new }
     {
+        if !self.data.is_open() {
+            self.miss();
+            return Ok(());
+        }
         match self.wait(For::Octets) {
             Ready::Control => self.heed(),
             Ready::Data => self.take(),
@@ -53,14 +69,30 @@ where
         }
     }
 
+    /// Octets were to go over a data connection, or to come, and none is open: the end is told where none stands, and one that it was told of is left.
+    fn miss(&mut self)
+        requires moves { moves_octets (K.machine.wants (K.here self.old.end.now)) ≡ true }
+        requires sound { self.old.data.connection.fate ≢ Fate.Failed }
+        requires none { IsOpenAt self.old.data → ⊥ }
+        ensures leads { LeadsOn K.machine K.here R.remaining W.contents P.history S.remaining S.contents self.old self.new }
+        ensures kept { IsKept self.old self.new }
+    {
+        if self.data.connection.fate() == Fate::Sound {
+            self.lose();
+            return;
+        }
+        self.leave();
+    }
+
     /// Waits until octets can go over the data connection, or where all that was read was heard until the control connection is to be served.
     fn wait(&mut self, what: For) -> Ready
         ensures leads { LeadsOn K.machine K.here R.remaining W.contents P.history S.remaining S.contents self.old self.new }
+        ensures ready { IsOpenAt self.old.data → IsOpenAt self.new.data }
+        ensures end { self.new.end.now ≡ self.old.end.now }
         ensures first { result ≡ Ready.Control → 0 < length (unheard_of self.new.control.now) → HasLost (P.history self.new.ports.now) }
         ensures lost { result ≡ Ready.Lost → HasLost (P.history self.new.ports.now) }
         ensures kept { IsKept self.old self.new }
     {
-        self.data.note::<K, E>(self.end);
         let hears = !self.control.has_unheard();
         self.data.wait(self.ports, what, hears)
     }
@@ -68,7 +100,9 @@ where
     /// The waiting failed: an end that serves gives up, one that asks may still receive what came before.
     #[tactic(auto, using(ftp_control::proofs::Leading::fails_at))]
     fn lost(&mut self) -> Result<(), Cause>
-        requires { HasLost (P.history self.old.ports.now) }
+        requires lost { HasLost (P.history self.old.ports.now) }
+        requires ready { IsOpenAt self.old.data }
+        requires wants { K.machine.wants (K.here self.old.end.now) ≡ Wants.Receive }
         ensures goes { Follows K.machine K.here R.remaining W.contents P.history S.remaining S.contents self.old self.new result }
         ensures why { Why K.machine K.serves (K.here self.new.end.now) (P.history self.new.ports.now) self.new.control.now result }
         ensures kept { IsKept self.old self.new }
@@ -81,6 +115,8 @@ where
 
     /// Takes what a data connection has: octets are handed on; or it ended or broke, and the end is told that.
     fn take(&mut self) -> Result<(), Cause>
+        requires ready { IsOpenAt self.old.data }
+        requires wants { K.machine.wants (K.here self.old.end.now) ≡ Wants.Receive }
         ensures goes { Follows K.machine K.here R.remaining W.contents P.history S.remaining S.contents self.old self.new result }
         ensures why { Why K.machine K.serves (K.here self.new.end.now) (P.history self.new.ports.now) self.new.control.now result }
         ensures kept { IsKept self.old self.new }
@@ -96,6 +132,7 @@ where
     /// Takes octets from the end, where all before were written, and writes them; where that fails, the data connection is lost.
     #[tactic(auto, using(ftp_control::proofs::Leading::leads_then))]
     fn send_more(&mut self)
+        requires { IsOpenAt self.old.data }
         ensures leads { LeadsOn K.machine K.here R.remaining W.contents P.history S.remaining S.contents self.old self.new }
         ensures kept { IsKept self.old self.new }
     {
@@ -109,6 +146,7 @@ where
     /// Writes octets that are on their way, as many as one write takes.
     #[tactic(auto, using(ftp_control::proofs::Going::goes_then))]
     pub(crate) fn send(&mut self) -> Result<(), Cause>
+        requires { IsOpenAt self.old.data }
         ensures goes { Follows K.machine K.here R.remaining W.contents P.history S.remaining S.contents self.old self.new result }
         ensures why { Why K.machine K.serves (K.here self.new.end.now) (P.history self.new.ports.now) self.new.control.now result }
         ensures kept { IsKept self.old self.new }
@@ -121,6 +159,8 @@ where
 
     /// Takes octets from the end, where all before were written.
     fn fill(&mut self)
+        requires { IsOpenAt self.old.data }
+        ensures ready { IsOpenAt self.new.data }
         ensures leads { LeadsOn K.machine K.here R.remaining W.contents P.history S.remaining S.contents self.old self.new }
         ensures kept { IsKept self.old self.new }
     {
@@ -129,6 +169,8 @@ where
 
     /// Writes octets that are not written yet.
     fn write(&mut self) -> Result<(), Halt>
+        requires { IsOpenAt self.old.data }
+        ensures fate { self.new.data.connection.fate ≡ fate_by result Fate.Sound }
         ensures leads { LeadsOn K.machine K.here R.remaining W.contents P.history S.remaining S.contents self.old self.new }
         ensures kept { IsKept self.old self.new }
     {
@@ -138,6 +180,7 @@ where
     /// Follows a read or a write of the data connection that moved no octet: one that asks reads what goes first, where all before was heard, and
     /// where it broke, the end is told.
     fn halted(&mut self, halt: Halt) -> Result<(), Cause>
+        requires { halt ≡ Halt.Broken → self.old.data.connection.fate ≡ Fate.Failed }
         ensures goes { Follows K.machine K.here R.remaining W.contents P.history S.remaining S.contents self.old self.new result }
         ensures why { Why K.machine K.serves (K.here self.new.end.now) (P.history self.new.ports.now) self.new.control.now result }
         ensures kept { IsKept self.old self.new }
@@ -160,7 +203,9 @@ where
 
     /// The data connection ended: that is told, unless the control connection goes first.
     fn ended(&mut self) -> Result<(), Cause>
-        requires { HasEnded S.remaining self.old.data }
+        requires ready { IsOpenAt self.old.data }
+        requires ended { HasEnded S.remaining self.old.data }
+        requires wants { K.machine.wants (K.here self.old.end.now) ≡ Wants.Receive }
         ensures goes { Follows K.machine K.here R.remaining W.contents P.history S.remaining S.contents self.old self.new result }
         ensures why { Why K.machine K.serves (K.here self.new.end.now) (P.history self.new.ports.now) self.new.control.now result }
         ensures kept { IsKept self.old self.new }
@@ -174,7 +219,8 @@ where
 
     /// The data connection broke: that is told, unless the control connection goes first.
     #[tactic(auto, using(ftp_control::proofs::Leading::leads_then))]
-    fn broke(&mut self) -> Result<(), Cause>
+    pub(crate) fn broke(&mut self) -> Result<(), Cause>
+        requires { self.old.data.connection.fate ≡ Fate.Failed }
         ensures goes { Follows K.machine K.here R.remaining W.contents P.history S.remaining S.contents self.old self.new result }
         ensures why { Why K.machine K.serves (K.here self.new.end.now) (P.history self.new.ports.now) self.new.control.now result }
         ensures kept { IsKept self.old self.new }
@@ -204,7 +250,9 @@ where
     #[tactic(auto, using(ftp_control::proofs::Causing::passes))]
     fn over(&mut self, spoken: Spoken) -> Result<(), Cause>
         requires before { spoken ≢ Spoken.Ended }
+        requires ready { IsOpenAt self.old.data }
         requires ended { HasEnded S.remaining self.old.data }
+        requires wants { K.machine.wants (K.here self.old.end.now) ≡ Wants.Receive }
         ensures goes { Follows K.machine K.here R.remaining W.contents P.history S.remaining S.contents self.old self.new result }
         ensures why { Why K.machine K.serves (K.here self.new.end.now) (P.history self.new.ports.now) self.new.control.now result }
         ensures kept { IsKept self.old self.new }
@@ -218,23 +266,29 @@ where
     /// The data connection ended now, and the control connection, as far as it was looked at, has not: the end is told.
     fn tell_end(&mut self, _spoken: Spoken)
         requires before { _spoken ≢ Spoken.Ended }
+        requires ready { IsOpenAt self.old.data }
         requires ended { HasEnded S.remaining self.old.data }
+        requires wants { K.machine.wants (K.here self.old.end.now) ≡ Wants.Receive }
+        ensures fate { self.new.data.connection.fate ≡ Fate.Over }
         ensures leads { LeadsOn K.machine K.here R.remaining W.contents P.history S.remaining S.contents self.old self.new }
         ensures kept { IsKept self.old self.new }
     {
         K::data_end(self.end);
+        self.data.connection.told(Fate::Over);
     }
 
     /// Closes what stands of the data connection.
-    fn leave(&mut self)
+    pub(crate) fn leave(&mut self)
+        requires { MayLeave (K.machine.IsDone (K.here self.old.end.now)) (K.machine.wants (K.here self.old.end.now)) self.old.data.connection.fate }
         ensures leads { LeadsOn K.machine K.here R.remaining W.contents P.history S.remaining S.contents self.old self.new }
         ensures kept { IsKept self.old self.new }
     {
-        self.data.leave(self.ports);
+        self.data.leave::<K, E, P>(self.end, self.ports);
     }
 
     /// The data connection is lost: the end is told, and it is reset.
     fn lose(&mut self)
+        requires { IsBroken (K.machine.wants (K.here self.old.end.now)) (is_some self.old.data.connection.stream) self.old.data.connection.fate }
         ensures leads { LeadsOn K.machine K.here R.remaining W.contents P.history S.remaining S.contents self.old self.new }
         ensures kept { IsKept self.old self.new }
     {
@@ -248,6 +302,7 @@ where
         ensures leads { LeadsOn K.machine K.here R.remaining W.contents P.history S.remaining S.contents self.old self.new }
         ensures asked { Adds (P.history self.old.ports.now) (P.history self.new.ports.now) (told_lost (is_over result)) }
         ensures data { self.new.data ≡ self.old.data }
+        ensures end { self.new.end.now ≡ self.old.end.now }
         ensures kept { IsKept self.old self.new }
     {
         if K::serves() {

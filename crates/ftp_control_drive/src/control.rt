@@ -1,5 +1,5 @@
 // The octets of a control connection: those that the end owes are written, those that were read are heard.
-ghost use Rattle.std.specs.Prelude.{◌≡◌, ◌<◌, IsTrue, false, length, [], List, Option};
+ghost use Rattle.std.specs.Prelude.{◌≡◌, ◌<◌, length, [], List, Option};
 ghost use Rattle.ftp_control.specs.Asking.{Asked};
 ghost use Rattle.ftp_control.specs.Cause.{HasLost};
 ghost use Rattle.ftp_control.specs.Driving.{Flushes};
@@ -50,22 +50,20 @@ where
         ensures goes { Follows K.machine K.here R.remaining W.contents P.history S.remaining S.contents self.old self.new result }
         ensures flushes { Flushes (standing K.machine K.here R.remaining W.contents P.history S.remaining S.contents self.old) (standing K.machine K.here R.remaining W.contents P.history S.remaining S.contents self.new) result }
         ensures unheard { unheard_of self.new.control.now ≡ unheard_of self.old.control.now }
+        ensures data { self.new.data ≡ self.old.data }
         ensures why { Why K.machine K.serves (K.here self.new.end.now) (P.history self.new.ports.now) self.new.control.now result }
         ensures kept { IsKept self.old self.new }
     {
         flush::<K, E, R, W>(self.end, self.control)
     }
 
-    /// Hears the first octets that were read, and gives whether the end took any.
-    pub(crate) fn hear(&mut self) -> bool
+    /// Hears the first octets that were read.
+    pub(crate) fn hear(&mut self)
         ensures leads { LeadsOn K.machine K.here R.remaining W.contents P.history S.remaining S.contents self.old self.new }
-        ensures took { IsTrue result → length (unheard_of self.new.control.now) < length (unheard_of self.old.control.now) }
-        ensures none { result ≡ false → unheard_of self.new.control.now ≡ unheard_of self.old.control.now }
         ensures kept { IsKept self.old self.new }
     {
         let taken = K::hear(self.end, self.control.unheard());
         self.control.heard(taken);
-        taken != 0
     }
 
     /// Serves the control connection, of which `Ports` told: reads it; where octets stand unheard its end was told, and the drive breaks off.

@@ -1,15 +1,16 @@
 // A data connection, and room for its octets.
-ghost use Rattle.std.specs.Prelude.{◌≡◌, ◌≢◌, ◌≤◌, ℕ, List, [], IfOk, OnOk, Option, None, take, true};
+ghost use Rattle.std.specs.Prelude.{◌≡◌, ◌≢◌, ◌≤◌, ◌<◌, ℕ, List, [], IfOk, IsTrue, OnOk, Option, false, length, None, take, true};
 ghost use Rattle.ftp_control.specs.Asking.{Asked, is_lost};
 ghost use Rattle.ftp_control.specs.Driving.{Quietly};
-ghost use Rattle.ftp_control.specs.Lane.{IsLeft, IsRead, IsWaited, IsWritten, no_lane};
+ghost use Rattle.ftp_control.specs.Halting.{fate_by};
+ghost use Rattle.ftp_control.specs.Lane.{IsRead, IsWaited, no_lane, with_fate};
 ghost use Rattle.ftp_control.specs.Machine.{held, side_of};
-ghost use Rattle.ftp_control.specs.Outcome.{IsReset, in_hand};
-ghost use Rattle.ftp_control_drive.specs.Standing.{HasEnded, lane_at};
+ghost use Rattle.ftp_control.specs.Outcome.{IsReset, IsSent, in_hand};
+ghost use Rattle.ftp_control_drive.specs.Standing.{HasEnded, IsOpenAt, Leaving, lane_at};
 
 use crate::calls::EndCalls;
 use crate::hand::fill_front;
-use ftp_control::{DATA_PIECE, DataConnection, Failed, For, Halt, Ports, Ready, Rest};
+use ftp_control::{DATA_PIECE, DataConnection, Failed, Fate, For, Halt, Ports, Ready, Rest};
 use ftp_ends::Wants;
 use std::io::{Read, Write};
 
@@ -24,6 +25,7 @@ impl<S: Read + Write> Data<S> {
     pub(crate) fn new() -> Data<S>
         ensures none { result.connection.stream ≡ None }
         ensures all { result.connection.at ≡ result.connection.end }
+        ensures sound { result.connection.fate ≡ Fate.Sound }
     {
         Data {
             connection: DataConnection::new(),
@@ -31,9 +33,20 @@ impl<S: Read + Write> Data<S> {
         }
     }
 
+    /// Whether one stands, and octets may come and go.
+    pub(crate) fn is_open(&self) -> bool
+        ensures ready { IsTrue result → IsOpenAt self.now }
+        ensures none { result ≡ false → IsOpenAt self.now → ⊥ }
+    {
+        self.connection.stands() && self.connection.fate() == Fate::Sound
+    }
+
     /// Notes whether the end has more octets for it.
-    pub fn note<K: EndCalls<E>, E>(&mut self, end: &E)
-        ensures none { (self.new.connection.rest ≡ Rest.Nothing) → K.machine.wants (K.here end.now) ≢ Wants.Send }
+    fn note<K: EndCalls<E>, E>(&mut self, end: &E)
+        ensures none { self.new.connection.rest ≡ Rest.Nothing → K.machine.wants (K.here end.now) ≢ Wants.Send }
+        ensures more { self.new.connection.rest ≡ Rest.More → K.machine.wants (K.here end.now) ≡ Wants.Send }
+        ensures ready { IsOpenAt self.old → IsOpenAt self.new }
+        ensures fits { self.new.connection.end ≤ length self.new.room }
         ensures same { (asked : Option (List Asked)) → lane_at S.remaining S.contents asked self.new [] ≡ lane_at S.remaining S.contents asked self.old [] }
     {
         self.connection.note(rest_of::<K, E>(end));
@@ -41,6 +54,8 @@ impl<S: Read + Write> Data<S> {
 
     /// Takes octets from the end, where all before were written, and notes whether it has more.
     pub(crate) fn fill<K: EndCalls<E>, E>(&mut self, end: &mut E)
+        requires { IsOpenAt self.old }
+        ensures ready { IsOpenAt self.new }
         ensures quiet { (asked : Option (List Asked)) → Quietly (side_of K.machine) (held (K.here end.old) (lane_at S.remaining S.contents asked self.old [])) (held (K.here end.new) (lane_at S.remaining S.contents asked self.new [])) }
         ensures rest { (self.new.connection.rest ≡ Rest.Nothing) → K.machine.wants (K.here end.new) ≢ Wants.Send }
     {
@@ -66,9 +81,14 @@ impl<S: Read + Write> Data<S> {
 
     /// Writes octets that are not written yet: as many as one write takes, or, of an end that serves and has no others, all.
     pub(crate) fn write<K: EndCalls<E>, E>(&mut self) -> Result<(), Halt>
-        ensures written { (asked : Option (List Asked)) → (octets : List ℕ) × IsWritten octets (lane_at S.remaining S.contents asked self.old []) (lane_at S.remaining S.contents asked self.new []) }
+        requires { IsOpenAt self.old }
+        ensures written { (asked : Option (List Asked)) → IsSent (lane_at S.remaining S.contents asked self.old []) (lane_at S.remaining S.contents asked self.new []) }
+        ensures fate { self.new.connection.fate ≡ fate_by result Fate.Sound }
         ensures all { OnOk result (K.serves ≡ true → self.new.connection.rest ≡ Rest.Nothing → self.new.connection.at ≡ self.new.connection.end) }
     {
+        if !self.connection.has_unwritten() {
+            return Ok(());
+        }
         if K::serves() {
             if self.connection.rest() == Rest::Nothing {
                 return self.write_all();
@@ -79,7 +99,10 @@ impl<S: Read + Write> Data<S> {
 
     /// Writes all octets that are not written yet.
     fn write_all(&mut self) -> Result<(), Halt>
-        ensures written { (asked : Option (List Asked)) → (octets : List ℕ) × IsWritten octets (lane_at S.remaining S.contents asked self.old []) (lane_at S.remaining S.contents asked self.new []) }
+        requires ready { IsOpenAt self.old }
+        requires some { self.old.connection.at < self.old.connection.end }
+        ensures written { (asked : Option (List Asked)) → IsSent (lane_at S.remaining S.contents asked self.old []) (lane_at S.remaining S.contents asked self.new []) }
+        ensures fate { self.new.connection.fate ≡ fate_by result Fate.Sound }
         ensures all { OnOk result (self.new.connection.at ≡ self.new.connection.end) }
     {
         match self.connection.write_all(&self.room) {
@@ -102,7 +125,9 @@ impl<S: Read + Write> Data<S> {
 
     /// Reads once, where all octets of the room were written, and gives how many octets came: none only at the end of the data connection.
     pub(crate) fn come(&mut self) -> Result<usize, Halt>
-        ensures moved { (asked : Option (List Asked)) → IsRead (in_hand result self.new.room) (lane_at S.remaining S.contents asked self.old []) (lane_at S.remaining S.contents asked self.new (in_hand result self.new.room)) }
+        requires { IsOpenAt self.old }
+        ensures moved { (asked : Option (List Asked)) → IsRead (in_hand result self.new.room) (lane_at S.remaining S.contents asked self.old []) (with_fate Fate.Sound (lane_at S.remaining S.contents asked self.new (in_hand result self.new.room))) }
+        ensures fate { self.new.connection.fate ≡ fate_by result Fate.Sound }
         ensures ended { IfOk result (λ count. count ≡ 0 → HasEnded S.remaining self.new) }
     {
         if !self.connection.has_unwritten() {
@@ -119,10 +144,11 @@ impl<S: Read + Write> Data<S> {
         front
     }
 
-    /// Closes it, if it is open, and the port that is listened at.
-    pub(crate) fn leave<P: Ports<Stream = S>>(&mut self, ports: &mut P)
-        ensures { (asked : Asked) × IsLeft asked (lane_at S.remaining S.contents (P.history ports.old) self.old []) (lane_at S.remaining S.contents (P.history ports.new) self.new []) }
+    /// Closes it, if it is open, and the port that is listened at, as the end wants it then.
+    pub(crate) fn leave<K: EndCalls<E>, E, P: Ports<Stream = S>>(&mut self, end: &E, ports: &mut P)
+        ensures { Leaving (K.machine.wants (K.here end.now)) (lane_at S.remaining S.contents (P.history ports.old) self.old []) (lane_at S.remaining S.contents (P.history ports.new) self.new []) }
     {
+        self.note::<K, E>(end);
         self.connection.close(ports);
     }
 
@@ -134,21 +160,24 @@ impl<S: Read + Write> Data<S> {
         self.connection.reset(ports);
     }
 
-    /// Closes it for good.
-    pub fn finish<P: Ports<Stream = S>>(self, ports: &mut P)
-        ensures { (asked : Asked) × IsLeft asked (lane_at S.remaining S.contents (P.history ports.old) self []) (no_lane (P.history ports.new)) }
+    /// Closes it for good, as the end wants it then.
+    pub fn finish<K: EndCalls<E>, E, P: Ports<Stream = S>>(self, end: &E, ports: &mut P)
+        ensures { Leaving (K.machine.wants (K.here end.now)) (lane_at S.remaining S.contents (P.history ports.old) self []) (no_lane (P.history ports.new)) }
     {
+        let mut data = self;
+        data.note::<K, E>(end);
         let Data {
             connection,
             room: _,
-        } = self;
+        } = data;
         connection.finish(ports);
     }
 }
 
 /// Whether the end has more octets for its data connection.
 fn rest_of<K: EndCalls<E>, E>(end: &E) -> Rest
-    ensures { (result ≡ Rest.Nothing) → K.machine.wants (K.here end.now) ≢ Wants.Send }
+    ensures none { result ≡ Rest.Nothing → K.machine.wants (K.here end.now) ≢ Wants.Send }
+    ensures more { result ≡ Rest.More → K.machine.wants (K.here end.now) ≡ Wants.Send }
 {
     match K::wants(end) {
         Wants::Send => Rest::More,

@@ -1,14 +1,15 @@
 // The drive: what an end wants is done, turn by turn, until that is over.
-ghost use Rattle.std.specs.Prelude.{◌≡◌, []};
+ghost use Rattle.std.specs.Prelude.{◌≡◌, ◌≢◌, ◌<◌, IsTrue, [], false, length, true};
 ghost use Rattle.ftp_control.specs.Cause.{is_still};
 ghost use Rattle.ftp_control.specs.Lane.{no_lane};
 ghost use Rattle.ftp_control.specs.Machine.{held, stand_of};
+ghost use Rattle.ftp_control.specs.Unheard.{unheard_of};
 ghost use Rattle.ftp_control_drive.specs.Calling.{Ends};
-ghost use Rattle.ftp_control_drive.specs.Standing.{Follows, IsKept, Why, lane_at, standing};
+ghost use Rattle.ftp_control_drive.specs.Standing.{Follows, IsKept, IsOpenAt, Why, lane_at, standing};
 
 use crate::calls::EndCalls;
 use crate::data::Data;
-use ftp_control::{Cause, Control, Ports, Turns};
+use ftp_control::{Cause, Control, Fate, Ports, Turns};
 use ftp_ends::Wants;
 use std::io::{Read, Write};
 use std::marker::PhantomData;
@@ -83,36 +84,63 @@ where
         }
     }
 
-    /// One turn: what the end owes is written; then of one that asks what was read is heard, or octets that are on their way are written; or what
-    /// the end wants is done.
-    #[tactic(auto, using(ftp_control::proofs::Going::goes_err, ftp_control::proofs::Going::goes_then, ftp_control::proofs::Causing::passes))]
+    /// One turn: what the end owes is written; then what was read is heard, where it may be heard now; or the end is told of a data connection that
+    /// failed; or octets on their way from one that asks are written; or what the end wants is done.
+    #[tactic(auto, using(ftp_control::proofs::Going::goes_err, ftp_control::proofs::Going::goes_then, ftp_control::proofs::Leading::leads_then, ftp_control::proofs::Causing::passes))]
     fn turn(&mut self) -> Result<(), Cause>
         ensures goes { Follows K.machine K.here R.remaining W.contents P.history S.remaining S.contents self.old self.new result }
         ensures why { Why K.machine K.serves (K.here self.new.end.now) (P.history self.new.ports.now) self.new.control.now result }
         ensures kept { IsKept self.old self.new }
     {
         self.flush()?;
-        if K::serves() {
-            return self.act();
+        if self.hears_now() {
+            self.hear();
+            return Ok(());
         }
-        if self.control.has_unheard() {
-            return self.attend();
+        if self.data.connection.fate() == Fate::Failed {
+            return self.broke();
         }
-        if self.data.connection.has_unwritten() {
+        if self.is_sending() {
             return self.send();
         }
         self.act()
     }
 
-    /// Does what the end wants.
+    /// Whether octets that were read are to be heard now: of one that asks before all else, of one that serves beside what it waits for.
+    fn hears_now(&self) -> bool
+        ensures { result ≡ false → 0 < length (unheard_of self.now.control.now) → is_still K.serves (K.machine.wants (K.here self.now.end.now)) ≡ true → K.machine.may_hear (K.here self.now.end.now) ≡ false }
+    {
+        if !self.control.has_unheard() {
+            return false;
+        }
+        if K::serves() && !waits(K::wants(self.end)) {
+            return false;
+        }
+        K::may_hear(self.end)
+    }
+
+    /// Whether octets of one that asks are on their way over a data connection that is open.
+    fn is_sending(&self) -> bool
+        ensures { IsTrue result → IsOpenAt self.now.data }
+    {
+        !K::serves() && self.data.is_open() && self.data.connection.has_unwritten()
+    }
+
+    /// Does what the end wants. The drive breaks off where octets stand that the end may not hear, and it wants nothing that goes on beside them.
     #[tactic(auto, using(ftp_control::proofs::Leading::fails_at))]
     fn act(&mut self) -> Result<(), Cause>
+        requires sound { self.old.data.connection.fate ≢ Fate.Failed }
+        requires heard { 0 < length (unheard_of self.old.control.now) → is_still K.serves (K.machine.wants (K.here self.old.end.now)) ≡ true → K.machine.may_hear (K.here self.old.end.now) ≡ false }
         ensures goes { Follows K.machine K.here R.remaining W.contents P.history S.remaining S.contents self.old self.new result }
         ensures why { Why K.machine K.serves (K.here self.new.end.now) (P.history self.new.ports.now) self.new.control.now result }
         ensures kept { IsKept self.old self.new }
     {
-        match K::wants(self.end) {
-            Wants::Nothing | Wants::Accept | Wants::Receive | Wants::Send => return self.attend(),
+        let wants = K::wants(self.end);
+        if self.control.has_unheard() && stands_still::<K, E>(wants) {
+            return Err(Cause::Unheard);
+        }
+        match wants {
+            Wants::Nothing => return self.read(),
             Wants::CloseAll => {
                 if !K::serves() {
                     return Err(Cause::Closed);
@@ -121,62 +149,21 @@ where
             Wants::Listen => self.listen(),
             Wants::Connect(endpoint) => self.connect(endpoint),
             Wants::CloseData => self.close(),
+            Wants::Accept => return self.accept(),
+            Wants::Receive => return self.receive(),
+            Wants::Send => return self.carry(),
         }
         Ok(())
     }
+}
 
-    /// Hears octets that were read, where the end takes any, and else does what it wants with its data connection.
-    #[tactic(auto, using(ftp_control::proofs::Going::goes_then))]
-    fn attend(&mut self) -> Result<(), Cause>
-        ensures goes { Follows K.machine K.here R.remaining W.contents P.history S.remaining S.contents self.old self.new result }
-        ensures why { Why K.machine K.serves (K.here self.new.end.now) (P.history self.new.ports.now) self.new.control.now result }
-        ensures kept { IsKept self.old self.new }
-    {
-        if !self.control.has_unheard() {
-            return self.go_on();
-        }
-        if self.hear() {
-            return Ok(());
-        }
-        self.go_on()
-    }
-
-    /// Waits for the data connection, moves octets over it, or reads the control connection, where none are to be heard first.
-    fn go_on(&mut self) -> Result<(), Cause>
-        ensures goes { Follows K.machine K.here R.remaining W.contents P.history S.remaining S.contents self.old self.new result }
-        ensures why { Why K.machine K.serves (K.here self.new.end.now) (P.history self.new.ports.now) self.new.control.now result }
-        ensures kept { IsKept self.old self.new }
-    {
-        match K::wants(self.end) {
-            Wants::Accept => self.accept(),
-            Wants::Receive => self.receive(),
-            Wants::Send => self.carry(),
-            wants => self.stay(wants),
-        }
-    }
-
-    /// Reads where nothing is wanted and all octets before were heard. The drive breaks off where octets stand that the end may not hear, and it
-    /// wants nothing that goes on beside them; else the next turn goes on.
-    #[tactic(auto, using(ftp_control::proofs::Leading::fails_at))]
-    fn stay(&mut self, wants: Wants) -> Result<(), Cause>
-        requires { wants ≡ K.machine.wants (K.here self.old.end.now) }
-        ensures goes { Follows K.machine K.here R.remaining W.contents P.history S.remaining S.contents self.old self.new result }
-        ensures why { Why K.machine K.serves (K.here self.new.end.now) (P.history self.new.ports.now) self.new.control.now result }
-        ensures kept { IsKept self.old self.new }
-    {
-        if self.control.has_unheard() {
-            if !stands_still::<K, E>(wants) {
-                return Ok(());
-            }
-            if K::may_hear(self.end) {
-                return Ok(());
-            }
-            return Err(Cause::Unheard);
-        }
-        if wants == Wants::Nothing {
-            return self.read();
-        }
-        Ok(())
+/// Whether an end that wants this hears octets meanwhile.
+fn waits(wants: Wants) -> bool
+    ensures { result ≡ false → is_still true wants ≡ false }
+{
+    match wants {
+        Wants::Nothing | Wants::Accept | Wants::Receive | Wants::Send => true,
+        Wants::Listen | Wants::Connect(_) | Wants::CloseData | Wants::CloseAll => false,
     }
 }
 

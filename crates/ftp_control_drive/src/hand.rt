@@ -2,7 +2,7 @@
 ghost use Rattle.std.specs.Prelude.{◌≤◌, [], List, Option, length, take};
 ghost use Rattle.ftp_control.specs.Asking.{Asked};
 ghost use Rattle.ftp_control.specs.Driving.{Goes, Quietly};
-ghost use Rattle.ftp_control.specs.Lane.{Lane, with_given, with_untold};
+ghost use Rattle.ftp_control.specs.Lane.{IsOpen, Lane, with_given, with_untold};
 ghost use Rattle.ftp_control.specs.Machine.{held, side_of, stand_of};
 ghost use Rattle.ftp_control_drive.specs.Standing.{Why};
 
@@ -18,7 +18,7 @@ where
     K: EndCalls<E>,
     requires { most ≤ length room.old }
     ensures within { result ≤ most }
-    ensures quiet { (lane : Lane) → Quietly (side_of K.machine) (held (K.here end.old) lane) (held (K.here end.new) (with_given (take result room.new) lane)) }
+    ensures quiet { (lane : Lane) → IsOpen lane → Quietly (side_of K.machine) (held (K.here end.old) lane) (held (K.here end.new) (with_given (take result room.new) lane)) }
 {
     let (front, _) = room.split_at_mut(most);
     fill::<K, E>(end, front)
@@ -27,7 +27,7 @@ where
 /// Fills the room with the octets that the end gives, as far as they go; gives how many they are.
 fn fill<K: EndCalls<E>, E>(end: &mut E, room: &mut [u8]) -> usize
     ensures within { result ≤ length room.new }
-    ensures quiet { (lane : Lane) → Quietly (side_of K.machine) (held (K.here end.old) lane) (held (K.here end.new) (with_given (take result room.new) lane)) }
+    ensures quiet { (lane : Lane) → IsOpen lane → Quietly (side_of K.machine) (held (K.here end.old) lane) (held (K.here end.new) (with_given (take result room.new) lane)) }
 {
     let mut at = 0;
     while at < room.len() {
@@ -55,7 +55,7 @@ where
     K: EndCalls<E>,
     R: Read + Drop,
     W: Write + Drop,
-    ensures goes { (lane : Lane) → Goes (stand_of K.machine R.remaining W.contents (held (K.here end.old) (with_untold octets.now lane)) control.old) (stand_of K.machine R.remaining W.contents (held (K.here end.new) (with_untold [] lane)) control.new) result }
+    ensures goes { (lane : Lane) → IsOpen lane → Goes (stand_of K.machine R.remaining W.contents (held (K.here end.old) (with_untold octets.now lane)) control.old) (stand_of K.machine R.remaining W.contents (held (K.here end.new) (with_untold [] lane)) control.new) result }
     ensures why { (asked : Option (List Asked)) → Why K.machine K.serves (K.here end.new) asked control.new result }
 {
     let mut rest = octets;

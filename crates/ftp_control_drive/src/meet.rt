@@ -1,5 +1,6 @@
 // How an end comes to a data connection: ports are listened at, data connections are waited for, opened and closed.
-ghost use Rattle.std.specs.Prelude.{◌≡◌, [], ◌∷◌, List, Option};
+ghost use Rattle.std.specs.Prelude.{◌≡◌, ◌≢◌, [], ◌∷◌, List, Option, false};
+ghost use Rattle.std.specs.Option.{is_some};
 ghost use Rattle.ftp_control.specs.Asking.{Adds, Asked};
 ghost use Rattle.ftp_control.specs.Driving.{Leads};
 ghost use Rattle.ftp_control.specs.Lane.{IsHad};
@@ -8,7 +9,7 @@ ghost use Rattle.ftp_control_drive.specs.Standing.{Follows, IsKept, LeadsOn, Why
 
 use crate::calls::EndCalls;
 use crate::drive::Drive;
-use ftp_control::{Accepted, Cause, Ports};
+use ftp_control::{Accepted, Cause, Fate, Ports};
 use ftp_endpoint::{Endpoint, Host};
 use ftp_ends::Wants;
 use std::io::{Read, Write};
@@ -21,14 +22,19 @@ where
     P: Ports<Stream = S>,
     S: Read + Write,
 {
-    /// Waits for the data connection that the other end opens. Where all that was read was heard, octets of the control connection that come first
+    /// Waits for the data connection that the other end opens; one that stands still is left first. Where all that was read was heard, octets of the control connection that come first
     /// are read; else the drive breaks off where the waiting ends so.
     pub(crate) fn accept(&mut self) -> Result<(), Cause>
-        requires { K.machine.wants (K.here self.old.end.now) ≡ Wants.Accept }
+        requires wants { K.machine.wants (K.here self.old.end.now) ≡ Wants.Accept }
+        requires sound { self.old.data.connection.fate ≢ Fate.Failed }
         ensures goes { Follows K.machine K.here R.remaining W.contents P.history S.remaining S.contents self.old self.new result }
         ensures why { Why K.machine K.serves (K.here self.new.end.now) (P.history self.new.ports.now) self.new.control.now result }
         ensures kept { IsKept self.old self.new }
     {
+        if self.data.connection.stands() {
+            self.leave();
+            return Ok(());
+        }
         let hears = !self.control.has_unheard();
         match self.ports.accept(hears) {
             Accepted::Came(stream, host) => self.opened(stream, host),
@@ -50,12 +56,17 @@ where
         }
     }
 
-    /// Opens the data connection to an endpoint, and tells the end.
+    /// Opens the data connection to an endpoint, and tells the end; one that stands still is left first.
     pub(crate) fn connect(&mut self, endpoint: Endpoint)
-        requires { K.machine.wants (K.here self.old.end.now) ≡ Wants.Connect endpoint }
+        requires wants { K.machine.wants (K.here self.old.end.now) ≡ Wants.Connect endpoint }
+        requires sound { self.old.data.connection.fate ≢ Fate.Failed }
         ensures leads { LeadsOn K.machine K.here R.remaining W.contents P.history S.remaining S.contents self.old self.new }
         ensures kept { IsKept self.old self.new }
     {
+        if self.data.connection.stands() {
+            self.leave();
+            return;
+        }
         match self.ports.connect(endpoint) {
             Some(stream) => self.opened(stream, endpoint.host),
             None => K::data_refused(self.end),
@@ -64,6 +75,7 @@ where
 
     /// The data connection that was had last is open now, and this host is at its other end.
     fn opened(&mut self, stream: S, host: Host)
+        requires { is_some self.old.data.connection.stream ≡ false }
         ensures leads { (before : Option (List Asked)) (had : Asked) → Adds before (P.history self.old.ports.now) (had ∷ []) → IsHad host had (S.remaining stream) (S.contents stream) → IsWanted (K.machine.wants (K.here self.old.end.now)) had → Leads (asked_before before (standing K.machine K.here R.remaining W.contents P.history S.remaining S.contents self.old)) (standing K.machine K.here R.remaining W.contents P.history S.remaining S.contents self.new) }
         ensures kept { IsKept self.old self.new }
     {
@@ -73,11 +85,12 @@ where
 
     /// Closes what stands of the data connection, and tells the end.
     pub(crate) fn close(&mut self)
-        requires { K.machine.wants (K.here self.old.end.now) ≡ Wants.CloseData }
+        requires wants { K.machine.wants (K.here self.old.end.now) ≡ Wants.CloseData }
+        requires sound { self.old.data.connection.fate ≢ Fate.Failed }
         ensures leads { LeadsOn K.machine K.here R.remaining W.contents P.history S.remaining S.contents self.old self.new }
         ensures kept { IsKept self.old self.new }
     {
-        self.data.leave(self.ports);
+        self.data.leave::<K, E, P>(self.end, self.ports);
         K::data_closed(self.end);
     }
 }

@@ -44,8 +44,8 @@ HearsBy false octets old new = Alone (Hears octets) old new
 abbrev pub ended : Timed → Timed
 ended at = record at { server = record at.server { view = control_end at.server.view } }
 
--- it is told the moment right before each line's end, and each end and break of a data connection, and only there; of a refusal also where it waits
--- for a data connection and that is given up; its own call is to be asked whether it is done with the control connection, where it is not
+-- it is told the moment right before each line's end, and each end and break of a data connection, and only there; its own call is to be asked
+-- whether it is done with the control connection, where it is not
 abbrev pub server_machine : Machine
 server_machine = record {
   Here = Timed;
@@ -68,8 +68,8 @@ server_machine = record {
   End = λ old new. Timely (Steps EndFails end_step) old new;
   Break = λ old new. Timely (Steps EndFails break_step) old new;
   Closed = λ old new. Alone (Acts close_step) old new;
-  IsGivenUp = λ at. wants at.server.view ≡ Want.Accept;
   IsCloseDue = λ at. wants at.server.view ≡ Want.CloseData;
+  IsDone = λ at. wants at.server.view ≡ Want.CloseAll;
 }
 
 abbrev pub server_side : Side

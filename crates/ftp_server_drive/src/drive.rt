@@ -36,14 +36,12 @@ where
     let (data, ended) = drive_end::<Serves<A, T>, Clocked<F, C>, R, W, P>(clocked, control, ports);
     match ended {
         Ok(()) => {
-            data.finish(ports);
+            data.finish::<Serves<A, T>, Clocked<F, C>, P>(clocked, ports);
             Ok(())
         }
         Err(cause) => {
-            let mut data = data;
-            data.note::<Serves<A, T>, Clocked<F, C>>(clocked);
+            data.finish::<Serves<A, T>, Clocked<F, C>, P>(clocked, ports);
             clocked.server.control_end();
-            data.finish(ports);
             Err(cause)
         }
     }

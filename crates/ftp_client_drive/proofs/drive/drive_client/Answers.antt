@@ -3,14 +3,14 @@ use Rattle.std.specs.Prelude.{true, false}
 use Rattle.ftp_control.specs.Asking.{Asked, Shut}
 use Rattle.ftp_control.specs.Deeds.{Other, Stand, with_owner}
 use Rattle.ftp_control.specs.Lane.{IsEnded, IsLeft, Lane, no_lane}
-use Rattle.ftp_control.specs.Machine.{Closed, Does, Left, held}
+use Rattle.ftp_control.specs.Machine.{Closed, Does, IsFairEnd, Left, held}
 use Rattle.ftp_control.specs.declared.cause.Cause.{Cause}
-use Rattle.ftp_control_drive.proofs.Driven.{breaks_off, did}
+use Rattle.ftp_control_drive.proofs.Driven.{breaks_off, did, may_when_done}
 use Rattle.ftp_control_drive.specs.Calling.{Ends}
 use Rattle.ftp_control_drive.specs.Standing.{lane_at}
 use Rattle.ftp_operation.specs.declared.answer.Answer.{Answer}
 use Rattle.ftp_operation.specs.Answer.{Said, Lost, said_of}
-use Rattle.ftp_client_model.specs.Calls.{control_end, data_closed, is_sound, report_of, reports}
+use Rattle.ftp_client_model.specs.Calls.{control_end, data_closed, is_sound, report_of, reports, wants}
 use Rattle.ftp_client_model.specs.Failing.{Client}
 use Rattle.ftp_client_model.specs.View.{View}
 use Rattle.ftp_client_drive.specs.Driving.{Drove, Reports}
@@ -38,8 +38,8 @@ is_shut asked old new none left = subst (λ a. IsLeft a old new) (subst (λ stan
 -- one that came to its end: it gave its report, its data connection was left, and it was told that it is closed
 drove : {A : Type 0} (start off : Stand client_side) (lane : Lane) (new : Client) (r : Result (Answer A) Cause) (answer : Answer A) (asked : Asked)
     → start.owner.lane.unwritten ≡ [] → start.owner.lane.untold ≡ [] → r ≡ Ok answer → Ends client_machine Reports start off r → IsLeft asked off.owner.lane lane
-    → Does client_machine Closed off.owner.end new → Drove start (with_owner (held new lane) off) (Some (said_of answer))
-drove start off lane new r answer asked unwritten untold gave ends left closed =
+    → IsFairEnd (wants off.owner.end.view) off.owner.lane asked → Does client_machine Closed off.owner.end new → Drove start (with_owner (held new lane) off) (Some (said_of answer))
+drove start off lane new r answer asked unwritten untold gave ends left fair closed =
     let over : Ends client_machine Reports start off (Ok answer) = subst (λ r. Ends client_machine Reports start off r) gave ends in
     let mid = over.0 in
     let told = over.2 in
@@ -51,7 +51,7 @@ drove start off lane new r answer asked unwritten untold gave ends left closed =
       asked = asked;
       did = did client_machine start unwritten untold (Other Closed ∷ Other (Left asked) ∷ Other (Report (Some (said_of answer))) ∷ []) over.1.deeds _ (
         with_owner (held off.owner.end lane) off,
-        (off, (mid, over.1.led, ((told, ap (λ o. o.lane) is, tt), subst (λ s. off ≡ with_owner s mid) (sym is) over.3)), ((refl, left, tt), refl)),
+        (off, (mid, over.1.led, ((told, ap (λ o. o.lane) is, tt), subst (λ s. off ≡ with_owner s mid) (sym is) over.3)), ((refl, left, (may_when_done (is_under_way off.owner.end.view.job ≡ false) (wants off.owner.end.view) off.owner.lane.fate idle, fair)), refl)),
         ((closed, (refl, left.stands), λ sound under. absurd (let t : is_under_way off.owner.end.view.job ≡ true = under in cc)), refl),
       );
     }
@@ -61,7 +61,7 @@ returns-in-Ok g c =
     let ended = c.drive_end-data in
     let lane = lane_at g.P.Stream.Read.remaining g.P.Stream.Write.contents (g.P.Ports.history ended.new.ports) ended.result.0 [] in
     let off = beside g.R.Read.remaining g.W.Write.contents (held (g.N.Near.client ended.new.end) lane) ended.new.control in
-    drove _ off _ _ ended.result.1 c.in-Ok.answer c.finish.ensures.0 refl refl c.in-Ok.is ended.ensures.ends c.finish.ensures.1 c.data_closed.ensures
+    drove _ off _ _ ended.result.1 c.in-Ok.answer c.finish.ensures.0 refl refl c.in-Ok.is ended.ensures.ends c.finish.ensures.1 c.finish.ensures.2 c.data_closed.ensures
 
 -- it was told that the control connection ended, its data connection was reset and the port closed, and it was asked for its report
 pub returns-in-Err : goal.returns-in-Err
@@ -87,10 +87,12 @@ returns-in-Err g c =
         is_cut = (c.control_end.ensures, refl);
         asked = c.reset.ensures.0;
         mid = held cut mid;
-        leaves = (refl, (c.reset.ensures.1).left, tt);
+        leaves = (c.reset.ensures.1).left;
+        stays = refl;
         dropped = (c.reset.ensures.1).dropped;
         shut = held cut shut;
-        shuts = (refl, is_shut c.finish-in-Err.ensures.0 mid shut ((c.reset.ensures.1).left).stands left, tt);
+        shuts = is_shut c.finish-in-Err.ensures.0 mid shut ((c.reset.ensures.1).left).stands left;
+        keeps = refl;
         closed = held closed shut;
         closes = (closes, (refl, left.stands), λ sound under. absurd (let e : is_sound cut.view.standing ≡ false = ap (λ v. is_sound v.standing) is_cut ∙ cut_fails old.end.view in let t : is_sound cut.view.standing ≡ true = sound in cc));
         reports = ((c.report.ensures.answer, c.report.ensures.taken), refl, tt);

@@ -4,9 +4,10 @@ use Rattle.ftp_control.specs.Asking.{Asked}
 use Rattle.ftp_control.specs.Deeds.{Other, Stand, with_owner}
 use Rattle.ftp_control.specs.Driving.{Leads}
 use Rattle.ftp_control.specs.Lane.{IsLeft, Lane}
-use Rattle.ftp_control.specs.Machine.{Left, held}
+use Rattle.ftp_control.specs.Machine.{IsFairEnd, Left, held}
 use Rattle.ftp_control.specs.declared.cause.Cause.{Cause}
-use Rattle.ftp_control_drive.proofs.Driven.{breaks_off, did}
+use Rattle.ftp_control_drive.proofs.Driven.{breaks_off, did, may_when_done}
+use Rattle.ftp_server_model.specs.Calls.{wants}
 use Rattle.ftp_control_drive.specs.Calling.{Ends}
 use Rattle.ftp_control_drive.specs.Standing.{lane_at}
 use Rattle.ftp_server_drive.specs.Driving.{Drove, IsDone, IsOver}
@@ -15,18 +16,24 @@ use Rattle.ftp_server_drive.proofs.drive.drive_server.Goals as goal
 
 -- one that came to its end
 drove : {T : Type 0} (start off : Stand server_side) (lane : Lane) (r : Result T Cause) (value : T) (asked : Asked) → start.owner.lane.unwritten ≡ [] → start.owner.lane.untold ≡ []
-    → r ≡ Ok value → Ends server_machine (λ over old new. IsDone old new) start off r → IsLeft asked off.owner.lane lane → Drove start (with_owner (held off.owner.end lane) off)
-drove start off lane r value asked unwritten untold gave ends left =
+    → r ≡ Ok value → Ends server_machine (λ over old new. IsDone old new) start off r → IsLeft asked off.owner.lane lane
+    → IsFairEnd (wants off.owner.end.server.view) off.owner.lane asked → Drove start (with_owner (held off.owner.end lane) off)
+drove start off lane r value asked unwritten untold gave ends left fair =
     let over : Ends server_machine (λ over old new. IsDone old new) start off (Ok value) =
     subst (λ r. Ends server_machine (λ over old new. IsDone old new) start off r) gave ends in
     let mid = over.0 in
     let done : IsDone mid.owner.end off.owner.end = over.2 in
     let still : off ≡ mid = over.3 ∙ ap (λ e. with_owner (held e mid.owner.lane) mid) done.0 in
     let leads : Leads start off = subst (λ s. Leads start s) (sym still) over.1 in
+    let over_now : IsOver off = subst (λ s. IsOver s) (sym still) done.1 in
     record {
       asked = asked;
-      did = did server_machine start unwritten untold (Other (Left asked) ∷ []) leads.deeds _ (off, leads.led, ((refl, left, tt), refl));
-      over = subst (λ s. IsOver s) (sym still) done.1;
+      did = did server_machine start unwritten untold (Other (Left asked) ∷ []) leads.deeds _ (
+        off,
+        leads.led,
+        ((refl, left, (may_when_done (IsOver off) (wants off.owner.end.server.view) off.owner.lane.fate over_now, fair)), refl),
+      );
+      over = over_now;
     }
 
 pub returns-in-Ok : goal.returns-in-Ok
@@ -34,13 +41,12 @@ returns-in-Ok g c =
     let ended = c.drive_end-data in
     let lane = lane_at g.P.Stream.Read.remaining g.P.Stream.Write.contents (g.P.Ports.history ended.new.ports) ended.result.0 [] in
     let off = beside g.R.Read.remaining g.W.Write.contents (held (timed g.F.Far.server g.C.Watch.told ended.new.end) lane) ended.new.control in
-    drove _ off _ ended.result.1 c.in-Ok.field-0 c.finish.ensures.0 refl refl c.in-Ok.is ended.ensures.ends c.finish.ensures.1
+    drove _ off _ ended.result.1 c.in-Ok.field-0 c.finish.ensures.0 refl refl c.in-Ok.is ended.ensures.ends c.finish.ensures.1 c.finish.ensures.2
 
 pub returns-in-Err : goal.returns-in-Err
 returns-in-Err g c =
     let ended = c.drive_end-data in
-    let asked = g.P.Ports.history ended.new.ports in
-    let lane = lane_at g.P.Stream.Read.remaining g.P.Stream.Write.contents asked ended.result.0 [] in
+    let lane = lane_at g.P.Stream.Read.remaining g.P.Stream.Write.contents (g.P.Ports.history ended.new.ports) ended.result.0 [] in
     let off = beside g.R.Read.remaining g.W.Write.contents (held (timed g.F.Far.server g.C.Watch.told ended.new.end) lane) ended.new.control in
     record {
       off = off;
@@ -49,5 +55,6 @@ returns-in-Err g c =
       stays = refl;
       cut = ap (λ server. record off.owner.end { server = server }) c.control_end.ensures;
       asked = c.finish-in-Err.ensures.0;
-      left = rw (c.note.ensures.same asked) at c.finish-in-Err.ensures.1;
+      left = c.finish-in-Err.ensures.1;
+      fair = c.finish-in-Err.ensures.2;
     }

@@ -7,6 +7,6 @@ pub returns-clause-sends : goal.returns-clause-sends
 returns-clause-sends g c =
     let way = take c.args.self.now.end c.args.room.now in
     let contents = g.S.Write.contents in
-    subst (λ s. Sends (told_by contents s) (contents c.write_some.new.stream) (drop c.args.self.now.at way) (drop (c.args.self.now.at + c.in_ok-count.count) way)) (sym c.in-Some.is)
-    (sends_some _ _ c.args.self.now.at c.args.self.now.end c.in_ok-count.count c.args.room.now _
-    c.unwritten-unwritten.ensures c.in_ok-count.ensures.ok)
+    subst (λ s. Sends (told_by contents s) (contents c.write_some.new.stream) (drop c.args.self.now.at way) (drop (c.args.self.now.at + c.in-Ok.count) way)) (sym c.in-Some.is)
+    (sends_some _ _ c.args.self.now.at c.args.self.now.end c.in-Ok.count c.args.room.now _
+    c.unwritten-unwritten.ensures (rw c.in-Ok.is at c.write_some.ensures.ok))

@@ -11,4 +11,5 @@ loop-preserved g c = (
   c.write_more.ensures.end ∙ c.loop.invariant.1,
   c.write_more.ensures.rest ∙ c.loop.invariant.2,
   c.write_more.ensures.stands ∙ c.loop.invariant.3,
+  c.in_ok-write_more.ensures.sound ∙ c.loop.invariant.4,
 )

@@ -11,4 +11,4 @@ returns-clause-quiet g c asked =
     let front = c.fill_front-count in
     subst (λ l. Quietly (side_of g.K.EndCalls.machine) (held (g.K.EndCalls.here c.args.end.now) lane) (held (g.K.EndCalls.here front.new.end) l))
     (sym (c.note-2.ensures.same asked ∙ fills g.S.Read.remaining g.S.Write.contents old.connection c.took.new.self asked old.room front.new.room front.result c.took.ensures.stream
-    (c.has_unwritten.ensures.none c.if-has_unwritten.false) c.took.ensures.at c.took.ensures.end)) (front.ensures.quiet lane)
+    (c.has_unwritten.ensures.none c.if-has_unwritten.false) c.took.ensures.at c.took.ensures.end c.took.ensures.fate)) (front.ensures.quiet lane c.requires)

@@ -6,10 +6,10 @@ pub returns-in-Some-clause-leads : goal.returns-in-Some-clause-leads
 returns-in-Some-clause-leads g c =
     c.opened.ensures.leads (g.P.Ports.history c.args.self.now.ports.now) (Connected c.args.endpoint (g.S.Read.remaining c.in-Some.stream) (g.S.Write.contents c.in-Some.stream))
     (subst (λ r. Connects g.S.Read.remaining g.S.Write.contents c.args.endpoint r (g.P.Ports.history c.args.self.now.ports.now) (g.P.Ports.history c.connect.new.self)) c.in-Some.is c.connect.ensures)
-    (inr (c.args.endpoint, refl, refl)) c.requires
+    (inr (c.args.endpoint, refl, refl)) c.requires.wants
 
 pub returns-in-None-clause-leads : goal.returns-in-None-clause-leads
 returns-in-None-clause-leads g c =
     has_none g.K.EndCalls.machine _ _ _ (NotConnected c.args.endpoint ∷ [])
     (subst (λ r. Connects g.S.Read.remaining g.S.Write.contents c.args.endpoint r (g.P.Ports.history c.args.self.now.ports.now) (g.P.Ports.history c.connect.new.self)) c.in-None.is c.connect.ensures)
-    c.data_refused.ensures c.requires
+    c.data_refused.ensures c.requires.wants

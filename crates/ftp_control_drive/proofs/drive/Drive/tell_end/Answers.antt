@@ -1,5 +1,13 @@
-use Rattle.ftp_control_drive.proofs.Words.{ends_told, refl}
+use Rattle.ftp_control_drive.proofs.Words.{[], Leads, ends_told, fated_lane, held, refl, standing, subst, sym, with_owner}
+use Rattle.ftp_control.specs.declared.whole.Fate.TheVariants as Fates
 use Rattle.ftp_control_drive.proofs.drive.Drive.tell_end.Goals as goal
 
 pub returns-clause-leads : goal.returns-clause-leads
-returns-clause-leads g c = ends_told g.K.EndCalls.machine _ _ _ c.data_end.ensures c.requires.ended.0 c.requires.ended.1 refl _ _ _
+returns-clause-leads g c =
+    let calls = g.K.EndCalls in
+    let old = c.args.self.now in
+    let at = standing calls.machine calls.here g.R.Read.remaining g.W.Write.contents g.P.Ports.history g.S.Read.remaining g.S.Write.contents old in
+    let told = c.told.ensures in
+    subst (λ lane. Leads at (with_owner (held (calls.here c.data_end.new.end) lane) at))
+    (sym (fated_lane g.S.Read.remaining g.S.Write.contents old.data.connection c.told.new.self Fates.Over (g.P.Ports.history old.ports.now) old.data.room [] told.stream told.at told.end told.told))
+    (ends_told calls.machine _ _ at.owner.lane c.data_end.ensures c.requires.wants c.requires.ready c.requires.ended.1 refl _ _ _)

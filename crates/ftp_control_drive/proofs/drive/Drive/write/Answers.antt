@@ -1,7 +1,6 @@
-use Rattle.ftp_control_drive.proofs.Words.{idles_wrote}
+use Rattle.ftp_control_drive.proofs.Words.{idles_sent, sent_fate}
 use Rattle.ftp_control_drive.proofs.drive.Drive.write.Goals as goal
 
 pub returns-clause-leads : goal.returns-clause-leads
 returns-clause-leads g c =
-    let wrote = c.write.ensures.written (g.P.Ports.history c.args.self.now.ports.now) in
-    idles_wrote g.K.EndCalls.machine wrote.0 _ _ wrote.1 _ _ _ _
+    idles_sent g.K.EndCalls.machine _ _ (sent_fate c.write.result _ c.write.ensures.fate) (c.write.ensures.written (g.P.Ports.history c.args.self.now.ports.now)) _ _ _ _
