@@ -43,7 +43,7 @@ where
     let (data, ended) = drive_end::<Asks<A>, N, R, W, P>(client, control, ports);
     match ended {
         Ok(answer) => {
-            data.finish::<Asks<A>, N, P>(client, ports);
+            data.finish(ports);
             client.data_closed();
             Driven {
                 report: Some(answer),
@@ -54,7 +54,7 @@ where
             let mut data = data;
             client.control_end();
             data.reset(ports);
-            data.finish::<Asks<A>, N, P>(client, ports);
+            data.finish(ports);
             client.data_closed();
             Driven {
                 report: client.report(),

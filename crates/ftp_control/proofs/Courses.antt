@@ -51,7 +51,7 @@ follows (Writes octets) course old new before wrote = record {
   consumed = λ e. never e;
   appended = λ e. Appends-trans course.so_far old.written new.written course.written octets (before.appended e) wrote.wrote;
 }
-follows (Gives octets) course old new before same = subst (λ l. Follows (after (Gives octets) course) l) (sym same.0) (record {
+follows (Gives octets rest) course old new before same = subst (λ l. Follows (after (Gives octets rest) course) l) (sym same.0) (record {
   given = ap (λ l. l ++ octets) before.given ∙ append_assoc course.written old.unwritten octets;
   read = before.read;
   consumed = before.consumed;
@@ -69,7 +69,7 @@ follows Breaks course old new before same = subst (λ l. Follows course l) (sym 
 follows Stops course old new before stop = subst (λ l. Follows course l) (sym stop.0) before
 follows (Asks asked) course old new before asks =
     subst (λ l. Follows course l) (sym asks.1) (record { given = before.given; read = before.read; consumed = before.consumed; appended = before.appended })
-follows (Opens host asked at_first so_far) course old new before had = follows_begun at_first so_far new had.unwritten had.untold
+follows (Opens host asked at_first so_far rest) course old new before had = follows_begun at_first so_far new had.unwritten had.untold
     (subst (λ l. Consumes at_first l []) (sym had.left) (Consumes-nil at_first)) (subst (λ l. Appends so_far l []) (sym had.written) (Appends-nil so_far))
 follows (Leaves asked) course old new before left = follows_begun None None new left.unwritten left.untold tt tt
 
@@ -94,13 +94,13 @@ fair Stays course old new before moved = tt
 fair (Waits lost) course old new before moved = tt
 fair (Reads octets) course old new before moved = tt
 fair (Writes octets) course old new before moved = tt
-fair (Gives octets) course old new before moved = tt
+fair (Gives octets rest) course old new before moved = tt
 fair (Takes octets) course old new before moved = tt
 fair Fails course old new before moved = tt
 fair Breaks course old new before moved = tt
 fair Stops course old new before moved = tt
 fair (Asks asked) course old new before moved = tt
-fair (Opens host asked at_first so_far) course old new before moved = tt
+fair (Opens host asked at_first so_far rest) course old new before moved = tt
 
 adds_none : (old new : Option (List Asked)) → new ≡ old → Adds old new []
 adds_none None new same = subst (λ n. Adds None n []) (sym same) tt
@@ -111,14 +111,14 @@ adds Stays old new same = adds_none old.asked new.asked (ap (λ l. l.asked) same
 adds (Waits lost) old new waited = waited.asked
 adds (Reads octets) old new read = adds_none old.asked new.asked read.asked
 adds (Writes octets) old new wrote = adds_none old.asked new.asked wrote.asked
-adds (Gives octets) old new same = adds_none old.asked new.asked (ap (λ l. l.asked) same.0)
+adds (Gives octets rest) old new same = adds_none old.asked new.asked (ap (λ l. l.asked) same.0)
 adds (Takes octets) old new took = adds_none old.asked new.asked (ap (λ l. l.asked) took.1)
 adds Fails old new failed = adds_none old.asked new.asked (ap (λ l. l.asked) failed.0)
 adds Breaks old new same = adds_none old.asked new.asked (ap (λ l. l.asked) same)
 adds Ends old new end = adds_none old.asked new.asked (ap (λ l. l.asked) end.0)
 adds Stops old new stop = adds_none old.asked new.asked (ap (λ l. l.asked) stop.0)
 adds (Asks asked) old new asks = asks.0
-adds (Opens host asked at_first so_far) old new had = had.adds
+adds (Opens host asked at_first so_far rest) old new had = had.adds
 adds (Leaves asked) old new left = left.adds
 
 -- the data connection of an end: which call moves it how; what moves control octets leaves it

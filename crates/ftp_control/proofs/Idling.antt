@@ -52,7 +52,7 @@ module _ (machine : Machine) where
   -- it was told that the control connection ended, or not
   pub idles_asked : (lost : Bool) (lane : Lane) (h0 h1 : Option (List Asked)) → Adds h0 h1 (told_lost lost) → Idles machine (with_asked h0 lane) (with_asked h1 lane)
   idles_asked lost lane h0 h1 asked = idles_waited lost (with_asked h0 lane) (with_asked h1 lane) (record {
-    holds = record { stands = refl; fate = refl; unwritten = refl; untold = refl };
+    holds = record { stands = refl; fate = refl; rest = refl; unwritten = refl; untold = refl };
     left = Keeps-refl lane.left;
     written = Keeps-refl lane.written;
     asked = asked;
@@ -60,7 +60,7 @@ module _ (machine : Machine) where
 
   -- its data connection is left
   pub leaves : (asked : Asked) (old new : Stand (side_of machine)) → IsLeft asked old.owner.lane new.owner.lane
-      → MayLeave (machine.IsDone old.owner.end) (machine.wants old.owner.end) old.owner.lane.fate → IsFairEnd (machine.wants old.owner.end) old.owner.lane asked
+      → MayLeave (machine.IsDone old.owner.end) (machine.wants old.owner.end) old.owner.lane.fate → IsFairEnd old.owner.lane asked
       → new ≡ with_owner (held old.owner.end new.owner.lane) old → Leads old new
   leaves asked old new left may fair same =
       leads_by (Other (Left asked)) old new ((ap (λ s. s.owner.end) same, left, (may, fair)), subst (λ s. new ≡ with_owner s old) (sym (ap (λ s. s.owner) same)) same)

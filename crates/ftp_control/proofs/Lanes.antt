@@ -2,7 +2,7 @@
 use Rattle.std.proofs.Common.{◌≡◌, ◌∙◌, ◌≤◌, ◌<◌, ℕ, Bool, false, List, [], ◌∷◌, ◌++◌, length, take, drop, Option, Some, None, refl, sym, ap, inl, inr, append_assoc, arith}
 use Rattle.std.proofs.Math.Nat.{min-le_left}
 use Rattle.std.proofs.lemmas.List.{drop_all, length-drop, length-take, length-take-le}
-use Rattle.std.specs.Prelude.{◌≢◌, true}
+use Rattle.std.specs.Prelude.{true}
 use Rattle.std.specs.Option.{is_some}
 use Rattle.std.specs.Io.KnownBytes.{Consumes, Keeps}
 use Rattle.ftp_endpoint.specs.declared.host.Host.{Host}
@@ -13,8 +13,6 @@ use Rattle.ftp_control.specs.Machine.{IsFairEnd}
 use Rattle.ftp_control.specs.Whole.{IsWhole, is_well}
 use Rattle.ftp_control.specs.declared.whole.Fate.{Fate}
 use Rattle.ftp_control.specs.declared.whole.Fate.TheVariants.{Sound}
-use Rattle.ftp_ends.specs.declared.link.Wants.{Wants}
-use Rattle.ftp_ends.specs.declared.link.Wants.TheVariants as Want
 use Rattle.ftp_control.specs.declared.whole.Rest.TheVariants as Rests
 use Rattle.ftp_control.specs.declared.data.DataConnection.{DataConnection}
 use Rattle.ftp_control.specs.declared.whole.Rest.{Rest}
@@ -44,11 +42,12 @@ module _ {S : Type 0} (remaining contents : S → Option (List ℕ)) where
   replaces None h0 h1 h2 had none had_by replaced = adds_then h0 h1 h2 (had ∷ []) [] had_by replaced
 
   -- one is opened
-  pub opens : (old new : DataConnection S) (stream : S) (h0 h1 h2 : Option (List Asked)) (host : Host) (had : Asked) (room later untold : List ℕ) → Adds h0 h1 (had ∷ [])
+  pub opens : (old new : DataConnection S) (stream : S) (h0 h1 h2 : Option (List Asked)) (host : Host) (had : Asked) (room later untold : List ℕ) (rest : Rest) → Adds h0 h1 (had ∷ [])
       → IsHad host had (remaining stream) (contents stream) → is_some old.stream ≡ false → Replaces remaining contents old.stream h1 h2
-      → IsWhole new.at new.end new.rest new.fate → new.fate ≡ Sound → new.stream ≡ Some stream → IsOpened host (had ∷ []) (remaining stream) (contents stream) (lane_of remaining contents h0 old room untold)
+      → new.at ≡ new.end → new.rest ≡ rest → new.fate ≡ Sound → new.stream ≡ Some stream
+      → IsOpened host (had ∷ []) (remaining stream) (contents stream) rest (lane_of remaining contents h0 old room untold)
       (lane_of remaining contents h2 new later [])
-  opens old new stream h0 h1 h2 host had room later untold had_by is_had none replaced whole sound is = record {
+  opens old new stream h0 h1 h2 host had room later untold rest had_by is_had none replaced all rests sound is = record {
     had = had;
     is_had = is_had;
     none = none;
@@ -56,17 +55,19 @@ module _ {S : Type 0} (remaining contents : S → Option (List ℕ)) where
     adds = replaces old.stream h0 h1 h2 had none had_by replaced;
     stands = ap is_some is;
     fate = sound;
+    rests = rests;
     left = ap (told_by remaining) is;
     written = ap (told_by contents) is;
-    unwritten = way_none new.at new.end later whole.0;
+    unwritten = way_none new.at new.end later all;
     untold = refl;
   }
 
   -- what a data connection is, of what stands of it
-  abbrev part : Option S → (fate : Fate) → (at end : ℕ) → Option (List Asked) → (room untold : List ℕ) → Lane
-  part before fate at end asked room untold = record {
+  abbrev part : Option S → (fate : Fate) → (rest : Rest) → (at end : ℕ) → Option (List Asked) → (room untold : List ℕ) → Lane
+  part before fate rest at end asked room untold = record {
     stands = is_some before;
     fate = fate;
+    rest = rest;
     left = told_by remaining before;
     written = told_by contents before;
     unwritten = drop at (take end room);
@@ -74,52 +75,52 @@ module _ {S : Type 0} (remaining contents : S → Option (List ℕ)) where
     asked = asked;
   }
 
-  -- how it was left, and that it was left so fairly, where the end wants this
-  record Parts (want : Wants) (lane : Lane) (h1 : Option (List Asked)) : Type 0 where
+  -- how it was left, and that it was left so fairly
+  record Parts (lane : Lane) (h1 : Option (List Asked)) : Type 0 where
     asked : Asked
     adds : Adds lane.asked h1 (asked ∷ [])
     ended : IsEnded lane.stands lane.left lane.written lane.unwritten asked
-    fair : IsFairEnd want lane asked
+    fair : IsFairEnd lane asked
 
-  ends : (before : Option S) (at end : ℕ) (rest : Rest) (fate : Fate) (want : Wants) (h0 h1 : Option (List Asked)) (room untold : List ℕ)
-      → Leaves remaining contents before at end rest fate h0 h1 → end ≤ length room → (rest ≡ Rests.Nothing → want ≢ Want.Send) → (rest ≡ Rests.More → want ≡ Want.Send)
-      → Parts want (part before fate at end h0 room untold) h1
-  ends (Some before) at end rest fate want h0 h1 room untold (inl (whole, adds)) fits none more = record {
+  ends : (before : Option S) (at end : ℕ) (rest : Rest) (fate : Fate) (h0 h1 : Option (List Asked)) (room untold : List ℕ)
+      → Leaves remaining contents before at end rest fate h0 h1 → end ≤ length room → Parts (part before fate rest at end h0 room untold) h1
+  ends (Some before) at end rest fate h0 h1 room untold (inl (whole, adds)) fits = record {
     asked = Ended (remaining before) (contents before);
     adds = adds;
     ended = inl (way_none at end room whole.0, refl);
-    fair = (way_none at end room whole.0, none whole.1, whole.2);
+    fair = (way_none at end room whole.0, whole.1, whole.2);
   }
-  ends (Some before) at end rest fate want h0 h1 room untold (inr (inl less, adds)) fits none more = record {
+  ends (Some before) at end rest fate h0 h1 room untold (inr (inl less, adds)) fits = record {
     asked = Reset (remaining before) (contents before);
     adds = adds;
     ended = inr refl;
     fair = inr (inl (way_some at end room fits less));
   }
-  ends (Some before) at end rest fate want h0 h1 room untold (inr (inr (inl is), adds)) fits none more =
-      record { asked = Reset (remaining before) (contents before); adds = adds; ended = inr refl; fair = inr (inr (more is)) }
-  ends (Some before) at end rest fate want h0 h1 room untold (inr (inr (inr is), adds)) fits none more = record {
+  ends (Some before) at end rest fate h0 h1 room untold (inr (inr (inl is), adds)) fits =
+      record { asked = Reset (remaining before) (contents before); adds = adds; ended = inr refl; fair = inr (inr is) }
+  ends (Some before) at end rest fate h0 h1 room untold (inr (inr (inr is), adds)) fits = record {
     asked = Reset (remaining before) (contents before);
     adds = adds;
     ended = inr refl;
     fair = inl (is);
   }
-  ends None at end rest fate want h0 h1 room untold adds fits none more = record { asked = Shut; adds = adds; ended = refl; fair = tt }
+  ends None at end rest fate h0 h1 room untold adds fits = record { asked = Shut; adds = adds; ended = refl; fair = tt }
 
   -- one is left
-  pub leaves : (want : Wants) (old new : DataConnection S) (h0 h1 : Option (List Asked)) (room later untold : List ℕ)
-      → Leaves remaining contents old.stream old.at old.end old.rest old.fate h0 h1 → old.end ≤ length room → (old.rest ≡ Rests.Nothing → want ≢ Want.Send)
-      → (old.rest ≡ Rests.More → want ≡ Want.Send) → IsWhole new.at new.end new.rest new.fate → new.fate ≡ Sound → new.stream ≡ None
+  pub leaves : (old new : DataConnection S) (h0 h1 : Option (List Asked)) (room later untold : List ℕ)
+      → Leaves remaining contents old.stream old.at old.end old.rest old.fate h0 h1 → old.end ≤ length room
+      → IsWhole new.at new.end new.rest new.fate → new.fate ≡ Sound → new.stream ≡ None
       → (asked : Asked) × IsLeft asked (lane_of remaining contents h0 old room untold) (lane_of remaining contents h1 new later [])
-      × IsFairEnd want (lane_of remaining contents h0 old room untold) asked
-  leaves want old new h0 h1 room later untold left fits nothing more whole sound none =
-      let end = ends old.stream old.at old.end old.rest old.fate want h0 h1 room untold left fits nothing more in (
+      × IsFairEnd (lane_of remaining contents h0 old room untold) asked
+  leaves old new h0 h1 room later untold left fits whole sound none =
+      let end = ends old.stream old.at old.end old.rest old.fate h0 h1 room untold left fits in (
         end.asked,
         record {
           ended = end.ended;
           adds = end.adds;
           stands = ap is_some none;
           fate = sound;
+          rest = whole.1;
           unwritten = way_none new.at new.end later whole.0;
           untold = refl;
         },
@@ -127,20 +128,20 @@ module _ {S : Type 0} (remaining contents : S → Option (List ℕ)) where
       )
 
   -- one is left for good
-  pub leaves_for_good : (want : Wants) (old : DataConnection S) (h0 h1 : Option (List Asked)) (room untold : List ℕ)
-      → Leaves remaining contents old.stream old.at old.end old.rest old.fate h0 h1 → old.end ≤ length room → (old.rest ≡ Rests.Nothing → want ≢ Want.Send)
-      → (old.rest ≡ Rests.More → want ≡ Want.Send)
-      → (asked : Asked) × IsLeft asked (lane_of remaining contents h0 old room untold) (no_lane h1) × IsFairEnd want (lane_of remaining contents h0 old room untold) asked
-  leaves_for_good want old h0 h1 room untold left fits nothing more =
-      let end = ends old.stream old.at old.end old.rest old.fate want h0 h1 room untold left fits nothing more in
-      (end.asked, record { ended = end.ended; adds = end.adds; stands = refl; fate = refl; unwritten = refl; untold = refl }, end.fair)
+  pub leaves_for_good : (old : DataConnection S) (h0 h1 : Option (List Asked)) (room untold : List ℕ)
+      → Leaves remaining contents old.stream old.at old.end old.rest old.fate h0 h1 → old.end ≤ length room
+      → (asked : Asked) × IsLeft asked (lane_of remaining contents h0 old room untold) (no_lane h1) × IsFairEnd (lane_of remaining contents h0 old room untold) asked
+  leaves_for_good old h0 h1 room untold left fits =
+      let end = ends old.stream old.at old.end old.rest old.fate h0 h1 room untold left fits in
+      (end.asked, record { ended = end.ended; adds = end.adds; stands = refl; fate = refl; rest = refl; unwritten = refl; untold = refl }, end.fair)
 
   -- none was had yet
   pub none_had : (connection : DataConnection S) (asked : Option (List Asked)) (room : List ℕ) → connection.stream ≡ None → connection.at ≡ connection.end
-      → connection.fate ≡ Sound → lane_of remaining contents asked connection room [] ≡ no_lane asked
-  none_had connection asked room none all sound =
-      ap (λ s. part s connection.fate connection.at connection.end asked room []) none
-      ∙ ap (λ f. part None f connection.at connection.end asked room []) sound
+      → connection.fate ≡ Sound → connection.rest ≡ Rests.Nothing → lane_of remaining contents asked connection room [] ≡ no_lane asked
+  none_had connection asked room none all sound nothing =
+      ap (λ s. part s connection.fate connection.rest connection.at connection.end asked room []) none
+      ∙ ap (λ f. part None f connection.rest connection.at connection.end asked room []) sound
+      ∙ ap (λ r. part None Sound r connection.at connection.end asked room []) nothing
       ∙ ap (λ l. record (no_lane asked) { unwritten = l }) (way_none connection.at connection.end room all)
 
   drop_ends : (before : Option S) (h0 h1 : Option (List Asked)) (unwritten : List ℕ) → Drops remaining contents before h0 h1
@@ -160,6 +161,7 @@ module _ {S : Type 0} (remaining contents : S → Option (List ℕ)) where
           adds = end.1;
           stands = ap is_some none;
           fate = sound;
+          rest = whole.1;
           unwritten = way_none new.at new.end later whole.0;
           untold = refl;
         },
@@ -167,33 +169,35 @@ module _ {S : Type 0} (remaining contents : S → Option (List ℕ)) where
 
   -- it is waited at
   pub waits : (lost : Bool) (old new : DataConnection S) (h0 h1 : Option (List Asked)) (room untold : List ℕ) → Keeps (told_by remaining old.stream) (told_by remaining new.stream)
-      → Keeps (told_by contents old.stream) (told_by contents new.stream) → new.at ≡ old.at → new.end ≡ old.end → is_some new.stream ≡ is_some old.stream → new.fate ≡ old.fate → Adds h0 h1 (told_lost lost)
-      → IsWaited lost (lane_of remaining contents h0 old room untold) (lane_of remaining contents h1 new room untold)
-  waits lost old new h0 h1 room untold left written at end stands failed asked = record {
-    holds = record { stands = stands; fate = failed; unwritten = ap (λ n. drop n (take new.end room)) at ∙ ap (λ n. drop old.at (take n room)) end; untold = refl };
+      → Keeps (told_by contents old.stream) (told_by contents new.stream) → new.at ≡ old.at → new.end ≡ old.end → new.rest ≡ old.rest → is_some new.stream ≡ is_some old.stream → new.fate ≡ old.fate
+      → Adds h0 h1 (told_lost lost) → IsWaited lost (lane_of remaining contents h0 old room untold) (lane_of remaining contents h1 new room untold)
+  waits lost old new h0 h1 room untold left written at end rest stands failed asked = record {
+    holds = record { stands = stands; fate = failed; rest = rest; unwritten = ap (λ n. drop n (take new.end room)) at ∙ ap (λ n. drop old.at (take n room)) end; untold = refl };
     left = left;
     written = written;
     asked = asked;
   }
 
   -- these were taken, where all before were written
-  pub fills : (old new : DataConnection S) (asked : Option (List Asked)) (room later : List ℕ) (count : ℕ) → new.stream ≡ old.stream → old.at ≡ old.end → new.at ≡ 0
-      → new.end ≡ count → new.fate ≡ old.fate
-      → lane_of remaining contents asked new later [] ≡ with_given (take count later) (lane_of remaining contents asked old room [])
-  fills old new asked room later count stream all at end failed =
-      ap (λ s. part s new.fate new.at new.end asked later []) stream
-      ∙ ap (λ f. part old.stream f new.at new.end asked later []) failed
-      ∙ ap (λ l. record (part old.stream old.fate old.at old.end asked room []) { unwritten = l })
+  pub fills : (old new : DataConnection S) (asked : Option (List Asked)) (room later : List ℕ) (count : ℕ) (rest : Rest) → new.stream ≡ old.stream → old.at ≡ old.end
+      → new.at ≡ 0 → new.end ≡ count → new.rest ≡ rest → new.fate ≡ old.fate
+      → lane_of remaining contents asked new later [] ≡ with_given (take count later) rest (lane_of remaining contents asked old room [])
+  fills old new asked room later count rest stream all at end rests failed =
+      ap (λ s. part s new.fate new.rest new.at new.end asked later []) stream
+      ∙ ap (λ f. part old.stream f new.rest new.at new.end asked later []) failed
+      ∙ ap (λ r. part old.stream old.fate r new.at new.end asked later []) rests
+      ∙ ap (λ l. record (part old.stream old.fate rest old.at old.end asked room []) { unwritten = l })
       (ap (λ n. drop n (take new.end later)) at ∙ ap (λ n. take n later) end ∙ ap (λ l. l ++ take count later) (sym (way_none old.at old.end room all)))
 
   -- it is read, where none of the room's octets are on their way; whether that failed is a move of its own
   pub reads : (old new : DataConnection S) (asked : Option (List Asked)) (room later octets : List ℕ) → is_some old.stream ≡ true → old.fate ≡ Sound → old.at ≡ old.end
-      → new.at ≡ old.at → new.end ≡ old.end → is_some new.stream ≡ is_some old.stream → Consumes (told_by remaining old.stream) (told_by remaining new.stream) octets
+      → new.at ≡ old.at → new.end ≡ old.end → new.rest ≡ old.rest → is_some new.stream ≡ is_some old.stream → Consumes (told_by remaining old.stream) (told_by remaining new.stream) octets
       → IsRead octets (lane_of remaining contents asked old room []) (with_fate Sound (lane_of remaining contents asked new later octets))
-  reads old new asked room later octets is_open sound all at end stands read = record {
+  reads old new asked room later octets is_open sound all at end rest stands read = record {
     is_open = (is_open, sound);
     stands = stands;
     fate = sym (sound);
+    rest = rest;
     told = refl;
     read = read;
     untold = refl;
@@ -203,14 +207,15 @@ module _ {S : Type 0} (remaining contents : S → Option (List ℕ)) where
 
   -- it is written
   pub writes : (old new : DataConnection S) (asked : Option (List Asked)) (room untold : List ℕ) → is_some old.stream ≡ true → old.fate ≡ Sound → old.at < old.end
-      → old.end ≤ length room → is_some new.stream ≡ is_some old.stream
+      → old.end ≤ length room → new.rest ≡ old.rest → is_some new.stream ≡ is_some old.stream
       → (sends : Sends (told_by contents old.stream) (told_by contents new.stream) (on_their_way old room) (on_their_way new room))
       → IsWritten sends.0 (lane_of remaining contents asked old room untold) (with_fate Sound (lane_of remaining contents asked new room untold))
-  writes old new asked room untold is_open sound less fits stands sends = record {
+  writes old new asked room untold is_open sound less fits rest stands sends = record {
     is_open = (is_open, sound);
     some = way_some old.at old.end room fits less;
     stands = stands;
     fate = sym (sound);
+    rest = rest;
     first = sends.1;
     wrote = sends.2;
     untold = refl;
@@ -219,11 +224,12 @@ module _ {S : Type 0} (remaining contents : S → Option (List ℕ)) where
 
   -- where it stands as it did, its lane is the same
   pub same_lane : (old new : DataConnection S) (asked : Option (List Asked)) (room untold : List ℕ) → new.stream ≡ old.stream → new.at ≡ old.at → new.end ≡ old.end
-      → new.fate ≡ old.fate → lane_of remaining contents asked new room untold ≡ lane_of remaining contents asked old room untold
-  same_lane old new asked room untold stream at end failed =
-      ap (λ s. part s new.fate new.at new.end asked room untold) stream
-      ∙ ap (λ f. part old.stream f new.at new.end asked room untold) failed
-      ∙ ap (λ l. record (part old.stream old.fate old.at old.end asked room untold) { unwritten = l })
+      → new.rest ≡ old.rest → new.fate ≡ old.fate → lane_of remaining contents asked new room untold ≡ lane_of remaining contents asked old room untold
+  same_lane old new asked room untold stream at end rest failed =
+      ap (λ s. part s new.fate new.rest new.at new.end asked room untold) stream
+      ∙ ap (λ f. part old.stream f new.rest new.at new.end asked room untold) failed
+      ∙ ap (λ r. part old.stream old.fate r new.at new.end asked room untold) rest
+      ∙ ap (λ l. record (part old.stream old.fate old.rest old.at old.end asked room untold) { unwritten = l })
       (ap (λ n. drop n (take new.end room)) at ∙ ap (λ n. drop old.at (take n room)) end)
 
 -- kept octets are those of which none was read

@@ -6,8 +6,8 @@ use Rattle.ftp_control.specs.Asking.{Accepts, Adds, Asked, Came, Listened, NotCa
 use Rattle.ftp_control.specs.Deeds.{Other, Stand, with_owner}
 use Rattle.ftp_control.specs.Driving.{Leads, Quietly}
 use Rattle.ftp_control.specs.Lane.{IsHad, lane_of, with_asked}
-use Rattle.ftp_control.specs.Machine.{IsRefused, IsWanted, Listening, Machine, NoPort, Opened, Refused, held, side_of}
-use Rattle.ftp_control.specs.Whole.{IsWhole}
+use Rattle.ftp_control.specs.Machine.{IsRefused, IsWanted, Listening, Machine, NoPort, Opened, Refused, held, rest_by, side_of}
+use Rattle.ftp_control.specs.declared.whole.Rest.{Rest}
 use Rattle.ftp_control.specs.declared.data.DataConnection.{DataConnection}
 use Rattle.ftp_control.specs.declared.whole.Fate.TheVariants.{Sound}
 use Rattle.ftp_control.specs.declared.ports.Accepted.{Accepted}
@@ -53,10 +53,10 @@ module _ (machine : Machine) where
 
   -- one that was asked for is had now, where none stood
   pub has_one : {S : Type 0} (remaining contents : S → Option (List ℕ)) (old new : DataConnection S) (stream : S) (h0 h1 h2 : Option (List Asked)) (host : Host) (had : Asked)
-      (room : List ℕ) (here there : machine.Here) → Adds h0 h1 (had ∷ []) → IsHad host had (remaining stream) (contents stream) → IsWanted (machine.wants here) had
-      → is_some old.stream ≡ false → Replaces remaining contents old.stream h1 h2 → IsWhole new.at new.end new.rest new.fate → new.fate ≡ Sound → new.stream ≡ Some stream
-      → machine.Opened host here there
+      (room : List ℕ) (rest : Rest) (here there : machine.Here) → Adds h0 h1 (had ∷ []) → IsHad host had (remaining stream) (contents stream) → IsWanted (machine.wants here) had
+      → is_some old.stream ≡ false → Replaces remaining contents old.stream h1 h2 → new.at ≡ new.end → new.rest ≡ rest → new.fate ≡ Sound → new.stream ≡ Some stream
+      → machine.Opened host here there → rest ≡ rest_by (machine.wants there)
       → Quietly (side_of machine) (held here (lane_of remaining contents h0 old room [])) (held there (lane_of remaining contents h2 new room []))
-  has_one remaining contents old new stream h0 h1 h2 host had room here there asks is_had wanted none replaced whole sound is told =
-      quiet_call (side_of machine) (Opened host (had ∷ []) (remaining stream) (contents stream)) _ _
-      (told, opens remaining contents old new stream h0 h1 h2 host had room room [] asks is_had none replaced whole sound is, wanted)
+  has_one remaining contents old new stream h0 h1 h2 host had room rest here there asks is_had wanted none replaced all rests sound is told by =
+      quiet_call (side_of machine) (Opened host (had ∷ []) (remaining stream) (contents stream) rest) _ _
+      ((told, by), opens remaining contents old new stream h0 h1 h2 host had room room [] rest asks is_had none replaced all rests sound is, wanted)

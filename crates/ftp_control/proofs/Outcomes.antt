@@ -8,12 +8,13 @@ use Rattle.ftp_control.specs.Asking.{Adds, Asked, Drops, Reset, Shut}
 use Rattle.ftp_control.specs.Carrying.{left_of, told_by}
 use Rattle.ftp_control.specs.Driving.{Quietly}
 use Rattle.ftp_control.specs.Lane.{IsEnded, IsOpen, IsRead, Lane, lane_of, with_fate, with_given}
-use Rattle.ftp_control.specs.Machine.{Gave, Gives, Machine, OwesNone, held, side_of}
+use Rattle.ftp_control.specs.Machine.{Gave, Gives, Machine, OwesNone, held, rest_by, side_of}
 use Rattle.ftp_control.specs.Outcome.{IsDropped, IsReset, in_hand}
 use Rattle.ftp_control.specs.Whole.{IsWhole}
 use Rattle.ftp_control.specs.declared.data.DataConnection.{DataConnection}
 use Rattle.ftp_control.specs.declared.data.Halt.{Halt}
 use Rattle.ftp_control.specs.declared.whole.Fate.TheVariants.{Sound}
+use Rattle.ftp_control.specs.declared.whole.Rest.{Rest}
 use Rattle.ftp_ends.specs.declared.link.Wants.TheVariants as Want
 use Rattle.ftp_control.proofs.Going.{none_owed}
 use Rattle.ftp_control.proofs.Lanes.{keeps_consumes, reads, way_none}
@@ -27,13 +28,13 @@ ended_by false left written unwritten asked dropped = dropped
 module _ {S : Type 0} (remaining contents : S → Option (List ℕ)) where
   -- it is read, whatever comes of that
   pub is_read : (old new : DataConnection S) (asked : Option (List Asked)) (room later : List ℕ) (r : Result ℕ Halt) → is_some old.stream ≡ true → old.fate ≡ Sound
-      → old.at ≡ old.end → new.at ≡ old.at → new.end ≡ old.end → is_some new.stream ≡ is_some old.stream
+      → old.at ≡ old.end → new.at ≡ old.at → new.end ≡ old.end → new.rest ≡ old.rest → is_some new.stream ≡ is_some old.stream
       → IfOk r (λ count. Consumes (left_of remaining old) (left_of remaining new) (take count later)) → OnErr r (Keeps (left_of remaining old) (left_of remaining new))
       → IsRead (in_hand r later) (lane_of remaining contents asked old room []) (with_fate Sound (lane_of remaining contents asked new later (in_hand r later)))
-  is_read old new asked room later (Ok count) is_open sound all at end stands read err =
-      reads remaining contents old new asked room later (take count later) is_open sound all at end stands read
-  is_read old new asked room later (Err halt) is_open sound all at end stands read err =
-      reads remaining contents old new asked room later [] is_open sound all at end stands (keeps_consumes (left_of remaining old) (left_of remaining new) err)
+  is_read old new asked room later (Ok count) is_open sound all at end rest stands read err =
+      reads remaining contents old new asked room later (take count later) is_open sound all at end rest stands read
+  is_read old new asked room later (Err halt) is_open sound all at end rest stands read err =
+      reads remaining contents old new asked room later [] is_open sound all at end rest stands (keeps_consumes (left_of remaining old) (left_of remaining new) err)
 
   drop_by : (before : Option S) (h0 h1 : Option (List Asked)) → Drops remaining contents before h0 h1
       → (asked : Asked) × Adds h0 h1 (asked ∷ []) × IsDropped (is_some before) (told_by remaining before) (told_by contents before) asked
@@ -53,6 +54,7 @@ module _ {S : Type 0} (remaining contents : S → Option (List ℕ)) where
         adds = by.1;
         stands = ap is_some none;
         fate = sound;
+        rest = whole.1;
         unwritten = way_none new.at new.end later whole.0;
         untold = refl;
       };
@@ -67,14 +69,24 @@ more_given before at count room front out is len fits =
 
 module _ (machine : Machine) where
   -- it gave more into the room behind what it gave before
-  pub given_more : (old mid new : machine.Here) (lane : Lane) (at count : ℕ) (room front out : List ℕ) → IsOpen lane → machine.wants mid ≡ Want.Send
-      → Quietly (side_of machine) (held old lane) (held mid (with_given (take at room) lane)) → front ≡ take at room → length front ≡ at → count ≤ length out
-      → take count out ≡ take count (machine.to_give mid) → machine.Gave count mid new
-      → Quietly (side_of machine) (held old lane) (held new (with_given (take (at + count) (front ++ out)) lane))
-  given_more old mid new lane at count room front out is_open sends before is len fits owed gave =
-      quiet_then (side_of machine) (held old lane) (held mid (with_given (take at room) lane)) (held new (with_given (take (at + count) (front ++ out)) lane)) before
-      (quiet_call (side_of machine) (Gave count (take count out)) (held mid (with_given (take at room) lane)) (held new (with_given (take (at + count) (front ++ out)) lane))
-      ((owed, gave), (ap (λ l. record lane { unwritten = l }) (more_given lane.unwritten at count room front out is len fits), is_open), sends))
+  pub given_more : (old mid new : machine.Here) (lane : Lane) (at count : ℕ) (room front out : List ℕ) (before rest : Rest) → IsOpen lane → machine.wants mid ≡ Want.Send
+      → Quietly (side_of machine) (held old lane) (held mid (with_given (take at room) before lane)) → front ≡ take at room → length front ≡ at → count ≤ length out
+      → take count out ≡ take count (machine.to_give mid) → machine.Gave count mid new → rest ≡ rest_by (machine.wants new)
+      → Quietly (side_of machine) (held old lane) (held new (with_given (take (at + count) (front ++ out)) rest lane))
+  given_more old mid new lane at count room front out before rest is_open sends first is len fits owed gave by =
+      let there = with_given (take at room) before lane in
+      let then = with_given (take (at + count) (front ++ out)) rest lane in
+      quiet_then (side_of machine) (held old lane) (held mid there) (held new then) first
+      (quiet_call (side_of machine) (Gave count (take count out) rest) (held mid there) (held new then)
+      ((owed, gave, by), (ap (λ l. record lane { rest = rest; unwritten = l }) (more_given lane.unwritten at count room front out is len fits), is_open), sends))
+
+  -- it gave these first
+  pub given_first : (old new : machine.Here) (lane : Lane) (count : ℕ) (out : List ℕ) (rest : Rest) → IsOpen lane → machine.wants old ≡ Want.Send
+      → take count out ≡ take count (machine.to_give old) → machine.Gave count old new → rest ≡ rest_by (machine.wants new)
+      → Quietly (side_of machine) (held old lane) (held new (with_given (take count out) rest lane))
+  given_first old new lane count out rest is_open sends owed gave by =
+      quiet_call (side_of machine) (Gave count (take count out) rest) (held old lane) (held new (with_given (take count out) rest lane))
+      ((owed, gave, by), (refl, is_open), sends)
 
   -- control octets that it owed it gave
   pub gave_some : (old new : machine.Here) (lane : Lane) (count : ℕ) (octets : List ℕ) → octets ≡ take count (machine.owed old) → machine.Gives count old new

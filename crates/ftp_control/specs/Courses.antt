@@ -28,26 +28,26 @@ after Stays course = course
 after (Waits lost) course = course
 after (Reads octets) course = record course { is_read = true; read = course.read ++ octets }
 after (Writes octets) course = record course { is_written = true; written = course.written ++ octets }
-after (Gives octets) course = record course { given = course.given ++ octets }
+after (Gives octets rest) course = record course { given = course.given ++ octets }
 after (Takes octets) course = record course { told = course.told ++ octets }
 after Fails course = course
 after Ends course = course
 after Breaks course = course
 after Stops course = course
 after (Asks asked) course = course
-after (Opens host asked at_first so_far) course = begun at_first so_far
+after (Opens host asked at_first so_far rest) course = begun at_first so_far
 after (Leaves asked) course = begun None None
 
 -- what a move asks of whatever opens and closes data connections
 abbrev pub asked_by : Move → List Asked
 asked_by (Asks asked) = asked
-asked_by (Opens host asked at_first so_far) = asked
+asked_by (Opens host asked at_first so_far rest) = asked
 asked_by (Leaves asked) = asked ∷ []
 asked_by Stays = []
 asked_by (Waits lost) = told_lost lost
 asked_by (Reads octets) = []
 asked_by (Writes octets) = []
-asked_by (Gives octets) = []
+asked_by (Gives octets rest) = []
 asked_by (Takes octets) = []
 asked_by Fails = []
 asked_by Ends = []
@@ -78,13 +78,13 @@ IsFair Stays course = ⊤
 IsFair (Waits lost) course = ⊤
 IsFair (Reads octets) course = ⊤
 IsFair (Writes octets) course = ⊤
-IsFair (Gives octets) course = ⊤
+IsFair (Gives octets rest) course = ⊤
 IsFair (Takes octets) course = ⊤
 IsFair Fails course = ⊤
 IsFair Breaks course = ⊤
 IsFair Stops course = ⊤
 IsFair (Asks asked) course = ⊤
-IsFair (Opens host asked at_first so_far) course = ⊤
+IsFair (Opens host asked at_first so_far rest) course = ⊤
 
 module _ {side : Side} (move_of : side.Call → Move) where
   abbrev pub move_in : Deed side → Move

@@ -9,13 +9,16 @@ use Rattle.ftp_control.specs.Carrying.{carried_of, left_of, on_their_way}
 use Rattle.ftp_control.specs.declared.data.DataConnection.{DataConnection}
 use Rattle.ftp_control.specs.declared.whole.Fate.{Fate}
 use Rattle.ftp_control.specs.declared.whole.Fate.TheVariants.{Sound, Failed, Broken, Over}
+use Rattle.ftp_control.specs.declared.whole.Rest.{Rest}
+use Rattle.ftp_control.specs.declared.whole.Rest.TheVariants.{Nothing}
 
--- whether one stands, and what became of it; what is left to be read of it and what was written to it, where its stream tells that; the octets
--- that this end gave and that are not written yet; those that were read and that this end was not told; what was asked of whatever opens and
--- closes it
+-- whether one stands, and what became of it; whether this end had more to give for it when it gave last, or when it was opened; what is left to be
+-- read of it and what was written to it, where its stream tells that; the octets that this end gave and that are not written yet; those that were
+-- read and that this end was not told; what was asked of whatever opens and closes it
 pub record Lane : Type 0 where
   pub stands : Bool
   pub fate : Fate
+  pub rest : Rest
   pub left : Option (List ℕ)
   pub written : Option (List ℕ)
   pub unwritten : List ℕ
@@ -27,6 +30,7 @@ abbrev pub lane_of : {S : Type 0} → (remaining contents : S → Option (List �
 lane_of remaining contents asked connection room untold = record {
   stands = is_some connection.stream;
   fate = connection.fate;
+  rest = connection.rest;
   left = left_of remaining connection;
   written = carried_of contents connection;
   unwritten = on_their_way connection room;
@@ -36,15 +40,15 @@ lane_of remaining contents asked connection room untold = record {
 
 -- none stands
 abbrev pub no_lane : Option (List Asked) → Lane
-no_lane asked = record { stands = false; fate = Sound; left = None; written = None; unwritten = []; untold = []; asked = asked }
+no_lane asked = record { stands = false; fate = Sound; rest = Nothing; left = None; written = None; unwritten = []; untold = []; asked = asked }
 
 -- what is not told is this
 abbrev pub with_untold : List ℕ → Lane → Lane
 with_untold untold lane = record lane { untold = untold }
 
--- this end gave these, too
-abbrev pub with_given : List ℕ → Lane → Lane
-with_given octets lane = record lane { unwritten = lane.unwritten ++ octets }
+-- this end gave these, too, and has more or not
+abbrev pub with_given : List ℕ → Rest → Lane → Lane
+with_given octets rest lane = record lane { rest = rest; unwritten = lane.unwritten ++ octets }
 
 -- this became of it
 abbrev pub with_fate : Fate → Lane → Lane
@@ -68,8 +72,8 @@ pub data Move : Type 0 where
   Reads : (octets : List ℕ) → Move
   -- these are written, the first of those that are not yet
   Writes : (octets : List ℕ) → Move
-  -- this end gives these for it
-  Gives : (octets : List ℕ) → Move
+  -- this end gives these for it, and then has more or not
+  Gives : (octets : List ℕ) → (rest : Rest) → Move
   -- this end is told of these, the first of those that were read and not told; or they are let go
   Takes : (octets : List ℕ) → Move
   -- a read or a write of it failed
@@ -81,8 +85,8 @@ pub data Move : Type 0 where
   Stops : Move
   -- these are asked, and none is opened or closed
   Asks : (asked : List Asked) → Move
-  -- one is opened, with this host at its other end, of which so much is left and so much was written
-  Opens : (host : Host) → (asked : List Asked) → (left written : Option (List ℕ)) → Move
+  -- one is opened, with this host at its other end, of which so much is left and so much was written, and for which this end has more or not
+  Opens : (host : Host) → (asked : List Asked) → (left written : Option (List ℕ)) → (rest : Rest) → Move
   -- it is closed or reset, or where none stands the port alone is closed
   Leaves : (asked : Asked) → Move
 
@@ -90,6 +94,7 @@ pub data Move : Type 0 where
 pub record Holds (old new : Lane) : Type 0 where
   pub stands : new.stands ≡ old.stands
   pub fate : new.fate ≡ old.fate
+  pub rest : new.rest ≡ old.rest
   pub unwritten : new.unwritten ≡ old.unwritten
   pub untold : new.untold ≡ old.untold
 
@@ -104,6 +109,7 @@ pub record IsRead (octets : List ℕ) (old new : Lane) : Type 0 where
   pub is_open : IsOpen old
   pub stands : new.stands ≡ old.stands
   pub fate : new.fate ≡ old.fate
+  pub rest : new.rest ≡ old.rest
   pub told : old.untold ≡ []
   pub read : Consumes old.left new.left octets
   pub untold : new.untold ≡ octets
@@ -116,6 +122,7 @@ pub record IsWritten (octets : List ℕ) (old new : Lane) : Type 0 where
   pub some : 0 < length old.unwritten
   pub stands : new.stands ≡ old.stands
   pub fate : new.fate ≡ old.fate
+  pub rest : new.rest ≡ old.rest
   pub first : old.unwritten ≡ octets ++ new.unwritten
   pub wrote : Appends old.written new.written octets
   pub untold : new.untold ≡ old.untold
@@ -127,7 +134,7 @@ IsHad host asked left written =
     (asked ≡ Came host left written) ⊎ ((endpoint : Endpoint) × (asked ≡ Connected endpoint left written) × (host ≡ endpoint.host))
 
 -- where none stands
-pub record IsOpened (host : Host) (asked : List Asked) (at_first so_far : Option (List ℕ)) (old new : Lane) : Type 0 where
+pub record IsOpened (host : Host) (asked : List Asked) (at_first so_far : Option (List ℕ)) (rest : Rest) (old new : Lane) : Type 0 where
   pub had : Asked
   pub is_had : IsHad host had at_first so_far
   pub none : old.stands ≡ false
@@ -135,6 +142,7 @@ pub record IsOpened (host : Host) (asked : List Asked) (at_first so_far : Option
   pub adds : Adds old.asked new.asked asked
   pub stands : new.stands ≡ true
   pub fate : new.fate ≡ Sound
+  pub rests : new.rest ≡ rest
   pub left : new.left ≡ at_first
   pub written : new.written ≡ so_far
   pub unwritten : new.unwritten ≡ []
@@ -150,6 +158,7 @@ pub record IsLeft (asked : Asked) (old new : Lane) : Type 0 where
   pub adds : Adds old.asked new.asked (asked ∷ [])
   pub stands : new.stands ≡ false
   pub fate : new.fate ≡ Sound
+  pub rest : new.rest ≡ Nothing
   pub unwritten : new.unwritten ≡ []
   pub untold : new.untold ≡ []
 
@@ -158,12 +167,12 @@ Moves Stays old new = new ≡ old
 Moves (Waits lost) old new = IsWaited lost old new
 Moves (Reads octets) old new = IsRead octets old new
 Moves (Writes octets) old new = IsWritten octets old new
-Moves (Gives octets) old new = (new ≡ with_given octets old) × IsOpen old
+Moves (Gives octets rest) old new = (new ≡ with_given octets rest old) × IsOpen old
 Moves (Takes octets) old new = (old.untold ≡ octets ++ new.untold) × (new ≡ with_untold new.untold old)
 Moves Fails old new = (new ≡ with_fate Failed old) × IsOpen old
 Moves Ends old new = (new ≡ with_fate Over old) × IsOpen old × IsAtEnd old.left × (old.untold ≡ [])
 Moves Breaks old new = new ≡ with_fate Broken old
 Moves Stops old new = (new ≡ old) × (old.stands ≡ false)
 Moves (Asks asked) old new = Adds old.asked new.asked asked × (new ≡ with_asked new.asked old)
-Moves (Opens host asked left written) old new = IsOpened host asked left written old new
+Moves (Opens host asked left written rest) old new = IsOpened host asked left written rest old new
 Moves (Leaves asked) old new = IsLeft asked old new

@@ -11,6 +11,8 @@ use Rattle.ftp_control.specs.Whole.{is_well}
 use Rattle.ftp_control.specs.declared.control.Control.{Control}
 use Rattle.ftp_control.specs.declared.whole.Fate.{Fate}
 use Rattle.ftp_control.specs.declared.whole.Fate.TheVariants as Fates
+use Rattle.ftp_control.specs.declared.whole.Rest.{Rest}
+use Rattle.ftp_control.specs.declared.whole.Rest.TheVariants.{Nothing, More}
 use Rattle.ftp_endpoint.specs.declared.host.Host.{Host}
 use Rattle.ftp_ends.specs.declared.link.Wants.{Wants}
 use Rattle.ftp_ends.specs.declared.link.Wants.TheVariants as Want
@@ -50,10 +52,10 @@ pub record Machine : Type 1 where
 pub data Call (Own : Type 0) : Type 0 where
   Aside : (own : Own) → Call Own
   Listening : (port : ℕ) → Call Own
-  Opened : (host : Host) → (asked : List Asked) → (at_first so_far : Option (List ℕ)) → Call Own
+  Opened : (host : Host) → (asked : List Asked) → (at_first so_far : Option (List ℕ)) → (rest : Rest) → Call Own
   Refused : (asked : List Asked) → Call Own
   Received : (octets : List ℕ) → (count : ℕ) → Call Own
-  Gave : (count : ℕ) → (octets : List ℕ) → Call Own
+  Gave : (count : ℕ) → (octets : List ℕ) → (rest : Rest) → Call Own
   NoPort End Break Closed : Call Own
   -- it is waited at, or looked at the control connection, and that told that it ended, or not; octets are read, written, and let go; a read or a
   -- write of it failed, behind the octets that it moved; it is closed or reset
@@ -66,10 +68,10 @@ pub data Call (Own : Type 0) : Type 0 where
 abbrev pub move_of : {Own : Type 0} → Call Own → Move
 move_of (Aside own) = Stays
 move_of (Listening port) = Asks (Listened (Some port) ∷ [])
-move_of (Opened host asked at_first so_far) = Opens host asked at_first so_far
+move_of (Opened host asked at_first so_far rest) = Opens host asked at_first so_far rest
 move_of (Refused asked) = Asks asked
 move_of (Received octets count) = Takes (take count octets)
-move_of (Gave count octets) = GivesOctets octets
+move_of (Gave count octets rest) = GivesOctets octets rest
 move_of NoPort = Asks (Listened None ∷ [])
 move_of End = Ends
 move_of Break = Breaks
@@ -121,12 +123,17 @@ MayLeave done want Fates.Failed = done
 MayLeave done want Fates.Broken = ⊤
 MayLeave done want Fates.Over = ⊤
 
--- by an end only where none is unwritten and the end has no more to give; by a reset only where it failed, or octets are unwritten or still to be
--- given. Where none stands the port alone is closed
-abbrev pub IsFairEnd : Wants → Lane → Asked → Type 0
-IsFairEnd want lane (Ended left written) = (lane.unwritten ≡ []) × (want ≢ Want.Send) × (is_well lane.fate ≡ true)
-IsFairEnd want lane (Reset left written) = (is_well lane.fate ≡ false) ⊎ (0 < length lane.unwritten) ⊎ (want ≡ Want.Send)
-IsFairEnd want lane other = ⊤
+-- an end that wants this has more to give
+abbrev pub rest_by : Wants → Rest
+rest_by Want.Send = More
+rest_by other = Nothing
+
+-- by an end only where none is unwritten, the end had no more to give when it gave last, or when this was opened, and nothing failed; by a reset only
+-- where it failed, or octets are unwritten, or the end had more to give then. Where none stands the port alone is closed
+abbrev pub IsFairEnd : Lane → Asked → Type 0
+IsFairEnd lane (Ended left written) = (lane.unwritten ≡ []) × (lane.rest ≡ Nothing) × (is_well lane.fate ≡ true)
+IsFairEnd lane (Reset left written) = (is_well lane.fate ≡ false) ⊎ (0 < length lane.unwritten) ⊎ (lane.rest ≡ More)
+IsFairEnd lane other = ⊤
 
 -- an end is told of a break where a read or a write failed and it was not told; or where none stands, and octets were to come or go
 abbrev pub IsBroken : Wants → (stands : Bool) → Fate → Type 0
@@ -143,14 +150,15 @@ abbrev pub held : {Here : Type 0} → Here → Lane → Held Here
 held end lane = record { end = end; lane = lane }
 
 module _ (machine : Machine) where
-  -- what each call does to the end; octets that came are let go only where it wants no more of them
+  -- what each call does to the end; whether it has more to give is as it wants it right after; octets that came are let go only where it wants no
+  -- more of them
   abbrev pub Does : Call machine.Own → (old new : machine.Here) → Type 0
   Does (Aside own) old new = machine.Owns own old new
   Does (Listening port) old new = machine.Listening port old new
-  Does (Opened host asked at_first so_far) old new = machine.Opened host old new
+  Does (Opened host asked at_first so_far rest) old new = machine.Opened host old new × (rest ≡ rest_by (machine.wants new))
   Does (Refused asked) old new = machine.Refused old new
   Does (Received octets count) old new = machine.Received octets count old new
-  Does (Gave count octets) old new = (octets ≡ take count (machine.to_give old)) × machine.Gave count old new
+  Does (Gave count octets rest) old new = (octets ≡ take count (machine.to_give old)) × machine.Gave count old new × (rest ≡ rest_by (machine.wants new))
   Does NoPort old new = machine.NoPort old new
   Does End old new = machine.End old new
   Does Break old new = machine.Break old new
@@ -167,14 +175,14 @@ module _ (machine : Machine) where
   abbrev pub IsDue : Call machine.Own → Held machine.Here → Type 0
   IsDue (Listening port) old = machine.wants old.end ≡ Want.Listen
   IsDue NoPort old = machine.wants old.end ≡ Want.Listen
-  IsDue (Opened host asked at_first so_far) old = AreWanted (machine.wants old.end) asked
+  IsDue (Opened host asked at_first so_far rest) old = AreWanted (machine.wants old.end) asked
   IsDue (Refused asked) old = IsRefused (machine.wants old.end) asked
   IsDue (Received octets count) old = IsOpen old.lane × (machine.wants old.end ≡ Want.Receive)
-  IsDue (Gave count octets) old = machine.wants old.end ≡ Want.Send
+  IsDue (Gave count octets rest) old = machine.wants old.end ≡ Want.Send
   IsDue (Got octets) old = machine.wants old.end ≡ Want.Receive
   IsDue End old = machine.wants old.end ≡ Want.Receive
   IsDue Break old = IsBroken (machine.wants old.end) old.lane.stands old.lane.fate
-  IsDue (Left asked) old = MayLeave (machine.IsDone old.end) (machine.wants old.end) old.lane.fate × IsFairEnd (machine.wants old.end) old.lane asked
+  IsDue (Left asked) old = MayLeave (machine.IsDone old.end) (machine.wants old.end) old.lane.fate × IsFairEnd old.lane asked
   IsDue Closed old = machine.IsCloseDue old.end
   IsDue other old = ⊤
 

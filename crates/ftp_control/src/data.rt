@@ -63,15 +63,16 @@ impl<S: Read + Write> DataConnection<S> {
         }
     }
 
-    /// It is open now; one that stood before is reset.
-    pub fn begin<P: Ports<Stream = S>>(&mut self, ports: &mut P, stream: S)
-        ensures whole { IsWhole self.new.at self.new.end self.new.rest self.new.fate }
+    /// It is open now, and this end has more octets for it or not; one that stood before is reset.
+    pub fn begin<P: Ports<Stream = S>>(&mut self, ports: &mut P, stream: S, rest: Rest)
+        ensures all { self.new.at ≡ self.new.end }
+        ensures rest { self.new.rest ≡ rest }
         ensures stands { self.new.stream ≡ Some stream }
         ensures sound { self.new.fate ≡ Fate.Sound }
         ensures asked { Replaces S.remaining S.contents self.old.stream (P.history ports.old) (P.history ports.new) }
     {
         self.at = self.end;
-        self.rest = Rest::Nothing;
+        self.rest = rest;
         self.went = 0;
         self.fate = Fate::Sound;
         if let Some(before) = self.stream.replace(stream) {
@@ -79,18 +80,7 @@ impl<S: Read + Write> DataConnection<S> {
         }
     }
 
-    /// Whether this end has more octets for it.
-    pub fn note(&mut self, rest: Rest)
-        ensures noted { self.new.rest ≡ rest }
-        ensures at { self.new.at ≡ self.old.at }
-        ensures end { self.new.end ≡ self.old.end }
-        ensures stream { self.new.stream ≡ self.old.stream }
-        ensures fate { self.new.fate ≡ self.old.fate }
-    {
-        self.rest = rest;
-    }
-
-    /// Whether this end had more octets for it, when that was noted last.
+    /// Whether this end had more octets for it when it gave last, or when it was opened.
     pub fn rest(&self) -> Rest
         ensures { result ≡ self.now.rest }
     {
@@ -139,17 +129,19 @@ impl<S: Read + Write> DataConnection<S> {
         (self.went / PART).clamp(LEAST_PIECE, DATA_PIECE)
     }
 
-    /// The first octets of the room, so many, were taken from this end, where all before were written.
-    pub fn took(&mut self, count: usize)
+    /// The first octets of the room, so many, were taken from this end, where all before were written, and it has more or not.
+    pub fn took(&mut self, count: usize, rest: Rest)
         requires all { self.old.at ≡ self.old.end }
         requires within { count ≤ 262144 }
         ensures at { self.new.at ≡ 0 }
         ensures end { self.new.end ≡ count }
+        ensures rest { self.new.rest ≡ rest }
         ensures stream { self.new.stream ≡ self.old.stream }
         ensures fate { self.new.fate ≡ self.old.fate }
     {
         self.at = 0;
         self.end = count;
+        self.rest = rest;
     }
 
     /// The octets of the room that are on their way.

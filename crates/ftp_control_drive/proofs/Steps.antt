@@ -37,10 +37,10 @@ sent_fate (Err Halts.Broken) fate is = inr is
 
 -- what became of it is told, and all else is as it was
 pub fated_lane : {S : Type 0} (remaining contents : S → Option (List ℕ)) (old new : DataConnection S) (fate : Fate) (asked : Option (List Asked)) (room untold : List ℕ)
-    → new.stream ≡ old.stream → new.at ≡ old.at → new.end ≡ old.end → new.fate ≡ fate
+    → new.stream ≡ old.stream → new.at ≡ old.at → new.end ≡ old.end → new.rest ≡ old.rest → new.fate ≡ fate
     → lane_of remaining contents asked new room untold ≡ with_fate fate (lane_of remaining contents asked old room untold)
-fated_lane remaining contents old new fate asked room untold stream at end is =
-    same_lane remaining contents (record old { fate = fate }) new asked room untold stream at end is
+fated_lane remaining contents old new fate asked room untold stream at end rest is =
+    same_lane remaining contents (record old { fate = fate }) new asked room untold stream at end rest is
 
 -- one that an end wants no more may be left, where no read or write failed that it was not told
 pub may_leave : (done : Type 0) (want : Wants) (fate : Fate) → goes_without want ≡ true → (fate ≡ Fates.Failed → ⊥) → MayLeave done want fate
@@ -50,15 +50,14 @@ may_leave done want Fates.Broken is told = tt
 may_leave done want Fates.Over is told = tt
 
 -- where none stands, or it is told that it broke, a reset is fair
-pub dropped_fair : (want : Wants) (lane : Lane) (stands : Bool) (asked : Asked) → is_well lane.fate ≡ false → IsDropped stands lane.left lane.written asked
-    → IsFairEnd want lane asked
-dropped_fair want lane true asked broken is = subst (λ a. IsFairEnd want lane a) (sym is) (inl broken)
-dropped_fair want lane false asked broken is = subst (λ a. IsFairEnd want lane a) (sym is) tt
+pub dropped_fair : (lane : Lane) (stands : Bool) (asked : Asked) → is_well lane.fate ≡ false → IsDropped stands lane.left lane.written asked → IsFairEnd lane asked
+dropped_fair lane true asked broken is = subst (λ a. IsFairEnd lane a) (sym is) (inl broken)
+dropped_fair lane false asked broken is = subst (λ a. IsFairEnd lane a) (sym is) tt
 
 -- whatever became of one, it is left as it was
 pub left_broken : (asked : Asked) (old new : Lane) → IsLeft asked old new → IsLeft asked (with_fate Fates.Broken old) new
 left_broken asked old new left =
-    record { ended = left.ended; adds = left.adds; stands = left.stands; fate = left.fate; unwritten = left.unwritten; untold = left.untold }
+    record { ended = left.ended; adds = left.adds; stands = left.stands; fate = left.fate; rest = left.rest; unwritten = left.unwritten; untold = left.untold }
 
 module _ (machine : Machine) where
   -- a read moved none, whether it failed or not
@@ -77,7 +76,7 @@ module _ (machine : Machine) where
       let mid = with_owner (held here lane) old in
       leads_then old mid new (breaks_told machine old.owner.end here old.owner.lane broke is old.left old.unheard old.written)
       (leaves machine asked mid new (left_broken asked old.owner.lane new.owner.lane reset.left) tt
-      (dropped_fair (machine.wants here) lane old.owner.lane.stands asked refl reset.dropped) same)
+      (dropped_fair lane old.owner.lane.stands asked refl reset.dropped) same)
 
   -- it was told that the control connection ended, or not
   pub asks : (lost : Bool) (old : Stand (side_of machine)) (h1 : Option (List Asked)) → Adds old.owner.lane.asked h1 (told_lost lost) → Leads old (asked_before h1 old)

@@ -6,7 +6,7 @@ pub use Rattle.ftp_control.proofs.Idling.{asides, breaks_told, came, came_none, 
 pub use Rattle.ftp_control.proofs.Lanes.{fills, none_had}
 pub use Rattle.ftp_control.proofs.Leading.{fails_here, fails_lets, fails_then, leads_by, leads_nowhere, leads_on, leads_then, settled_leads, settles_here}
 pub use Rattle.ftp_control.proofs.Meeting.{has_none, has_one, listens, listens_nowhere, none_answered, none_came, one_came}
-pub use Rattle.ftp_control.proofs.Outcomes.{gave_none, gave_some, given_more}
+pub use Rattle.ftp_control.proofs.Outcomes.{gave_none, gave_some, given_first, given_more}
 pub use Rattle.ftp_control.specs.Asking.{Came, Connected, Connects, NotCame, NotConnected, is_over}
 pub use Rattle.ftp_control.specs.Deeds.{Other, Said, with_owner}
 pub use Rattle.ftp_control.specs.Driving.{Fails, Leads, Quietly}

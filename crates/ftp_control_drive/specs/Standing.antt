@@ -14,7 +14,6 @@ use Rattle.ftp_control.specs.Unheard.{unheard_of}
 use Rattle.ftp_control.specs.declared.cause.Cause.{Cause}
 use Rattle.ftp_control.specs.declared.control.Control.{Control}
 use Rattle.ftp_control.specs.declared.whole.Fate.TheVariants.{Sound}
-use Rattle.ftp_ends.specs.declared.link.Wants.{Wants}
 use Rattle.ftp_control_drive.specs.declared.data.Data.{Data}
 use Rattle.ftp_control_drive.specs.declared.drive.Drive.{Drive}
 
@@ -26,9 +25,9 @@ lane_at remaining contents asked data_connection untold = lane_of remaining cont
 abbrev pub IsOpenAt : {S : Type 0} → Data S → Type 0
 IsOpenAt data_connection = (is_some data_connection.connection.stream ≡ true) × (data_connection.connection.fate ≡ Sound)
 
--- one is left, as fairly as an end that wants this may
-abbrev pub Leaving : Wants → (old new : Lane) → Type 0
-Leaving want old new = (asked : Asked) × IsLeft asked old new × IsFairEnd want old asked
+-- one is left, and fairly
+abbrev pub Leaving : (old new : Lane) → Type 0
+Leaving old new = (asked : Asked) × IsLeft asked old new × IsFairEnd old asked
 
 -- one stands, and its stream is at its end
 abbrev pub HasEnded : {S : Type 0} → (remaining : S → Option (List ℕ)) → Data S → Type 0

@@ -132,7 +132,8 @@ where
     /// Takes octets from the end, where all before were written, and writes them; where that fails, the data connection is lost.
     #[tactic(auto, using(ftp_control::proofs::Leading::leads_then))]
     fn send_more(&mut self)
-        requires { IsOpenAt self.old.data }
+        requires ready { IsOpenAt self.old.data }
+        requires wants { K.machine.wants (K.here self.old.end.now) ≡ Wants.Send }
         ensures leads { LeadsOn K.machine K.here R.remaining W.contents P.history S.remaining S.contents self.old self.new }
         ensures kept { IsKept self.old self.new }
     {
@@ -159,7 +160,8 @@ where
 
     /// Takes octets from the end, where all before were written.
     fn fill(&mut self)
-        requires { IsOpenAt self.old.data }
+        requires ready { IsOpenAt self.old.data }
+        requires wants { K.machine.wants (K.here self.old.end.now) ≡ Wants.Send }
         ensures ready { IsOpenAt self.new.data }
         ensures leads { LeadsOn K.machine K.here R.remaining W.contents P.history S.remaining S.contents self.old self.new }
         ensures kept { IsKept self.old self.new }
@@ -283,7 +285,7 @@ where
         ensures leads { LeadsOn K.machine K.here R.remaining W.contents P.history S.remaining S.contents self.old self.new }
         ensures kept { IsKept self.old self.new }
     {
-        self.data.leave::<K, E, P>(self.end, self.ports);
+        self.data.leave(self.ports);
     }
 
     /// The data connection is lost: the end is told, and it is reset.

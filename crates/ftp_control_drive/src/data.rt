@@ -1,5 +1,5 @@
 // A data connection, and room for its octets.
-ghost use Rattle.std.specs.Prelude.{◌≡◌, ◌≢◌, ◌≤◌, ◌<◌, ℕ, List, [], IfOk, IsTrue, OnOk, Option, false, length, None, take, true};
+ghost use Rattle.std.specs.Prelude.{◌≡◌, ◌≤◌, ◌<◌, ℕ, List, [], IfOk, IsTrue, OnOk, Option, false, length, None, take, true};
 ghost use Rattle.ftp_control.specs.Asking.{Asked, is_lost};
 ghost use Rattle.ftp_control.specs.Driving.{Quietly};
 ghost use Rattle.ftp_control.specs.Halting.{fate_by};
@@ -26,6 +26,7 @@ impl<S: Read + Write> Data<S> {
         ensures none { result.connection.stream ≡ None }
         ensures all { result.connection.at ≡ result.connection.end }
         ensures sound { result.connection.fate ≡ Fate.Sound }
+        ensures rest { result.connection.rest ≡ Rest.Nothing }
     {
         Data {
             connection: DataConnection::new(),
@@ -41,32 +42,19 @@ impl<S: Read + Write> Data<S> {
         self.connection.stands() && self.connection.fate() == Fate::Sound
     }
 
-    /// Notes whether the end has more octets for it.
-    fn note<K: EndCalls<E>, E>(&mut self, end: &E)
-        ensures none { self.new.connection.rest ≡ Rest.Nothing → K.machine.wants (K.here end.now) ≢ Wants.Send }
-        ensures more { self.new.connection.rest ≡ Rest.More → K.machine.wants (K.here end.now) ≡ Wants.Send }
-        ensures ready { IsOpenAt self.old → IsOpenAt self.new }
-        ensures fits { self.new.connection.end ≤ length self.new.room }
-        ensures same { (asked : Option (List Asked)) → lane_at S.remaining S.contents asked self.new [] ≡ lane_at S.remaining S.contents asked self.old [] }
-    {
-        self.connection.note(rest_of::<K, E>(end));
-    }
-
-    /// Takes octets from the end, where all before were written, and notes whether it has more.
+    /// Takes octets from an end that has some, where all before were written.
     pub(crate) fn fill<K: EndCalls<E>, E>(&mut self, end: &mut E)
-        requires { IsOpenAt self.old }
+        requires ready { IsOpenAt self.old }
+        requires wants { K.machine.wants (K.here end.old) ≡ Wants.Send }
         ensures ready { IsOpenAt self.new }
         ensures quiet { (asked : Option (List Asked)) → Quietly (side_of K.machine) (held (K.here end.old) (lane_at S.remaining S.contents asked self.old [])) (held (K.here end.new) (lane_at S.remaining S.contents asked self.new [])) }
-        ensures rest { (self.new.connection.rest ≡ Rest.Nothing) → K.machine.wants (K.here end.new) ≢ Wants.Send }
     {
         if self.connection.has_unwritten() {
-            self.note::<K, E>(end);
             return;
         }
         let most = self.piece::<K, E>();
-        let count = fill_front::<K, E>(end, &mut self.room, most);
-        self.connection.took(count);
-        self.note::<K, E>(end);
+        let given = fill_front::<K, E>(end, &mut self.room, most);
+        self.connection.took(given.count, given.rest);
     }
 
     /// How many octets are taken at once: of an end that serves by what went so far, of one that asks as many as there is room for.
@@ -144,11 +132,11 @@ impl<S: Read + Write> Data<S> {
         front
     }
 
-    /// Closes it, if it is open, and the port that is listened at, as the end wants it then.
-    pub(crate) fn leave<K: EndCalls<E>, E, P: Ports<Stream = S>>(&mut self, end: &E, ports: &mut P)
-        ensures { Leaving (K.machine.wants (K.here end.now)) (lane_at S.remaining S.contents (P.history ports.old) self.old []) (lane_at S.remaining S.contents (P.history ports.new) self.new []) }
+    /// Closes it, if it is open, and the port that is listened at.
+    #[tactic(auto, using(ftp_control::proofs::Lanes::leaves))]
+    pub(crate) fn leave<P: Ports<Stream = S>>(&mut self, ports: &mut P)
+        ensures { Leaving (lane_at S.remaining S.contents (P.history ports.old) self.old []) (lane_at S.remaining S.contents (P.history ports.new) self.new []) }
     {
-        self.note::<K, E>(end);
         self.connection.close(ports);
     }
 
@@ -160,27 +148,15 @@ impl<S: Read + Write> Data<S> {
         self.connection.reset(ports);
     }
 
-    /// Closes it for good, as the end wants it then.
-    pub fn finish<K: EndCalls<E>, E, P: Ports<Stream = S>>(self, end: &E, ports: &mut P)
-        ensures { Leaving (K.machine.wants (K.here end.now)) (lane_at S.remaining S.contents (P.history ports.old) self []) (no_lane (P.history ports.new)) }
+    /// Closes it for good.
+    #[tactic(auto, using(ftp_control::proofs::Lanes::leaves_for_good))]
+    pub fn finish<P: Ports<Stream = S>>(self, ports: &mut P)
+        ensures { Leaving (lane_at S.remaining S.contents (P.history ports.old) self []) (no_lane (P.history ports.new)) }
     {
-        let mut data = self;
-        data.note::<K, E>(end);
         let Data {
             connection,
             room: _,
-        } = data;
+        } = self;
         connection.finish(ports);
-    }
-}
-
-/// Whether the end has more octets for its data connection.
-fn rest_of<K: EndCalls<E>, E>(end: &E) -> Rest
-    ensures none { result ≡ Rest.Nothing → K.machine.wants (K.here end.now) ≢ Wants.Send }
-    ensures more { result ≡ Rest.More → K.machine.wants (K.here end.now) ≡ Wants.Send }
-{
-    match K::wants(end) {
-        Wants::Send => Rest::More,
-        _ => Rest::Nothing,
     }
 }

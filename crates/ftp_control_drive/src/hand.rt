@@ -1,47 +1,66 @@
 // Octets that go from the end into a room, and those that come and are handed to it.
-ghost use Rattle.std.specs.Prelude.{◌≤◌, [], List, Option, length, take};
+ghost use Rattle.std.specs.Prelude.{◌≡◌, ◌≤◌, [], List, Option, length, take};
 ghost use Rattle.ftp_control.specs.Asking.{Asked};
 ghost use Rattle.ftp_control.specs.Driving.{Goes, Quietly};
 ghost use Rattle.ftp_control.specs.Lane.{IsOpen, Lane, with_given, with_untold};
-ghost use Rattle.ftp_control.specs.Machine.{held, side_of, stand_of};
+ghost use Rattle.ftp_control.specs.Machine.{held, rest_by, side_of, stand_of};
 ghost use Rattle.ftp_control_drive.specs.Standing.{Why};
 
 use crate::calls::EndCalls;
 use crate::control::flush;
-use ftp_control::{Cause, Control, Turns};
+use ftp_control::{Cause, Control, Rest, Turns};
 use ftp_ends::Wants;
 use std::io::{Read, Write};
 
-/// Fills the front of the room, so many octets at most, with the octets that the end gives; gives how many they are.
-pub(crate) fn fill_front<K, E>(end: &mut E, room: &mut [u8], most: usize) -> usize
+/// What an end gave: how many octets, and whether it had more then.
+#[derive(Clone, Copy)]
+pub(crate) struct Given {
+    pub(crate) count: usize,
+    pub(crate) rest: Rest,
+}
+
+/// Fills the front of the room, so many octets at most, with the octets that an end gives which has some.
+pub(crate) fn fill_front<K, E>(end: &mut E, room: &mut [u8], most: usize) -> Given
 where
     K: EndCalls<E>,
-    requires { most ≤ length room.old }
-    ensures within { result ≤ most }
-    ensures quiet { (lane : Lane) → IsOpen lane → Quietly (side_of K.machine) (held (K.here end.old) lane) (held (K.here end.new) (with_given (take result room.new) lane)) }
+    requires most { most ≤ length room.old }
+    requires wants { K.machine.wants (K.here end.old) ≡ Wants.Send }
+    ensures within { result.count ≤ most }
+    ensures quiet { (lane : Lane) → IsOpen lane → Quietly (side_of K.machine) (held (K.here end.old) lane) (held (K.here end.new) (with_given (take result.count room.new) result.rest lane)) }
 {
     let (front, _) = room.split_at_mut(most);
     fill::<K, E>(end, front)
 }
 
-/// Fills the room with the octets that the end gives, as far as they go; gives how many they are.
-fn fill<K: EndCalls<E>, E>(end: &mut E, room: &mut [u8]) -> usize
-    ensures within { result ≤ length room.new }
-    ensures quiet { (lane : Lane) → IsOpen lane → Quietly (side_of K.machine) (held (K.here end.old) lane) (held (K.here end.new) (with_given (take result room.new) lane)) }
+/// Fills the room with the octets that an end gives which has some, as far as they go.
+fn fill<K: EndCalls<E>, E>(end: &mut E, room: &mut [u8]) -> Given
+    requires { K.machine.wants (K.here end.old) ≡ Wants.Send }
+    ensures within { result.count ≤ length room.new }
+    ensures quiet { (lane : Lane) → IsOpen lane → Quietly (side_of K.machine) (held (K.here end.old) lane) (held (K.here end.new) (with_given (take result.count room.new) result.rest lane)) }
 {
-    let mut at = 0;
-    while at < room.len() {
-        if K::wants(end) != Wants::Send {
-            return at;
-        }
-        let (_, rest) = room.split_at_mut(at);
-        let count = K::data_out(end, rest);
+    let mut at = K::data_out(end, room);
+    let mut rest = rest_of::<K, E>(end);
+    while at < room.len() && rest == Rest::More {
+        let (_, free) = room.split_at_mut(at);
+        let count = K::data_out(end, free);
         at += count;
+        rest = rest_of::<K, E>(end);
         if count == 0 {
-            return at;
+            return Given { count: at, rest };
         }
     }
-    at
+    Given { count: at, rest }
+}
+
+/// Whether an end has more octets for its data connection, as it wants it now.
+pub(crate) fn rest_of<K: EndCalls<E>, E>(end: &E) -> Rest
+    ensures rest { result ≡ rest_by (K.machine.wants (K.here end.now)) }
+    ensures more { result ≡ Rest.More → K.machine.wants (K.here end.now) ≡ Wants.Send }
+{
+    match K::wants(end) {
+        Wants::Send => Rest::More,
+        _ => Rest::Nothing,
+    }
 }
 
 /// Hands octets that came to the end until it has taken them all or wants no more, which drops the rest; what it owes is written behind each call.

@@ -9,6 +9,7 @@ ghost use Rattle.ftp_control_drive.specs.Standing.{Follows, IsKept, LeadsOn, Why
 
 use crate::calls::EndCalls;
 use crate::drive::Drive;
+use crate::hand::rest_of;
 use ftp_control::{Accepted, Cause, Fate, Ports};
 use ftp_endpoint::{Endpoint, Host};
 use ftp_ends::Wants;
@@ -22,8 +23,8 @@ where
     P: Ports<Stream = S>,
     S: Read + Write,
 {
-    /// Waits for the data connection that the other end opens; one that stands still is left first. Where all that was read was heard, octets of the control connection that come first
-    /// are read; else the drive breaks off where the waiting ends so.
+    /// Waits for the data connection that the other end opens; one that stands still is left first. Where all that was read was heard, octets of the
+    /// control connection that come first are read; else the drive breaks off where the waiting ends so.
     pub(crate) fn accept(&mut self) -> Result<(), Cause>
         requires wants { K.machine.wants (K.here self.old.end.now) ≡ Wants.Accept }
         requires sound { self.old.data.connection.fate ≢ Fate.Failed }
@@ -79,8 +80,9 @@ where
         ensures leads { (before : Option (List Asked)) (had : Asked) → Adds before (P.history self.old.ports.now) (had ∷ []) → IsHad host had (S.remaining stream) (S.contents stream) → IsWanted (K.machine.wants (K.here self.old.end.now)) had → Leads (asked_before before (standing K.machine K.here R.remaining W.contents P.history S.remaining S.contents self.old)) (standing K.machine K.here R.remaining W.contents P.history S.remaining S.contents self.new) }
         ensures kept { IsKept self.old self.new }
     {
-        self.data.connection.begin(self.ports, stream);
         K::data_opened(self.end, host);
+        let rest = rest_of::<K, E>(self.end);
+        self.data.connection.begin(self.ports, stream, rest);
     }
 
     /// Closes what stands of the data connection, and tells the end.
@@ -90,7 +92,7 @@ where
         ensures leads { LeadsOn K.machine K.here R.remaining W.contents P.history S.remaining S.contents self.old self.new }
         ensures kept { IsKept self.old self.new }
     {
-        self.data.leave::<K, E, P>(self.end, self.ports);
+        self.data.leave(self.ports);
         K::data_closed(self.end);
     }
 }

@@ -29,7 +29,7 @@ pub record Drove (start now : Stand server_side) : Type 0 where
 
 -- the same where the drive broke off, for this cause, whether a read or a write failed or not: a beginning of what it said was written, and what
 -- of an upload it was not told is let go; it was told that the control connection ended, and its data connection was left, by an end only where
--- none was unwritten and it had no more to give
+-- none was unwritten and it had no more when it gave last
 pub record BrokeOff (cause : Cause) (failed : Bool) (start now : Stand server_side) : Type 0 where
   pub off : Stand server_side
   pub breaks : BreaksOff server_machine true cause failed start off
@@ -37,7 +37,7 @@ pub record BrokeOff (cause : Cause) (failed : Bool) (start now : Stand server_si
   pub cut : now.owner.end ≡ ended off.owner.end
   pub asked : Asked
   pub left : IsLeft asked off.owner.lane now.owner.lane
-  pub fair : IsFairEnd (wants off.owner.end.server.view) off.owner.lane asked
+  pub fair : IsFairEnd off.owner.lane asked
 
 -- how a drive ends, where a read or a write of the control connection failed or not
 abbrev pub Drives : {T : Type 0} → (failed : Bool) → (start now : Stand server_side) → Result T Cause → Type 0

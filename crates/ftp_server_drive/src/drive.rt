@@ -34,13 +34,10 @@ where
     ensures { Drives control.new.failed (beside R.remaining W.contents (held (timed F.server C.told clocked.old) (no_lane (P.history ports.old))) control.old) (beside R.remaining W.contents (held (timed F.server C.told clocked.new) (no_lane (P.history ports.new))) control.new) result }
 {
     let (data, ended) = drive_end::<Serves<A, T>, Clocked<F, C>, R, W, P>(clocked, control, ports);
+    data.finish(ports);
     match ended {
-        Ok(()) => {
-            data.finish::<Serves<A, T>, Clocked<F, C>, P>(clocked, ports);
-            Ok(())
-        }
+        Ok(()) => Ok(()),
         Err(cause) => {
-            data.finish::<Serves<A, T>, Clocked<F, C>, P>(clocked, ports);
             clocked.server.control_end();
             Err(cause)
         }

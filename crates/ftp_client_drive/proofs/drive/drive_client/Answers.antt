@@ -38,7 +38,7 @@ is_shut asked old new none left = subst (λ a. IsLeft a old new) (subst (λ stan
 -- one that came to its end: it gave its report, its data connection was left, and it was told that it is closed
 drove : {A : Type 0} (start off : Stand client_side) (lane : Lane) (new : Client) (r : Result (Answer A) Cause) (answer : Answer A) (asked : Asked)
     → start.owner.lane.unwritten ≡ [] → start.owner.lane.untold ≡ [] → r ≡ Ok answer → Ends client_machine Reports start off r → IsLeft asked off.owner.lane lane
-    → IsFairEnd (wants off.owner.end.view) off.owner.lane asked → Does client_machine Closed off.owner.end new → Drove start (with_owner (held new lane) off) (Some (said_of answer))
+    → IsFairEnd off.owner.lane asked → Does client_machine Closed off.owner.end new → Drove start (with_owner (held new lane) off) (Some (said_of answer))
 drove start off lane new r answer asked unwritten untold gave ends left fair closed =
     let over : Ends client_machine Reports start off (Ok answer) = subst (λ r. Ends client_machine Reports start off r) gave ends in
     let mid = over.0 in

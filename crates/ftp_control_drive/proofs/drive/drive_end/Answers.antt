@@ -20,6 +20,6 @@ returns g c =
     record {
       ends = rw (sym end) (rw (sym ports) (rw (sym control)
           (subst (λ lane. Ends calls.machine calls.last (with_owner (held (calls.here c.args.end.now) lane) start) mid over.result)
-          (none_had remaining contents none.result.connection (history c.args.ports.now) none.result.room none.ensures.none none.ensures.all none.ensures.sound) over.ensures.ends)));
+          (none_had remaining contents none.result.connection (history c.args.ports.now) none.result.room none.ensures.none none.ensures.all none.ensures.sound none.ensures.rest) over.ensures.ends)));
       why = rw (sym end) (rw (sym ports) (rw (sym control) over.ensures.why));
     }

@@ -4,5 +4,6 @@ use Rattle.ftp_control_drive.proofs.hand.fill_front.Goals as goal
 pub returns-clause-quiet : goal.returns-clause-quiet
 returns-clause-quiet g c lane is_open =
     let here = g.K.EndCalls.here in
-    subst (λ l. Quietly (side_of g.K.EndCalls.machine) (held (here c.args.end.now) lane) (held (here c.fill.new.end) (with_given l lane)))
-    (sym (take-append-le c.fill.result c.fill.new.room c.split_at_mut-front.result.1.now c.fill.ensures.within)) (c.fill.ensures.quiet lane is_open)
+    let fill = c.fill in
+    subst (λ l. Quietly (side_of g.K.EndCalls.machine) (held (here c.args.end.now) lane) (held (here fill.new.end) (with_given l fill.result.rest lane)))
+    (sym (take-append-le fill.result.count fill.new.room c.split_at_mut-front.result.1.now fill.ensures.within)) (fill.ensures.quiet lane is_open)

@@ -17,7 +17,7 @@ use Rattle.ftp_server_drive.proofs.drive.drive_server.Goals as goal
 -- one that came to its end
 drove : {T : Type 0} (start off : Stand server_side) (lane : Lane) (r : Result T Cause) (value : T) (asked : Asked) → start.owner.lane.unwritten ≡ [] → start.owner.lane.untold ≡ []
     → r ≡ Ok value → Ends server_machine (λ over old new. IsDone old new) start off r → IsLeft asked off.owner.lane lane
-    → IsFairEnd (wants off.owner.end.server.view) off.owner.lane asked → Drove start (with_owner (held off.owner.end lane) off)
+    → IsFairEnd off.owner.lane asked → Drove start (with_owner (held off.owner.end lane) off)
 drove start off lane r value asked unwritten untold gave ends left fair =
     let over : Ends server_machine (λ over old new. IsDone old new) start off (Ok value) =
     subst (λ r. Ends server_machine (λ over old new. IsDone old new) start off r) gave ends in
@@ -54,7 +54,7 @@ returns-in-Err g c =
           c.in-Err.is ended.ensures.ends ended.ensures.why;
       stays = refl;
       cut = ap (λ server. record off.owner.end { server = server }) c.control_end.ensures;
-      asked = c.finish-in-Err.ensures.0;
-      left = c.finish-in-Err.ensures.1;
-      fair = c.finish-in-Err.ensures.2;
+      asked = c.finish.ensures.0;
+      left = c.finish.ensures.1;
+      fair = c.finish.ensures.2;
     }
