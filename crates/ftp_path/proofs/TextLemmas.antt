@@ -63,12 +63,9 @@ printable-text text is =
 pub root-text : is_path_text (slash ∷ []) ≡ true
 root-text = printable-text (slash ∷ []) (record { some = omega arith; short = omega arith; printable = refl })
 
--- `.` and `..` are path texts, though no names
+-- `.` is a path text, though no name
 pub dot-text : is_path_text (dot ∷ []) ≡ true
 dot-text = printable-text (dot ∷ []) (record { some = omega arith; short = omega arith; printable = refl })
-
-pub dots-text : is_path_text (dot ∷ dot ∷ []) ≡ true
-dots-text = printable-text (dot ∷ dot ∷ []) (record { some = omega arith; short = omega arith; printable = refl })
 
 pub slash-utf8 : is_utf8 (slash ∷ []) ≡ true
 slash-utf8 = printable-utf8 (slash ∷ []) refl

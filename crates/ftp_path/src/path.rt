@@ -1,10 +1,10 @@
 // A path: the names on the way from the root, kept as one text.
-ghost use Rattle.std.specs.Prelude.{◌≡◌, ◌≤◌, [], IsTrue, IfOk, IfErr, if◌then◌else◌, length};
+ghost use Rattle.std.specs.Prelude.{◌≡◌, ◌≤◌, [], IsTrue, IfOk, IfErr, OnOk, if◌then◌else◌, length};
 ghost use Rattle.ftp_path.specs.Kept.{IsJoined, IsKept, names_of};
-ghost use Rattle.ftp_path.specs.Path.{IsPathText, fits, is_rooted, is_within, joined, moved_path, parent, resolved, text_of};
+ghost use Rattle.ftp_path.specs.Path.{IsPathText, fits, is_path_text, is_rooted, is_within, joined, moved_path, parent, resolved, text_of};
 
 use crate::fault::PathFault;
-use crate::name::{TEXT_LIMIT, is_rooted};
+use crate::name::{TEXT_LIMIT, is_path_text, is_rooted};
 use crate::walk::{Walk, parent_len};
 use std::alloc::{AllocError, Allocator};
 use std::marker::Model;
@@ -45,14 +45,19 @@ impl<A: Allocator + Copy> Path<A> {
     }
 
     /// The path that a text names: from the root where it begins with `/`, else from this path. Empty components
-    /// and `.` are dropped, `..` drops one and stays at the root. `is_path_text` tests the text.
+    /// and `.` are dropped, `..` drops one and stays at the root.
     ///
-    /// `TooBig` where a component that is left has over 255 octets or the canonical text over 900, else `Memory`.
+    /// `NotText` where `is_path_text` says no; `TooBig` where a component that is left has over 255 octets or the
+    /// canonical text over 900; else `Memory`.
     pub fn resolve(&self, alloc: A, text: &[u8]) -> Result<Path<A>, PathFault>
-        requires { IsPathText text.now }
+        ensures text { OnOk result (IsPathText text.now) }
         ensures ok { IfOk result (λ path. (path ≡ resolved self.now text.now) × IsTrue (fits path)) }
-        ensures fault { IfErr result (λ fault. fault ≡ (if fits (resolved self.now text.now) then PathFault.Memory else PathFault.TooBig)) }
+        ensures fault { IfErr result (λ fault. fault ≡
+            (if is_path_text text.now then (if fits (resolved self.now text.now) then PathFault.Memory else PathFault.TooBig) else PathFault.NotText)) }
     {
+        if !is_path_text(text) {
+            return Err(PathFault::NotText);
+        }
         let walk = self.walk(text);
         if !walk.fits() {
             return Err(PathFault::TooBig);

@@ -95,7 +95,7 @@ impl<A: Allocator + Copy, T: Tree<A>, J: ServerTransfer<A, T>> Session<A, T, J> 
         match self.cwd.resolve(self.alloc, text) {
             Ok(path) => Ok(Some(path)),
             Err(PathFault::TooBig) => Ok(None),
-            Err(PathFault::Memory) => Err(AllocError),
+            Err(_) => Err(AllocError),
         }
     }
 }

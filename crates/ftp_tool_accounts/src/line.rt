@@ -8,7 +8,7 @@ ghost use Rattle.ftp_tool_accounts.specs.Line.{EndsIn, HasFewFields, IsCut, IsFa
 use crate::fault::LineFault;
 use ftp_facts::{Text, cut_at};
 use ftp_operation::{Account, Rights};
-use ftp_path::{Path, PathFault, is_password, is_path_text, is_user};
+use ftp_path::{Path, PathFault, is_password, is_user};
 use std::alloc::{AllocError, Allocator};
 
 /// Whether a line says no account: blanks alone, or a comment, which begins with `#`.
@@ -175,12 +175,12 @@ fn root_of<A: Allocator + Copy>(alloc: A, root: &[u8]) -> Result<Path<A>, LineFa
     ensures path { IfOk result (λ path. path ≡ resolved [] root.now) }
     ensures none { IfErr result (λ fault. fault ≢ LineFault.Memory → (fault ≡ LineFault.Root) × (is_root root.now ≡ false)) }
 {
-    if !is_path_text(root) || !root.starts_with(b"/") {
+    if !root.starts_with(b"/") {
         return Err(LineFault::Root);
     }
     match Path::root(alloc).resolve(alloc, root) {
         Ok(path) => Ok(path),
-        Err(PathFault::TooBig) => Err(LineFault::Root),
+        Err(PathFault::NotText | PathFault::TooBig) => Err(LineFault::Root),
         Err(PathFault::Memory) => Err(LineFault::Memory),
     }
 }

@@ -121,6 +121,7 @@ with_part table path part =
 
 -- a path's fault, as a tree tells it
 abbrev pub of_path : PathFault → TreeFault
+of_path PathFaults.NotText = WrongKind
 of_path PathFaults.TooBig = TooBig
 of_path PathFaults.Memory = Memory
 

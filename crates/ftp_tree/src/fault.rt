@@ -17,7 +17,8 @@ pub enum TreeFault {
     /// A directory in which something stands.
     #[error("the directory is not empty")]
     NotEmpty,
-    /// A file where a directory is needed, or the other way round; a path that would come below itself.
+    /// A file where a directory is needed, or the other way round; a path that would come below itself; a text that is
+    /// no path text.
     #[error("what stands there is of the wrong kind")]
     WrongKind,
     /// A name of over 255 octets, a canonical text of over 900, or a file of over 67,108,864.
@@ -45,6 +46,7 @@ impl From<PathFault> for TreeFault {
 
     fn from(fault: PathFault) -> TreeFault {
         match fault {
+            PathFault::NotText => TreeFault::WrongKind,
             PathFault::TooBig => TreeFault::TooBig,
             PathFault::Memory => TreeFault::Memory,
         }

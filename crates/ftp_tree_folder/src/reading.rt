@@ -7,7 +7,7 @@ use crate::place::check_free;
 use crate::writing::BESIDE;
 use crate::{Disk, Entries};
 use ftp_facts::Moment;
-use ftp_path::{Name, Path, PathFault, is_path_text};
+use ftp_path::{Name, Path, PathFault};
 use ftp_tree::{Content, TreeFault};
 use std::alloc::Global;
 use std::fs::{DirEntry, File, Files, Metadata, OpenFile};
@@ -53,11 +53,12 @@ pub(crate) fn path_in(
     name: &[u8],
     place: &str,
 ) -> Result<Path<Global>, LoadFault> {
-    if !is_path_text(name) || Name::new(name).is_none() {
+    if Name::new(name).is_none() {
         return Err(LoadFault::at(alloc, place, Reason::Name));
     }
     match here.resolve(alloc, name) {
         Ok(path) => Ok(path),
+        Err(PathFault::NotText) => Err(LoadFault::at(alloc, place, Reason::Name)),
         Err(PathFault::TooBig) => Err(LoadFault::of_tree(alloc, place, TreeFault::TooBig)),
         Err(PathFault::Memory) => Err(LoadFault::Memory),
     }

@@ -2,25 +2,18 @@
 use crate::keys::{show_below, show_keys, show_moved, show_order};
 use crate::step::{Line, Step};
 use ftp_operation::is_number;
-use ftp_path::{Name, Path, PathFault, is_listed_text, is_path_text};
+use ftp_path::{Name, Path, is_listed_text, is_path_text};
 use ftp_tree::TreeFault;
 use rows_base::{Paper, number};
 use std::alloc::Allocator;
 
-/// A path from another by a text, which has to be a path text.
+/// A path from another by a text.
 pub fn from<A: Allocator + Copy>(
     here: &Path<A>,
     alloc: A,
     text: &[u8],
 ) -> Result<Path<A>, TreeFault> {
-    if !is_path_text(text) {
-        return Err(TreeFault::WrongKind);
-    }
-    match here.resolve(alloc, text) {
-        Ok(path) => Ok(path),
-        Err(PathFault::TooBig) => Err(TreeFault::TooBig),
-        Err(PathFault::Memory) => Err(TreeFault::Memory),
-    }
+    Ok(here.resolve(alloc, text)?)
 }
 
 /// A path from the root.
