@@ -1,9 +1,29 @@
 -- The lines of a reply as they are put behind one another.
-use Rattle.std.proofs.Common.{◌≡◌, ℕ, zero, suc, ◌+◌, ◌<◌, List, [], ◌∷◌, ◌++◌, Some, slice_get, length, drop, refl, ap, sym, ◌∙◌, append_assoc, add-one, arith, Result, Ok, Err, OnOk, OnErr}
+use Rattle.std.proofs.Common.{◌≡◌, ℕ, zero, suc, ◌+◌, ◌/◌, ◌%◌, ◌<◌, List, [], ◌∷◌, ◌++◌, Some, slice_get, length, drop, refl, ap, sym, ◌∙◌, append_assoc, add-one, arith, Result, Ok, Err, OnOk, OnErr, if◌then◌else◌}
 use Rattle.std.proofs.Math.ListN.{drop_of_length-le}
 use Rattle.std.proofs.lemmas.List.{length-drop}
+use Rattle.std.proofs.lemmas.Fmt.{decimal_digit, decimal_step}
+use Rattle.std.specs.Fmt.{decimal}
+use Rattle.std.specs.Result.{is_ok}
 use Rattle.ftp_reply.specs.Lines.{Text, joined}
-use Rattle.ftp_reply.specs.Reply.{last_line, opening_line, padded, written_after, written}
+use Rattle.ftp_reply.specs.Reply.{IsCode, code_text, last_line, opening_line, padded, written_after, written}
+
+-- the number of a code is written by its three digits
+pub code_decimal : (code : ℕ) → IsCode code → decimal code ≡ code_text code
+code_decimal code is =
+    let low = is.low in
+    let high = is.high in
+    let hundreds : decimal (code / 10 / 10) ≡ (48 + code / 10 / 10) ∷ [] = decimal_digit (code / 10 / 10) (omega (arith, high)) in
+    let tens : decimal (code / 10) ≡ (48 + code / 10 / 10) ∷ (48 + code / 10 % 10) ∷ [] =
+    decimal_step (code / 10) (omega (arith, low)) (omega (arith, high)) ∙ ap (λ l. l ++ (48 + code / 10 % 10) ∷ []) hundreds in
+    let same : code / 10 / 10 ≡ code / 100 = omega arith in
+    decimal_step code (omega (arith, low)) (omega (arith, high)) ∙ ap (λ l. l ++ (48 + code % 10) ∷ []) tens
+    ∙ ap (λ n. (48 + n) ∷ (48 + code / 10 % 10) ∷ (48 + code % 10) ∷ []) same
+
+-- what was put, where it was put, is what is wanted
+pub put_is : {X E : Type 0} (r : Result X E) (now kept put wanted : List ℕ) → now ≡ (if is_ok r then put else kept) → put ≡ wanted → OnOk r (now ≡ wanted)
+put_is (Ok x) now kept put wanted is same = is ∙ same
+put_is (Err x) now kept put wanted is same = tt
 
 -- what stands before line i has been put: with an LF and the lines from i on it is the whole text
 pub record Wrote (old now : List ℕ) (code : ℕ) (lines : List Text) (i : ℕ) : Type 0 where

@@ -5,6 +5,7 @@ ghost use Rattle.ftp_reply.specs.Reply.{IsCode, code_text, padded, begins_with_d
 
 use crate::lines::{LF, Lines};
 use crate::reply::Reply;
+use itoa::Buffer;
 use std::alloc::{AllocError, Allocator};
 
 /// Appends the reply's lines without their ends, an LF between two (RFC 959, section 4.2).
@@ -62,13 +63,11 @@ fn put_marked<B: Allocator + Copy>(
     ensures ok { OnOk result (out.new.items ≡ out.old.items ++ (code_text code ++ mark ∷ text.now)) }
     ensures err { OnErr result ((part : List ℕ) × (out.new.items ≡ out.old.items ++ part)) }
 {
-    let digits = [
-        b'0' + (code / 100) as u8,
-        b'0' + (code / 10 % 10) as u8,
-        b'0' + (code % 10) as u8,
-        mark,
-    ];
-    out.extend_from_slice(&digits)?;
+    let mut buffer = Buffer::new();
+    let digits = buffer.format(code).as_bytes();
+    out.reserve(digits.len() + 1)?;
+    out.extend_from_slice(digits)?;
+    out.push(mark)?;
     out.extend_from_slice(text)
 }
 
