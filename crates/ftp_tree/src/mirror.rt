@@ -1,7 +1,8 @@
 // A tree in memory and the folder that keeps it.
 ghost use Rattle.std.specs.Prelude.{◌≡◌, ◌⊎◌, None, OnOk, OnErr, IfErr, [], length};
-ghost use Rattle.ftp_tree.specs.Change.{Refuses};
-ghost use Rattle.ftp_tree.specs.Tree.{delete_refusal, installed, remove_refusal, under, with_part};
+ghost use Rattle.ftp_tree.specs.Change.{IsDone, IsRefused, Refuses};
+ghost use Rattle.ftp_tree.specs.Tree.{installed, made, moved, removed, under, with_part};
+ghost use Rattle.ftp_tree.specs.Tree.{delete_refusal, install_refusal, make_refusal, remove_refusal, rename_refusal};
 ghost use Rattle.ftp_tree.specs.Folder.{IsKept, Mirrors, changed_below};
 
 use crate::content::Content;
@@ -13,12 +14,12 @@ use ftp_facts::Moment;
 use ftp_path::{Name, Path};
 use std::alloc::Allocator;
 
-/// A tree in memory, and a folder that keeps the same outside memory. All that a change needs of memory is had first, then the
-/// folder makes the change, and then the tree does, which can't fail: so where the folder fails the tree is as it was.
+/// A tree in memory, and a folder to which each change goes first. All that a change needs of memory is had, then the folder
+/// makes the change, and then the tree does, which can't fail: so where the folder fails the tree is as it was, and a folder
+/// that kept the tree before a call keeps it after it.
 pub struct Mirror<A: Allocator + Copy, D: Folder> {
     tree: MemTree<A>,
     folder: D,
-    ghost mirrors: { Mirrors (D.kept folder) tree },
 }
 
 /// By hand: a derived drop is proved again wherever a mirror is let go, and what is generic over it is compiled again.
@@ -29,9 +30,8 @@ impl<A: Allocator + Copy, D: Folder> Drop for Mirror<A, D> {
 }
 
 impl<A: Allocator + Copy, D: Folder> Mirror<A, D> {
-    /// A tree, and the folder that keeps it. Takes no memory.
+    /// A tree, and the folder that is to keep it: whether it does so far is its owner's matter. Takes no memory.
     pub fn new(tree: MemTree<A>, folder: D) -> Mirror<A, D>
-        requires { Mirrors (D.kept folder) tree }
         ensures tree { result.tree ≡ tree }
         ensures folder { result.folder ≡ folder }
     {
@@ -48,8 +48,7 @@ impl<A: Allocator + Copy, D: Folder> Mirror<A, D> {
 
     /// The folder.
     pub fn folder(&self) -> &D
-        ensures folder { result.now ≡ self.now.folder }
-        ensures mirrors { Mirrors (D.kept result.now) self.now.tree }
+        ensures { result.now ≡ self.now.folder }
     {
         &self.folder
     }
@@ -132,7 +131,13 @@ impl<A: Allocator + Copy, D: Folder> Tree<A> for Mirror<A, D> {
         &mut self,
         root: &Path<B>,
         path: &Path<C>,
-    ) -> Result<(), TreeFault> {
+    ) -> Result<(), TreeFault>
+        ensures done { OnOk result (let part = under self.old.tree root.now in IsDone (make_refusal part path.now)
+            (with_part self.old.tree root.now (made part path.now)) self.new.tree (D.failures self.old.folder) (D.failures self.new.folder)) }
+        ensures refused { IfErr result (λ fault. let part = under self.old.tree root.now in IsRefused (make_refusal part path.now) fault
+            self.old.tree self.new.tree (D.failures self.old.folder) (D.failures self.new.folder)) }
+        ensures mirrors { Mirrors (D.kept self.old.folder) self.old.tree → Mirrors (D.kept self.new.folder) self.new.tree }
+    {
         if let Some(fault) = self.tree.make_refusal(root, path) {
             return Err(fault);
         }
@@ -150,7 +155,13 @@ impl<A: Allocator + Copy, D: Folder> Tree<A> for Mirror<A, D> {
         &mut self,
         root: &Path<B>,
         path: &Path<C>,
-    ) -> Result<(), TreeFault> {
+    ) -> Result<(), TreeFault>
+        ensures done { OnOk result (let part = under self.old.tree root.now in IsDone (remove_refusal part path.now)
+            (with_part self.old.tree root.now (removed part path.now)) self.new.tree (D.failures self.old.folder) (D.failures self.new.folder)) }
+        ensures refused { IfErr result (λ fault. let part = under self.old.tree root.now in IsRefused (remove_refusal part path.now) fault
+            self.old.tree self.new.tree (D.failures self.old.folder) (D.failures self.new.folder)) }
+        ensures mirrors { Mirrors (D.kept self.old.folder) self.old.tree → Mirrors (D.kept self.new.folder) self.new.tree }
+    {
         if let Some(fault) = self.tree.remove_refusal(root, path) {
             return Err(fault);
         }
@@ -165,7 +176,13 @@ impl<A: Allocator + Copy, D: Folder> Tree<A> for Mirror<A, D> {
         &mut self,
         root: &Path<B>,
         path: &Path<C>,
-    ) -> Result<(), TreeFault> {
+    ) -> Result<(), TreeFault>
+        ensures done { OnOk result (let part = under self.old.tree root.now in IsDone (delete_refusal part path.now)
+            (with_part self.old.tree root.now (removed part path.now)) self.new.tree (D.failures self.old.folder) (D.failures self.new.folder)) }
+        ensures refused { IfErr result (λ fault. let part = under self.old.tree root.now in IsRefused (delete_refusal part path.now) fault
+            self.old.tree self.new.tree (D.failures self.old.folder) (D.failures self.new.folder)) }
+        ensures mirrors { Mirrors (D.kept self.old.folder) self.old.tree → Mirrors (D.kept self.new.folder) self.new.tree }
+    {
         if let Some(fault) = self.tree.delete_refusal(root, path) {
             return Err(fault);
         }
@@ -181,7 +198,13 @@ impl<A: Allocator + Copy, D: Folder> Tree<A> for Mirror<A, D> {
         root: &Path<B>,
         from: &Path<C>,
         to: &Path<E>,
-    ) -> Result<(), TreeFault> {
+    ) -> Result<(), TreeFault>
+        ensures done { OnOk result (let part = under self.old.tree root.now in IsDone (rename_refusal part from.now to.now)
+            (with_part self.old.tree root.now (moved part from.now to.now)) self.new.tree (D.failures self.old.folder) (D.failures self.new.folder)) }
+        ensures refused { IfErr result (λ fault. let part = under self.old.tree root.now in IsRefused (rename_refusal part from.now to.now) fault
+            self.old.tree self.new.tree (D.failures self.old.folder) (D.failures self.new.folder)) }
+        ensures mirrors { Mirrors (D.kept self.old.folder) self.old.tree → Mirrors (D.kept self.new.folder) self.new.tree }
+    {
         if let Some(fault) = self.tree.rename_refusal(root, from, to) {
             return Err(fault);
         }
@@ -202,7 +225,15 @@ impl<A: Allocator + Copy, D: Folder> Tree<A> for Mirror<A, D> {
         path: &Path<C>,
         content: &mut Content<A>,
         moment: Moment,
-    ) -> Result<(), TreeFault> {
+    ) -> Result<(), TreeFault>
+        ensures done { OnOk result (let part = under self.old.tree root.now in IsDone (install_refusal part path.now (length content.old))
+            (with_part self.old.tree root.now (installed part path.now content.old moment.seconds)) self.new.tree (D.failures self.old.folder) (D.failures self.new.folder)) }
+        ensures refused { IfErr result (λ fault. let part = under self.old.tree root.now in IsRefused (install_refusal part path.now (length content.old)) fault
+            self.old.tree self.new.tree (D.failures self.old.folder) (D.failures self.new.folder)) }
+        ensures taken { OnOk result (content.new ≡ []) }
+        ensures back { OnErr result (content.new ≡ content.old) }
+        ensures mirrors { Mirrors (D.kept self.old.folder) self.old.tree → Mirrors (D.kept self.new.folder) self.new.tree }
+    {
         if let Some(fault) = self.tree.install_refusal(root, path, content.len()) {
             return Err(fault);
         }

@@ -20,13 +20,13 @@ make_place-requires-clause-above g c =
     let none = ap (install_refusal part c.args.path.now) (sym c.len.ensures) ∙ sym c.install_refusal.ensures ∙ c.in_default.is in
     install-above part c.args.path.now (length c.args.content.now) none (kind-absent part c.args.path.now (ap is_some (sym c.kind.ensures) ∙ sym c.is_some.ensures ∙ c.if-is_some.false))
 
-pub invariant_of-self-in-Err : goal.invariant_of-self-in-Err
-invariant_of-self-in-Err g c =
+pub returns-in-Err-clause-mirrors : goal.returns-in-Err-clause-mirrors
+returns-in-Err-clause-mirrors g c =
     let absent = kind-absent (under c.args.self.now.tree c.args.root.now) c.args.path.now (ap is_some (sym c.kind.ensures) ∙ sym c.is_some.ensures ∙ c.if-is_some.false) in
     let place = had c.args.self.now.tree c.make_place.new.self c.args.root.now c.args.path.now absent (on-ok c.make_place.result (sym c.is_err.ensures.value ∙ c.if-is_err.false) c.make_place.ensures.ok) in
     let same = c.in-Err.ensures.same in
     let gone = c.take_away.ensures ∙ ap (λ t. with_part t c.args.root.now (removed (under t c.args.root.now) c.args.path.now)) same.0 ∙ place.back in
-    record { mirrors = λ its held. c.args.self.now.mirrors its (sym same.2 ∙ held) ∙ sym gone }
+    λ before its held. before its (sym same.2 ∙ held) ∙ sym gone
 
 pub returns-in-Err-clause-refused : goal.returns-in-Err-clause-refused
 returns-in-Err-clause-refused g c =
@@ -38,15 +38,14 @@ returns-in-Err-clause-refused g c =
       refuses-as _ _ _ _ none c.in-Err.ensures.fault,
     )
 
-pub invariant_of-self-in_default-put_over : goal.invariant_of-self-in_default-put_over
-invariant_of-self-in_default-put_over g c =
+pub returns-clause-mirrors : goal.returns-clause-mirrors
+returns-clause-mirrors g c =
     let absent = kind-absent (under c.args.self.now.tree c.args.root.now) c.args.path.now (ap is_some (sym c.kind.ensures) ∙ sym c.is_some.ensures ∙ c.if-is_some.false) in
     let place = had c.args.self.now.tree c.make_place.new.self c.args.root.now c.args.path.now absent (on-ok c.make_place.result (sym c.is_err.ensures.value ∙ c.if-is_err.false) c.make_place.ensures.ok) in
     let put = c.in_default-put_over.ensures.tree ∙ place.over c.args.content.now c.args.moment.seconds in
-    record {
-      mirrors = λ its held.
-          mirrors-on _ _ (changed_below c.args.root.now (λ part. installed part c.args.path.now c.args.content.now c.args.moment.seconds)) c.args.self.now.tree c.args.self.now.mirrors c.in_default-put_over.ensures.kept.0 its held ∙ sym put;
-    }
+    λ before its held.
+    mirrors-on _ _ (changed_below c.args.root.now (λ part. installed part c.args.path.now c.args.content.now c.args.moment.seconds)) c.args.self.now.tree before
+    c.in_default-put_over.ensures.kept.0 its held ∙ sym put
 
 pub returns-clause-done : goal.returns-clause-done
 returns-clause-done g c =

@@ -9,15 +9,13 @@ make_place-requires-clause-absent g c = make-absent _ c.args.path.now (sym c.mak
 pub make_place-requires-clause-above : goal.make_place-requires-clause-above
 make_place-requires-clause-above g c = make-above _ c.args.path.now (sym c.make_refusal.ensures ∙ c.in_default.is)
 
-pub invariant_of-self-then-is_err-2 : goal.invariant_of-self-then-is_err-2
-invariant_of-self-then-is_err-2 g c =
+pub returns-then-is_err-2-clause-mirrors : goal.returns-then-is_err-2-clause-mirrors
+returns-then-is_err-2-clause-mirrors g c =
     let none = sym c.make_refusal.ensures ∙ c.in_default.is in
     let place = had c.args.self.now.tree c.make_place.new.self c.args.root.now c.args.path.now (make-absent _ c.args.path.now none)
     (on-ok c.make_place.result (sym c.is_err.ensures.value ∙ c.if-is_err.false) c.make_place.ensures.ok) in
     let failed = on-err c.make_dir.result (sym c.is_err-2.ensures.value ∙ c.if-is_err-2.true) c.make_dir.ensures.failed in
-    record {
-      mirrors = λ its held. c.args.self.now.mirrors its (sym failed.0 ∙ held) ∙ sym (c.take_away.ensures ∙ place.back);
-    }
+    λ before its held. before its (sym failed.0 ∙ held) ∙ sym (c.take_away.ensures ∙ place.back)
 
 pub returns-then-is_err-2-clause-refused : goal.returns-then-is_err-2-clause-refused
 returns-then-is_err-2-clause-refused g c =

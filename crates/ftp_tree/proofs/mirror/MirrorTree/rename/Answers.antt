@@ -11,15 +11,13 @@ make_place-requires-clause-absent g c = move-absent _ c.args.from.now c.args.to.
 pub make_place-requires-clause-above : goal.make_place-requires-clause-above
 make_place-requires-clause-above g c = move-above _ c.args.from.now c.args.to.now (sym c.rename_refusal.ensures ∙ c.in_default.is)
 
-pub invariant_of-self-then-is_err-2 : goal.invariant_of-self-then-is_err-2
-invariant_of-self-then-is_err-2 g c =
+pub returns-then-is_err-2-clause-mirrors : goal.returns-then-is_err-2-clause-mirrors
+returns-then-is_err-2-clause-mirrors g c =
     let none = sym c.rename_refusal.ensures ∙ c.in_default.is in
     let place = had c.args.self.now.tree c.make_place.new.self c.args.root.now c.args.to.now (move-absent _ c.args.from.now c.args.to.now none)
     (on-ok c.make_place.result (sym c.is_err.ensures.value ∙ c.if-is_err.false) c.make_place.ensures.ok) in
     let failed = on-err c.rename.result (sym c.is_err-2.ensures.value ∙ c.if-is_err-2.true) c.rename.ensures.failed in
-    record {
-      mirrors = λ its held. c.args.self.now.mirrors its (sym failed.0 ∙ held) ∙ sym (c.take_away.ensures ∙ place.back);
-    }
+    λ before its held. before its (sym failed.0 ∙ held) ∙ sym (c.take_away.ensures ∙ place.back)
 
 pub returns-then-is_err-2-clause-refused : goal.returns-then-is_err-2-clause-refused
 returns-then-is_err-2-clause-refused g c =
@@ -36,18 +34,16 @@ move_over-requires-clause-free g c =
     (on-ok c.make_place.result (sym c.is_err.ensures.value ∙ c.if-is_err.false) c.make_place.ensures.ok) in
     ap (λ t. rename_refusal t c.args.from.now c.args.to.now) place.part ∙ none
 
-pub invariant_of-self-2 : goal.invariant_of-self-2
-invariant_of-self-2 g c =
+pub returns-clause-mirrors : goal.returns-clause-mirrors
+returns-clause-mirrors g c =
     let none = sym c.rename_refusal.ensures ∙ c.in_default.is in
     let place = had c.args.self.now.tree c.make_place.new.self c.args.root.now c.args.to.now (move-absent _ c.args.from.now c.args.to.now none)
     (on-ok c.make_place.result (sym c.is_err.ensures.value ∙ c.if-is_err.false) c.make_place.ensures.ok) in
     let done = on-ok c.rename.result (sym c.is_err-2.ensures.value ∙ c.if-is_err-2.false) c.rename.ensures.done in
     let moves = c.move_over.ensures ∙ ap (λ t. with_part c.make_place.new.self c.args.root.now (moved t c.args.from.now c.args.to.now)) place.part
     ∙ place.again (moved (under c.args.self.now.tree c.args.root.now) c.args.from.now c.args.to.now) in
-    record {
-      mirrors = λ its held.
-          mirrors-on _ _ (changed_below c.args.root.now (λ part. moved part c.args.from.now c.args.to.now)) c.args.self.now.tree c.args.self.now.mirrors done.0 its held ∙ sym moves;
-    }
+    λ before its held.
+    mirrors-on _ _ (changed_below c.args.root.now (λ part. moved part c.args.from.now c.args.to.now)) c.args.self.now.tree before done.0 its held ∙ sym moves
 
 pub returns-clause-done : goal.returns-clause-done
 returns-clause-done g c =
