@@ -7,9 +7,9 @@ use Rattle.ftp_control.proofs.Fronts.{AppendsFront-none}
 use Rattle.ftp_control.specs.Beginning.{AppendsFront}
 use Rattle.ftp_control.specs.declared.cause.Cause.{Cause}
 use Rattle.ftp_control.specs.Side.{Side}
-use Rattle.ftp_control.specs.Deeds.{Read, Ended, Stand}
+use Rattle.ftp_control.specs.Deeds.{Done, Read, Ended, Stand}
 use Rattle.ftp_control.specs.Driving.{Fails, Flushes, Goes, Leads, Settles}
-use Rattle.ftp_control.proofs.Leading.{fails_then, leads_on, leads_then, settled_leads}
+use Rattle.ftp_control.proofs.Leading.{fails_then, leads_then, settled_leads}
 
 -- where none was given into room, none was owed
 pub none_owed : (n room : ℕ) (owed : List ℕ) → n ≡ 0 → 0 < room → (0 < room → 0 < length owed → 0 < n) → owed ≡ []
@@ -39,12 +39,12 @@ module _ {side : Side} where
   -- ---- reads
 
   -- octets are read
-  pub reads_next : (start old new : Stand side) (octets : List ℕ) → Settles start old → old.unheard ≡ [] → Consumes old.left.octets new.left.octets octets
-      → new.left.ended ≡ old.left.ended → new.unheard ≡ octets → new.written ≡ old.written → new.owner ≡ old.owner → Leads start new
+  pub reads_next : (start old new : Stand side) (octets : List ℕ) → (settles : Settles start old) → old.unheard ≡ [] → Consumes old.left.octets new.left.octets octets
+      → new.left.ended ≡ old.left.ended → new.unheard ≡ octets → new.written ≡ old.written → new.owner ≡ old.owner → Done (Read octets) settles.mid new
   reads_next start old new octets settles heard read ended unheard written owner =
       let mid = settles.mid in
       let owes = settles.owes in
-      leads_on (Read octets) start mid new settles.leads (record {
+      (record {
         owes = subst (λ s. side.OwesNone mid.owner s) (sym owner) owes.0;
         heard = ap (λ s. s.unheard) (sym owes.1) ∙ heard;
         read = subst (λ l. Consumes l.octets new.left.octets octets) (ap (λ s. s.left) owes.1) read;
@@ -54,12 +54,12 @@ module _ {side : Side} where
       })
 
   -- none was left
-  pub ends_here : (start old new : Stand side) → Settles start old → old.unheard ≡ [] → Consumes old.left.octets new.left.octets [] → IsAtEnd new.left.octets
-      → new.left.ended ≡ true → new.unheard ≡ [] → new.written ≡ old.written → side.IsCut old.owner new.owner → Leads start new
+  pub ends_here : (start old new : Stand side) → (settles : Settles start old) → old.unheard ≡ [] → Consumes old.left.octets new.left.octets [] → IsAtEnd new.left.octets
+      → new.left.ended ≡ true → new.unheard ≡ [] → new.written ≡ old.written → side.IsCut old.owner new.owner → Done Ended settles.mid new
   ends_here start old new settles heard read last ended unheard written cut =
       let mid = settles.mid in
       let owes = settles.owes in
-      leads_on Ended start mid new settles.leads (record {
+      (record {
         asked = old.owner;
         owes = owes.0;
         heard = ap (λ s. s.unheard) (sym owes.1) ∙ heard;

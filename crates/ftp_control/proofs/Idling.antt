@@ -1,5 +1,5 @@
 -- How an end's data connection moves between its calls, whatever that end holds, and what deeds of it come to.
-use Rattle.std.proofs.Common.{◌≡◌, ◌∙◌, ◌⊎◌, ℕ, inl, inr, List, [], ◌++◌, take, drop, Option, Some, None, refl, sym, ap, subst}
+use Rattle.std.proofs.Common.{◌≡◌, ◌∙◌, ◌⊎◌, ◌<◌, ℕ, inl, inr, length, List, [], ◌++◌, take, drop, Option, Some, None, refl, sym, ap, subst}
 use Rattle.std.specs.Prelude.{◌≢◌, Bool, true, false}
 use Rattle.std.specs.Io.KnownBytes.{IsAtEnd}
 use Rattle.std.proofs.KnownBytes.{Keeps-refl}
@@ -8,9 +8,11 @@ use Rattle.ftp_control.specs.Asking.{Adds, Asked, told_lost}
 use Rattle.ftp_control.specs.Deeds.{Heard, Other, Stand, with_owner}
 use Rattle.ftp_control.specs.Driving.{Breaks, Leads, Quietly}
 use Rattle.ftp_control.specs.Lane.{IsLeft, IsOpen, IsRead, IsWaited, IsWritten, Lane, with_asked, with_fate, with_untold}
-use Rattle.ftp_control.specs.Machine.{Aside, Break, End, Failed, Gives, Got, Held, Idles, IsBroken, IsFairEnd, Left, MayLeave, LetGo, Machine, Received, Waited, Wrote, held, move_of, side_of}
+use Rattle.ftp_control.proofs.Getting.{stirs_by, stirs_lead, stirs_then}
+use Rattle.ftp_control.specs.Unheard.{Source}
+use Rattle.ftp_control.specs.Machine.{Aside, Stirs, awaits, Break, End, Failed, Gives, Got, Held, Idles, IsBroken, IsFairEnd, Left, LeavesFlushed, MayLeave, LetGo, Machine, Received, Waited, Wrote, held, move_of, side_of}
 use Rattle.ftp_control.proofs.Courses.{Carrier}
-use Rattle.ftp_control.specs.Outcome.{IsSent}
+use Rattle.ftp_control.specs.Outcome.{IsSent, IsWrote}
 use Rattle.ftp_control.specs.declared.whole.Fate.TheVariants.{Broken, Failed as HasFailed, Over, Sound}
 use Rattle.ftp_control.proofs.Leading.{leads_by, leads_then, quiet_call, quiet_nothing, quiet_then}
 use Rattle.ftp_ends.specs.declared.link.Wants.TheVariants as Want
@@ -26,8 +28,12 @@ module _ (machine : Machine) where
   pub idles_nothing : (lane : Lane) → Idles machine lane lane
   idles_nothing lane here = quiet_nothing (side_of machine) (held here lane)
 
-  pub idles_waited : (lost : Bool) (old new : Lane) → IsWaited lost old new → Idles machine old new
-  idles_waited lost old new waited here = quiet_call (side_of machine) (Waited lost) (held here old) (held here new) (refl, waited, tt)
+  -- it is waited at, or looked at the control connection
+  pub waits : (lost : Bool) (here : machine.Here) (old new : Lane) → (awaits (machine.wants here) ≡ true) ⊎ (old.fate ≡ HasFailed) → IsWaited lost old new
+      → (left : Source) (unheard : List ℕ) (written : Option (List ℕ))
+      → Stirs machine (record { owner = held here old; left = left; unheard = unheard; written = written })
+      (record { owner = held here new; left = left; unheard = unheard; written = written })
+  waits lost here old new due waited left unheard written = stirs_by (Other (Waited lost)) _ _ tt ((refl, waited, due), refl)
 
   -- a read or a write of it failed
   idles_failed : (old : Lane) → IsOpen old → Idles machine old (with_fate HasFailed old)
@@ -35,6 +41,19 @@ module _ (machine : Machine) where
 
   idles_then : (a b c : Lane) → Idles machine a b → Idles machine b c → Idles machine a c
   idles_then a b c first second here = quiet_then (side_of machine) (held here a) (held here b) (held here c) (first here) (second here)
+
+  -- octets were written, where some were to be
+  pub sends : (here : machine.Here) (old new : Lane) → (new.fate ≡ Sound) ⊎ (new.fate ≡ HasFailed) → IsWrote old new
+      → (left : Source) (unheard : List ℕ) (written : Option (List ℕ))
+      → Stirs machine (record { owner = held here old; left = left; unheard = unheard; written = written })
+      (record { owner = held here new; left = left; unheard = unheard; written = written })
+  sends here old new (inl is) (octets, wrote) left unheard written =
+      stirs_by (Other (Wrote octets)) _ _ tt ((refl, subst (λ l. IsWritten octets old l) (sound_so new is) wrote, tt), refl)
+  sends here old new (inr is) (octets, wrote) left unheard written =
+      let mid = with_fate Sound new in
+      stirs_then _ (record { owner = held here mid; left = left; unheard = unheard; written = written }) _
+      (stirs_by (Other (Wrote octets)) _ _ tt ((refl, wrote, tt), refl))
+      (subst (λ l. Idles machine mid l) (sym (failed_so new is)) (idles_failed mid (wrote.stands ∙ wrote.is_open.0, refl)) here left unheard written)
 
   -- octets were written, or none were to be
   pub idles_sent : (old new : Lane) → (new.fate ≡ Sound) ⊎ (new.fate ≡ HasFailed) → IsSent old new → Idles machine old new
@@ -50,20 +69,20 @@ module _ (machine : Machine) where
   idles_same old new same = subst (λ l. Idles machine old l) (sym same) (idles_nothing old)
 
   -- it was told that the control connection ended, or not
-  pub idles_asked : (lost : Bool) (lane : Lane) (h0 h1 : Option (List Asked)) → Adds h0 h1 (told_lost lost) → Idles machine (with_asked h0 lane) (with_asked h1 lane)
-  idles_asked lost lane h0 h1 asked = idles_waited lost (with_asked h0 lane) (with_asked h1 lane) (record {
+  pub asked_waits : (lost : Bool) (lane : Lane) (h0 h1 : Option (List Asked)) → Adds h0 h1 (told_lost lost) → IsWaited lost (with_asked h0 lane) (with_asked h1 lane)
+  asked_waits lost lane h0 h1 asked = record {
     holds = record { stands = refl; fate = refl; rest = refl; unwritten = refl; untold = refl };
     left = Keeps-refl lane.left;
     written = Keeps-refl lane.written;
     asked = asked;
-  })
+  }
 
   -- its data connection is left
   pub leaves : (asked : Asked) (old new : Stand (side_of machine)) → IsLeft asked old.owner.lane new.owner.lane
-      → MayLeave (machine.IsDone old.owner.end) (machine.wants old.owner.end) old.owner.lane.fate → IsFairEnd old.owner.lane asked
-      → new ≡ with_owner (held old.owner.end new.owner.lane) old → Leads old new
-  leaves asked old new left may fair same =
-      leads_by (Other (Left asked)) old new ((ap (λ s. s.owner.end) same, left, (may, fair)), subst (λ s. new ≡ with_owner s old) (sym (ap (λ s. s.owner) same)) same)
+      → MayLeave (machine.IsDone old.owner.end) (machine.wants old.owner.end) old.owner.lane.fate → IsFairEnd old.owner.lane asked → LeavesFlushed machine old.owner.end asked
+      → new ≡ with_owner (held old.owner.end new.owner.lane) old → Stirs machine old new
+  leaves asked old new left may fair flushed same =
+      stirs_by (Other (Left asked)) old new tt ((ap (λ s. s.owner.end) same, left, (may, fair, flushed)), subst (λ s. new ≡ with_owner s old) (sym (ap (λ s. s.owner) same)) same)
 
   -- one of its own calls
   pub asides : (own : machine.Own) (old new : machine.Here) (lane : Lane) → machine.Owns own old new → Quietly (side_of machine) (held old lane) (held new lane)
@@ -113,8 +132,9 @@ module _ (machine : Machine) where
 
   -- it heard the first of the octets that were read
   pub hears_first : (old new : Stand (side_of machine)) (count : ℕ) → machine.Hears (take count old.unheard) old.unheard old.owner.end new.owner.end
-      → new.owner.lane ≡ old.owner.lane → new.unheard ≡ drop count old.unheard → new.left ≡ old.left → new.written ≡ old.written → Leads old new
-  hears_first old new count hears lane unheard left written = leads_by (Heard (take count old.unheard)) old new (record {
+      → new.owner.lane ≡ old.owner.lane → new.unheard ≡ drop count old.unheard → new.left ≡ old.left → new.written ≡ old.written → 0 < length (take count old.unheard)
+      → Stirs machine old new
+  hears_first old new count hears lane unheard left written some = stirs_by (Heard (take count old.unheard)) old new some (record {
     hears = (hears, lane);
     next = sym (ap (λ l. take count old.unheard ++ l) unheard ∙ take-append-drop count old.unheard);
     left = left;

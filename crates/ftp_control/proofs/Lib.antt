@@ -9,3 +9,4 @@ pub mod Causing
 pub mod Idling
 pub mod Meeting
 pub mod Outcomes
+pub mod Getting

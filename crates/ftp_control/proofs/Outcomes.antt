@@ -6,9 +6,9 @@ use Rattle.std.proofs.Math.Seq.{take-append-add}
 use Rattle.std.specs.Io.KnownBytes.{Consumes, Keeps}
 use Rattle.ftp_control.specs.Asking.{Adds, Asked, Drops, Reset, Shut}
 use Rattle.ftp_control.specs.Carrying.{left_of, told_by}
-use Rattle.ftp_control.specs.Driving.{Quietly}
+use Rattle.ftp_control.specs.Deeds.{Other}
 use Rattle.ftp_control.specs.Lane.{IsEnded, IsOpen, IsRead, Lane, lane_of, with_fate, with_given}
-use Rattle.ftp_control.specs.Machine.{Gave, Gives, Machine, OwesNone, held, rest_by, side_of}
+use Rattle.ftp_control.specs.Machine.{Gave, Gives, Machine, OwesNone, Stirring, held, rest_by, side_of}
 use Rattle.ftp_control.specs.Outcome.{IsDropped, IsReset, in_hand}
 use Rattle.ftp_control.specs.Whole.{IsWhole}
 use Rattle.ftp_control.specs.declared.data.DataConnection.{DataConnection}
@@ -18,7 +18,8 @@ use Rattle.ftp_control.specs.declared.whole.Rest.{Rest}
 use Rattle.ftp_ends.specs.declared.link.Wants.TheVariants as Want
 use Rattle.ftp_control.proofs.Going.{none_owed}
 use Rattle.ftp_control.proofs.Lanes.{keeps_consumes, reads, way_none}
-use Rattle.ftp_control.proofs.Leading.{quiet_call, quiet_then}
+use Rattle.ftp_control.proofs.Getting.{stirs_by, stirs_then}
+use Rattle.ftp_control.proofs.Leading.{quiet_call}
 
 -- one that is reset is left
 ended_by : (stands : Bool) (left written : Option (List ℕ)) (unwritten : List ℕ) (asked : Asked) → IsDropped stands left written asked → IsEnded stands left written unwritten asked
@@ -70,23 +71,22 @@ more_given before at count room front out is len fits =
 module _ (machine : Machine) where
   -- it gave more into the room behind what it gave before
   pub given_more : (old mid new : machine.Here) (lane : Lane) (at count : ℕ) (room front out : List ℕ) (before rest : Rest) → IsOpen lane → machine.wants mid ≡ Want.Send
-      → Quietly (side_of machine) (held old lane) (held mid (with_given (take at room) before lane)) → front ≡ take at room → length front ≡ at → count ≤ length out
+      → Stirring machine (held old lane) (held mid (with_given (take at room) before lane)) → front ≡ take at room → length front ≡ at → count ≤ length out
       → take count out ≡ take count (machine.to_give mid) → machine.Gave count mid new → rest ≡ rest_by (machine.wants new)
-      → Quietly (side_of machine) (held old lane) (held new (with_given (take (at + count) (front ++ out)) rest lane))
-  given_more old mid new lane at count room front out before rest is_open sends first is len fits owed gave by =
+      → Stirring machine (held old lane) (held new (with_given (take (at + count) (front ++ out)) rest lane))
+  given_more old mid new lane at count room front out before rest is_open sends first is len fits owed gave by left unheard written =
       let there = with_given (take at room) before lane in
       let then = with_given (take (at + count) (front ++ out)) rest lane in
-      quiet_then (side_of machine) (held old lane) (held mid there) (held new then) first
+      stirs_then _ _ _ (first left unheard written)
       (quiet_call (side_of machine) (Gave count (take count out) rest) (held mid there) (held new then)
-      ((owed, gave, by), (ap (λ l. record lane { rest = rest; unwritten = l }) (more_given lane.unwritten at count room front out is len fits), is_open), sends))
+      ((owed, gave, by), (ap (λ l. record lane { rest = rest; unwritten = l }) (more_given lane.unwritten at count room front out is len fits), is_open), sends) left unheard written)
 
   -- it gave these first
   pub given_first : (old new : machine.Here) (lane : Lane) (count : ℕ) (out : List ℕ) (rest : Rest) → IsOpen lane → machine.wants old ≡ Want.Send
       → take count out ≡ take count (machine.to_give old) → machine.Gave count old new → rest ≡ rest_by (machine.wants new)
-      → Quietly (side_of machine) (held old lane) (held new (with_given (take count out) rest lane))
-  given_first old new lane count out rest is_open sends owed gave by =
-      quiet_call (side_of machine) (Gave count (take count out) rest) (held old lane) (held new (with_given (take count out) rest lane))
-      ((owed, gave, by), (refl, is_open), sends)
+      → Stirring machine (held old lane) (held new (with_given (take count out) rest lane))
+  given_first old new lane count out rest is_open sends owed gave by left unheard written =
+      stirs_by (Other (Gave count (take count out) rest)) _ _ tt (((owed, gave, by), (refl, is_open), sends), refl)
 
   -- control octets that it owed it gave
   pub gave_some : (old new : machine.Here) (lane : Lane) (count : ℕ) (octets : List ℕ) → octets ≡ take count (machine.owed old) → machine.Gives count old new

@@ -2,12 +2,15 @@
 use Rattle.std.proofs.Common.{◌∙◌, ap}
 use Rattle.std.specs.Prelude.{◌≡◌, ◌≢◌, ◌⊎◌, ◌<◌, ⊤, ℕ, Bool, true, false, List, [], ◌∷◌, length, take, Option, Some, None, refl}
 use Rattle.ftp_control.specs.Asking.{Asked, Listened, Came, Connected, NotCame, NotConnected, Ended, Reset}
-use Rattle.ftp_control.specs.Deeds.{Stand}
-use Rattle.ftp_control.specs.Driving.{Quietly}
+use Rattle.ftp_control.specs.Deeds.{Deed, Done, Heard, Said, Read, Ended as ToldEnded, Other, Stand}
+use Rattle.ftp_control.specs.Driving.{Fails as BreaksOff, Leads, Quietly}
 use Rattle.ftp_control.specs.Lane.{IsOpen, Lane, Move, Moves, Stays, Waits, Reads, Writes, Gives as GivesOctets, Takes, Fails, Ends, Breaks, Stops, Asks, Opens, Leaves, with_untold}
 use Rattle.ftp_control.specs.Side.{Side}
-use Rattle.ftp_control.specs.Unheard.{left_of, unheard_of, written_of}
+use Rattle.ftp_control.specs.Unheard.{Source, left_of, unheard_of, written_of}
 use Rattle.ftp_control.specs.Whole.{is_well}
+use Rattle.std.specs.declared.result.Result.{Result}
+use Rattle.std.specs.declared.result.Result.TheVariants.{Ok, Err}
+use Rattle.ftp_control.specs.declared.cause.Cause.{Cause}
 use Rattle.ftp_control.specs.declared.control.Control.{Control}
 use Rattle.ftp_control.specs.declared.whole.Fate.{Fate}
 use Rattle.ftp_control.specs.declared.whole.Fate.TheVariants as Fates
@@ -116,6 +119,13 @@ moves_octets Want.Receive = true
 moves_octets Want.Send = true
 moves_octets other = false
 
+-- an end that wants this waits at its data connection, or for one
+abbrev pub awaits : Wants → Bool
+awaits Want.Accept = true
+awaits Want.Receive = true
+awaits Want.Send = true
+awaits other = false
+
 -- one is left only where the end goes on without it or is done, or was told that it broke or ended; one that failed is told before, or it is done
 abbrev pub MayLeave : (done : Type 0) → Wants → Fate → Type 0
 MayLeave done want Fates.Sound = (leaves want ≡ true) ⊎ done
@@ -170,19 +180,29 @@ module _ (machine : Machine) where
   Does (LetGo octets) old new = (new ≡ old) × (machine.wants old ≢ Want.Receive)
   Does (Left asked) old new = new ≡ old
 
+  -- it was asked right before what it owes, and that was nothing
+  abbrev pub IsFlushed : machine.Here → Type 0
+  IsFlushed here = (before : machine.Here) × (machine.owed before ≡ []) × machine.Gives 0 before here
+
+  -- by an end only where it was asked so, or it is done
+  abbrev pub LeavesFlushed : machine.Here → Asked → Type 0
+  LeavesFlushed here (Ended left written) = IsFlushed here ⊎ machine.IsDone here
+  LeavesFlushed here other = ⊤
+
   -- when each of them may be done: as the end wants it; octets come and go, and an end is told, only while its data connection is open, and a break
-  -- only where it broke
+  -- only where it broke; a data connection is come to, and closed by an end, only once all that the end owed was written
   abbrev pub IsDue : Call machine.Own → Held machine.Here → Type 0
-  IsDue (Listening port) old = machine.wants old.end ≡ Want.Listen
-  IsDue NoPort old = machine.wants old.end ≡ Want.Listen
-  IsDue (Opened host asked at_first so_far rest) old = AreWanted (machine.wants old.end) asked
-  IsDue (Refused asked) old = IsRefused (machine.wants old.end) asked
+  IsDue (Listening port) old = (machine.wants old.end ≡ Want.Listen) × IsFlushed old.end
+  IsDue NoPort old = (machine.wants old.end ≡ Want.Listen) × IsFlushed old.end
+  IsDue (Opened host asked at_first so_far rest) old = AreWanted (machine.wants old.end) asked × IsFlushed old.end
+  IsDue (Refused asked) old = IsRefused (machine.wants old.end) asked × IsFlushed old.end
   IsDue (Received octets count) old = IsOpen old.lane × (machine.wants old.end ≡ Want.Receive)
   IsDue (Gave count octets rest) old = machine.wants old.end ≡ Want.Send
   IsDue (Got octets) old = machine.wants old.end ≡ Want.Receive
   IsDue End old = machine.wants old.end ≡ Want.Receive
   IsDue Break old = IsBroken (machine.wants old.end) old.lane.stands old.lane.fate
-  IsDue (Left asked) old = MayLeave (machine.IsDone old.end) (machine.wants old.end) old.lane.fate × IsFairEnd old.lane asked
+  IsDue (Left asked) old = MayLeave (machine.IsDone old.end) (machine.wants old.end) old.lane.fate × IsFairEnd old.lane asked × LeavesFlushed old.end asked
+  IsDue (Waited lost) old = (awaits (machine.wants old.end) ≡ true) ⊎ (old.lane.fate ≡ Fates.Failed)
   IsDue Closed old = machine.IsCloseDue old.end
   IsDue other old = ⊤
 
@@ -238,3 +258,33 @@ module _ (machine : Machine) where
   abbrev pub stand_of : {R W : Type 0} → (R → Option (List ℕ)) → (W → Option (List ℕ)) → Held machine.Here → Control R W → Stand side_of
   stand_of remaining contents owner control =
       record { owner = owner; left = left_of remaining control; unheard = unheard_of control; written = written_of contents control }
+
+  -- a deed by which a drive gets on: octets are heard or read, the end is told of something, its data connection moves, or is waited for as the
+  -- end wants it; not that the end is asked what it owes, or whether its drive is over
+  abbrev pub IsStir : Deed side_of → Type 0
+  IsStir (Heard octets) = 0 < length octets
+  IsStir (Said octets) = ⊥
+  IsStir (Read octets) = ⊤
+  IsStir ToldEnded = ⊤
+  IsStir (Other (Aside own)) = ⊥
+  IsStir (Other call) = ⊤
+
+  -- deeds led from here to there, and the drive got on by one of them
+  pub record Stirs (start now : Stand side_of) : Type 0 where
+    pub old : Stand side_of
+    pub new : Stand side_of
+    pub before : Leads start old
+    pub deed : Deed side_of
+    pub stir : IsStir deed
+    pub done : Done deed old new
+    pub after : Leads new now
+
+  -- the end and its data connection get on, however the control connection stands
+  abbrev pub Stirring : (old new : Held machine.Here) → Type 0
+  Stirring old new = (left : Source) (unheard : List ℕ) (written : Option (List ℕ))
+      → Stirs (record { owner = old; left = left; unheard = unheard; written = written }) (record { owner = new; left = left; unheard = unheard; written = written })
+
+  -- the drive got on, or it fails
+  abbrev pub GetsOn : {T : Type 0} → (old new : Stand side_of) → Result T Cause → Type 0
+  GetsOn old new (Ok value) = Stirs old new
+  GetsOn old new (Err cause) = BreaksOff old new

@@ -22,6 +22,10 @@ pub record IsReset (asked : Asked) (old new : Lane) : Type 0 where
   pub dropped : IsDropped old.stands old.left old.written asked
   pub left : IsLeft asked old new
 
--- octets were written, whether that failed behind them or not; or none were to be written
+-- octets were written, whether that failed behind them or not
+abbrev pub IsWrote : (old new : Lane) → Type 0
+IsWrote old new = (octets : List ℕ) × IsWritten octets old (with_fate Sound new)
+
+-- or none were to be written
 abbrev pub IsSent : (old new : Lane) → Type 0
-IsSent old new = (new ≡ old) ⊎ ((octets : List ℕ) × IsWritten octets old (with_fate Sound new))
+IsSent old new = (new ≡ old) ⊎ IsWrote old new

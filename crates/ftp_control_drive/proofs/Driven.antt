@@ -1,10 +1,11 @@
 -- What a drive did, from what its turns lead to.
 use Rattle.std.proofs.Common.{◌≡◌, inr, List, [], ◌++◌, subst, Result, Err}
 use Rattle.std.specs.Prelude.{Bool, IfErr}
+use Rattle.ftp_control.specs.Asking.{Asked, Came, Connected, Ended, Listened, Lost, NotCame, NotConnected, Reset, Shut}
 use Rattle.ftp_control.specs.Cause.{IsCause}
 use Rattle.ftp_control.specs.Deeds.{Deed, Led, Stand}
 use Rattle.ftp_control.specs.Driving.{Fails}
-use Rattle.ftp_control.specs.Machine.{Machine, MayLeave, move_of, side_of}
+use Rattle.ftp_control.specs.Machine.{LeavesFlushed, Machine, MayLeave, move_of, side_of}
 use Rattle.ftp_control.specs.declared.whole.Fate.{Fate}
 use Rattle.ftp_control.specs.declared.whole.Fate.TheVariants as Fates
 use Rattle.ftp_ends.specs.declared.link.Wants.{Wants}
@@ -21,6 +22,18 @@ may_when_done done want Fates.Sound is = inr is
 may_when_done done want Fates.Failed is = is
 may_when_done done want Fates.Broken is = tt
 may_when_done done want Fates.Over is = tt
+
+-- and by an end, too
+pub leaves_done : (machine : Machine) (here : machine.Here) (asked : Asked) → machine.IsDone here → LeavesFlushed machine here asked
+leaves_done machine here (Listened port) done = tt
+leaves_done machine here (Came host left written) done = tt
+leaves_done machine here (Connected endpoint left written) done = tt
+leaves_done machine here NotCame done = tt
+leaves_done machine here (NotConnected endpoint) done = tt
+leaves_done machine here (Ended left written) done = inr done
+leaves_done machine here (Reset left written) done = tt
+leaves_done machine here Shut done = tt
+leaves_done machine here Lost done = tt
 
 module _ (machine : Machine) (start : Stand (side_of machine)) (unwritten : start.owner.lane.unwritten ≡ []) (untold : start.owner.lane.untold ≡ []) where
   pub did : (last deeds : List (Deed (side_of machine))) (now : Stand (side_of machine)) → Led (last ++ deeds) start now → Did machine last start now

@@ -1,11 +1,11 @@
 -- What the parts of a drive say, put together.
 use Rattle.std.proofs.Common.{◌≡◌, ◌⊎◌, ℕ, [], inl, inr, refl, subst, sym, List, Option, Result, Ok, Err}
-use Rattle.std.specs.Prelude.{Bool, IsErr, true, false}
-use Rattle.ftp_control.specs.Asking.{Adds, Asked, told_lost}
+use Rattle.std.specs.Prelude.{OnOk, Bool, IsErr, true, false}
+use Rattle.ftp_control.specs.Asking.{Adds, Asked, Came, Connected, Ended, Listened, Lost, NotCame, NotConnected, Reset, Shut, told_lost}
 use Rattle.ftp_control.specs.Deeds.{Stand, with_owner}
-use Rattle.ftp_control.specs.Driving.{Fails, Leads}
-use Rattle.ftp_control.specs.Lane.{IsLeft, IsRead, Lane, lane_of, with_fate, with_untold}
-use Rattle.ftp_control.specs.Machine.{IsBroken, IsFairEnd, Machine, MayLeave, held, leaves as goes_without, side_of, stand_of}
+use Rattle.ftp_control.specs.Driving.{Flushes, Fails, Goes, Leads}
+use Rattle.ftp_control.specs.Lane.{IsLeft, IsRead, Lane, lane_of, with_asked, with_fate, with_untold}
+use Rattle.ftp_control.specs.Machine.{IsFlushed, LeavesFlushed, GetsOn, Stirs, awaits, IsBroken, IsFairEnd, Machine, MayLeave, held, leaves as goes_without, side_of, stand_of}
 use Rattle.ftp_control.specs.Outcome.{IsDropped, IsReset}
 use Rattle.ftp_control.specs.Whole.{is_well}
 use Rattle.ftp_control.specs.declared.data.DataConnection.{DataConnection}
@@ -16,9 +16,10 @@ use Rattle.ftp_control.specs.declared.data.Halt.{Halt}
 use Rattle.ftp_control.specs.declared.data.Halt.TheVariants as Halts
 use Rattle.ftp_control.specs.declared.whole.Fate.{Fate}
 use Rattle.ftp_control.specs.declared.whole.Fate.TheVariants as Fates
-use Rattle.ftp_control.proofs.Idling.{breaks_told, came, came_none, idles_asked, leaves}
+use Rattle.ftp_control.proofs.Going.{goes_then}
+use Rattle.ftp_control.proofs.Idling.{asked_waits, breaks_told, came, came_none, leaves, waits}
 use Rattle.ftp_control.proofs.Lanes.{same_lane}
-use Rattle.ftp_control.proofs.Leading.{leads_then}
+use Rattle.ftp_control.proofs.Getting.{stirs_lead, then_gets, then_stirs}
 use Rattle.ftp_ends.specs.declared.link.Wants.{Wants}
 use Rattle.ftp_ends.specs.declared.link.Wants.TheVariants as Want
 use Rattle.ftp_control_drive.specs.Calling.{Ends}
@@ -67,20 +68,61 @@ module _ (machine : Machine) where
   came_nothing old lane wants read (inl sound) = came machine old lane [] [] wants read sound refl
   came_nothing old lane wants read (inr failed) = came_none machine old (with_untold [] lane) wants read failed
 
+  -- it may be left in any way where all that the end owed is written; and by a reset at any time
+  pub leaves_flushed : (here : machine.Here) (asked : Asked) → IsFlushed machine here → LeavesFlushed machine here asked
+  leaves_flushed here (Listened port) flushed = tt
+  leaves_flushed here (Came host left written) flushed = tt
+  leaves_flushed here (Connected endpoint left written) flushed = tt
+  leaves_flushed here NotCame flushed = tt
+  leaves_flushed here (NotConnected endpoint) flushed = tt
+  leaves_flushed here (Ended left written) flushed = inl flushed
+  leaves_flushed here (Reset left written) flushed = tt
+  leaves_flushed here Shut flushed = tt
+  leaves_flushed here Lost flushed = tt
+
+  dropped_flushed : (here : machine.Here) (stands : Bool) (left written : Option (List ℕ)) (asked : Asked) → IsDropped stands left written asked
+      → LeavesFlushed machine here asked
+  dropped_flushed here true left written asked is = subst (λ a. LeavesFlushed machine here a) (sym is) tt
+  dropped_flushed here false left written asked is = subst (λ a. LeavesFlushed machine here a) (sym is) tt
+
   -- it is told that it broke, and it is reset
   pub loses : (old new : Stand (side_of machine)) (here : machine.Here) (asked : Asked) → machine.Break old.owner.end here
       → IsBroken (machine.wants old.owner.end) old.owner.lane.stands old.owner.lane.fate → IsReset asked old.owner.lane new.owner.lane
-      → new ≡ with_owner (held here new.owner.lane) old → Leads old new
+      → new ≡ with_owner (held here new.owner.lane) old → Stirs machine old new
   loses old new here asked broke is reset same =
       let lane = with_fate Fates.Broken old.owner.lane in
       let mid = with_owner (held here lane) old in
-      leads_then old mid new (breaks_told machine old.owner.end here old.owner.lane broke is old.left old.unheard old.written)
+      then_stirs old mid new (breaks_told machine old.owner.end here old.owner.lane broke is old.left old.unheard old.written)
       (leaves machine asked mid new (left_broken asked old.owner.lane new.owner.lane reset.left) tt
-      (dropped_fair lane old.owner.lane.stands asked refl reset.dropped) same)
+      (dropped_fair lane old.owner.lane.stands asked refl reset.dropped)
+      (dropped_flushed here old.owner.lane.stands old.owner.lane.left old.owner.lane.written asked reset.dropped) same)
 
   -- it was told that the control connection ended, or not
-  pub asks : (lost : Bool) (old : Stand (side_of machine)) (h1 : Option (List Asked)) → Adds old.owner.lane.asked h1 (told_lost lost) → Leads old (asked_before h1 old)
-  asks lost old h1 told = idles_asked machine lost old.owner.lane old.owner.lane.asked h1 told old.owner.end old.left old.unheard old.written
+  pub asks : (lost : Bool) (old : Stand (side_of machine)) (h1 : Option (List Asked)) → (awaits (machine.wants old.owner.end) ≡ true) ⊎ (old.owner.lane.fate ≡ Fates.Failed)
+      → Adds old.owner.lane.asked h1 (told_lost lost) → Leads old (asked_before h1 old)
+  asks lost old h1 due told =
+      let lane = old.owner.lane in
+      stirs_lead _ _ (waits machine lost old.owner.end lane (with_asked h1 lane) due (asked_waits machine lost lane lane.asked h1 told) old.left old.unheard old.written)
+
+  -- all that it owed is written
+  pub flushed_so : {T : Type 0} (a b : Stand (side_of machine)) (r : Result T Cause) → Flushes a b r → OnOk r (IsFlushed machine b.owner.end)
+  flushed_so a b (Ok value) settles = (settles.mid.owner.end, (settles.owes.0).owed, (settles.owes.0).gave)
+  flushed_so a b (Err e) fails = tt
+
+  -- a turn leads on, or fails
+  pub turned_on : {U : Type 0} (a b : Stand (side_of machine)) → Stirs machine a b ⊎ (Leads a b × U) → Leads a b
+  turned_on a b (inl stirs) = stirs_lead a b stirs
+  turned_on a b (inr other) = other.0
+
+  pub turned_off : {U : Type 0} (a b : Stand (side_of machine)) → Fails a b ⊎ (Fails a b × U) → Fails a b
+  turned_off a b (inl fails) = fails
+  turned_off a b (inr other) = other.0
+
+  -- deeds, and then a turn
+  pub then_turns : {T U : Type 0} (a b c : Stand (side_of machine)) (r : Result T Cause) → Leads a b → GetsOn machine b c r ⊎ (Goes b c r × U)
+      → GetsOn machine a c r ⊎ (Goes a c r × U)
+  then_turns a b c r first (inl gets) = inl (then_gets a b c r first gets)
+  then_turns a b c r first (inr (goes, is)) = inr (goes_then a b c r first goes, is)
 
   pub ends_err : {Over : Type 0} (last : Over → (old new : machine.Here) → Type 0) (a b : Stand (side_of machine)) (r : Result Over Cause) → IsErr r → Fails a b
       → Ends machine last a b r

@@ -2,7 +2,8 @@
 pub use Rattle.std.proofs.Common.{◌∙◌, ◌∷◌, [], refl, rules, subst, sym}
 pub use Rattle.ftp_control.proofs.Causing.{is_fault, is_spent, passes}
 pub use Rattle.ftp_control.proofs.Going.{ends_here, flushed, flushes_err, goes_err, goes_then, read_fails, reads_next, write_fails}
-pub use Rattle.ftp_control.proofs.Idling.{asides, breaks_told, came, came_none, ends_told, hears_first, idles_same, idles_sent, idles_waited, leaves, lets_go, receives}
+pub use Rattle.ftp_control.proofs.Idling.{asides, breaks_told, came, came_none, ends_told, hears_first, idles_same, idles_sent, leaves, lets_go, receives, sends, waits}
+pub use Rattle.ftp_control.proofs.Getting.{gets_err, gets_goes, gets_then, stirs_by, stirs_lead, stirs_on, stirs_then, then_gets, then_stirs}
 pub use Rattle.ftp_control.proofs.Lanes.{fills, none_had}
 pub use Rattle.ftp_control.proofs.Leading.{fails_here, fails_lets, fails_then, leads_by, leads_nowhere, leads_on, leads_then, settled_leads, settles_here}
 pub use Rattle.ftp_control.proofs.Meeting.{has_none, has_one, listens, listens_nowhere, none_answered, none_came, one_came}
@@ -13,7 +14,7 @@ pub use Rattle.ftp_control.specs.Driving.{Fails, Leads, Quietly}
 pub use Rattle.ftp_control.specs.Lane.{IsOpen, Lane, no_lane, with_given, with_untold}
 pub use Rattle.ftp_control.specs.Machine.{Closed, held, side_of, stand_of}
 pub use Rattle.ftp_control.specs.Outcome.{in_hand}
-pub use Rattle.ftp_control_drive.proofs.Steps.{asks, came_nothing, ends_err, fated_lane, handing, loses, may_leave, sent_fate}
+pub use Rattle.ftp_control_drive.proofs.Steps.{asks, came_nothing, ends_err, fated_lane, flushed_so, handing, leaves_flushed, loses, may_leave, sent_fate, then_turns, turned_off, turned_on}
 pub use Rattle.ftp_control_drive.specs.Calling.{Ends}
 pub use Rattle.ftp_control_drive.specs.Standing.{IsKept, Why, lane_at, standing}
 pub use Rattle.std.proofs.lemmas.List.{nil_from_length, take-append-le}

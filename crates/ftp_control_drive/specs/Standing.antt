@@ -1,5 +1,5 @@
 -- Where a drive of the program stands.
-use Rattle.std.specs.Prelude.{◌≡◌, ℕ, Bool, true, List, [], Option, IfErr}
+use Rattle.std.specs.Prelude.{◌≡◌, ◌⊎◌, ℕ, Bool, true, List, [], Option, IfErr}
 use Rattle.std.specs.Option.{is_some}
 use Rattle.std.specs.Io.KnownBytes.{IsAtEnd}
 use Rattle.std.specs.declared.result.Result.{Result}
@@ -9,11 +9,12 @@ use Rattle.ftp_control.specs.Cause.{IsCause}
 use Rattle.ftp_control.specs.Deeds.{Stand, with_owner}
 use Rattle.ftp_control.specs.Driving.{Goes, Leads}
 use Rattle.ftp_control.specs.Lane.{IsLeft, Lane, lane_of, with_asked}
-use Rattle.ftp_control.specs.Machine.{IsFairEnd, Machine, held, side_of, stand_of}
+use Rattle.ftp_control.specs.Machine.{GetsOn, IsFairEnd, Machine, Stirs, held, side_of, stand_of}
 use Rattle.ftp_control.specs.Unheard.{unheard_of}
 use Rattle.ftp_control.specs.declared.cause.Cause.{Cause}
 use Rattle.ftp_control.specs.declared.control.Control.{Control}
 use Rattle.ftp_control.specs.declared.whole.Fate.TheVariants.{Sound}
+use Rattle.ftp_ends.specs.declared.link.Wants.TheVariants as Want
 use Rattle.ftp_control_drive.specs.declared.data.Data.{Data}
 use Rattle.ftp_control_drive.specs.declared.drive.Drive.{Drive}
 
@@ -51,6 +52,18 @@ module _ (machine : Machine) {K E R W P S : Type 0} (here : E → machine.Here) 
   -- it leads on
   abbrev pub LeadsOn : (old new : Drive K E R W P S) → Type 0
   LeadsOn old new = Leads (standing old) (standing new)
+
+  -- it gets on
+  abbrev pub StirsOn : (old new : Drive K E R W P S) → Type 0
+  StirsOn old new = Stirs machine (standing old) (standing new)
+
+  -- it gets on, or fails
+  abbrev pub Gets : {T : Type 0} → (old new : Drive K E R W P S) → Result T Cause → Type 0
+  Gets old new result = GetsOn machine (standing old) (standing new) result
+
+  -- so does a turn; or it leads to where the end wants all to be closed
+  abbrev pub TurnsOn : {T : Type 0} → (old new : Drive K E R W P S) → Result T Cause → Type 0
+  TurnsOn old new result = Gets old new result ⊎ (Goes (standing old) (standing new) result × (machine.wants (here new.end.now) ≡ Want.CloseAll))
 
   -- it leads on, or fails
   abbrev pub Follows : {T : Type 0} → (old new : Drive K E R W P S) → Result T Cause → Type 0

@@ -1,12 +1,12 @@
 // A transfer under way: octets go over the data connection, and control octets that come first are read.
-ghost use Rattle.std.specs.Prelude.{◌≡◌, ◌≢◌, ◌<◌, IsTrue, false, length, true};
+ghost use Rattle.std.specs.Prelude.{◌≡◌, ◌≢◌, ◌⊎◌, ◌<◌, IsTrue, false, length, true};
 ghost use Rattle.std.specs.Option.{is_some};
 ghost use Rattle.ftp_control.specs.Asking.{Adds, is_over, told_lost};
 ghost use Rattle.ftp_control.specs.Cause.{HasLost};
 ghost use Rattle.ftp_control.specs.Halting.{fate_by};
-ghost use Rattle.ftp_control.specs.Machine.{IsBroken, MayLeave, moves_octets};
+ghost use Rattle.ftp_control.specs.Machine.{IsBroken, IsFlushed, MayLeave, awaits, moves_octets};
 ghost use Rattle.ftp_control.specs.Unheard.{unheard_of};
-ghost use Rattle.ftp_control_drive.specs.Standing.{Follows, HasEnded, IsKept, IsOpenAt, LeadsOn, Why};
+ghost use Rattle.ftp_control_drive.specs.Standing.{Follows, Gets, HasEnded, IsKept, IsOpenAt, LeadsOn, StirsOn, Why};
 
 use crate::calls::EndCalls;
 use crate::data::Data;
@@ -25,11 +25,13 @@ where
     S: Read + Write,
 {
     /// Takes octets from an end that asks, which the turns behind it write; of one that serves sends them where there is room for them.
-    #[tactic(auto, using(ftp_control::proofs::Going::goes_then, ftp_control::proofs::Leading::leads_then))]
+    #[tactic(auto, using(ftp_control::proofs::Getting::gets_then, ftp_control::proofs::Getting::then_gets, ftp_control::proofs::Getting::stirs_then, ftp_control::proofs::Leading::leads_then, ftp_control::proofs::Getting::gets_goes))]
     pub(crate) fn carry(&mut self) -> Result<(), Cause>
         requires wants { K.machine.wants (K.here self.old.end.now) ≡ Wants.Send }
         requires sound { self.old.data.connection.fate ≢ Fate.Failed }
-        ensures goes { Follows K.machine K.here R.remaining W.contents P.history S.remaining S.contents self.old self.new result }
+        requires flushed { IsFlushed K.machine (K.here self.old.end.now) }
+        requires none { K.serves ≡ false → IsOpenAt self.old.data → self.old.data.connection.at ≡ self.old.data.connection.end }
+        ensures gets { Gets K.machine K.here R.remaining W.contents P.history S.remaining S.contents self.old self.new result }
         ensures why { Why K.machine K.serves (K.here self.new.end.now) (P.history self.new.ports.now) self.new.control.now result }
         ensures kept { IsKept self.old self.new }
     {
@@ -50,11 +52,12 @@ where
     }
 
     /// Receives octets where there are any, and reads the control connection where it has some first.
-    #[tactic(auto, using(ftp_control::proofs::Going::goes_then))]
+    #[tactic(auto, using(ftp_control::proofs::Getting::gets_then, ftp_control::proofs::Getting::gets_goes))]
     pub(crate) fn receive(&mut self) -> Result<(), Cause>
         requires wants { K.machine.wants (K.here self.old.end.now) ≡ Wants.Receive }
         requires sound { self.old.data.connection.fate ≢ Fate.Failed }
-        ensures goes { Follows K.machine K.here R.remaining W.contents P.history S.remaining S.contents self.old self.new result }
+        requires flushed { IsFlushed K.machine (K.here self.old.end.now) }
+        ensures gets { Gets K.machine K.here R.remaining W.contents P.history S.remaining S.contents self.old self.new result }
         ensures why { Why K.machine K.serves (K.here self.new.end.now) (P.history self.new.ports.now) self.new.control.now result }
         ensures kept { IsKept self.old self.new }
     {
@@ -74,7 +77,8 @@ where
         requires moves { moves_octets (K.machine.wants (K.here self.old.end.now)) ≡ true }
         requires sound { self.old.data.connection.fate ≢ Fate.Failed }
         requires none { IsOpenAt self.old.data → ⊥ }
-        ensures leads { LeadsOn K.machine K.here R.remaining W.contents P.history S.remaining S.contents self.old self.new }
+        requires flushed { IsFlushed K.machine (K.here self.old.end.now) }
+        ensures stirs { StirsOn K.machine K.here R.remaining W.contents P.history S.remaining S.contents self.old self.new }
         ensures kept { IsKept self.old self.new }
     {
         if self.data.connection.fate() == Fate::Sound {
@@ -86,7 +90,8 @@ where
 
     /// Waits until octets can go over the data connection, or where all that was read was heard until the control connection is to be served.
     fn wait(&mut self, what: For) -> Ready
-        ensures leads { LeadsOn K.machine K.here R.remaining W.contents P.history S.remaining S.contents self.old self.new }
+        requires { awaits (K.machine.wants (K.here self.old.end.now)) ≡ true }
+        ensures stirs { StirsOn K.machine K.here R.remaining W.contents P.history S.remaining S.contents self.old self.new }
         ensures ready { IsOpenAt self.old.data → IsOpenAt self.new.data }
         ensures end { self.new.end.now ≡ self.old.end.now }
         ensures first { result ≡ Ready.Control → 0 < length (unheard_of self.new.control.now) → HasLost (P.history self.new.ports.now) }
@@ -130,7 +135,7 @@ where
     }
 
     /// Takes octets from the end, where all before were written, and writes them; where that fails, the data connection is lost.
-    #[tactic(auto, using(ftp_control::proofs::Leading::leads_then))]
+    #[tactic(auto, using(ftp_control::proofs::Leading::leads_then, ftp_control::proofs::Getting::stirs_lead))]
     fn send_more(&mut self)
         requires ready { IsOpenAt self.old.data }
         requires wants { K.machine.wants (K.here self.old.end.now) ≡ Wants.Send }
@@ -145,10 +150,11 @@ where
     }
 
     /// Writes octets that are on their way, as many as one write takes.
-    #[tactic(auto, using(ftp_control::proofs::Going::goes_then))]
+    #[tactic(auto, using(ftp_control::proofs::Getting::gets_then))]
     pub(crate) fn send(&mut self) -> Result<(), Cause>
-        requires { IsOpenAt self.old.data }
-        ensures goes { Follows K.machine K.here R.remaining W.contents P.history S.remaining S.contents self.old self.new result }
+        requires ready { IsOpenAt self.old.data }
+        requires some { self.old.data.connection.at < self.old.data.connection.end }
+        ensures gets { Gets K.machine K.here R.remaining W.contents P.history S.remaining S.contents self.old self.new result }
         ensures why { Why K.machine K.serves (K.here self.new.end.now) (P.history self.new.ports.now) self.new.control.now result }
         ensures kept { IsKept self.old self.new }
     {
@@ -164,6 +170,7 @@ where
         requires wants { K.machine.wants (K.here self.old.end.now) ≡ Wants.Send }
         ensures ready { IsOpenAt self.new.data }
         ensures leads { LeadsOn K.machine K.here R.remaining W.contents P.history S.remaining S.contents self.old self.new }
+        ensures stirs { self.old.data.connection.at ≡ self.old.data.connection.end → StirsOn K.machine K.here R.remaining W.contents P.history S.remaining S.contents self.old self.new }
         ensures kept { IsKept self.old self.new }
     {
         self.data.fill::<K, E>(self.end);
@@ -174,6 +181,7 @@ where
         requires { IsOpenAt self.old.data }
         ensures fate { self.new.data.connection.fate ≡ fate_by result Fate.Sound }
         ensures leads { LeadsOn K.machine K.here R.remaining W.contents P.history S.remaining S.contents self.old self.new }
+        ensures stirs { self.old.data.connection.at < self.old.data.connection.end → StirsOn K.machine K.here R.remaining W.contents P.history S.remaining S.contents self.old self.new }
         ensures kept { IsKept self.old self.new }
     {
         self.data.write::<K, E>()
@@ -181,6 +189,7 @@ where
 
     /// Follows a read or a write of the data connection that moved no octet: one that asks reads what goes first, where all before was heard, and
     /// where it broke, the end is told.
+    #[tactic(auto, using(ftp_control::proofs::Getting::gets_goes, ftp_control::proofs::Getting::stirs_lead, ftp_control::proofs::Leading::leads_nowhere))]
     fn halted(&mut self, halt: Halt) -> Result<(), Cause>
         requires { halt ≡ Halt.Broken → self.old.data.connection.fate ≡ Fate.Failed }
         ensures goes { Follows K.machine K.here R.remaining W.contents P.history S.remaining S.contents self.old self.new result }
@@ -220,10 +229,10 @@ where
     }
 
     /// The data connection broke: that is told, unless the control connection goes first.
-    #[tactic(auto, using(ftp_control::proofs::Leading::leads_then))]
+    #[tactic(auto, using(ftp_control::proofs::Getting::then_gets, ftp_control::proofs::Getting::then_stirs))]
     pub(crate) fn broke(&mut self) -> Result<(), Cause>
         requires { self.old.data.connection.fate ≡ Fate.Failed }
-        ensures goes { Follows K.machine K.here R.remaining W.contents P.history S.remaining S.contents self.old self.new result }
+        ensures gets { Gets K.machine K.here R.remaining W.contents P.history S.remaining S.contents self.old self.new result }
         ensures why { Why K.machine K.serves (K.here self.new.end.now) (P.history self.new.ports.now) self.new.control.now result }
         ensures kept { IsKept self.old self.new }
     {
@@ -281,8 +290,9 @@ where
 
     /// Closes what stands of the data connection.
     pub(crate) fn leave(&mut self)
-        requires { MayLeave (K.machine.IsDone (K.here self.old.end.now)) (K.machine.wants (K.here self.old.end.now)) self.old.data.connection.fate }
-        ensures leads { LeadsOn K.machine K.here R.remaining W.contents P.history S.remaining S.contents self.old self.new }
+        requires may { MayLeave (K.machine.IsDone (K.here self.old.end.now)) (K.machine.wants (K.here self.old.end.now)) self.old.data.connection.fate }
+        requires flushed { IsFlushed K.machine (K.here self.old.end.now) }
+        ensures stirs { StirsOn K.machine K.here R.remaining W.contents P.history S.remaining S.contents self.old self.new }
         ensures kept { IsKept self.old self.new }
     {
         self.data.leave(self.ports);
@@ -291,7 +301,7 @@ where
     /// The data connection is lost: the end is told, and it is reset.
     fn lose(&mut self)
         requires { IsBroken (K.machine.wants (K.here self.old.end.now)) (is_some self.old.data.connection.stream) self.old.data.connection.fate }
-        ensures leads { LeadsOn K.machine K.here R.remaining W.contents P.history S.remaining S.contents self.old self.new }
+        ensures stirs { StirsOn K.machine K.here R.remaining W.contents P.history S.remaining S.contents self.old self.new }
         ensures kept { IsKept self.old self.new }
     {
         K::data_fault(self.end);
@@ -301,6 +311,7 @@ where
     /// What the control connection has, where an end that serves looks at it before its data connection is over; one that asks has looked already.
     #[tactic(auto, using(ftp_control::proofs::Leading::leads_nowhere))]
     fn look(&mut self) -> Spoken
+        requires { (awaits (K.machine.wants (K.here self.old.end.now)) ≡ true) ⊎ (self.old.data.connection.fate ≡ Fate.Failed) }
         ensures leads { LeadsOn K.machine K.here R.remaining W.contents P.history S.remaining S.contents self.old self.new }
         ensures asked { Adds (P.history self.old.ports.now) (P.history self.new.ports.now) (told_lost (is_over result)) }
         ensures data { self.new.data ≡ self.old.data }

@@ -1,12 +1,12 @@
 // The octets of a control connection: those that the end owes are written, those that were read are heard.
-ghost use Rattle.std.specs.Prelude.{◌≡◌, ◌<◌, length, [], List, Option};
+ghost use Rattle.std.specs.Prelude.{◌≡◌, ◌<◌, IsTrue, OnOk, length, [], List, Option};
 ghost use Rattle.ftp_control.specs.Asking.{Asked};
 ghost use Rattle.ftp_control.specs.Cause.{HasLost};
 ghost use Rattle.ftp_control.specs.Driving.{Flushes};
 ghost use Rattle.ftp_control.specs.Lane.{Lane};
-ghost use Rattle.ftp_control.specs.Machine.{held, stand_of};
+ghost use Rattle.ftp_control.specs.Machine.{IsFlushed, held, stand_of};
 ghost use Rattle.ftp_control.specs.Unheard.{unheard_of};
-ghost use Rattle.ftp_control_drive.specs.Standing.{Follows, IsKept, LeadsOn, Why, standing};
+ghost use Rattle.ftp_control_drive.specs.Standing.{Follows, Gets, IsKept, StirsOn, Why, standing};
 
 use crate::calls::EndCalls;
 use crate::drive::Drive;
@@ -49,6 +49,7 @@ where
     pub(crate) fn flush(&mut self) -> Result<(), Cause>
         ensures goes { Follows K.machine K.here R.remaining W.contents P.history S.remaining S.contents self.old self.new result }
         ensures flushes { Flushes (standing K.machine K.here R.remaining W.contents P.history S.remaining S.contents self.old) (standing K.machine K.here R.remaining W.contents P.history S.remaining S.contents self.new) result }
+        ensures owes { OnOk result (IsFlushed K.machine (K.here self.new.end.now)) }
         ensures unheard { unheard_of self.new.control.now ≡ unheard_of self.old.control.now }
         ensures data { self.new.data ≡ self.old.data }
         ensures why { Why K.machine K.serves (K.here self.new.end.now) (P.history self.new.ports.now) self.new.control.now result }
@@ -59,7 +60,9 @@ where
 
     /// Hears the first octets that were read.
     pub(crate) fn hear(&mut self)
-        ensures leads { LeadsOn K.machine K.here R.remaining W.contents P.history S.remaining S.contents self.old self.new }
+        requires some { 0 < length (unheard_of self.old.control.now) }
+        requires may { IsTrue (K.machine.may_hear (K.here self.old.end.now)) }
+        ensures stirs { StirsOn K.machine K.here R.remaining W.contents P.history S.remaining S.contents self.old self.new }
         ensures kept { IsKept self.old self.new }
     {
         let taken = K::hear(self.end, self.control.unheard());
@@ -70,7 +73,7 @@ where
     #[tactic(auto, using(ftp_control::proofs::Leading::fails_at))]
     pub(crate) fn heed(&mut self) -> Result<(), Cause>
         requires { 0 < length (unheard_of self.old.control.now) → HasLost (P.history self.old.ports.now) }
-        ensures goes { Follows K.machine K.here R.remaining W.contents P.history S.remaining S.contents self.old self.new result }
+        ensures gets { Gets K.machine K.here R.remaining W.contents P.history S.remaining S.contents self.old self.new result }
         ensures why { Why K.machine K.serves (K.here self.new.end.now) (P.history self.new.ports.now) self.new.control.now result }
         ensures kept { IsKept self.old self.new }
     {
@@ -81,10 +84,10 @@ where
     }
 
     /// Writes what the end owes and reads from the control connection, where all octets before were heard; tells the end where that ended.
-    #[tactic(auto, using(ftp_control::proofs::Going::goes_err, ftp_control::proofs::Causing::passes, ftp_control::proofs::Causing::is_fault))]
+    #[tactic(auto, using(ftp_control::proofs::Getting::gets_err, ftp_control::proofs::Causing::passes, ftp_control::proofs::Causing::is_fault))]
     pub(crate) fn read(&mut self) -> Result<(), Cause>
         requires { unheard_of self.old.control.now ≡ [] }
-        ensures goes { Follows K.machine K.here R.remaining W.contents P.history S.remaining S.contents self.old self.new result }
+        ensures gets { Gets K.machine K.here R.remaining W.contents P.history S.remaining S.contents self.old self.new result }
         ensures why { Why K.machine K.serves (K.here self.new.end.now) (P.history self.new.ports.now) self.new.control.now result }
         ensures kept { IsKept self.old self.new }
     {

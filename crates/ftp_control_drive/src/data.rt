@@ -4,8 +4,8 @@ ghost use Rattle.ftp_control.specs.Asking.{Asked, is_lost};
 ghost use Rattle.ftp_control.specs.Driving.{Quietly};
 ghost use Rattle.ftp_control.specs.Halting.{fate_by};
 ghost use Rattle.ftp_control.specs.Lane.{IsRead, IsWaited, no_lane, with_fate};
-ghost use Rattle.ftp_control.specs.Machine.{held, side_of};
-ghost use Rattle.ftp_control.specs.Outcome.{IsReset, IsSent, in_hand};
+ghost use Rattle.ftp_control.specs.Machine.{Stirring, held, side_of};
+ghost use Rattle.ftp_control.specs.Outcome.{IsReset, IsSent, IsWrote, in_hand};
 ghost use Rattle.ftp_control_drive.specs.Standing.{HasEnded, IsOpenAt, Leaving, lane_at};
 
 use crate::calls::EndCalls;
@@ -48,6 +48,7 @@ impl<S: Read + Write> Data<S> {
         requires wants { K.machine.wants (K.here end.old) ≡ Wants.Send }
         ensures ready { IsOpenAt self.new }
         ensures quiet { (asked : Option (List Asked)) → Quietly (side_of K.machine) (held (K.here end.old) (lane_at S.remaining S.contents asked self.old [])) (held (K.here end.new) (lane_at S.remaining S.contents asked self.new [])) }
+        ensures stirs { self.old.connection.at ≡ self.old.connection.end → (asked : Option (List Asked)) → Stirring K.machine (held (K.here end.old) (lane_at S.remaining S.contents asked self.old [])) (held (K.here end.new) (lane_at S.remaining S.contents asked self.new [])) }
     {
         if self.connection.has_unwritten() {
             return;
@@ -71,6 +72,7 @@ impl<S: Read + Write> Data<S> {
     pub(crate) fn write<K: EndCalls<E>, E>(&mut self) -> Result<(), Halt>
         requires { IsOpenAt self.old }
         ensures written { (asked : Option (List Asked)) → IsSent (lane_at S.remaining S.contents asked self.old []) (lane_at S.remaining S.contents asked self.new []) }
+        ensures some { self.old.connection.at < self.old.connection.end → (asked : Option (List Asked)) → IsWrote (lane_at S.remaining S.contents asked self.old []) (lane_at S.remaining S.contents asked self.new []) }
         ensures fate { self.new.connection.fate ≡ fate_by result Fate.Sound }
         ensures all { OnOk result (K.serves ≡ true → self.new.connection.rest ≡ Rest.Nothing → self.new.connection.at ≡ self.new.connection.end) }
     {
@@ -89,7 +91,7 @@ impl<S: Read + Write> Data<S> {
     fn write_all(&mut self) -> Result<(), Halt>
         requires ready { IsOpenAt self.old }
         requires some { self.old.connection.at < self.old.connection.end }
-        ensures written { (asked : Option (List Asked)) → IsSent (lane_at S.remaining S.contents asked self.old []) (lane_at S.remaining S.contents asked self.new []) }
+        ensures written { (asked : Option (List Asked)) → IsWrote (lane_at S.remaining S.contents asked self.old []) (lane_at S.remaining S.contents asked self.new []) }
         ensures fate { self.new.connection.fate ≡ fate_by result Fate.Sound }
         ensures all { OnOk result (self.new.connection.at ≡ self.new.connection.end) }
     {

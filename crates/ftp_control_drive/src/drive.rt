@@ -2,10 +2,10 @@
 ghost use Rattle.std.specs.Prelude.{◌≡◌, ◌≢◌, ◌<◌, IsTrue, [], false, length, true};
 ghost use Rattle.ftp_control.specs.Cause.{is_still};
 ghost use Rattle.ftp_control.specs.Lane.{no_lane};
-ghost use Rattle.ftp_control.specs.Machine.{held, stand_of};
+ghost use Rattle.ftp_control.specs.Machine.{IsFlushed, held, stand_of};
 ghost use Rattle.ftp_control.specs.Unheard.{unheard_of};
 ghost use Rattle.ftp_control_drive.specs.Calling.{Ends};
-ghost use Rattle.ftp_control_drive.specs.Standing.{Follows, IsKept, IsOpenAt, Why, lane_at, standing};
+ghost use Rattle.ftp_control_drive.specs.Standing.{IsKept, IsOpenAt, TurnsOn, Why, lane_at, standing};
 
 use crate::calls::EndCalls;
 use crate::data::Data;
@@ -86,9 +86,9 @@ where
 
     /// One turn: what the end owes is written; then what was read is heard, where it may be heard now; or the end is told of a data connection that
     /// failed; or octets on their way from one that asks are written; or what the end wants is done.
-    #[tactic(auto, using(ftp_control::proofs::Going::goes_err, ftp_control::proofs::Going::goes_then, ftp_control::proofs::Leading::leads_then, ftp_control::proofs::Causing::passes))]
+    #[tactic(auto, using(ftp_control::proofs::Getting::gets_err, ftp_control::proofs::Getting::then_gets, ftp_control::proofs::Getting::then_stirs, ftp_control::proofs::Causing::passes))]
     fn turn(&mut self) -> Result<(), Cause>
-        ensures goes { Follows K.machine K.here R.remaining W.contents P.history S.remaining S.contents self.old self.new result }
+        ensures gets { TurnsOn K.machine K.here R.remaining W.contents P.history S.remaining S.contents self.old self.new result }
         ensures why { Why K.machine K.serves (K.here self.new.end.now) (P.history self.new.ports.now) self.new.control.now result }
         ensures kept { IsKept self.old self.new }
     {
@@ -108,7 +108,9 @@ where
 
     /// Whether octets that were read are to be heard now: of one that asks before all else, of one that serves beside what it waits for.
     fn hears_now(&self) -> bool
-        ensures { result ≡ false → 0 < length (unheard_of self.now.control.now) → is_still K.serves (K.machine.wants (K.here self.now.end.now)) ≡ true → K.machine.may_hear (K.here self.now.end.now) ≡ false }
+        ensures some { IsTrue result → 0 < length (unheard_of self.now.control.now) }
+        ensures may { IsTrue result → IsTrue (K.machine.may_hear (K.here self.now.end.now)) }
+        ensures none { result ≡ false → 0 < length (unheard_of self.now.control.now) → is_still K.serves (K.machine.wants (K.here self.now.end.now)) ≡ true → K.machine.may_hear (K.here self.now.end.now) ≡ false }
     {
         if !self.control.has_unheard() {
             return false;
@@ -121,17 +123,21 @@ where
 
     /// Whether octets of one that asks are on their way over a data connection that is open.
     fn is_sending(&self) -> bool
-        ensures { IsTrue result → IsOpenAt self.now.data }
+        ensures ready { IsTrue result → IsOpenAt self.now.data }
+        ensures some { IsTrue result → self.now.data.connection.at < self.now.data.connection.end }
+        ensures none { result ≡ false → K.serves ≡ false → IsOpenAt self.now.data → self.now.data.connection.at ≡ self.now.data.connection.end }
     {
         !K::serves() && self.data.is_open() && self.data.connection.has_unwritten()
     }
 
     /// Does what the end wants. The drive breaks off where octets stand that the end may not hear, and it wants nothing that goes on beside them.
-    #[tactic(auto, using(ftp_control::proofs::Leading::fails_at))]
+    #[tactic(auto, using(ftp_control::proofs::Leading::fails_at, ftp_control::proofs::Leading::leads_nowhere))]
     fn act(&mut self) -> Result<(), Cause>
         requires sound { self.old.data.connection.fate ≢ Fate.Failed }
+        requires flushed { IsFlushed K.machine (K.here self.old.end.now) }
+        requires none { K.serves ≡ false → IsOpenAt self.old.data → self.old.data.connection.at ≡ self.old.data.connection.end }
         requires heard { 0 < length (unheard_of self.old.control.now) → is_still K.serves (K.machine.wants (K.here self.old.end.now)) ≡ true → K.machine.may_hear (K.here self.old.end.now) ≡ false }
-        ensures goes { Follows K.machine K.here R.remaining W.contents P.history S.remaining S.contents self.old self.new result }
+        ensures gets { TurnsOn K.machine K.here R.remaining W.contents P.history S.remaining S.contents self.old self.new result }
         ensures why { Why K.machine K.serves (K.here self.new.end.now) (P.history self.new.ports.now) self.new.control.now result }
         ensures kept { IsKept self.old self.new }
     {

@@ -1,9 +1,9 @@
 // Octets that go from the end into a room, and those that come and are handed to it.
 ghost use Rattle.std.specs.Prelude.{◌≡◌, ◌≤◌, [], List, Option, length, take};
 ghost use Rattle.ftp_control.specs.Asking.{Asked};
-ghost use Rattle.ftp_control.specs.Driving.{Goes, Quietly};
+ghost use Rattle.ftp_control.specs.Driving.{Goes};
 ghost use Rattle.ftp_control.specs.Lane.{IsOpen, Lane, with_given, with_untold};
-ghost use Rattle.ftp_control.specs.Machine.{held, rest_by, side_of, stand_of};
+ghost use Rattle.ftp_control.specs.Machine.{Stirring, held, rest_by, stand_of};
 ghost use Rattle.ftp_control_drive.specs.Standing.{Why};
 
 use crate::calls::EndCalls;
@@ -26,7 +26,7 @@ where
     requires most { most ≤ length room.old }
     requires wants { K.machine.wants (K.here end.old) ≡ Wants.Send }
     ensures within { result.count ≤ most }
-    ensures quiet { (lane : Lane) → IsOpen lane → Quietly (side_of K.machine) (held (K.here end.old) lane) (held (K.here end.new) (with_given (take result.count room.new) result.rest lane)) }
+    ensures stirs { (lane : Lane) → IsOpen lane → Stirring K.machine (held (K.here end.old) lane) (held (K.here end.new) (with_given (take result.count room.new) result.rest lane)) }
 {
     let (front, _) = room.split_at_mut(most);
     fill::<K, E>(end, front)
@@ -36,7 +36,7 @@ where
 fn fill<K: EndCalls<E>, E>(end: &mut E, room: &mut [u8]) -> Given
     requires { K.machine.wants (K.here end.old) ≡ Wants.Send }
     ensures within { result.count ≤ length room.new }
-    ensures quiet { (lane : Lane) → IsOpen lane → Quietly (side_of K.machine) (held (K.here end.old) lane) (held (K.here end.new) (with_given (take result.count room.new) result.rest lane)) }
+    ensures stirs { (lane : Lane) → IsOpen lane → Stirring K.machine (held (K.here end.old) lane) (held (K.here end.new) (with_given (take result.count room.new) result.rest lane)) }
 {
     let mut at = K::data_out(end, room);
     let mut rest = rest_of::<K, E>(end);

@@ -2,10 +2,9 @@
 ghost use Rattle.std.specs.Prelude.{◌≡◌, ◌≢◌, [], ◌∷◌, List, Option, false};
 ghost use Rattle.std.specs.Option.{is_some};
 ghost use Rattle.ftp_control.specs.Asking.{Adds, Asked};
-ghost use Rattle.ftp_control.specs.Driving.{Leads};
 ghost use Rattle.ftp_control.specs.Lane.{IsHad};
-ghost use Rattle.ftp_control.specs.Machine.{IsWanted};
-ghost use Rattle.ftp_control_drive.specs.Standing.{Follows, IsKept, LeadsOn, Why, asked_before, standing};
+ghost use Rattle.ftp_control.specs.Machine.{IsFlushed, IsWanted, Stirs};
+ghost use Rattle.ftp_control_drive.specs.Standing.{Gets, IsKept, StirsOn, Why, asked_before, standing};
 
 use crate::calls::EndCalls;
 use crate::drive::Drive;
@@ -27,8 +26,9 @@ where
     /// control connection that come first are read; else the drive breaks off where the waiting ends so.
     pub(crate) fn accept(&mut self) -> Result<(), Cause>
         requires wants { K.machine.wants (K.here self.old.end.now) ≡ Wants.Accept }
+        requires flushed { IsFlushed K.machine (K.here self.old.end.now) }
         requires sound { self.old.data.connection.fate ≢ Fate.Failed }
-        ensures goes { Follows K.machine K.here R.remaining W.contents P.history S.remaining S.contents self.old self.new result }
+        ensures gets { Gets K.machine K.here R.remaining W.contents P.history S.remaining S.contents self.old self.new result }
         ensures why { Why K.machine K.serves (K.here self.new.end.now) (P.history self.new.ports.now) self.new.control.now result }
         ensures kept { IsKept self.old self.new }
     {
@@ -47,8 +47,9 @@ where
 
     /// Listens at a port, and tells the end which.
     pub(crate) fn listen(&mut self)
-        requires { K.machine.wants (K.here self.old.end.now) ≡ Wants.Listen }
-        ensures leads { LeadsOn K.machine K.here R.remaining W.contents P.history S.remaining S.contents self.old self.new }
+        requires wants { K.machine.wants (K.here self.old.end.now) ≡ Wants.Listen }
+        requires flushed { IsFlushed K.machine (K.here self.old.end.now) }
+        ensures stirs { StirsOn K.machine K.here R.remaining W.contents P.history S.remaining S.contents self.old self.new }
         ensures kept { IsKept self.old self.new }
     {
         match self.ports.listen() {
@@ -60,8 +61,9 @@ where
     /// Opens the data connection to an endpoint, and tells the end; one that stands still is left first.
     pub(crate) fn connect(&mut self, endpoint: Endpoint)
         requires wants { K.machine.wants (K.here self.old.end.now) ≡ Wants.Connect endpoint }
+        requires flushed { IsFlushed K.machine (K.here self.old.end.now) }
         requires sound { self.old.data.connection.fate ≢ Fate.Failed }
-        ensures leads { LeadsOn K.machine K.here R.remaining W.contents P.history S.remaining S.contents self.old self.new }
+        ensures stirs { StirsOn K.machine K.here R.remaining W.contents P.history S.remaining S.contents self.old self.new }
         ensures kept { IsKept self.old self.new }
     {
         if self.data.connection.stands() {
@@ -76,8 +78,9 @@ where
 
     /// The data connection that was had last is open now, and this host is at its other end.
     fn opened(&mut self, stream: S, host: Host)
-        requires { is_some self.old.data.connection.stream ≡ false }
-        ensures leads { (before : Option (List Asked)) (had : Asked) → Adds before (P.history self.old.ports.now) (had ∷ []) → IsHad host had (S.remaining stream) (S.contents stream) → IsWanted (K.machine.wants (K.here self.old.end.now)) had → Leads (asked_before before (standing K.machine K.here R.remaining W.contents P.history S.remaining S.contents self.old)) (standing K.machine K.here R.remaining W.contents P.history S.remaining S.contents self.new) }
+        requires none { is_some self.old.data.connection.stream ≡ false }
+        requires flushed { IsFlushed K.machine (K.here self.old.end.now) }
+        ensures stirs { (before : Option (List Asked)) (had : Asked) → Adds before (P.history self.old.ports.now) (had ∷ []) → IsHad host had (S.remaining stream) (S.contents stream) → IsWanted (K.machine.wants (K.here self.old.end.now)) had → Stirs K.machine (asked_before before (standing K.machine K.here R.remaining W.contents P.history S.remaining S.contents self.old)) (standing K.machine K.here R.remaining W.contents P.history S.remaining S.contents self.new) }
         ensures kept { IsKept self.old self.new }
     {
         K::data_opened(self.end, host);
@@ -88,8 +91,9 @@ where
     /// Closes what stands of the data connection, and tells the end.
     pub(crate) fn close(&mut self)
         requires wants { K.machine.wants (K.here self.old.end.now) ≡ Wants.CloseData }
+        requires flushed { IsFlushed K.machine (K.here self.old.end.now) }
         requires sound { self.old.data.connection.fate ≢ Fate.Failed }
-        ensures leads { LeadsOn K.machine K.here R.remaining W.contents P.history S.remaining S.contents self.old self.new }
+        ensures stirs { StirsOn K.machine K.here R.remaining W.contents P.history S.remaining S.contents self.old self.new }
         ensures kept { IsKept self.old self.new }
     {
         self.data.leave(self.ports);

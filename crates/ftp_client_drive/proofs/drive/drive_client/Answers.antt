@@ -5,7 +5,7 @@ use Rattle.ftp_control.specs.Deeds.{Other, Stand, with_owner}
 use Rattle.ftp_control.specs.Lane.{IsEnded, IsLeft, Lane, no_lane}
 use Rattle.ftp_control.specs.Machine.{Closed, Does, IsFairEnd, Left, held}
 use Rattle.ftp_control.specs.declared.cause.Cause.{Cause}
-use Rattle.ftp_control_drive.proofs.Driven.{breaks_off, did, may_when_done}
+use Rattle.ftp_control_drive.proofs.Driven.{breaks_off, did, leaves_done, may_when_done}
 use Rattle.ftp_control_drive.specs.Calling.{Ends}
 use Rattle.ftp_control_drive.specs.Standing.{lane_at}
 use Rattle.ftp_operation.specs.declared.answer.Answer.{Answer}
@@ -51,7 +51,7 @@ drove start off lane new r answer asked unwritten untold gave ends left fair clo
       asked = asked;
       did = did client_machine start unwritten untold (Other Closed ∷ Other (Left asked) ∷ Other (Report (Some (said_of answer))) ∷ []) over.1.deeds _ (
         with_owner (held off.owner.end lane) off,
-        (off, (mid, over.1.led, ((told, ap (λ o. o.lane) is, tt), subst (λ s. off ≡ with_owner s mid) (sym is) over.3)), ((refl, left, (may_when_done (is_under_way off.owner.end.view.job ≡ false) (wants off.owner.end.view) off.owner.lane.fate idle, fair)), refl)),
+        (off, (mid, over.1.led, ((told, ap (λ o. o.lane) is, tt), subst (λ s. off ≡ with_owner s mid) (sym is) over.3)), ((refl, left, (may_when_done (is_under_way off.owner.end.view.job ≡ false) (wants off.owner.end.view) off.owner.lane.fate idle, fair, leaves_done client_machine off.owner.end asked idle)), refl)),
         ((closed, (refl, left.stands), λ sound under. absurd (let t : is_under_way off.owner.end.view.job ≡ true = under in cc)), refl),
       );
     }

@@ -10,8 +10,8 @@ loop-at-init g c =
           c.rest_of-rest.ensures.rest,
     )
 
-pub returns-then-count-eq0-clause-quiet : goal.returns-then-count-eq0-clause-quiet
-returns-then-count-eq0-clause-quiet g c lane is_open =
+pub returns-then-count-eq0-clause-stirs : goal.returns-then-count-eq0-clause-stirs
+returns-then-count-eq0-clause-stirs g c lane is_open =
     let gave = c.data_out-count in
     let split = c.split_at_mut-free.ensures in
     let rest = c.rest_of-rest-in-loop-at in

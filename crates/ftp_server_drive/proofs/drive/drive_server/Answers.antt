@@ -6,7 +6,7 @@ use Rattle.ftp_control.specs.Driving.{Leads}
 use Rattle.ftp_control.specs.Lane.{IsLeft, Lane}
 use Rattle.ftp_control.specs.Machine.{IsFairEnd, Left, held}
 use Rattle.ftp_control.specs.declared.cause.Cause.{Cause}
-use Rattle.ftp_control_drive.proofs.Driven.{breaks_off, did, may_when_done}
+use Rattle.ftp_control_drive.proofs.Driven.{breaks_off, did, leaves_done, may_when_done}
 use Rattle.ftp_server_model.specs.Calls.{wants}
 use Rattle.ftp_control_drive.specs.Calling.{Ends}
 use Rattle.ftp_control_drive.specs.Standing.{lane_at}
@@ -31,7 +31,7 @@ drove start off lane r value asked unwritten untold gave ends left fair =
       did = did server_machine start unwritten untold (Other (Left asked) ∷ []) leads.deeds _ (
         off,
         leads.led,
-        ((refl, left, (may_when_done (IsOver off) (wants off.owner.end.server.view) off.owner.lane.fate over_now, fair)), refl),
+        ((refl, left, (may_when_done (IsOver off) (wants off.owner.end.server.view) off.owner.lane.fate over_now, fair, leaves_done server_machine off.owner.end asked over_now)), refl),
       );
       over = over_now;
     }

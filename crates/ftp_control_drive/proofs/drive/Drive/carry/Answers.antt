@@ -1,5 +1,8 @@
-use Rattle.ftp_control_drive.proofs.Words.{fails_here}
+use Rattle.ftp_control_drive.proofs.Words.{fails_here, stirs_lead, stirs_then}
 use Rattle.ftp_control_drive.proofs.drive.Drive.carry.Goals as goal
 
-pub returns-in-Lost-clause-goes : goal.returns-in-Lost-clause-goes
-returns-in-Lost-clause-goes g c = fails_here _ _ c.wait.ensures.leads
+pub returns-in-Lost-clause-gets : goal.returns-in-Lost-clause-gets
+returns-in-Lost-clause-gets g c = fails_here _ _ (stirs_lead _ _ c.wait.ensures.stirs)
+
+pub returns-clause-gets : goal.returns-clause-gets
+returns-clause-gets g c = stirs_then _ _ _ c.wait.ensures.stirs c.send_more.ensures.leads

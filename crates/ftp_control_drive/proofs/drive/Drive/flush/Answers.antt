@@ -1,4 +1,4 @@
-use Rattle.ftp_control_drive.proofs.Words.{flushed}
+use Rattle.ftp_control_drive.proofs.Words.{[], flushed, flushed_so, lane_at}
 use Rattle.ftp_control_drive.proofs.drive.Drive.flush.Goals as goal
 
 pub returns-clause-goes : goal.returns-clause-goes
@@ -9,3 +9,6 @@ returns-clause-flushes g c = c.flush.ensures.flushes _
 
 pub returns-clause-why : goal.returns-clause-why
 returns-clause-why g c = c.flush.ensures.why _
+
+pub returns-clause-owes : goal.returns-clause-owes
+returns-clause-owes g c = flushed_so g.K.EndCalls.machine _ _ c.flush.result (c.flush.ensures.flushes (lane_at g.S.Read.remaining g.S.Write.contents (g.P.Ports.history c.args.self.now.ports.now) c.args.self.now.data []))

@@ -2,7 +2,7 @@ use Rattle.std.proofs.Common.{[], ◌∙◌, Ok, ap, subst, sym}
 use Rattle.ftp_control.specs.Halting.{fate_by}
 use Rattle.ftp_control.specs.Lane.{IsRead, with_fate}
 use Rattle.ftp_control.specs.declared.whole.Fate.TheVariants as Fates
-use Rattle.ftp_control_drive.proofs.Words.{came, came_nothing, goes_then, in_hand, lane_at, sent_fate}
+use Rattle.ftp_control_drive.proofs.Words.{came, came_nothing, gets_goes, goes_then, in_hand, lane_at, sent_fate}
 use Rattle.ftp_control_drive.proofs.drive.Drive.take.Goals as goal
 
 pub returns-in-Ok-eq0-clause-goes : goal.returns-in-Ok-eq0-clause-goes
@@ -27,7 +27,7 @@ returns-in-Err-Broken-clause-goes g c =
     let lane = lane_at g.S.Read.remaining g.S.Write.contents asked c.come.new.self in
     goes_then _ _ _ c.broke.result (came_nothing g.K.EndCalls.machine _ (lane []) c.requires.wants
     (subst (λ r. IsRead (in_hand r c.come.new.self.room) (lane_at g.S.Read.remaining g.S.Write.contents asked c.args.self.now.data []) (with_fate Fates.Sound (lane (in_hand r c.come.new.self.room))))
-    c.in-Err-Broken.is (c.come.ensures.moved asked)) (sent_fate c.come.result _ c.come.ensures.fate)) c.broke.ensures.goes
+    c.in-Err-Broken.is (c.come.ensures.moved asked)) (sent_fate c.come.result _ c.come.ensures.fate)) (gets_goes _ _ c.broke.result c.broke.ensures.gets)
 
 pub returns-in-Err-clause-goes : goal.returns-in-Err-clause-goes
 returns-in-Err-clause-goes g c =

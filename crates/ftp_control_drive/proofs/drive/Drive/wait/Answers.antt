@@ -1,5 +1,6 @@
-use Rattle.ftp_control_drive.proofs.Words.{idles_waited}
+use Rattle.std.proofs.Common.{inl}
+use Rattle.ftp_control_drive.proofs.Words.{waits}
 use Rattle.ftp_control_drive.proofs.drive.Drive.wait.Goals as goal
 
-pub returns-clause-leads : goal.returns-clause-leads
-returns-clause-leads g c = idles_waited g.K.EndCalls.machine _ _ _ c.wait.ensures _ _ _ _
+pub returns-clause-stirs : goal.returns-clause-stirs
+returns-clause-stirs g c = waits g.K.EndCalls.machine _ _ _ _ (inl c.requires) c.wait.ensures _ _ _

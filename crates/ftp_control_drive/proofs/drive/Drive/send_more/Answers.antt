@@ -1,0 +1,5 @@
+use Rattle.ftp_control_drive.proofs.Words.{leads_then, stirs_lead}
+use Rattle.ftp_control_drive.proofs.drive.Drive.send_more.Goals as goal
+
+pub returns-in-Err-Broken-clause-leads : goal.returns-in-Err-Broken-clause-leads
+returns-in-Err-Broken-clause-leads g c = leads_then _ _ _ (leads_then _ _ _ c.fill.ensures.leads c.write.ensures.leads) (stirs_lead _ _ c.lose.ensures.stirs)
