@@ -8,7 +8,7 @@ use Rattle.ftp_server_model.specs.Calls.{start}
 use Rattle.ftp_server_model.specs.Far.{Server}
 use Rattle.ftp_server_model.specs.Machine.{IsReading, Reading}
 use Rattle.ftp_server_model.specs.Play.{Cue, Gift, LogsInAt, call, gives_at, left_by, played}
-use Rattle.ftp_server_model.specs.View.{Accounts, View}
+use Rattle.ftp_server_model.specs.View.{Accounts}
 use Rattle.ftp_server_laws.specs.Apart.{LeavesOthers}
 use Rattle.ftp_server_play.specs.Making.{ArePlayed}
 
