@@ -1,51 +1,96 @@
 -- Calls one after another.
-use Rattle.std.proofs.Common.{◌≡◌, ◌≢◌, ◌≤◌, Bool, true, false, ◌==◌, ◌&&◌, ◌<◌, ℕ, ◌+◌, List, [], ◌∷◌, ◌++◌, get_or, length, take, refl, sym, ap, subst, ◌∙◌}
+use Rattle.std.proofs.Common.{◌≡◌, ◌≢◌, ◌≤◌, Bool, true, false, ◌==◌, ◌&&◌, nat_lt, ◌<◌, ℕ, zero, suc, ◌+◌, List, [], ◌∷◌, ◌++◌, get_or, length, take, length-append, length-take-le, refl, sym, ap, subst, ◌∙◌, arith}
 use Rattle.std.specs.Prelude.{map}
 use Rattle.std.proofs.lemmas.Bool.{eq-eqb}
+use Rattle.std.proofs.lemmas.Bool.Decides.{nat_tests}
 use Rattle.std.proofs.lemmas.List.{length-map, map-append, take-map, take_all, take_more}
 use Rattle.ftp_tree.specs.Tree.{node_at}
 use Rattle.ftp_server_model.specs.Far.{Server, counts_told}
 use Rattle.ftp_server_model.specs.declared.counts.Counts.{Counts as Told}
-use Rattle.ftp_server_model.specs.Machine.{Reading}
+use Rattle.ftp_server_model.specs.Machine.{IsReading, Reading}
 use Rattle.ftp_server_model.specs.Play.{Cue, Gift, IsApart, LogsInAt, call, left_by, played}
 use Rattle.ftp_server_model.specs.View.{View}
 use Rattle.ftp_server_laws.proofs.RootTheorems.{roots_are_apart}
+use Rattle.ftp_server_play.proofs.CallLemmas.{makes_gives}
 use Rattle.ftp_server_play.specs.Cues.{cue_of, cues_of, gift_of, gifts_of}
 use Rattle.ftp_server_play.specs.declared.cue.Cue.{Cue as Held}
 use Rattle.ftp_server_play.specs.declared.cue.Gift.{Gift as Given}
-use Rattle.ftp_server_play.specs.Playing.{Gives, KeepsApart, Plays, PlaysNext, PlaysSome, RunsTo}
+use Rattle.ftp_server_play.specs.Making.{AreMade, ArePlayed, Makes, MakesNext}
+use Rattle.ftp_server_play.specs.Playing.{KeepsApart, PlaysAs, PlaysSome}
 
 -- ---- one more call
 
-played_more : (read : Reading) (cues : List Cue) (cue : Cue) (v : View) → played read (cues ++ cue ∷ []) v ≡ played read cues v ++ (call read cue (left_by read cues v)).0 ∷ []
-unfolding played left_by
-played_more read [] cue v = refl
-played_more read (first ∷ cues) cue v = ap (λ (gifts : List Gift). (call read first v).0 ∷ gifts) (played_more read cues cue (call read first v).1)
+made_more : (cues : List Cue) (cue : Cue) (gifts : List Gift) (gift : Gift) (old mid new : Server) → AreMade cues gifts old mid → Makes cue gift mid new
+    → AreMade (cues ++ cue ∷ []) (gifts ++ gift ∷ []) old new
+made_more [] cue [] gift old mid new made next = (new, subst (λ s. Makes cue gift s new) made next, refl)
+made_more [] cue (given ∷ gifts) gift old mid new made next = absurd made
+made_more (first ∷ cues) cue [] gift old mid new made next = absurd made
+made_more (first ∷ cues) cue (given ∷ gifts) gift old mid new made next = (made.0, made.1, made_more cues cue gifts gift made.0 mid new made.2 next)
 
-left_more : (read : Reading) (cues : List Cue) (cue : Cue) (v : View) → left_by read (cues ++ cue ∷ []) v ≡ (call read cue (left_by read cues v)).1
-unfolding left_by
-left_more read [] cue v = refl
-left_more read (first ∷ cues) cue v = left_more read cues cue (call read first v).1
+-- behind calm calls alone, another calm one
+calm_more : (calm : ℕ) (cues : List Cue) (cue : Cue) (gifts : List Gift) (gift : Gift) (old mid new : Server) → calm ≡ length cues → ArePlayed calm cues gifts old mid → Makes cue gift mid new
+    → new.counts ≡ mid.counts → ArePlayed (suc calm) (cues ++ cue ∷ []) (gifts ++ gift ∷ []) old new
+calm_more zero [] cue [] gift old mid new all made next same = (new, subst (λ s. Makes cue gift s new) made next, same ∙ ap (λ s. s.counts) made, refl)
+calm_more zero [] cue (given ∷ gifts) gift old mid new all made next same = absurd made
+calm_more zero (first ∷ cues) cue gifts gift old mid new all made next same = absurd (omega (arith, all))
+calm_more (suc calm) [] cue gifts gift old mid new all made next same = absurd made
+calm_more (suc calm) (first ∷ cues) cue [] gift old mid new all made next same = absurd made
+calm_more (suc calm) (first ∷ cues) cue (given ∷ gifts) gift old mid new all made next same =
+    (made.0, made.1, made.2, calm_more calm cues cue gifts gift made.0 mid new (omega (arith, all)) made.3 next same)
 
-pub runs_none : {A : Type 0} (gifts : List (Given A)) (v : View) → gifts ≡ [] → RunsTo [] (gifts_of gifts) v v
-unfolding played left_by
-runs_none gifts v none = λ read is. (ap gifts_of none, refl)
+-- behind calm calls alone, one in which a count moved
+moved_more : (calm : ℕ) (cues : List Cue) (cue : Cue) (gifts : List Gift) (gift : Gift) (old mid new : Server) → calm ≡ length cues → ArePlayed calm cues gifts old mid → Makes cue gift mid new
+    → new.counts ≢ mid.counts → ArePlayed calm (cues ++ cue ∷ []) (gifts ++ gift ∷ []) old new
+moved_more zero [] cue [] gift old mid new all made next moved =
+    (new, subst (λ s. Makes cue gift s new) made next, (λ same. moved (same ∙ sym (ap (λ s. s.counts) made))), refl)
+moved_more zero [] cue (given ∷ gifts) gift old mid new all made next moved = absurd made
+moved_more zero (first ∷ cues) cue gifts gift old mid new all made next moved = absurd (omega (arith, all))
+moved_more (suc calm) [] cue gifts gift old mid new all made next moved = absurd made
+moved_more (suc calm) (first ∷ cues) cue [] gift old mid new all made next moved = absurd made
+moved_more (suc calm) (first ∷ cues) cue (given ∷ gifts) gift old mid new all made next moved =
+    (made.0, made.1, made.2, moved_more calm cues cue gifts gift made.0 mid new (omega (arith, all)) made.3 next moved)
 
-pub runs_more : (cues : List Cue) (cue : Cue) (before after : List Gift) (v : View) (mid new : Server) → RunsTo cues before v mid.view → PlaysNext cue before after mid new
-    → new.counts ≡ mid.counts → RunsTo (cues ++ cue ∷ []) after v new.view
-runs_more cues cue before after v mid new runs next same = λ read is.
-    let one = next same read is in
-    let all = runs read is in (
-      one.0 ∙ ap (λ (w : View). before ++ (call read cue w).0 ∷ []) all.1 ∙ ap (λ (gifts : List Gift). gifts ++ (call read cue (left_by read cues v)).0 ∷ []) all.0
-          ∙ sym (played_more read cues cue v),
-      one.1 ∙ ap (λ (w : View). (call read cue w).1) all.1 ∙ sym (left_more read cues cue v),
-    )
+-- behind one in which a count moved, any
+any_more : (calm : ℕ) (cues : List Cue) (cue : Cue) (gifts : List Gift) (gift : Gift) (old mid new : Server) → calm < length cues → ArePlayed calm cues gifts old mid → Makes cue gift mid new
+    → ArePlayed calm (cues ++ cue ∷ []) (gifts ++ gift ∷ []) old new
+any_more zero [] cue gifts gift old mid new less made next = absurd (omega (arith, less))
+any_more zero (first ∷ cues) cue [] gift old mid new less made next = absurd made
+any_more zero (first ∷ cues) cue (given ∷ gifts) gift old mid new less made next =
+    (made.0, made.1, made.2, made_more cues cue gifts gift made.0 mid new made.3 next)
+any_more (suc calm) [] cue gifts gift old mid new less made next = absurd made
+any_more (suc calm) (first ∷ cues) cue [] gift old mid new less made next = absurd made
+any_more (suc calm) (first ∷ cues) cue (given ∷ gifts) gift old mid new less made next =
+    (made.0, made.1, made.2, any_more calm cues cue gifts gift made.0 mid new (omega (arith, less)) made.3 next)
 
--- what a call gave is kept
-pub next_kept : (cue : Cue) (gift : Gift) (before after : List Gift) (old new : Server) → after ≡ before ++ gift ∷ [] → Gives cue gift old new → PlaysNext cue before after old new
-next_kept cue gift before after old new kept gives = λ same read is.
-    let both = gives same read is in
-    (kept ∙ ap (λ (x : Gift × View). before ++ x.0 ∷ []) both, ap (λ (x : Gift × View). x.1) both)
+-- the calm ones are among them
+calm_few : (calm : ℕ) (cues : List Cue) (gifts : List Gift) (old new : Server) → ArePlayed calm cues gifts old new → calm ≤ length cues
+calm_few zero cues gifts old new made = omega arith
+calm_few (suc calm) [] gifts old new made = absurd made
+calm_few (suc calm) (first ∷ cues) [] old new made = absurd made
+calm_few (suc calm) (first ∷ cues) (given ∷ gifts) old new made = omega (arith, calm_few calm cues gifts made.0 new made.3)
+
+-- one more, and how many were calm then
+played_more : (is_calm : Bool) (calm after : ℕ) (cues : List Cue) (cue : Cue) (gifts more : List Gift) (old mid new : Server) → ArePlayed calm cues gifts old mid
+    → MakesNext is_calm cue gifts more mid new → (is_calm ≡ true → calm ≡ length cues → after ≡ calm + 1) → (is_calm ≡ false → after ≡ calm)
+    → (calm < length cues → after ≡ calm) → ArePlayed after (cues ++ cue ∷ []) more old new
+played_more is_calm calm after cues cue gifts more old mid new made next on off past =
+    subst (λ l. ArePlayed after (cues ++ cue ∷ []) l old new) (sym next.kept) (by_place (nat_lt calm (length cues)) refl)
+  where
+    all_calm : (b : Bool) → is_calm ≡ b → calm ≡ length cues → ArePlayed after (cues ++ cue ∷ []) (gifts ++ next.gift ∷ []) old new
+    all_calm true is all =
+        subst (λ n. ArePlayed n (cues ++ cue ∷ []) (gifts ++ next.gift ∷ []) old new) (let e : suc calm ≡ after = omega (arith, on is all) in e)
+        (calm_more calm cues cue gifts next.gift old mid new all made next.makes (next.calm is))
+    all_calm false is all =
+        subst (λ n. ArePlayed n (cues ++ cue ∷ []) (gifts ++ next.gift ∷ []) old new) (sym (off is))
+        (moved_more calm cues cue gifts next.gift old mid new all made next.makes (next.moved is))
+
+    by_place : (b : Bool) → nat_lt calm (length cues) ≡ b → ArePlayed after (cues ++ cue ∷ []) (gifts ++ next.gift ∷ []) old new
+    by_place true is =
+        let less : calm < length cues = grind (arith, nat_tests) in
+        subst (λ n. ArePlayed n (cues ++ cue ∷ []) (gifts ++ next.gift ∷ []) old new) (sym (past less)) (any_more calm cues cue gifts next.gift old mid new less made next.makes)
+    by_place false is =
+        let few = calm_few calm cues gifts old mid made in
+        let all : calm ≡ length cues = grind (arith, nat_tests) in all_calm is_calm refl all
 
 -- ---- lists
 
@@ -61,28 +106,36 @@ taken_on : {X Y : Type 0} (f : X → Y) (items : List X) (i : ℕ) (item other :
 taken_on f items i item other inside is =
     ap (map f) (take_more items i other inside) ∙ map-append f (take i items) (get_or items i other ∷ []) ∙ ap (λ x. map f (take i items) ++ f x ∷ []) (sym is)
 
+-- none was made
+pub none_made : {A : Type 0} (gifts : List (Given A)) (old new : Server) → gifts ≡ [] → new ≡ old → ArePlayed 0 [] (gifts_of gifts) old new
+none_made gifts old new none same = subst (λ l. ArePlayed 0 [] (gifts_of l) old new) (sym none) same
+
 -- the next of a list of calls was made
-pub one_more : {A : Type 0} (cues : List (Held A)) (i : ℕ) (cue other : Held A) (before after : List Gift) (v : View) (mid new : Server) → i < length cues → cue ≡ get_or cues i other
-    → RunsTo (cues_of (take i cues)) before v mid.view → PlaysNext (cue_of cue) before after mid new → new.counts ≡ mid.counts → RunsTo (cues_of (take (i + 1) cues)) after v new.view
-one_more cues i cue other before after v mid new inside is runs next same =
-    subst (λ l. RunsTo l after v new.view) (sym (taken_on cue_of cues i cue other inside is)) (runs_more (cues_of (take i cues)) (cue_of cue) before after v mid new runs next same)
+pub one_more : {A : Type 0} (cues : List (Held A)) (i : ℕ) (cue other : Held A) (is_calm : Bool) (calm after : ℕ) (gifts more : List Gift) (old mid new : Server) → i < length cues
+    → cue ≡ get_or cues i other → ArePlayed calm (cues_of (take i cues)) gifts old mid → MakesNext is_calm (cue_of cue) gifts more mid new
+    → (is_calm ≡ true → calm ≡ i → after ≡ calm + 1) → (is_calm ≡ false → after ≡ calm) → (calm < i → after ≡ calm) → ArePlayed after (cues_of (take (i + 1) cues)) more old new
+one_more cues i cue other is_calm calm after gifts more old mid new inside is made next on off past =
+    subst (λ l. ArePlayed after l more old new) (sym (taken_on cue_of cues i cue other inside is))
+    (played_more is_calm calm after (cues_of (take i cues)) (cue_of cue) gifts more old mid new made next
+    (λ calmly all. on calmly (all ∙ long)) off (λ less. past (subst (λ n. calm < n) long less)))
+  where
+    long : length (cues_of (take i cues)) ≡ i
+    long = length-map (take i cues) cue_of ∙ length-take-le i cues (omega (arith, inside))
 
--- all of them were made
-pub all_made : {A : Type 0} (cues : List (Held A)) (i : ℕ) (gifts : List Gift) (old new : Server) → length cues ≤ i → RunsTo (cues_of (take i cues)) gifts old.view new.view → Plays (cues_of cues) gifts old new
-all_made cues i gifts old new past runs = λ same. subst (λ l. RunsTo (cues_of l) gifts old.view new.view) (take_all i cues past) runs
-
--- one of them failed
-pub none_said : (cues : List Cue) (gifts : List Gift) (old mid new : Server) → mid.counts ≡ old.counts → new.counts ≢ mid.counts → Plays cues gifts old new
-none_said cues gifts old mid new steady moved = λ same. absurd (moved (same ∙ sym steady))
+-- and one gift more is kept
+pub long_more : {A : Type 0} (items more : List (Given A)) (gift : Gift) (i : ℕ) → gifts_of more ≡ gifts_of items ++ gift ∷ [] → length items ≡ i → length more ≡ i + 1
+long_more items more gift i kept long =
+    omega (arith, long, length-map more gift_of, length-map items gift_of, ap length kept, length-append (gifts_of items) (gift ∷ []))
 
 -- memory was refused before one of them
-pub some_made : {A : Type 0} (cues : List (Held A)) (i : ℕ) (gifts : List Gift) (old mid new : Server) → i ≤ length cues → RunsTo (cues_of (take i cues)) gifts old.view mid.view
-    → mid.counts ≡ old.counts → new ≡ mid → PlaysSome (cues_of cues) old new
-some_made cues i gifts old mid new inside runs steady back = record {
+pub some_made : {A : Type 0} (cues : List (Held A)) (i calm : ℕ) (gifts : List Gift) (old mid new : Server) → i ≤ length cues → ArePlayed calm (cues_of (take i cues)) gifts old mid
+    → new ≡ mid → PlaysSome (cues_of cues) old new
+some_made cues i calm gifts old mid new inside made back = record {
   count = i;
   few = subst (λ n. i ≤ n) (sym (length-map cues cue_of)) inside;
-  steady = ap (λ s. s.counts) back ∙ steady;
-  left = λ read is. ap (λ s. s.view) back ∙ (runs read is).1 ∙ ap (λ l. left_by read l old.view) (sym (take-map cue_of i cues));
+  calm = calm;
+  gifts = gifts;
+  made = subst (λ s. ArePlayed calm (take i (cues_of cues)) gifts old s) (sym back) (subst (λ l. ArePlayed calm l gifts old mid) (sym (take-map cue_of i cues)) made);
 }
 
 -- ---- counts
@@ -99,11 +152,61 @@ counts_apart a b test is fails same =
     let both : test ≡ true = is ∙ ap (λ x. x && (a.failures == b.failures)) refusals ∙ failures in
     let wrong : true ≡ false = sym both ∙ fails in cc
 
+-- ---- what the definitions say up to the first in which a count moved
+
+-- what a call gave, and then the rest
+given_on : (read : Reading) (cue : Cue) (gift : Gift) (v w : View) (gifts : List Gift) (cues : List Cue) → (gift, w) ≡ call read cue v → gifts ≡ played read cues w
+    → gift ∷ gifts ≡ played read (cue ∷ cues) v
+unfolding played
+given_on read cue gift v w gifts cues both rest =
+    let tail : gifts ≡ played read cues (call read cue v).1 = rest ∙ ap (λ (x : Gift × View). played read cues x.1) both in
+    λ i. (both i).0 ∷ tail i
+
+gave_as : (read : Reading) → IsReading read → (calm : ℕ) (cues : List Cue) (gifts : List Gift) (old new : Server) → ArePlayed calm cues gifts old new
+    → take calm gifts ≡ played read (take calm cues) old.view
+unfolding played
+gave_as read is zero cues gifts old new made = refl
+gave_as read is (suc calm) [] gifts old new made = absurd made
+gave_as read is (suc calm) (cue ∷ cues) [] old new made = absurd made
+gave_as read is (suc calm) (cue ∷ cues) (gift ∷ gifts) old new made =
+    given_on read cue gift old.view made.0.view (take calm gifts) (take calm cues) (makes_gives cue gift old made.0 made.1 made.2 read is)
+    (gave_as read is calm cues gifts made.0 new made.3)
+
+left_as : (read : Reading) → IsReading read → (calm : ℕ) (cues : List Cue) (gifts : List Gift) (old new : Server) → ArePlayed calm cues gifts old new → calm ≡ length cues
+    → new.view ≡ left_by read cues old.view
+unfolding left_by
+left_as read is zero [] [] old new made all = ap (λ s. s.view) made
+left_as read is zero [] (gift ∷ gifts) old new made all = absurd made
+left_as read is zero (cue ∷ cues) gifts old new made all = absurd (omega (arith, all))
+left_as read is (suc calm) [] gifts old new made all = absurd made
+left_as read is (suc calm) (cue ∷ cues) [] old new made all = absurd made
+left_as read is (suc calm) (cue ∷ cues) (gift ∷ gifts) old new made all =
+    left_as read is calm cues gifts made.0 new made.3 (omega (arith, all))
+    ∙ ap (λ (x : Gift × View). left_by read cues x.1) (makes_gives cue gift old made.0 made.1 made.2 read is)
+
+steady_as : (calm : ℕ) (cues : List Cue) (gifts : List Gift) (old new : Server) → ArePlayed calm cues gifts old new → calm ≡ length cues → new.counts ≡ old.counts
+steady_as zero [] [] old new made all = ap (λ s. s.counts) made
+steady_as zero [] (gift ∷ gifts) old new made all = absurd made
+steady_as zero (cue ∷ cues) gifts old new made all = absurd (omega (arith, all))
+steady_as (suc calm) [] gifts old new made all = absurd made
+steady_as (suc calm) (cue ∷ cues) [] old new made all = absurd made
+steady_as (suc calm) (cue ∷ cues) (gift ∷ gifts) old new made all = steady_as calm cues gifts made.0 new made.3 (omega (arith, all)) ∙ made.2
+
+pub plays_as : (calm : ℕ) (cues : List Cue) (gifts : List Gift) (old new : Server) → ArePlayed calm cues gifts old new → PlaysAs calm cues gifts old new
+plays_as calm cues gifts old new made = record {
+  gave = λ read is. gave_as read is calm cues gifts old new made;
+  left = λ read is all. left_as read is calm cues gifts old new made all;
+  steady = steady_as calm cues gifts old new made;
+}
+
 -- ---- at a root
 
-pub keeps_apart : (cues : List Cue) (gifts : List Gift) (old new : Server) → Plays cues gifts old new → KeepsApart cues gifts old new
-keeps_apart cues gifts old new plays = λ same read table accounts here peer root is starts known.
-    let both = plays same read is in
-    let P : View → Type 0 = λ v. LogsInAt read root cues v → IsApart read root cues v in
-    let apart = subst P (sym starts) (roots_are_apart read table accounts here peer root cues is) known in
-    (λ path out. ap (λ (w : View). node_at w.session.table path) both.1 ∙ apart.outside path out, both.0 ∙ apart.gives)
+pub keeps_apart : (calm : ℕ) (cues : List Cue) (gifts : List Gift) (old new : Server) → PlaysAs calm cues gifts old new → KeepsApart calm cues gifts old new
+keeps_apart calm cues gifts old new plays = λ read table accounts here peer root is starts known.
+    let P : View → Type 0 = λ v. LogsInAt read root (take calm cues) v → IsApart read root (take calm cues) v in
+    let apart = subst P (sym starts) (roots_are_apart read table accounts here peer root (take calm cues) is) known in (
+      plays.gave read is ∙ apart.gives,
+      λ all path out.
+          ap (λ (w : View). node_at w.session.table path) (plays.left read is all)
+          ∙ ap (λ l. node_at (left_by read l old.view).session.table path) (sym (take_all calm cues (omega (arith, all)))) ∙ apart.outside path out,
+    )

@@ -1,2 +1,3 @@
 pub mod Cues
+pub mod Making
 pub mod Playing

@@ -1,28 +1,22 @@
 // One call of a server.
 ghost use Rattle.std.specs.Prelude.{◌≡◌, IfOk, OnErr, vec_len};
-ghost use Rattle.ftp_server.specs.Server.{server_of};
 ghost use Rattle.ftp_server_model.specs.Play.{ControlOut, DataOut};
-ghost use Rattle.ftp_server_play.specs.Playing.{Gives};
+ghost use Rattle.ftp_server_play.specs.Making.{Makes};
 ghost use Rattle.ftp_server_play.specs.Cues.{cue_of, gift_of};
 
 use crate::cue::{Cue, Gift};
-use ftp_server::Server;
-use ftp_server_session::ServerTransfer;
+use ftp_server_model::Far;
 use ftp_tree::Tree;
 use std::alloc::{AllocError, Allocator};
 
 /// Makes a call, and gives what it gave. Where there is no memory for the octets that it may give, it is not made.
-pub(crate) fn call<A, T, J>(
+pub(crate) fn call<A: Allocator + Copy, T: Tree<A>, S: Far<A, T>>(
     alloc: A,
-    server: &mut Server<A, T, J>,
+    server: &mut S,
     cue: &Cue<A>,
 ) -> Result<Gift<A>, AllocError>
-where
-    A: Allocator + Copy,
-    T: Tree<A>,
-    J: ServerTransfer<A, T>,
-    ensures gives { IfOk result (λ gift. Gives (cue_of cue.now) (gift_of gift) (server_of T.table T.failures J.view server.old) (server_of T.table T.failures J.view server.new)) }
-    ensures back { OnErr result (server_of T.table T.failures J.view server.new ≡ server_of T.table T.failures J.view server.old) }
+    ensures makes { IfOk result (λ gift. Makes (cue_of cue.now) (gift_of gift) (S.server server.old) (S.server server.new)) }
+    ensures back { OnErr result (S.server server.new ≡ S.server server.old) }
 {
     match cue {
         Cue::Clock(moment) => {
@@ -70,17 +64,13 @@ where
 }
 
 /// Control octets, into so much room.
-fn control_out<A, T, J>(
+fn control_out<A: Allocator + Copy, T: Tree<A>, S: Far<A, T>>(
     alloc: A,
-    server: &mut Server<A, T, J>,
+    server: &mut S,
     room: usize,
 ) -> Result<Gift<A>, AllocError>
-where
-    A: Allocator + Copy,
-    T: Tree<A>,
-    J: ServerTransfer<A, T>,
-    ensures gives { IfOk result (λ gift. Gives (ControlOut room) (gift_of gift) (server_of T.table T.failures J.view server.old) (server_of T.table T.failures J.view server.new)) }
-    ensures back { OnErr result (server_of T.table T.failures J.view server.new ≡ server_of T.table T.failures J.view server.old) }
+    ensures makes { IfOk result (λ gift. Makes (ControlOut room) (gift_of gift) (S.server server.old) (S.server server.new)) }
+    ensures back { OnErr result (S.server server.new ≡ S.server server.old) }
 {
     let mut octets = empty(alloc, room)?;
     let count = server.control_out(octets.as_mut_slice());
@@ -89,17 +79,13 @@ where
 }
 
 /// Data octets, into so much room.
-fn data_out<A, T, J>(
+fn data_out<A: Allocator + Copy, T: Tree<A>, S: Far<A, T>>(
     alloc: A,
-    server: &mut Server<A, T, J>,
+    server: &mut S,
     room: usize,
 ) -> Result<Gift<A>, AllocError>
-where
-    A: Allocator + Copy,
-    T: Tree<A>,
-    J: ServerTransfer<A, T>,
-    ensures gives { IfOk result (λ gift. Gives (DataOut room) (gift_of gift) (server_of T.table T.failures J.view server.old) (server_of T.table T.failures J.view server.new)) }
-    ensures back { OnErr result (server_of T.table T.failures J.view server.new ≡ server_of T.table T.failures J.view server.old) }
+    ensures makes { IfOk result (λ gift. Makes (DataOut room) (gift_of gift) (S.server server.old) (S.server server.new)) }
+    ensures back { OnErr result (S.server server.new ≡ S.server server.old) }
 {
     let mut octets = empty(alloc, room)?;
     let count = server.data_out(octets.as_mut_slice());

@@ -5,5 +5,5 @@ mod calling;
 mod cue;
 mod playing;
 
-pub use cue::{Cue, Gift};
-pub use playing::play;
+pub use cue::{Cue, Gift, Played};
+pub use playing::Plays;

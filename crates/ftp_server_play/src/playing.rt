@@ -1,85 +1,88 @@
 // Calls of a server in order.
-ghost use Rattle.std.specs.Prelude.{◌≡◌, ◌≢◌, ◌<◌, ◌++◌, [], ◌∷◌, IfOk, OnErr, false, true, vec_capacity, vec_len};
-ghost use Rattle.ftp_server.specs.Server.{counts_of, server_of};
+ghost use Rattle.std.specs.Prelude.{◌≡◌, ◌≢◌, ◌<◌, ◌+◌, ◌^◌, ◌++◌, [], ◌∷◌, IfOk, OnErr, false, true, vec_capacity, vec_len};
 ghost use Rattle.ftp_server_play.specs.Cues.{cue_of, cues_of, gifts_of};
-ghost use Rattle.ftp_server_play.specs.Playing.{KeepsApart, Plays, PlaysNext, PlaysSome};
+ghost use Rattle.ftp_server_play.specs.Making.{ArePlayed, MakesNext};
+ghost use Rattle.ftp_server_play.specs.Playing.{KeepsApart, PlaysAs, PlaysSome};
 
 use crate::calling::call;
-use crate::cue::{Cue, Gift};
-use ftp_server::Server;
-use ftp_server_model::Counts;
-use ftp_server_session::ServerTransfer;
+use crate::cue::{Cue, Gift, Played};
+use ftp_server_model::{Counts, Far};
 use ftp_tree::Tree;
 use std::alloc::{AllocError, Allocator};
 
-/// Makes calls in order, and gives what each of them gave. A call in which a growth was refused to the server, or its tree's device failed, is the last.
-///
-/// Refused memory for what the calls give, the calls before stand.
-pub fn play<A, T, J>(
-    alloc: A,
-    server: &mut Server<A, T, J>,
-    cues: &[Cue<A>],
-) -> Result<Vec<Gift<A>, A>, AllocError>
-where
-    A: Allocator + Copy,
-    T: Tree<A>,
-    J: ServerTransfer<A, T>,
-    ensures plays { IfOk result (λ gifts. Plays (cues_of cues.now) (gifts_of gifts.items) (server_of T.table T.failures J.view server.old) (server_of T.table T.failures J.view server.new)) }
+/// A server's end that makes calls by a list: whatever keeps `Far`.
+pub trait Plays<A: Allocator + Copy, T: Tree<A>>: Far<A, T> {
+    /// Makes all of these calls in order, and says what each gave and in how many of the first of them nothing failed.
+    ///
+    /// Refused memory for what the calls give, the calls before stand.
+    fn play(&mut self, alloc: A, cues: &[Cue<A>]) -> Result<Played<A>, AllocError>
+        ensures made { IfOk result (λ played. ArePlayed played.calm (cues_of cues.now) (gifts_of played.gifts.items) (Self.server self.old) (Self.server self.new)) }
 
-    // Where each login that succeeds is to one root, it keeps the rest of the map apart.
-    ensures apart { IfOk result (λ gifts. KeepsApart (cues_of cues.now) (gifts_of gifts.items) (server_of T.table T.failures J.view server.old) (server_of T.table T.failures J.view server.new)) }
-    ensures begun { OnErr result (PlaysSome (cues_of cues.now) (server_of T.table T.failures J.view server.old) (server_of T.table T.failures J.view server.new)) }
-{
-    let gifts = play_all(alloc, server, cues)?;
-    Ok(gifts)
+        // Up to the first call in which something failed they give what the definitions say.
+        ensures plays { IfOk result (λ played. PlaysAs played.calm (cues_of cues.now) (gifts_of played.gifts.items) (Self.server self.old) (Self.server self.new)) }
+
+        // Where each login that succeeds is to one root, they keep the rest of the map apart.
+        ensures apart { IfOk result (λ played. KeepsApart played.calm (cues_of cues.now) (gifts_of played.gifts.items) (Self.server self.old) (Self.server self.new)) }
+        ensures begun { OnErr result (PlaysSome (cues_of cues.now) (Self.server self.old) (Self.server self.new)) };
 }
 
-/// The same, with nothing said of roots.
-fn play_all<A, T, J>(
+impl<A: Allocator + Copy, T: Tree<A>, S: Far<A, T>> Plays<A, T> for S {
+    fn play(&mut self, alloc: A, cues: &[Cue<A>]) -> Result<Played<A>, AllocError> {
+        let played = play_all(alloc, self, cues)?;
+        Ok(played)
+    }
+}
+
+/// Makes all calls in order.
+fn play_all<A: Allocator + Copy, T: Tree<A>, S: Far<A, T>>(
     alloc: A,
-    server: &mut Server<A, T, J>,
+    server: &mut S,
     cues: &[Cue<A>],
-) -> Result<Vec<Gift<A>, A>, AllocError>
-where
-    A: Allocator + Copy,
-    T: Tree<A>,
-    J: ServerTransfer<A, T>,
-    ensures plays { IfOk result (λ gifts. Plays (cues_of cues.now) (gifts_of gifts.items) (server_of T.table T.failures J.view server.old) (server_of T.table T.failures J.view server.new)) }
-    ensures begun { OnErr result (PlaysSome (cues_of cues.now) (server_of T.table T.failures J.view server.old) (server_of T.table T.failures J.view server.new)) }
+) -> Result<Played<A>, AllocError>
+    ensures made { IfOk result (λ played. ArePlayed played.calm (cues_of cues.now) (gifts_of played.gifts.items) (S.server server.old) (S.server server.new)) }
+    ensures begun { OnErr result (PlaysSome (cues_of cues.now) (S.server server.old) (S.server server.new)) }
 {
     let mut gifts = Vec::new(alloc);
+    let mut calm = 0;
     for cue in cues {
+        let made = gifts.len();
         let Ok(is_calm) = play_one(alloc, server, cue, &mut gifts) else {
             return Err(AllocError);
         };
-        if !is_calm {
-            return Ok(gifts);
-        }
+        calm = calm_after(calm, made, is_calm);
     }
-    Ok(gifts)
+    Ok(Played { gifts, calm })
 }
 
 /// Makes a call, and keeps what it gave; says whether nothing failed in it.
-fn play_one<A, T, J>(
+fn play_one<A: Allocator + Copy, T: Tree<A>, S: Far<A, T>>(
     alloc: A,
-    server: &mut Server<A, T, J>,
+    server: &mut S,
     cue: &Cue<A>,
     gifts: &mut Vec<Gift<A>, A>,
 ) -> Result<bool, AllocError>
-where
-    A: Allocator + Copy,
-    T: Tree<A>,
-    J: ServerTransfer<A, T>,
-    ensures calm { IfOk result (λ is_calm. is_calm ≡ true → counts_of T.failures server.new ≡ counts_of T.failures server.old) }
-    ensures moved { IfOk result (λ is_calm. is_calm ≡ false → counts_of T.failures server.new ≢ counts_of T.failures server.old) }
-    ensures next { IfOk result (λ is_calm. PlaysNext (cue_of cue.now) (gifts_of gifts.old.items) (gifts_of gifts.new.items) (server_of T.table T.failures J.view server.old) (server_of T.table T.failures J.view server.new)) }
-    ensures back { OnErr result (server_of T.table T.failures J.view server.new ≡ server_of T.table T.failures J.view server.old) }
+    ensures next { IfOk result (λ is_calm. MakesNext is_calm (cue_of cue.now) (gifts_of gifts.old.items) (gifts_of gifts.new.items) (S.server server.old) (S.server server.new)) }
+    ensures back { OnErr result (S.server server.new ≡ S.server server.old) }
 {
     let counts = server.counts();
     gifts.reserve(1)?;
     let gift = call(alloc, server, cue)?;
     keep(gifts, gift);
     Ok(is_same(counts, server.counts()))
+}
+
+/// How many of the first calls were calm, after one more: `calm` of those `made` before it were.
+fn calm_after(calm: usize, made: usize, is_calm: bool) -> usize
+    requires { made < 2 ^ 63 }
+    ensures on { is_calm ≡ true → calm ≡ made → result ≡ calm + 1 }
+    ensures off { is_calm ≡ false → result ≡ calm }
+    ensures past { calm < made → result ≡ calm }
+{
+    if is_calm && calm == made {
+        calm + 1
+    } else {
+        calm
+    }
 }
 
 /// Adds what a call gave, for which there is room.

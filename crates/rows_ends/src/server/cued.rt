@@ -4,7 +4,7 @@ use crate::event::{Event, Told, told_of};
 use crate::stage::put_wants;
 use crate::turn::Turn;
 use crate::verb::{Verb, verb_of};
-use ftp_server_play::{Cue, Gift};
+use ftp_server_play::{Cue, Gift, Played};
 use rows_base::{Paper, cut, number, octets_of, split};
 use std::alloc::{AllocError, Allocator, Global};
 
@@ -76,7 +76,7 @@ fn happening<A: Allocator + Copy>(event: Event, told: Told) -> Cue<A> {
 /// Writes a row as far as its calls, each with what it gave, and says what stands behind them.
 pub fn tell<'a, A: Allocator + Copy>(
     row: &'a [u8],
-    gifts: &Result<Vec<Gift<A>, A>, AllocError>,
+    played: &Result<Played<A>, AllocError>,
     desk: &mut Desk,
 ) -> &'a [u8] {
     let mut rest = row;
@@ -88,12 +88,12 @@ pub fn tell<'a, A: Allocator + Copy>(
         }
         desk.paper.line(line);
         if call_in(line).is_some() {
-            show_nth(gifts, place, &mut desk.paper);
+            show_nth(played, place, &mut desk.paper);
             place = place.saturating_add(1);
         }
         rest = behind;
     }
-    if gifts.is_err() {
+    if played.is_err() {
         desk.paper.line(b"! no memory");
     }
     rest
@@ -105,16 +105,19 @@ fn is_in_front(line: &[u8]) -> bool {
 }
 
 fn show_nth<A: Allocator + Copy>(
-    gifts: &Result<Vec<Gift<A>, A>, AllocError>,
+    played: &Result<Played<A>, AllocError>,
     place: usize,
     paper: &mut Paper,
 ) {
-    let Ok(gifts) = gifts else {
+    let Ok(played) = played else {
         return;
     };
-    match gifts.get(place) {
+    match played.gifts.get(place) {
         Some(gift) => show(gift, paper),
         None => paper.line(b"! not made"),
+    }
+    if place == played.calm {
+        paper.line(b"! something failed");
     }
 }
 

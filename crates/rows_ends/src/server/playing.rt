@@ -11,7 +11,7 @@ use ftp_operation::Accounts;
 use ftp_server::Server;
 use ftp_server_model::Far;
 use ftp_server_parts::{Counted, ServerTransfer};
-use ftp_server_play::{Cue, Gift, play as play_list};
+use ftp_server_play::{Cue, Played as Made, Plays};
 use ftp_server_transfer::TreeTransfer;
 use ftp_tree::{MemTree, Tree};
 use rows_base::{Refusing, said};
@@ -72,12 +72,12 @@ fn serve<A: Allocator + Copy, J: Counted<A, MemTree<A>>>(
 /// A server that makes calls by a list. What plays rows on one is generic in it: only who makes one names it.
 trait Lists<A: Allocator + Copy> {
     /// Makes these calls, and gives what they gave.
-    fn make(&mut self, heap: A, cues: &[Cue<A>]) -> Result<Vec<Gift<A>, A>, AllocError>;
+    fn make(&mut self, heap: A, cues: &[Cue<A>]) -> Result<Made<A>, AllocError>;
 }
 
 impl<A: Allocator + Copy, T: Tree<A>, J: ServerTransfer<A, T>> Lists<A> for Server<A, T, J> {
-    fn make(&mut self, heap: A, cues: &[Cue<A>]) -> Result<Vec<Gift<A>, A>, AllocError> {
-        play_list(heap, self, cues)
+    fn make(&mut self, heap: A, cues: &[Cue<A>]) -> Result<Made<A>, AllocError> {
+        self.play(heap, cues)
     }
 }
 

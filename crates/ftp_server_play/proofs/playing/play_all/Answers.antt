@@ -1,40 +1,29 @@
-use Rattle.std.proofs.Common.{◌≡◌, ◌∙◌, [], arith, rules}
-use Rattle.ftp_server.specs.Server.{server_of}
-use Rattle.ftp_server_play.proofs.PlayLemmas.{all_made, none_said, one_more, runs_none, some_made}
-use Rattle.ftp_server_play.specs.Cues.{cues_of, gifts_of}
+use Rattle.std.proofs.Common.{◌≡◌, ◌∙◌, [], arith, length, refl, rules, sym}
+use Rattle.ftp_server_play.proofs.PlayLemmas.{long_more, none_made, one_more, some_made}
+use Rattle.ftp_server_play.specs.Cues.{gifts_of}
 use Rattle.ftp_server_play.proofs.playing.play_all.Goals as goal
 
 pub loop-cue-init : goal.loop-cue-init
 loop-cue-init g c =
-    let server = server_of g.T.Tree.table g.T.Tree.failures g.J.ServerTransfer.view in
     let none : c.new-gifts.result.items ≡ [] = search rules in
-    record { steady = search rules; runs = runs_none c.new-gifts.result.items (server c.args.server.now).view none }
+    record { made = none_made c.new-gifts.result.items (g.S.Far.server c.args.server.now) (g.S.Far.server c.args.server.now) none refl; long = search rules }
 
 pub loop-cue-preserved : goal.loop-cue-preserved
 loop-cue-preserved g c =
-    let server = server_of g.T.Tree.table g.T.Tree.failures g.J.ServerTransfer.view in
-    let mid = server c.loop-cue.server in let new = server c.play_one.new.server in
-    let same = c.in-Ok.ensures.calm c.if-not-is_calm.false in
+    let server = g.S.Far.server in
+    let next = c.in-Ok.ensures.next in
+    let whole : length c.loop-cue.gifts.items ≡ c.loop-cue.gifts.len = search rules in
+    let made : c.len-made.result ≡ c.loop-cue.cue-index = c.len-made.ensures ∙ sym whole ∙ c.loop-cue.invariant.long in
     record {
-      steady = same ∙ c.loop-cue.invariant.steady;
-      runs = one_more c.args.cues.now c.loop-cue.cue-index c.cue-item.result c.cue-item.result (gifts_of c.loop-cue.gifts.items) (gifts_of c.play_one.new.gifts.items)
-          (server c.args.server.now).view mid new c.loop-cue-test.true c.cue-item.is c.loop-cue.invariant.runs c.in-Ok.ensures.next same;
+      made = one_more c.args.cues.now c.loop-cue.cue-index c.cue-item.result c.cue-item.result c.in-Ok.is_calm c.loop-cue.calm c.calm_after-calm.result
+          (gifts_of c.loop-cue.gifts.items) (gifts_of c.play_one.new.gifts.items) (server c.args.server.now) (server c.loop-cue.server) (server c.play_one.new.server)
+          c.loop-cue-test.true c.cue-item.is c.loop-cue.invariant.made next
+          (λ calmly all. c.calm_after-calm.ensures.on calmly (all ∙ sym made)) c.calm_after-calm.ensures.off (λ less. c.calm_after-calm.ensures.past (omega (arith, less, made)));
+      long = long_more c.loop-cue.gifts.items c.play_one.new.gifts.items next.gift c.loop-cue.cue-index next.kept c.loop-cue.invariant.long;
     }
 
 pub returns-in_default-clause-begun : goal.returns-in_default-clause-begun
 returns-in_default-clause-begun g c =
-    let server = server_of g.T.Tree.table g.T.Tree.failures g.J.ServerTransfer.view in
-    some_made c.args.cues.now c.loop-cue.cue-index (gifts_of c.loop-cue.gifts.items) (server c.args.server.now) (server c.loop-cue.server) (server c.play_one.new.server)
-    (omega (arith, c.loop-cue-test.true)) c.loop-cue.invariant.runs c.loop-cue.invariant.steady c.in_default.ensures.back
-
-pub returns-then-not-is_calm-clause-plays : goal.returns-then-not-is_calm-clause-plays
-returns-then-not-is_calm-clause-plays g c =
-    let server = server_of g.T.Tree.table g.T.Tree.failures g.J.ServerTransfer.view in
-    none_said (cues_of c.args.cues.now) (gifts_of c.play_one.new.gifts.items) (server c.args.server.now) (server c.loop-cue.server) (server c.play_one.new.server)
-    c.loop-cue.invariant.steady (c.in-Ok.ensures.moved c.if-not-is_calm.true)
-
-pub returns-clause-plays : goal.returns-clause-plays
-returns-clause-plays g c =
-    let server = server_of g.T.Tree.table g.T.Tree.failures g.J.ServerTransfer.view in
-    all_made c.args.cues.now c.loop-cue.cue-index (gifts_of c.loop-cue.gifts.items) (server c.args.server.now) (server c.loop-cue.server)
-    (omega (arith, c.loop-cue-test.false)) c.loop-cue.invariant.runs
+    let server = g.S.Far.server in
+    some_made c.args.cues.now c.loop-cue.cue-index c.loop-cue.calm (gifts_of c.loop-cue.gifts.items) (server c.args.server.now) (server c.loop-cue.server)
+    (server c.play_one.new.server) (omega (arith, c.loop-cue-test.true)) c.loop-cue.invariant.made c.in_default.ensures.back

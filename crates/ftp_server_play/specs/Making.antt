@@ -1,0 +1,73 @@
+-- What a call of a server gives and leaves whether or not memory or the device fails in it: what the clauses of that call in the trait
+-- `Far` say. Calls by a list are a chain of these.
+use Rattle.std.specs.Prelude.{◌≡◌, ◌≢◌, ◌<◌, ◌≤◌, ◌++◌, ℕ, zero, suc, Bool, true, false, List, [], ◌∷◌, IsTrue, length, take}
+use Rattle.ftp_server_model.specs.Calls.{break_step, clock_step, close_step, control_end, control_step, end_step, given_step, listening_step, may_receive, no_port_step, opened_step, refused_step, to_give, wants}
+use Rattle.ftp_server_model.specs.Failing.{EndFails, GiveFails}
+use Rattle.ftp_server_model.specs.Far.{Acts, Hears, Receives, Server, Steps}
+use Rattle.ftp_server_model.specs.Machine.{may_hear}
+use Rattle.ftp_server_model.specs.Most.{IsMostHeard, IsMostReceived}
+use Rattle.ftp_server_model.specs.Play.{Cue, Gift, Clock, Hear, ControlOut, ControlEnd, Listening, ListenRefused, DataOpened, DataRefused, DataHear, DataOut, DataEnd, DataFault, DataClosed, AsksWants, Nothing, Took, Octets, Wanted, most_given}
+
+-- so many octets of a piece of the control connection were taken
+pub record TakesHeard (count : ℕ) (octets : List ℕ) (old new : Server) : Type 0 where
+  pub within : count ≤ length octets
+  pub took : Hears (take count octets) old new
+  pub some : IsTrue (may_hear old.view) → 0 < length octets → 0 < count
+  pub most : new.counts ≡ old.counts → IsMostHeard count octets new.view
+
+-- so many octets of a piece of the data connection were taken
+pub record TakesReceived (count : ℕ) (octets : List ℕ) (old new : Server) : Type 0 where
+  pub within : count ≤ length octets
+  pub took : Receives (take count octets) old new
+  pub some : IsTrue (may_receive old.view) → 0 < length octets → 0 < count
+  pub most : new.counts ≡ old.counts → IsMostReceived count octets new.view
+
+-- so many octets of the data connection were given, into so much room
+pub record GivesSome (count room : ℕ) (old new : Server) : Type 0 where
+  pub within : count ≤ most_given room (to_give old.view)
+  pub now : Steps (GiveFails count) (given_step count) old new
+  pub most : new.counts ≡ old.counts → count ≡ most_given room (to_give old.view)
+
+-- one call was made, and gave this
+abbrev pub Makes : Cue → Gift → (old new : Server) → Type 0
+Makes (Clock moment) gift old new = (gift ≡ Nothing) × Acts (clock_step moment) old new
+Makes (Hear octets) gift old new = (count : ℕ) × (gift ≡ Took count) × TakesHeard count octets old new
+Makes (ControlOut room) gift old new = (gift ≡ Octets (take room old.view.owed)) × Acts (control_step (most_given room old.view.owed)) old new
+Makes ControlEnd gift old new = (gift ≡ Nothing) × (new ≡ record old { view = control_end old.view })
+Makes (Listening port) gift old new = (gift ≡ Nothing) × Acts (listening_step port) old new
+Makes ListenRefused gift old new = (gift ≡ Nothing) × Acts no_port_step old new
+Makes (DataOpened host) gift old new = (gift ≡ Nothing) × Acts (opened_step host) old new
+Makes DataRefused gift old new = (gift ≡ Nothing) × Acts refused_step old new
+Makes (DataHear octets) gift old new = (count : ℕ) × (gift ≡ Took count) × TakesReceived count octets old new
+Makes (DataOut room) gift old new = (count : ℕ) × (gift ≡ Octets (take count (to_give old.view))) × GivesSome count room old new
+Makes DataEnd gift old new = (gift ≡ Nothing) × Steps EndFails end_step old new
+Makes DataFault gift old new = (gift ≡ Nothing) × Steps EndFails break_step old new
+Makes DataClosed gift old new = (gift ≡ Nothing) × Acts close_step old new
+Makes AsksWants gift old new = (gift ≡ Wanted (wants old.view)) × (new ≡ old)
+
+-- one more was made, and what it gave stands after what was given before; neither count moved in it, or one did
+pub record MakesNext (is_calm : Bool) (cue : Cue) (before after : List Gift) (old new : Server) : Type 0 where
+  pub gift : Gift
+  pub kept : after ≡ before ++ gift ∷ []
+  pub makes : Makes cue gift old new
+  pub calm : is_calm ≡ true → new.counts ≡ old.counts
+  pub moved : is_calm ≡ false → new.counts ≢ old.counts
+
+-- ---- calls in order
+
+-- each was made, and gave its gift
+abbrev pub AreMade : List Cue → List Gift → (old new : Server) → Type 0
+AreMade [] [] old new = new ≡ old
+AreMade [] (gift ∷ gifts) old new = ⊥
+AreMade (cue ∷ cues) [] old new = ⊥
+AreMade (cue ∷ cues) (gift ∷ gifts) old new = (mid : Server) × Makes cue gift old mid × AreMade cues gifts mid new
+
+-- each was made: in the first `calm` of them neither count moved, and in the next, if there is one, a count did
+abbrev pub ArePlayed : (calm : ℕ) → List Cue → List Gift → (old new : Server) → Type 0
+ArePlayed zero [] [] old new = new ≡ old
+ArePlayed zero [] (gift ∷ gifts) old new = ⊥
+ArePlayed zero (cue ∷ cues) [] old new = ⊥
+ArePlayed zero (cue ∷ cues) (gift ∷ gifts) old new = (mid : Server) × Makes cue gift old mid × (mid.counts ≢ old.counts) × AreMade cues gifts mid new
+ArePlayed (suc calm) [] gifts old new = ⊥
+ArePlayed (suc calm) (cue ∷ cues) [] old new = ⊥
+ArePlayed (suc calm) (cue ∷ cues) (gift ∷ gifts) old new = (mid : Server) × Makes cue gift old mid × (mid.counts ≡ old.counts) × ArePlayed calm cues gifts mid new
