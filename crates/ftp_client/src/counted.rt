@@ -54,7 +54,7 @@ impl<A: Allocator + Copy, F: ClientTransfer<A>> Counted<A, F> {
     }
 
     /// Begins the operation that `op` has, and takes it out of there.
-    pub(crate) fn start(&mut self, op: &mut Option<Op<Text<A>>>)
+    pub(crate) fn begin(&mut self, op: &mut Option<Op<Text<A>>>)
         ensures begun { (given : AnyOp (List ℕ)) → op.old ≡ Some given → is_busy (counted_of F.flow self.old).view ≡ false
             → HoldsIfRoom (counted_of F.flow self.old) (counted_of F.flow self.new)
             (starts given (counted_of F.flow self.old).view) (starts_short given (counted_of F.flow self.old).view) }
@@ -74,7 +74,7 @@ impl<A: Allocator + Copy, F: ClientTransfer<A>> Counted<A, F> {
     }
 
     /// Begins an upload that goes on after breaks, and has one report (at most 16 tries; own choice). `texts` has the path and the octets.
-    pub(crate) fn upload(&mut self, texts: &mut Option<(Text<A>, Text<A>)>, how: How)
+    pub(crate) fn begin_upload(&mut self, texts: &mut Option<(Text<A>, Text<A>)>, how: How)
         ensures begun { (path octets : List ℕ) → texts.old ≡ Some (path, octets) → is_busy (counted_of F.flow self.old).view ≡ false
             → HoldsIfRoom (counted_of F.flow self.old) (counted_of F.flow self.new)
             (uploads (over_breaks path octets how) (counted_of F.flow self.old).view) (uploads_short (over_breaks path octets how) (counted_of F.flow self.old).view) }

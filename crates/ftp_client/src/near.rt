@@ -13,12 +13,12 @@ impl<A: Allocator + Copy, F: ClientTransfer<A>> Near<A> for Client<A, F> {
 
     ghost client = { client_of F.flow };
 
-    fn start(&mut self, op: &mut Option<Op<Text<A>>>) {
-        self.counted.start(op);
+    fn begin(&mut self, op: &mut Option<Op<Text<A>>>) {
+        self.counted.begin(op);
     }
 
-    fn upload(&mut self, texts: &mut Option<(Text<A>, Text<A>)>, how: How) {
-        self.counted.upload(texts, how);
+    fn begin_upload(&mut self, texts: &mut Option<(Text<A>, Text<A>)>, how: How) {
+        self.counted.begin_upload(texts, how);
     }
 
     fn report(&mut self) -> Option<Answer<A>> {

@@ -1,5 +1,5 @@
 // The client's end of a session, as a world of both sees it: each call is the function of the view that `specs` has for it.
-ghost use Rattle.std.specs.Prelude.{◌≡◌, ◌<◌, ◌≤◌, ℕ, List, Some, None, IsTrue, false, length, min, take};
+ghost use Rattle.std.specs.Prelude.{◌≡◌, ◌<◌, ◌≤◌, ℕ, List, Some, None, IfErr, IsTrue, OnErr, OnOk, false, is_err, length, min, take};
 ghost use Rattle.ftp_operation.specs.declared.op.Op.{Op};
 ghost use Rattle.ftp_operation.specs.Answer.{said_of};
 ghost use Rattle.ftp_client_model.specs.Calls.{starts, uploads, is_busy, handed_back, report_of, reports, gives_control, may_hear, control_end, listening, listen_refused, data_opened, data_refused, data_end, data_fault, data_closed, gives_data, to_give, may_receive, wants};
@@ -9,6 +9,7 @@ ghost use Rattle.ftp_client_model.specs.Tries.{over_breaks};
 ghost use Rattle.ftp_ends.specs.Octets.{has_octets};
 ghost use Rattle.std.specs.Option.{option_map};
 
+use crate::busy::Busy;
 use ftp_endpoint::Host;
 use ftp_ends::Wants;
 use ftp_facts::Text;
@@ -22,8 +23,8 @@ pub trait Near<A: Allocator + Copy>: Drop {
     ghost client: { Self → Client };
 
     /// Begins the operation that `op` has, and takes it out of there. Where one is begun whose report was not taken, and where `op` has
-    /// none, nothing changes.
-    fn start(&mut self, op: &mut Option<Op<Text<A>>>)
+    /// none, nothing changes. An end has this call; who owns one has `start`.
+    fn begin(&mut self, op: &mut Option<Op<Text<A>>>)
         ensures begun { (given : Op (List ℕ)) → op.old ≡ Some given → is_busy (client self.old).view ≡ false
             → HoldsIfRoom (client self.old) (client self.new) (starts given (client self.old).view) (starts_short given (client self.old).view) }
         ensures left { op.new ≡ handed_back (is_busy (client self.old).view) op.old }
@@ -31,8 +32,8 @@ pub trait Near<A: Allocator + Copy>: Drop {
         ensures none { op.old ≡ None → Holds (client self.old) (client self.new) (client self.old).view };
 
     /// Begins an upload that goes on after breaks, and has one report (own choice: at most 16 tries). `texts` has the path and the octets; they are
-    /// taken as `start` takes an operation.
-    fn upload(&mut self, texts: &mut Option<(Text<A>, Text<A>)>, how: How)
+    /// taken as `begin` takes an operation. An end has this call; who owns one has `upload`.
+    fn begin_upload(&mut self, texts: &mut Option<(Text<A>, Text<A>)>, how: How)
         ensures begun { (path octets : List ℕ) → texts.old ≡ Some (path, octets) → is_busy (client self.old).view ≡ false
             → HoldsIfRoom (client self.old) (client self.new)
             (uploads (over_breaks path octets how) (client self.old).view) (uploads_short (over_breaks path octets how) (client self.old).view) }
@@ -142,4 +143,42 @@ pub trait Near<A: Allocator + Copy>: Drop {
     /// Whether it may take an octet of the link.
     fn may_receive(&self) -> bool
         ensures { result ≡ may_receive (client self.now).view };
+
+    /// Begins an operation. Where one is begun whose report was not taken, the client is busy: nothing changes, and the operation is handed back.
+    final fn start(&mut self, op: Op<Text<A>>) -> Result<(), Busy<Op<Text<A>>>>
+        ensures busy { is_err result ≡ is_busy (client self.old).view }
+        ensures begun { OnOk result (HoldsIfRoom (client self.old) (client self.new)
+            (starts op (client self.old).view) (starts_short op (client self.old).view)) }
+        ensures back { IfErr result (λ busy. busy.back ≡ op) }
+        ensures same { OnErr result (Holds (client self.old) (client self.new) (client self.old).view) }
+    {
+        let mut given = Some(op);
+        self.begin(&mut given);
+        match given {
+            None => Ok(()),
+            Some(back) => Err(Busy { back }),
+        }
+    }
+
+    /// Begins an upload of a path and its octets that goes on after breaks, and has one report (own choice: at most 16 tries). A client that is busy
+    /// hands both back.
+    final fn upload(
+        &mut self,
+        path: Text<A>,
+        octets: Text<A>,
+        how: How,
+    ) -> Result<(), Busy<(Text<A>, Text<A>)>>
+        ensures busy { is_err result ≡ is_busy (client self.old).view }
+        ensures begun { OnOk result (HoldsIfRoom (client self.old) (client self.new)
+            (uploads (over_breaks path octets how) (client self.old).view) (uploads_short (over_breaks path octets how) (client self.old).view)) }
+        ensures back { IfErr result (λ busy. busy.back ≡ (path, octets)) }
+        ensures same { OnErr result (Holds (client self.old) (client self.new) (client self.old).view) }
+    {
+        let mut given = Some((path, octets));
+        self.begin_upload(&mut given, how);
+        match given {
+            None => Ok(()),
+            Some(back) => Err(Busy { back }),
+        }
+    }
 }

@@ -1,6 +1,6 @@
 -- How many octets each transfer of a client stores: the sum of the lengths of its fields that have any. Not among it are the octets that came of
 -- a download, which are its report's; an upload shares its file with its operation.
-use Rattle.std.specs.Prelude.{ℕ, length}
+use Rattle.std.specs.Prelude.{◌≡◌, ℕ, length}
 use Rattle.ftp_wire.specs.Stored.{encoder_len}
 use Rattle.ftp_client_transfer.specs.declared.download.Download.{Download}
 use Rattle.ftp_client_transfer.specs.declared.upload.Upload.{Upload}
@@ -19,3 +19,13 @@ download_len d = length d.decoder.marker
 abbrev pub stored_of : {A : Type 0} → OperationTransfer A → ℕ
 stored_of (Carryings.Upload upload) = upload_len upload
 stored_of (Carryings.Download download) = download_len download
+
+-- ---- nothing else is stored: each is what the sums count, and numbers
+
+-- an upload is its encoder, a place in its operation's octets, and the mmmm of a 110 reply
+abbrev pub IsWholeUpload : Upload → Type 0
+IsWholeUpload u = (e : Upload) → e.encoder ≡ u.encoder → e.at ≡ u.at → e.mark ≡ u.mark → e ≡ u
+
+-- a download is its decoder, which has what came, and the last marker that is a number
+abbrev pub IsWholeDownload : {A : Type 0} → Download A → Type 0
+IsWholeDownload {A} d = (e : Download A) → e.decoder ≡ d.decoder → e.mark ≡ d.mark → e ≡ d

@@ -10,8 +10,8 @@ impl<A: Allocator + Copy> CountedTransfer<A> for OperationTransfer<A> {
 
     fn stored_len(&self) -> usize {
         match self {
-            OperationTransfer::Upload(upload) => upload.encoder.stored(),
-            OperationTransfer::Download(download) => download.decoder.stored(),
+            OperationTransfer::Upload(upload) => upload.stored(),
+            OperationTransfer::Download(download) => download.stored(),
         }
     }
 }

@@ -6,7 +6,10 @@ mod content;
 mod counted;
 mod download;
 mod listing;
+mod stored;
 mod transfer;
 mod upload;
 
+pub use download::Download;
 pub use transfer::OperationTransfer;
+pub use upload::Upload;

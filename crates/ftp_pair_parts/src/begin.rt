@@ -105,7 +105,7 @@ impl<A: Allocator + Copy, T: Tree<A>, N: Near<A>, F: Far<A, T>> Parts<A, T, N, F
         ensures reports { self.new.reports ≡ self.old.reports }
     {
         let refusals = self.near.refusals();
-        self.near.start(given);
+        self.near.begin(given);
         if given.is_some() {
             return false;
         }
@@ -124,7 +124,7 @@ impl<A: Allocator + Copy, T: Tree<A>, N: Near<A>, F: Far<A, T>> Parts<A, T, N, F
         ensures reports { self.new.reports ≡ self.old.reports }
     {
         let refusals = self.near.refusals();
-        self.near.upload(given, how);
+        self.near.begin_upload(given, how);
         if given.is_some() {
             return false;
         }

@@ -106,7 +106,7 @@ pub(crate) fn begin<N: Near<Global>>(client: &mut N, request: &mut Request)
     ensures { Begins request.old (N.client client.old) (N.client client.new) }
 {
     match request {
-        Request::One(op) | Request::Download(op, _) => client.start(op),
-        Request::Upload(file, how) => client.upload(file, *how),
+        Request::One(op) | Request::Download(op, _) => client.begin(op),
+        Request::Upload(file, how) => client.begin_upload(file, *how),
     }
 }

@@ -2,7 +2,7 @@
 ghost use Rattle.std.specs.Prelude.{◌≤◌, length};
 
 use crate::end::{Connection, End, Event};
-use ftp_client_model::Near;
+use ftp_client_model::{Busy, Near};
 use ftp_ends::Wants;
 use ftp_facts::Text;
 use ftp_operation::{Answer, How, Op};
@@ -24,14 +24,19 @@ impl<A: Allocator + Copy, N: Near<A>> ClientEnd<A, N> {
         }
     }
 
-    /// Begins an operation.
-    pub(crate) fn start(&mut self, op: Op<Text<A>>) {
-        self.client.start(&mut Some(op));
+    /// Begins an operation, if no other is under way.
+    pub(crate) fn start(&mut self, op: Op<Text<A>>) -> Result<(), Busy<Op<Text<A>>>> {
+        self.client.start(op)
     }
 
-    /// Begins an upload that goes on after breaks.
-    pub(crate) fn upload(&mut self, path: Text<A>, octets: Text<A>, how: How) {
-        self.client.upload(&mut Some((path, octets)), how);
+    /// Begins an upload that goes on after breaks, if no other operation is under way.
+    pub(crate) fn upload(
+        &mut self,
+        path: Text<A>,
+        octets: Text<A>,
+        how: How,
+    ) -> Result<(), Busy<(Text<A>, Text<A>)>> {
+        self.client.upload(path, octets, how)
     }
 
     /// The report, if it is there.

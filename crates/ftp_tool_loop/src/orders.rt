@@ -31,7 +31,7 @@ where
     let mut number = 0u64;
     for order in orders {
         tell_time(pair.server(), number);
-        begin(pair.client(), order);
+        begin(pair.client(), order)?;
         pair.settle(net)?;
         worst = worst.worse(report(net.heap(), pair.client(), out)?);
         number = number.saturating_add(1);
@@ -46,12 +46,20 @@ fn tell_time<S: Far<Global, MemTree<Global>>>(server: &mut ServerEnd<Global, S>,
     }
 }
 
-/// A client begins what is ordered.
-fn begin<N: Near<Global>>(client: &mut ClientEnd<Global, N>, order: Order<Text<Global>>) {
+/// A client begins what is ordered; each order before it has its report.
+fn begin<N>(client: &mut ClientEnd<Global, N>, order: Order<Text<Global>>) -> io::Result<()>
+where
+    N: Near<Global>,
+{
     match order.into_parts() {
-        Ok(op) => client.start(op),
-        Err((path, octets, how)) => client.upload(path, octets, how),
+        Ok(op) => client.start(op).map_err(|_| busy()),
+        Err((path, octets, how)) => client.upload(path, octets, how).map_err(|_| busy()),
     }
+}
+
+/// An order before has no report yet.
+fn busy() -> Error {
+    Error::new(ErrorKind::Other, "another operation is under way")
 }
 
 /// Writes the report of a client; gives its status.

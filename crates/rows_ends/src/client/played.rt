@@ -6,7 +6,7 @@ use crate::event::{Event, Told};
 use crate::peer::Peer;
 use crate::plays::{Holds, Plays};
 use ftp_client_drive::{Control, Driven, drive_client};
-use ftp_client_model::Near;
+use ftp_client_model::{Busy, Near};
 use ftp_ends::Wants;
 use ftp_facts::Text;
 use ftp_operation::{Answer, How, Op};
@@ -40,17 +40,17 @@ impl<A: Allocator + Copy, C: Near<A> + Holds> Played<A, C> {
     }
 
     fn start(&mut self, op: Op<Text<A>>) -> bool {
-        let mut op = Some(op);
-        self.client.start(&mut op);
-        let is_begun = op.is_none();
-        drop(op);
-        is_begun
+        match self.client.start(op) {
+            Ok(()) => true,
+            Err(Busy { back: _ }) => false,
+        }
     }
 
     fn upload(&mut self, path: Text<A>, octets: Text<A>, how: How) -> bool {
-        let mut texts = Some((path, octets));
-        self.client.upload(&mut texts, how);
-        texts.is_none()
+        match self.client.upload(path, octets, how) {
+            Ok(()) => true,
+            Err(Busy { back: _ }) => false,
+        }
     }
 }
 

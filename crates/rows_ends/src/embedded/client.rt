@@ -14,9 +14,7 @@ pub fn perform<A: Allocator + Copy, N: Near<A>, R: Read, W: Write, S: Sockets>(
     (reader, writer): (&mut R, &mut W),
     sockets: &mut S,
 ) -> Result<Answer<A>, Failed> {
-    let mut op = Some(op);
-    client.start(&mut op);
-    drop(op);
+    client.start(op).map_err(|_| Failed)?;
     for _ in 0..TURNS {
         if let Some(answer) = client.report() {
             return Ok(answer);

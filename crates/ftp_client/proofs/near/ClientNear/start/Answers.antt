@@ -1,6 +1,0 @@
-use Rattle.ftp_client.specs.Counted.{counted_of}
-use Rattle.ftp_client.proofs.FitLemmas.{kept, started}
-use Rattle.ftp_client.proofs.near.ClientNear.start.Goals as goal
-
-pub invariant_of-self : goal.invariant_of-self
-invariant_of-self g c = record { fit = kept _ _ g.F.ClientTransfer.flow c.args.self.now.counted c.start.new.self c.args.self.now.fit (λ near. started (counted_of g.F.ClientTransfer.flow c.args.self.now.counted) (counted_of g.F.ClientTransfer.flow c.start.new.self) c.args.op.now near c.start.ensures.begun c.start.ensures.busy c.start.ensures.none) }
