@@ -4,7 +4,7 @@ ghost use Rattle.ftp_tool_serve.specs.Listening.{MayListen};
 
 use crate::connection::{Service, session};
 use crate::journal::Log;
-use crate::starting::{Shown, is_folder, opened, tell_left, tell_roots};
+use crate::starting::{Unserved, is_folder, opened, tell_left, tell_roots};
 use crate::tells::{NoClient, Told};
 use crate::users::{roots_of, users_of};
 use ftp_control::{TURNS, Watch};
@@ -188,7 +188,7 @@ fn refuse_folder<R: Files + Eprint>(
     job: &Serving<'_>,
     fault: &LoadFault,
 ) -> io::Result<Status> {
-    let status = refuse(rt, "", &Shown(fault))?;
+    let status = refuse(rt, "", &Unserved(fault))?;
     if job.odd == Odd::Refuse && is_folder(rt, job.dir) {
         eprintln!(rt; "note: with --skip what can't be served is left out")?;
     }

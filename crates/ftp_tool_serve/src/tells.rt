@@ -1,5 +1,5 @@
 // Who tells of sessions on standard error, and what a line of that says.
-use crate::telling::Quoted;
+use crate::named::Named;
 use ftp_command::Verb;
 use ftp_tool_log::Lines;
 use std::fmt::{Display, Formatter};
@@ -78,11 +78,11 @@ pub(crate) struct Entry<'a> {
 impl<'a> Display for Entry<'a> {
     fn fmt<W: fmt::Write>(&self, formatter: &mut Formatter<W>) -> fmt::Result {
         let verb = verb_text(self.verb);
-        write!(formatter, "{} {} {verb} ", self.peer, Quoted(self.user))?;
+        write!(formatter, "{} {} {verb} ", self.peer, Named(self.user))?;
         write!(
             formatter,
             "{} {} {}",
-            Quoted(self.names),
+            Named(self.names),
             self.moved,
             self.outcome
         )
