@@ -1,5 +1,5 @@
 // Which of several files go where.
-ghost use Rattle.std.specs.Prelude.{◌≡◌, IfOk};
+ghost use Rattle.std.specs.Prelude.{◌≡◌, ◌<◌, ◌++◌, ◌∷◌, [], length, IfOk};
 ghost use Rattle.ftp_tool_words.specs.Placing.{says_directory};
 
 use clap::ArgMatches;
@@ -12,6 +12,22 @@ pub(crate) fn sources_of<'a, 'b>(words: &'b [&'a str]) -> (&'b [&'a str], &'a st
     match words {
         [places @ .., target] if !places.is_empty() && !is_url(target) => (places, *target),
         _ => (words, ""),
+    }
+}
+
+/// The files that `put` reads, and the place where they go: the last word. Fails where there are not both.
+pub(crate) fn uploads_of<'a, 'b>(
+    words: &'b [&'a str],
+) -> Result<(&'b [&'a str], &'a str), Refusal<'a>>
+    ensures { IfOk result (λ said. (words.entry.now ≡ said.0.now ++ (said.1 ∷ [])) × (0 < length said.0.now)) }
+{
+    match words {
+        [files @ .., place] if !files.is_empty() => Ok((files, *place)),
+        _ => Err(Refusal::Value(BadValue {
+            option: PLACE_OPTION,
+            value: words.first().copied().unwrap_or(""),
+            wanted: "files are wanted, and after them the place where they go",
+        })),
     }
 }
 
