@@ -5,7 +5,7 @@ ghost use Rattle.ftp_tool_serve.specs.Listening.{MayListen};
 use crate::connection::{Service, session};
 use crate::journal::Log;
 use crate::starting::{Unserved, is_folder, opened, tell_left, tell_roots};
-use crate::tells::{NoClient, Told};
+use crate::tells::{NoClient, OfFile, Told};
 use crate::users::{roots_of, users_of};
 use ftp_control::{TURNS, Watch};
 use ftp_tool_accounts::Users;
@@ -106,7 +106,7 @@ where
     }
     match users_of(rt, job.accounts) {
         Ok(_) => serve_dir(rt, &job),
-        Err(fault) => refuse(rt, "accounts: ", &fault),
+        Err(fault) => refuse(rt, "accounts: ", &OfFile(job.accounts, &fault)),
     }
 }
 
@@ -149,7 +149,7 @@ where
     match users_of(rt, file) {
         Ok(users) => Some(users),
         Err(fault) => {
-            lines.tell(rt, &Told("error: accounts: ", &fault));
+            lines.tell(rt, &Told("error: accounts: ", &OfFile(file, &fault)));
             None
         }
     }
@@ -169,7 +169,7 @@ where
 {
     let roots = match roots_of(rt, job.accounts) {
         Ok(roots) => roots,
-        Err(fault) => return refuse(rt, "accounts: ", &fault),
+        Err(fault) => return refuse(rt, "accounts: ", &OfFile(job.accounts, &fault)),
     };
     let reasons = Reasons::new();
     let lines = Lines::new();

@@ -2,6 +2,7 @@
 use crate::named::Named;
 use ftp_command::Verb;
 use ftp_tool_log::Lines;
+use ftp_tool_shown::Shown;
 use std::fmt::{Display, Formatter};
 use std::net::SocketAddr;
 use std::time::Clock;
@@ -47,6 +48,19 @@ pub(crate) struct Told<'a, T>(pub(crate) &'static str, pub(crate) &'a T);
 impl<'a, T: Display> Display for Told<'a, T> {
     fn fmt<W: fmt::Write>(&self, formatter: &mut Formatter<W>) -> fmt::Result {
         write!(formatter, "{}{}", self.0, self.1)
+    }
+}
+
+/// What is told of a file, behind its name; of none where it is not known.
+#[derive(Clone, Copy)]
+pub(crate) struct OfFile<'a, T>(pub(crate) Option<&'a str>, pub(crate) &'a T);
+
+impl<'a, T: Display> Display for OfFile<'a, T> {
+    fn fmt<W: fmt::Write>(&self, formatter: &mut Formatter<W>) -> fmt::Result {
+        if let Some(file) = self.0 {
+            write!(formatter, "{}: ", Shown(file.as_bytes()))?;
+        }
+        write!(formatter, "{}", self.1)
     }
 }
 
