@@ -41,17 +41,17 @@ pub(crate) fn check_places<'a>(
     for (place, url) in places.iter().zip(urls.iter()) {
         let asked = asked_of(words, *place, url.as_ref(), false)?;
         if into {
-            check_name(asked.place)?;
+            check_name(*place, asked.place)?;
         }
     }
     Ok(())
 }
 
-fn check_name<'a>(place: Location<'a>) -> Result<(), Refusal<'a>> {
+fn check_name<'a>(word: &'a str, place: Location<'_>) -> Result<(), Refusal<'a>> {
     if place.name().is_empty() {
         return Err(Refusal::Value(BadValue {
             option: PLACE_OPTION,
-            value: place.path,
+            value: word,
             wanted: "a file's name is wanted, where the path ends in none",
         }));
     }

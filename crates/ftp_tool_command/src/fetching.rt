@@ -45,13 +45,11 @@ pub const PUT: Subcommand<'static> = Subcommand {
     about: "uploads files to a server",
     usage: Some("ftp_tool put [OPTIONS] <FILE>... <HOST:PORT/PATH>"),
     help: help::PUT,
-    words: &[
-        Word {
-            name: "files",
-            form: Form::NeededPlaces(Value::Name("FILE")),
-            help: "what is read, - is standard input; the last word is HOST:PORT/PATH or a URL, where it goes",
-        },
-    ],
+    words: &[Word {
+        name: "files",
+        form: Form::NeededPlaces(Value::Name("FILE")),
+        help: "what is read, - is standard input; the last word is HOST:PORT/PATH or a URL, where it goes",
+    }],
 };
 
 pub const LS: Subcommand<'static> = Subcommand {

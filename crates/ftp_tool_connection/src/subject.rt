@@ -34,7 +34,11 @@ impl<'a> Display for Stop<'a> {
         match self.stage {
             Phase::Connection => {
                 let Server { host, port } = subject.named();
-                write!(formatter, "{sentence} to {host} at port {port}: {}", self.error)?;
+                write!(
+                    formatter,
+                    "{sentence} to {host} at port {port}: {}",
+                    self.error
+                )?;
                 formatter.write_str(hint_of(port))
             }
             Phase::Reading | Phase::Writing => {
@@ -44,7 +48,11 @@ impl<'a> Display for Stop<'a> {
             Phase::Login => {
                 write!(formatter, "{sentence}: {}", self.error)?;
                 match subject.password_file {
-                    Some(file) => write!(formatter, " (--password-file {})", Shown(file.as_bytes())),
+                    Some(file) => write!(
+                        formatter,
+                        " (--password-file {})",
+                        Shown(file.as_bytes())
+                    ),
                     None => Ok(()),
                 }
             }

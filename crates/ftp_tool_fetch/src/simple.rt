@@ -56,7 +56,10 @@ where
     R: Converses + Logins + Print + Eprint,
 {
     let answer = ask_once(rt, alloc, asked, simple, noticed)?;
-    at(Phase::Report, report(rt, asked.place.path, &answer, noticed))
+    at(
+        Phase::Report,
+        report(rt, asked.place.path, &answer, noticed),
+    )
 }
 
 /// Tells an answer at a path: a size on standard output, what was done not at all, and anything else as `tell` does.

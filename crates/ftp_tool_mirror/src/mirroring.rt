@@ -3,9 +3,7 @@ use crate::asked::Mirror;
 use crate::machine::Machine;
 use crate::walk::Walk;
 use ftp_operation::Answer;
-use ftp_tool_connection::{
-    Converses, LastReply, Logins, SessionFault, Subject, ask, say, told,
-};
+use ftp_tool_connection::{Converses, LastReply, Logins, SessionFault, Subject, ask, say, told};
 use ftp_tool_status::Status;
 use std::alloc::Global;
 use std::env::Env;

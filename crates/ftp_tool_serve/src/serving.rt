@@ -11,6 +11,7 @@ use ftp_control::{TURNS, Watch};
 use ftp_tool_accounts::Users;
 use ftp_tool_guesses::Guesses;
 use ftp_tool_log::Lines;
+use ftp_tool_shown::Shown;
 use ftp_tool_sockets::{Limits, PassivePorts, Patience, SystemWatch, pause};
 use ftp_tool_status::Status;
 use ftp_tool_words::Sessions;
@@ -19,7 +20,7 @@ use std::alloc::Global;
 use std::cell::RefCell;
 use std::fmt::Display;
 use std::fs::Files;
-use std::io::{Eprint, Print};
+use std::io::{Eprint, ErrorKind, Print};
 use std::net::{IpAddr, Net, SocketAddr, TcpListener, TcpStream};
 use std::time::Clock;
 use std::{fs, io};
@@ -124,13 +125,14 @@ fn refuse<R: Eprint, F: Display>(rt: &R, what: &str, fault: &F) -> io::Result<St
     Ok(Status::Failed)
 }
 
-/// Tells why there is no port to listen at.
-fn tell_refusal<R: Eprint>(
+/// Tells that a folder can't be written.
+fn tell_unwritten<R: Eprint>(
     rt: &R,
-    what: &str,
+    dir: &str,
     error: io::Error,
 ) -> io::Result<Option<TcpListener>> {
-    eprintln!(rt; "error: {what}: {error}")?;
+    let dir = Shown(dir.as_bytes());
+    eprintln!(rt; "error: {dir}: the folder can't be written: {error}")?;
     Ok(None)
 }
 
@@ -238,7 +240,7 @@ where
 {
     match try_writing(rt, job) {
         Ok(()) => listener_at(rt, job),
-        Err(error) => tell_refusal(rt, "the folder can't be written", error),
+        Err(error) => tell_unwritten(rt, job.dir, error),
     }
 }
 
@@ -252,8 +254,23 @@ where
             Ok(()) => Ok(Some(listener)),
             Err(error) => Err(error),
         },
-        Err(error) => tell_refusal(rt, "no port to listen at", error),
+        Err(error) => tell_unheard(rt, SocketAddr::new(job.host, job.port), &error),
     }
+}
+
+/// Tells why an address and its port are not listened at, and what may help.
+fn tell_unheard<R: Eprint>(
+    rt: &R,
+    address: SocketAddr,
+    error: &io::Error,
+) -> io::Result<Option<TcpListener>> {
+    let hint = match error.kind() {
+        ErrorKind::PermissionDenied => "; ports below 1024 are root's: --port names another",
+        ErrorKind::AddrInUse => "; another program listens there: --port names another port",
+        _ => "",
+    };
+    eprintln!(rt; "error: no port to listen at: {address}: {error}{hint}")?;
+    Ok(None)
 }
 
 /// Serves a folder at a port that is listened at.

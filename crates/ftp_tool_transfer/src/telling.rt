@@ -85,7 +85,13 @@ pub fn tell_too_large<R: Eprint>(rt: &R, size: u64, limit: u64) -> io::Result<St
         between: " octets are past the limit of ",
         total: limit,
     };
-    told(rt, "error: ", &part, ", which --limit sets", Status::Refused)
+    told(
+        rt,
+        "error: ",
+        &part,
+        ", which --limit sets",
+        Status::Refused,
+    )
 }
 
 /// How much of a file there is, as it is told: both numbers, and a text between them.

@@ -38,7 +38,9 @@ fn suited_in(
 ) -> io::Result<Option<NetrcEntry<Text<Global>>>> {
     match netrc_entry(alloc, octets, host.as_bytes(), user) {
         Ok(entry) => Ok(entry),
-        Err(NetrcFault::Quote) => Err(bad(".netrc: a word in quotes does not end on its line; NETRC names another file")),
+        Err(NetrcFault::Quote) => Err(bad(
+            ".netrc: a word in quotes does not end on its line; NETRC names another file",
+        )),
         Err(NetrcFault::Memory) => Err(Error::from(ErrorKind::OutOfMemory)),
     }
 }
@@ -80,7 +82,9 @@ fn file_at_home<S: Secrets>(rt: &S) -> io::Result<Option<Vec<u8, Global>>> {
 fn octets_of<S: Secrets>(rt: &S, name: &str) -> io::Result<Vec<u8, Global>> {
     match rt.private(name, FILE_LIMIT) {
         Ok(octets) => Ok(octets),
-        Err(NotPrivate::Kind) => Err(bad(".netrc: a file of at most 65,536 octets is wanted; NETRC names another one")),
+        Err(NotPrivate::Kind) => Err(bad(
+            ".netrc: a file of at most 65,536 octets is wanted; NETRC names another one",
+        )),
         Err(NotPrivate::Shared(_)) => Err(Error::new(
             ErrorKind::PermissionDenied,
             ".netrc: others may use it, and its owner alone may (mode 600); NETRC names another file",
