@@ -12,6 +12,7 @@ use ftp_tool_command::{
     url_in, urls_in,
 };
 use ftp_tool_fetch::{Target, Task};
+use ftp_tool_shown::Shown;
 use ftp_tool_status::Status;
 use ftp_tool_words::{Location, UrlPlace, place_for, says_directory};
 use programs::Programs;
@@ -300,6 +301,7 @@ fn put_one<R: Programs>(
 /// Tells which of several files it is that was not copied, as its sentence does not say.
 fn tell_undone<R: Eprint>(rt: &R, status: Status, count: usize, file: &str) -> io::Result<()> {
     if count > 1 && status != Status::Done {
+        let file = Shown(file.as_bytes());
         eprintln!(rt; "note: not copied: {file}")?;
     }
     Ok(())
@@ -353,6 +355,8 @@ fn refuse<R: Eprint>(rt: &R, refusal: Refusal<'_>) -> io::Result<u8> {
 fn tell_value<R: Eprint>(rt: &R, bad: BadValue<'_>) -> io::Result<()> {
     eprintln!(rt;
         "error: invalid value '{}' for '{}': {}\n\nFor more information, try '--help'.",
-        bad.value, bad.option, bad.wanted
+        Shown(bad.value.as_bytes()),
+        bad.option,
+        bad.wanted
     )
 }
