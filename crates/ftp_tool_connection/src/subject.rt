@@ -46,15 +46,11 @@ impl<'a> Display for Stop<'a> {
                 write!(formatter, "{file}: {sentence}: {}", self.error)
             }
             Phase::Login => {
-                write!(formatter, "{sentence}: {}", self.error)?;
-                match subject.password_file {
-                    Some(file) => write!(
-                        formatter,
-                        " (--password-file {})",
-                        Shown(file.as_bytes())
-                    ),
-                    None => Ok(()),
+                formatter.write_str(sentence)?;
+                if let Some(file) = subject.password_file {
+                    write!(formatter, " by --password-file {}", Shown(file.as_bytes()))?;
                 }
+                write!(formatter, ": {}", self.error)
             }
             _ => write!(formatter, "{sentence}: {}", self.error),
         }

@@ -164,11 +164,11 @@ fn password_in<S: Secrets>(rt: &S, alloc: Global, file: &str) -> io::Result<Text
         Ok(octets) => Ok(Text::copy_of(alloc, first_line(octets.as_slice()))?),
         Err(NotPrivate::Kind) => Err(Error::new(
             ErrorKind::InvalidInput,
-            "--password-file: a file of at most 1,024 octets is wanted",
+            "a file of at most 1,024 octets is wanted",
         )),
         Err(NotPrivate::Shared(_)) => Err(Error::new(
             ErrorKind::PermissionDenied,
-            "--password-file: others may use it, and its owner alone may (mode 600)",
+            "others may use it, and its owner alone may (mode 600)",
         )),
         Err(NotPrivate::System(error)) => Err(unread(error)),
     }
@@ -178,10 +178,10 @@ fn password_in<S: Secrets>(rt: &S, alloc: Global, file: &str) -> io::Result<Text
 fn unread(error: Error) -> Error {
     let kind = error.kind();
     match kind {
-        ErrorKind::NotFound => Error::new(kind, "--password-file: it is not there"),
+        ErrorKind::NotFound => Error::new(kind, "it is not there"),
         ErrorKind::PermissionDenied => Error::new(
             kind,
-            "--password-file: it can't be read, or another user than root and who runs owns it",
+            "it can't be read, or is not owned by root or who runs",
         ),
         _ => error,
     }

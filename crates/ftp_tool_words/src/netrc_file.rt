@@ -87,7 +87,7 @@ fn octets_of<S: Secrets>(rt: &S, name: &str) -> io::Result<Vec<u8, Global>> {
         )),
         Err(NotPrivate::Shared(_)) => Err(Error::new(
             ErrorKind::PermissionDenied,
-            ".netrc: others may use it, and its owner alone may (mode 600); NETRC names another file",
+            ".netrc: others may use it (mode 600 is wanted); NETRC names another file",
         )),
         Err(NotPrivate::System(error)) if error.kind() == ErrorKind::NotFound => Err(error),
         Err(NotPrivate::System(error)) if error.kind() == ErrorKind::OutOfMemory => Err(error),
@@ -110,7 +110,7 @@ pub(crate) fn no_password() -> Error {
 pub(crate) fn no_password_of_url() -> Error {
     Error::new(
         ErrorKind::NotFound,
-        "the user of a URL needs --password-file or an entry in .netrc; FTP_PASSWORD is sent for the user of --user alone",
+        "the user of a URL needs --password-file or .netrc; --user takes FTP_PASSWORD",
     )
 }
 
