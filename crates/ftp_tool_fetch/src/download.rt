@@ -201,7 +201,7 @@ fn save<R: LocalFiles + Print + Eprint>(
             tell_wrong(rt, downloading.came(), total)?;
             keep_part(rt, job, downloading, Status::Refused)
         }
-        Arrival::TooLarge(total) => tell_too_large(rt, total, asked.limit),
+        Arrival::TooLarge(total) => tell_too_large(rt, asked.place.path, total, asked.limit),
         Arrival::Past => tell_past(rt, asked.limit),
         Arrival::Changed => tell_changed(rt),
     }

@@ -79,11 +79,14 @@ fn status(answer: &Answer<Global>) -> Status {
 }
 
 /// Tells that a file has too many octets to be held in memory, and gives the exit status.
-pub fn tell_too_large<R: Eprint>(rt: &R, size: u64, limit: u64) -> io::Result<Status> {
-    let part = Part {
-        count: size,
-        between: " octets are past the limit of ",
-        total: limit,
+pub fn tell_too_large<R: Eprint>(rt: &R, name: &str, size: u64, limit: u64) -> io::Result<Status> {
+    let part = TooLarge {
+        name: Shown(name.as_bytes()),
+        part: Part {
+            count: size,
+            between: " octets are past the limit of ",
+            total: limit,
+        },
     };
     told(
         rt,
@@ -92,6 +95,19 @@ pub fn tell_too_large<R: Eprint>(rt: &R, size: u64, limit: u64) -> io::Result<St
         ", which --limit sets",
         Status::Refused,
     )
+}
+
+/// A file that has too many octets.
+#[derive(Clone, Copy)]
+struct TooLarge<'a> {
+    name: Shown<'a>,
+    part: Part<'a>,
+}
+
+impl<'a> Display for TooLarge<'a> {
+    fn fmt<W: fmt::Write>(&self, formatter: &mut Formatter<W>) -> fmt::Result {
+        write!(formatter, "{}: {}", self.name, self.part)
+    }
 }
 
 /// How much of a file there is, as it is told: both numbers, and a text between them.
