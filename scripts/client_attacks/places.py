@@ -74,6 +74,28 @@ def refused(rows, words, netrc=None, mode=0o600, around=()):
     rows.row(f"{' '.join(words)}, {netrc!r}, refused", status == 2 and told.startswith(b"error: ") and not said, (status, told, server.commands))
 
 
+def tells(rows):
+    """A refusal names what was refused, and what helps."""
+    for words, parts in (
+        (["cat", "::1:2121/a"], [b"'::1:2121/a'", b"in brackets"]),
+        (["cat", "ftp://::1/a"], [b"'ftp://::1/a'", b"in brackets"]),
+        (["cat", "127.0.0.1:1"], [b"'127.0.0.1:1'", b"a path is wanted"]),
+        (["cat", "127.0.0.1:1/a", "--timeout", "2"], [b"to 127.0.0.1 at port 1:"]),
+        (["cat", "127.9.9.9/a", "--timeout", "2"], [b"to 127.9.9.9 at port 21:", b"HOST:2121/PATH"]),
+        (["put", "none", "127.0.0.1:1/a"], [b"none: it is not read: "]),
+        (["cat", "127.0.0.1:1/a", "--user", "u", "--password-file", "none"], [b"by --password-file none: it is not there"]),
+        (["serve", "--port", "0", "--dir", ".", "--accounts", "none"], [b"accounts: none: "]),
+    ):
+        told = asks(rows, words)[2]
+        rows.row(f"{' '.join(words)}: what is refused, and what helps", all(it in told for it in parts), told)
+    server = FakeServer({"PASV": "227 Entering Passive Mode (10,9,8,7,200,1)", "EPSV": "500 no"})
+    told = asks(rows, ["cat", f"127.0.0.1:{server.port}/a"])[2]
+    server.close()
+    rows.row("a 227 of another host: --extended is named", b"--extended" in told, told)
+    told = asks(rows, ["cat", "127.0.0.1:1/a"], around={"NETRC": "none"})[2]
+    rows.row("NETRC names no file", b"NETRC" in told, told)
+
+
 def mirrored(rows):
     """A mirror whose server is a URL, both ways."""
     served, local = rows.folder / "served", rows.folder / "local"
@@ -104,6 +126,7 @@ def main():
     os.mkfifo(rows.folder / "pipe", 0o600)
     refused(rows, ["cat", "127.0.0.1:P/a", "--user", "guest", "--password-file", "pipe"])
     refused(rows, ["cat", "127.0.0.1:P/a"], around={"NETRC": str(rows.folder / "pipe")})
+    tells(rows)
     mirrored(rows)
     rows.finish()
 

@@ -18,6 +18,8 @@ def get_rows(rows, at, local):
         ((f"{at}/a", "local"), {"a": b"abc"}),
         ((f"{at}/a", "local/c"), {"c": b"abc"}),
         ((f"ftp://{at}/a", f"ftp://{at}/d/b", "local/"), {"a": b"abc", "b": b"hello"}),
+        ((f"{at}/a", "--user", "anonymous", f"{at}/d/b", "--moment", "local/"), {"a": b"abc", "b": b"hello"}),
+        ((f"{at}/a", "--keep", "--", "local/"), {"a": b"abc"}),
     ):
         got(rows, local, words, 0, wanted)
     got(rows, local, (f"{at}/a", f"{at}/none", f"{at}/d/b", "local/"), 1, {"a": b"abc", "b": b"hello"}, b"note: not copied: none\n")
@@ -37,11 +39,16 @@ def got(rows, local, words, wanted, files, tells=b""):
 
 def put_rows(rows, at, served):
     """What is sent, what the server has then, and the status."""
-    fill(rows.folder, {"x": b"1", "y": b"22"})
+    fill(rows.folder, {"x": b"1", "y": b"22", "-w": b"333"})
     for words, wanted, files in (
         (("x", "y", f"{at}/in/"), 0, {"x": b"1", "y": b"22"}),
         (("x", f"{at}/in/"), 0, {"x": b"1"}),
         (("x", f"{at}/in/z"), 0, {"z": b"1"}),
+        (("x", "--user", "anonymous", f"{at}/in/z"), 0, {"z": b"1"}),
+        (("x", "--timeout", "9", "y", "--extended", f"{at}/in/", "--type", "I"), 0, {"x": b"1", "y": b"22"}),
+        (("--user", "anonymous", "--", "-w", f"{at}/in/"), 0, {"-w": b"333"}),
+        (("x", "--", "--user", f"{at}/in/"), 3, {"x": b"1"}),
+        (("x", "--user", "anonymous"), 2, {}),
         (("x", "none", "y", f"{at}/in/"), 3, {"x": b"1", "y": b"22"}),
         (("x", "y", f"{at}/in/z"), 2, {}),
         (("x", "-", f"{at}/in/"), 2, {}),

@@ -12,10 +12,11 @@ use ftp_tool_command::{
     url_in, urls_in,
 };
 use ftp_tool_fetch::{Target, Task};
+use ftp_tool_shown::Shown;
 use ftp_tool_status::Status;
 use ftp_tool_words::{Location, UrlPlace, place_for, says_directory};
 use programs::Programs;
-use several::{check_places, goes_into, sources_of};
+use several::{check_places, goes_into, sources_of, uploads_of};
 use std::alloc::{AllocError, Global};
 use std::env::Env;
 use std::io::{Eprint, IsTerminal, Write};
@@ -237,10 +238,13 @@ fn put<R>(rt: &R, alloc: Global, words: &ArgMatches<'_>, is_terminal: bool) -> i
 where
     R: Programs + Eprint,
 {
-    let place = words.get_str("place").unwrap_or("");
+    let (files, place) = match uploads_of(words.get_strs("files").unwrap_or(&[])) {
+        Ok(said) => said,
+        Err(refusal) => return refuse(rt, refusal),
+    };
     match url_in(alloc, PLACE_OPTION, place) {
         Ok(url) => match asked_of(words, place, url.as_ref(), is_terminal) {
-            Ok(asked) => put_where(rt, alloc, words, &asked),
+            Ok(asked) => put_where(rt, alloc, files, &asked),
             Err(refusal) => refuse(rt, refusal),
         },
         Err(refusal) => refuse(rt, refusal),
@@ -248,11 +252,10 @@ where
 }
 
 /// Uploads files to a place, where all of them can go there.
-fn put_where<R>(rt: &R, alloc: Global, words: &ArgMatches<'_>, asked: &Target<'_>) -> io::Result<u8>
+fn put_where<R>(rt: &R, alloc: Global, files: &[&str], asked: &Target<'_>) -> io::Result<u8>
 where
     R: Programs + Eprint,
 {
-    let files = words.get_strs("files").unwrap_or(&[]);
     match goes_into(asked.place.path, files) {
         Ok(into) => number_of(put_all(rt, alloc, asked, into, files)),
         Err(refusal) => refuse(rt, refusal),
@@ -298,6 +301,7 @@ fn put_one<R: Programs>(
 /// Tells which of several files it is that was not copied, as its sentence does not say.
 fn tell_undone<R: Eprint>(rt: &R, status: Status, count: usize, file: &str) -> io::Result<()> {
     if count > 1 && status != Status::Done {
+        let file = Shown(file.as_bytes());
         eprintln!(rt; "note: not copied: {file}")?;
     }
     Ok(())
@@ -351,6 +355,8 @@ fn refuse<R: Eprint>(rt: &R, refusal: Refusal<'_>) -> io::Result<u8> {
 fn tell_value<R: Eprint>(rt: &R, bad: BadValue<'_>) -> io::Result<()> {
     eprintln!(rt;
         "error: invalid value '{}' for '{}': {}\n\nFor more information, try '--help'.",
-        bad.value, bad.option, bad.wanted
+        Shown(bad.value.as_bytes()),
+        bad.option,
+        bad.wanted
     )
 }

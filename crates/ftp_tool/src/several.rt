@@ -1,5 +1,5 @@
 // Which of several files go where.
-ghost use Rattle.std.specs.Prelude.{◌≡◌, IfOk};
+ghost use Rattle.std.specs.Prelude.{◌≡◌, ◌<◌, ◌++◌, ◌∷◌, [], length, IfOk};
 ghost use Rattle.ftp_tool_words.specs.Placing.{says_directory};
 
 use clap::ArgMatches;
@@ -15,6 +15,22 @@ pub(crate) fn sources_of<'a, 'b>(words: &'b [&'a str]) -> (&'b [&'a str], &'a st
     }
 }
 
+/// The files that `put` reads, and the place where they go: the last word. Fails where there are not both.
+pub(crate) fn uploads_of<'a, 'b>(
+    words: &'b [&'a str],
+) -> Result<(&'b [&'a str], &'a str), Refusal<'a>>
+    ensures { IfOk result (λ said. (words.entry.now ≡ said.0.now ++ (said.1 ∷ [])) × (0 < length said.0.now)) }
+{
+    match words {
+        [files @ .., place] if !files.is_empty() => Ok((files, *place)),
+        _ => Err(Refusal::Value(BadValue {
+            option: PLACE_OPTION,
+            value: words.first().copied().unwrap_or(""),
+            wanted: "files are wanted, and after them the place where they go",
+        })),
+    }
+}
+
 /// Fails where nothing can be asked at one of the places, of which these are URLs, or where a file that is fetched into a folder has no name there.
 pub(crate) fn check_places<'a>(
     words: &'a ArgMatches<'_>,
@@ -25,17 +41,17 @@ pub(crate) fn check_places<'a>(
     for (place, url) in places.iter().zip(urls.iter()) {
         let asked = asked_of(words, *place, url.as_ref(), false)?;
         if into {
-            check_name(asked.place)?;
+            check_name(*place, asked.place)?;
         }
     }
     Ok(())
 }
 
-fn check_name<'a>(place: Location<'a>) -> Result<(), Refusal<'a>> {
+fn check_name<'a>(word: &'a str, place: Location<'_>) -> Result<(), Refusal<'a>> {
     if place.name().is_empty() {
         return Err(Refusal::Value(BadValue {
             option: PLACE_OPTION,
-            value: place.path,
+            value: word,
             wanted: "a file's name is wanted, where the path ends in none",
         }));
     }

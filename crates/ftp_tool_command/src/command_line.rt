@@ -12,6 +12,7 @@ use std::alloc::{AllocError, Global};
 const DIALOGUE: Subcommand<'static> = Subcommand {
     name: "dialogue",
     about: "answers the octets of a control connection from standard input",
+    usage: None,
     help: help::DIALOGUE,
     words: &[Word {
         name: "piece",
@@ -23,6 +24,7 @@ const DIALOGUE: Subcommand<'static> = Subcommand {
 const FACTS: Subcommand<'static> = Subcommand {
     name: "facts",
     about: "writes the entry of each line of standard input, or its fault",
+    usage: None,
     help: help::FACTS,
     words: &[],
 };
@@ -30,6 +32,7 @@ const FACTS: Subcommand<'static> = Subcommand {
 const FRAME: Subcommand<'static> = Subcommand {
     name: "frame",
     about: "writes standard input as the octets of a data connection, or the other way round",
+    usage: None,
     help: help::FRAME,
     words: &[
         Word {
@@ -63,6 +66,7 @@ const FRAME: Subcommand<'static> = Subcommand {
 const LOOP: Subcommand<'static> = Subcommand {
     name: "loop",
     about: "plays a script of operations between a client and a server of its own",
+    usage: None,
     help: help::LOOP,
     words: &[],
 };

@@ -1,6 +1,6 @@
 // The subcommands of a client that ask at one place: their words.
 use crate::help;
-use crate::place::{location_in, user_in};
+use crate::place::{location_in, user_in, wanted_of};
 use crate::refusal::Refusal;
 use crate::words::{
     ACTIVE, EXTENDED, Form, LIMIT, MODE, PASSWORD_FILE, STRU, Subcommand, TIMEOUT, TYPE, USER,
@@ -14,6 +14,7 @@ use ftp_tool_words::{Location, UrlPlace};
 pub const GET: Subcommand<'static> = Subcommand {
     name: "get",
     about: "downloads files from a server",
+    usage: Some("ftp_tool get [OPTIONS] <HOST:PORT/PATH>... [FILE|FOLDER/]"),
     help: help::GET,
     words: &[
         Word {
@@ -42,20 +43,19 @@ pub const GET: Subcommand<'static> = Subcommand {
 pub const PUT: Subcommand<'static> = Subcommand {
     name: "put",
     about: "uploads files to a server",
+    usage: Some("ftp_tool put [OPTIONS] <FILE>... <HOST:PORT/PATH>"),
     help: help::PUT,
-    words: &[
-        Word {
-            name: "files",
-            form: Form::NeededPlaces(Value::Name("FILE")),
-            help: "what is read; - is standard input",
-        },
-        PLACE,
-    ],
+    words: &[Word {
+        name: "files",
+        form: Form::NeededPlaces(Value::Name("FILE")),
+        help: "what is read, - is standard input; the last word is HOST:PORT/PATH or a URL, where it goes",
+    }],
 };
 
 pub const LS: Subcommand<'static> = Subcommand {
     name: "ls",
     about: "lists a directory of a server",
+    usage: None,
     help: help::LS,
     words: &[
         PLACE,
@@ -70,6 +70,7 @@ pub const LS: Subcommand<'static> = Subcommand {
 pub const CAT: Subcommand<'static> = Subcommand {
     name: "cat",
     about: "writes a file of a server to standard output",
+    usage: None,
     help: help::CAT,
     words: &[PLACE],
 };
@@ -77,6 +78,7 @@ pub const CAT: Subcommand<'static> = Subcommand {
 pub const SIZE: Subcommand<'static> = Subcommand {
     name: "size",
     about: "writes how many octets a file of a server has",
+    usage: None,
     help: help::SIZE,
     words: &[PLACE],
 };
@@ -84,6 +86,7 @@ pub const SIZE: Subcommand<'static> = Subcommand {
 pub const RM: Subcommand<'static> = Subcommand {
     name: "rm",
     about: "removes a file of a server",
+    usage: None,
     help: help::RM,
     words: &[PLACE],
 };
@@ -91,6 +94,7 @@ pub const RM: Subcommand<'static> = Subcommand {
 pub const MKDIR: Subcommand<'static> = Subcommand {
     name: "mkdir",
     about: "makes a directory of a server",
+    usage: None,
     help: help::MKDIR,
     words: &[PLACE],
 };
@@ -98,6 +102,7 @@ pub const MKDIR: Subcommand<'static> = Subcommand {
 pub const RMDIR: Subcommand<'static> = Subcommand {
     name: "rmdir",
     about: "removes an empty directory of a server",
+    usage: None,
     help: help::RMDIR,
     words: &[PLACE],
 };
@@ -105,6 +110,7 @@ pub const RMDIR: Subcommand<'static> = Subcommand {
 pub const MV: Subcommand<'static> = Subcommand {
     name: "mv",
     about: "gives a file or a directory of a server another path",
+    usage: None,
     help: help::MV,
     words: &[
         PLACE,
@@ -183,11 +189,7 @@ pub fn asked_of<'a>(
 fn asked_at<'a>(place: &'a str, url: Option<&'a UrlPlace>) -> Result<Location<'a>, Refusal<'a>> {
     match location_in(place, url) {
         Some(location) => Ok(location),
-        None => Err(Refusal::of(
-            PLACE_OPTION,
-            place,
-            "an address or a name, a port from 1 to 65535 and a path are wanted",
-        )),
+        None => Err(Refusal::of(PLACE_OPTION, place, wanted_of(place))),
     }
 }
 

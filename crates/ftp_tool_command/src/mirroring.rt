@@ -37,6 +37,7 @@ Example:
 pub const MIRROR: Subcommand<'static> = Subcommand {
     name: "mirror",
     about: "copies a tree of a server into a folder, or back",
+    usage: None,
     help: HELP,
     words: &[
         Word {

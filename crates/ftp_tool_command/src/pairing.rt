@@ -8,6 +8,7 @@ use ftp_tool_pair::PairSettings;
 pub const PAIR: Subcommand<'static> = Subcommand {
     name: "pair",
     about: "plays a script of operations between a client and a server over memory",
+    usage: None,
     help: help::PAIR,
     words: &[
         Word {

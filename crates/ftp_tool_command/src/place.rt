@@ -46,6 +46,18 @@ pub fn location_in<'a>(word: &'a str, url: Option<&'a UrlPlace>) -> Option<Locat
     }
 }
 
+/// What is wanted in the place of a word that names none: what it lacks, where that is clear.
+pub(crate) fn wanted_of(word: &str) -> &'static str {
+    let Some((server, _)) = word.split_once('/') else {
+        return "a path is wanted after the server, as HOST:PORT/PATH; / alone is its root";
+    };
+    if !server.starts_with('[') && server.matches(':').count() > 1 {
+        "an IPv6 address is wanted in brackets, as [::1]:2121/PATH"
+    } else {
+        "an address or a name, a port from 1 to 65535 and a path are wanted, as HOST:PORT/PATH"
+    }
+}
+
 /// Who asks: whom `--user` names, and else whom the URL does; the password of a URL is that of the user whom it names.
 pub fn user_in<'a>(words: &'a ArgMatches<'_>, url: Option<&'a UrlPlace>) -> User<'a> {
     let named = words.get_str("user");

@@ -10,6 +10,7 @@ use ftp_tool_words::{User, server_port_of};
 pub const RUN: Subcommand<'static> = Subcommand {
     name: "run",
     about: "does the script of operations of standard input at a server",
+    usage: None,
     help: help::RUN,
     words: &[
         Word {

@@ -24,6 +24,7 @@ const SECONDS: Value<'static> = Value::Number("SECONDS", 0, MOST);
 pub const SERVE: Subcommand<'static> = Subcommand {
     name: "serve",
     about: "serves a folder to FTP clients",
+    usage: None,
     help: help::SERVE,
     words: &[
         Word {

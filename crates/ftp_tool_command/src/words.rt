@@ -106,7 +106,8 @@ pub enum Form<'a> {
     Else(Value<'a>, &'a str),
     /// A word that is no option and has to be there.
     NeededPlace(Value<'a>),
-    /// Words that are no options, of which one has to be there.
+    /// Words that are no options, of which one has to be there; options may stand between them. Nothing comes after them: `clap` would take the last one
+    /// before an option for what comes.
     NeededPlaces(Value<'a>),
 }
 
@@ -114,7 +115,7 @@ impl<'a> Form<'a> {
     /// What becomes of a value.
     fn action(self) -> ArgAction {
         match self {
-            Form::Many(_) => ArgAction::Append,
+            Form::Many(_) | Form::NeededPlaces(_) => ArgAction::Append,
             _ => ArgAction::Set,
         }
     }
@@ -140,6 +141,8 @@ pub struct Word<'a> {
 pub struct Subcommand<'a> {
     pub name: &'a str,
     pub about: &'a str,
+    /// How it is written, where that is not what `clap` makes of its words.
+    pub usage: Option<&'a str>,
     pub help: &'a str,
     /// The words that it alone has.
     pub words: &'a [Word<'a>],
@@ -154,10 +157,13 @@ pub fn subcommand_of<'a>(
     let mut args = Vec::new(alloc);
     put_args(alloc, &mut args, subcommand.words)?;
     put_args(alloc, &mut args, options)?;
-    Command::new(alloc, subcommand.name)
+    let command = Command::new(alloc, subcommand.name)
         .about(subcommand.about)
-        .after_help(subcommand.help)
-        .args(args)
+        .after_help(subcommand.help);
+    match subcommand.usage {
+        Some(usage) => command.override_usage(usage).args(args),
+        None => command.args(args),
+    }
 }
 
 /// Puts what `clap` makes of words behind those before.

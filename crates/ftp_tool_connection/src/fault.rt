@@ -2,6 +2,7 @@
 ghost use Rattle.std.specs.Prelude.{◌≡◌};
 
 use crate::saying::told;
+use crate::subject::{Stop, Subject};
 use ftp_tool_status::Status;
 use std::io;
 use std::io::{Eprint, Error, ErrorKind};
@@ -23,17 +24,17 @@ pub enum Phase {
 
 impl Phase {
     /// What failed, as it is told before the error.
-    fn sentence(self) -> &'static str {
+    pub(crate) fn sentence(self) -> &'static str {
         match self {
-            Phase::Login => "error: no login: ",
-            Phase::Asking => "error: nothing is asked: ",
-            Phase::Connection => "error: no connection: ",
-            Phase::Talking => "error: the control connection ended: ",
-            Phase::Reading => "error: the file is not read: ",
-            Phase::Writing => "error: the file is not written: ",
-            Phase::Script => "error: the script is not read: ",
-            Phase::Listing => "error: the listing is not taken: ",
-            Phase::Report => "error: no report: ",
+            Phase::Login => "no login",
+            Phase::Asking => "nothing is asked",
+            Phase::Connection => "no connection",
+            Phase::Talking => "the control connection ended",
+            Phase::Reading => "it is not read",
+            Phase::Writing => "it is not written",
+            Phase::Script => "the script is not read",
+            Phase::Listing => "the listing is not taken",
+            Phase::Report => "no report",
         }
     }
 }
@@ -69,14 +70,19 @@ impl SessionFault {
         self.stage
     }
 
-    /// Tells why on standard error, and gives the exit status: that of bad words for a bad login, that of a refusal for a listing, and else that of a
+    /// Tells why on standard error, with what was refused of what was asked, and gives the exit status: that of bad words for a bad login, that of a refusal for a listing, and else that of a
     /// failure.
-    pub fn tell<R: Eprint>(&self, rt: &R) -> io::Result<Status> {
+    pub fn tell<R: Eprint>(&self, rt: &R, subject: Subject<'_>) -> io::Result<Status> {
         let status = match self.stage {
             Phase::Login => Status::BadWords,
             Phase::Listing => Status::Refused,
             _ => Status::Failed,
         };
-        told(rt, self.stage.sentence(), &self.error, "", status)
+        let stop = Stop {
+            stage: self.stage,
+            error: self.error,
+            subject,
+        };
+        told(rt, "error: ", &stop, "", status)
     }
 }

@@ -1,5 +1,5 @@
 // What is noticed of a server beside its answer: the line of its replies that came last, how many data connections were opened, and that it fell silent.
-use ftp_tool_listing::Shown;
+use ftp_tool_shown::Shown;
 use std::fmt;
 use std::fmt::{Display, Formatter};
 

@@ -12,6 +12,7 @@ mod progress;
 mod request;
 mod saying;
 mod server;
+mod subject;
 mod talking;
 
 pub use again::ask;
@@ -23,3 +24,4 @@ pub use live::{ClientSession, SessionTask};
 pub use request::{Request, Terms};
 pub use saying::{say, told};
 pub use server::ServerAddress;
+pub use subject::Subject;

@@ -178,7 +178,7 @@ fn leave<R: LocalFiles + Print + Eprint>(
             keep_part(rt, job, downloading, status)
         }
         _ => {
-            let status = tell(rt, answer, noticed)?;
+            let status = tell(rt, asked.place.path, answer, noticed)?;
             keep_part(rt, job, downloading, status)
         }
     }
@@ -192,16 +192,16 @@ fn save<R: LocalFiles + Print + Eprint>(
     downloading: &Downloading<'_, R>,
 ) -> io::Result<Status> {
     match downloading.arrived() {
-        Arrival::Whole => write(rt, job, downloading),
+        Arrival::Whole => write(rt, asked, job, downloading),
         Arrival::Unknown => {
             tell_unknown(rt, asked);
-            write(rt, job, downloading)
+            write(rt, asked, job, downloading)
         }
         Arrival::Wrong(total) => {
             tell_wrong(rt, downloading.came(), total)?;
             keep_part(rt, job, downloading, Status::Refused)
         }
-        Arrival::TooLarge(total) => tell_too_large(rt, total, asked.limit),
+        Arrival::TooLarge(total) => tell_too_large(rt, asked.place.path, total, asked.limit),
         Arrival::Past => tell_past(rt, asked.limit),
         Arrival::Changed => tell_changed(rt),
     }
@@ -252,6 +252,7 @@ fn tell_changed<R: Eprint>(rt: &R) -> io::Result<Status> {
 /// Writes the file, or its octets to standard output.
 fn write<R: LocalFiles + Print + Eprint>(
     rt: &R,
+    asked: &Target<'_>,
     job: &Job<'_>,
     downloading: &Downloading<'_, R>,
 ) -> io::Result<Status> {
@@ -269,7 +270,7 @@ fn write<R: LocalFiles + Print + Eprint>(
             }
             Ok(Status::Done)
         }
-        Err(stop) => stop.tell(rt),
+        Err(stop) => stop.tell(rt, asked.subject(file)),
     }
 }
 

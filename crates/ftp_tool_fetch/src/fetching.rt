@@ -67,7 +67,16 @@ where
     };
     match done {
         Ok(status) => Ok(status),
-        Err(stop) => stop.tell(rt),
+        Err(stop) => stop.tell(rt, asked.subject(file_of(task))),
+    }
+}
+
+/// The file of this end that a task reads or writes.
+fn file_of(task: Task<'_>) -> &str {
+    match task {
+        Task::Get(download) => download.file,
+        Task::Put(file) => file,
+        Task::List(_) | Task::Simple(_) => "-",
     }
 }
 
@@ -126,7 +135,7 @@ where
 {
     match listing_of(alloc, path, lines, answer)? {
         Some(listing) => write(rt, listing),
-        None => tell(rt, answer, noticed),
+        None => tell(rt, path, answer, noticed),
     }
 }
 

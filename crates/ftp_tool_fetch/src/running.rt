@@ -3,7 +3,7 @@ use ftp_facts::Text;
 use ftp_operation::Answer;
 use ftp_tool_connection::{
     ClientSession, Converses, LastReply, Logins, Phase, Request, ServerAddress, SessionFault,
-    SessionTask, at, converse_as, told,
+    SessionTask, Subject, at, converse_as, told,
 };
 use ftp_tool_script::{NoScript, Order, Script, read_script, write_report};
 use ftp_tool_status::Status;
@@ -36,7 +36,7 @@ where
 {
     match do_script(rt, rt.alloc(), server) {
         Ok(status) => Ok(status),
-        Err(stop) => stop.tell(rt),
+        Err(stop) => stop.tell(rt, subject_of(server, None)),
     }
 }
 
@@ -54,7 +54,16 @@ where
 {
     match do_orders(rt, rt.alloc(), server, user) {
         Ok(status) => Ok(status),
-        Err(stop) => stop.tell(rt),
+        Err(stop) => stop.tell(rt, subject_of(server, user.password_file)),
+    }
+}
+
+/// What a fault may be of.
+fn subject_of<'a>(server: ServerAddress<'a>, password_file: Option<&'a str>) -> Subject<'a> {
+    Subject {
+        server,
+        password_file,
+        file: "-",
     }
 }
 

@@ -56,12 +56,16 @@ where
     R: Converses + Logins + Print + Eprint,
 {
     let answer = ask_once(rt, alloc, asked, simple, noticed)?;
-    at(Phase::Report, report(rt, &answer, noticed))
+    at(
+        Phase::Report,
+        report(rt, asked.place.path, &answer, noticed),
+    )
 }
 
-/// Tells an answer: a size on standard output, what was done not at all, and anything else as `tell` does.
+/// Tells an answer at a path: a size on standard output, what was done not at all, and anything else as `tell` does.
 fn report<R: Print + Eprint>(
     rt: &R,
+    path: &str,
     answer: &Answer<Global>,
     noticed: &LastReply,
 ) -> io::Result<Status> {
@@ -71,6 +75,6 @@ fn report<R: Print + Eprint>(
             println!(rt; "{count}")?;
             Ok(Status::Done)
         }
-        _ => tell(rt, answer, noticed),
+        _ => tell(rt, path, answer, noticed),
     }
 }

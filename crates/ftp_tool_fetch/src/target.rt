@@ -1,6 +1,6 @@
 // Which file of which server is meant, and who asks.
 use ftp_operation::How;
-use ftp_tool_connection::ServerAddress;
+use ftp_tool_connection::{ServerAddress, Subject};
 use ftp_tool_words::{Location, User};
 
 /// What is asked of which server, by whom.
@@ -25,6 +25,15 @@ impl<'a> Target<'a> {
             port: self.place.port,
             timeout: self.timeout,
             progress: self.progress,
+        }
+    }
+
+    /// What a fault may be of, where this is the file of this end.
+    pub(crate) fn subject(&self, file: &'a str) -> Subject<'a> {
+        Subject {
+            server: self.server(),
+            password_file: self.user.password_file,
+            file,
         }
     }
 }

@@ -26,7 +26,10 @@ where
     let source = match at(Phase::Reading, read(rt, alloc, file, asked.limit))? {
         Reading::Content(content) if file == INPUT => Source::Kept(content.octets),
         Reading::Content(content) => Source::file(file, content),
-        Reading::TooLarge(size) => return at(Phase::Report, tell_too_large(rt, size, asked.limit)),
+        Reading::TooLarge(size) => return at(
+            Phase::Report,
+            tell_too_large(rt, file, size, asked.limit),
+        ),
     };
     let mut uploading = Uploading::new(rt, alloc, source, asked.place.path, asked.how);
     put_by(rt, asked, &mut uploading, noticed)

@@ -1,4 +1,3 @@
-mod ShownLemmas
 mod LinesLemmas
 mod PlanLemmas
 pub mod PatternLemmas

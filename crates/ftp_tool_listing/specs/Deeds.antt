@@ -1,6 +1,6 @@
 -- What is done of one name, by what stands under it in the source and in the target (own choice; facts are those of RFC 3659, section 7.5).
 use Rattle.std.specs.Prelude.{ℕ, ◌+◌, ◌==◌, ◌||◌, Bool, true, false, not, nat_le, nat_lt, Option, Some, None, if◌then◌else◌}
-use Rattle.ftp_tool_listing.specs.Shown.{is_name}
+use Rattle.ftp_tool_listing.specs.Name.{is_name}
 use Rattle.ftp_tool_listing.specs.declared.item.Facts.{Facts}
 use Rattle.ftp_tool_listing.specs.declared.item.Kind.{Kind}
 use Rattle.ftp_tool_listing.specs.declared.item.Kind.TheVariants as Kinds

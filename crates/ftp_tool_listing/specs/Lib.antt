@@ -1,5 +1,5 @@
 -- How a server's listings look on a terminal; what a mirror does by two listings, and which paths a pattern leaves out.
-pub mod Shown
+pub mod Name
 pub mod Lines
 pub mod Long
 pub mod ShownRows

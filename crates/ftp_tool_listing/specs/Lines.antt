@@ -3,7 +3,8 @@ use Rattle.std.specs.Prelude.{ℕ, ◌==◌, ◌&&◌, ◌||◌, ◌++◌, Bool,
 use Rattle.std.specs.List.{starts_with}
 use Rattle.ftp_facts.specs.declared.entry.Entry.{Entry}
 use Rattle.ftp_facts.specs.Entry.{entry_line}
-use Rattle.ftp_tool_listing.specs.Shown.{is_name, shown}
+use Rattle.ftp_tool_shown.specs.Shown.{shown}
+use Rattle.ftp_tool_listing.specs.Name.{is_name}
 
 -- a line: octets as they are shown, and LF
 abbrev pub line : List ℕ → List ℕ

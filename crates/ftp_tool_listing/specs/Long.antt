@@ -6,7 +6,7 @@ use Rattle.ftp_facts.specs.declared.entry.EntryKind.TheVariants as Kinds
 use Rattle.ftp_facts.specs.declared.moment.Moment.{Moment}
 use Rattle.ftp_facts.specs.Moment.{moment_digits}
 use Rattle.ftp_tool_listing.specs.Lines.{line}
-use Rattle.ftp_tool_listing.specs.Shown.{is_name}
+use Rattle.ftp_tool_listing.specs.Name.{is_name}
 
 -- the letter of a kind: `-` for a file, `d` for a directory, `?` for any other and where none is told
 abbrev pub kind_letter : {A : Type 0} → Option (EntryKind A) → ℕ

@@ -11,7 +11,6 @@ mod name;
 mod pattern;
 mod planning;
 pub mod rows;
-mod shown;
 
 pub use deeds::{
     Check, Deed, Deeds, Extra, Reason, Rules, Way, deeds_for, may_remove, removal_for,
@@ -22,4 +21,3 @@ pub use long::put_long;
 pub use name::is_name;
 pub use pattern::{is_excluded, matches};
 pub use planning::{Step, plan};
-pub use shown::{Shown, put_shown};

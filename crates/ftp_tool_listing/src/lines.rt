@@ -3,8 +3,9 @@ ghost use Rattle.std.specs.Prelude.{◌≡◌, ◌++◌, OnOk, count_by, flat_ma
 ghost use Rattle.ftp_facts.specs.Entry.{entry_line};
 ghost use Rattle.ftp_tool_listing.specs.Lines.{entry_text, is_below, is_listed, is_strange_entry, is_strange_name, line, name_text, without_slash};
 
-use crate::{is_name, put_shown};
+use crate::is_name;
 use ftp_facts::{Entry, Text, write_entry};
+use ftp_tool_shown::put_shown;
 use std::alloc::{AllocError, Global};
 
 /// Appends the lines of entries, as a terminal is to show them: the facts, a space and the name (RFC 3659, section 7.2), each with LF at its end. One

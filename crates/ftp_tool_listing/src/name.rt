@@ -1,7 +1,7 @@
 // Texts that are names of single files.
 ghost use Rattle.std.specs.Prelude.{◌≡◌};
 ghost use Rattle.std.specs.List.{list_all};
-ghost use Rattle.ftp_tool_listing.specs.Shown.{is_dots, is_name, is_no_slash};
+ghost use Rattle.ftp_tool_listing.specs.Name.{is_dots, is_name, is_no_slash};
 
 /// Whether a text is the name of one file in a directory: not empty, neither `.` nor `..`, and without a slash.
 pub fn is_name(name: &[u8]) -> bool

@@ -1,11 +1,6 @@
 //! Worked rows: functions that do nothing, whose contracts are rows of `specs/ShownRows` and `specs/PlanRows`.
 ghost use Rattle.ftp_tool_listing.specs.PlanRows.{DirsPlanned, FilesPlanned, OthersPlanned, PatternsMet};
-ghost use Rattle.ftp_tool_listing.specs.ShownRows.{CharactersShown, ColumnsShown, NamesListed};
-
-/// What is shown of octets.
-pub fn characters()
-    ensures { CharactersShown }
-{}
+ghost use Rattle.ftp_tool_listing.specs.ShownRows.{ColumnsShown, NamesListed};
 
 /// Which texts are names of single files.
 pub fn names()

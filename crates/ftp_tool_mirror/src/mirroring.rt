@@ -3,7 +3,7 @@ use crate::asked::Mirror;
 use crate::machine::Machine;
 use crate::walk::Walk;
 use ftp_operation::Answer;
-use ftp_tool_connection::{Converses, LastReply, Logins, SessionFault, ask, say, told};
+use ftp_tool_connection::{Converses, LastReply, Logins, SessionFault, Subject, ask, say, told};
 use ftp_tool_status::Status;
 use std::alloc::Global;
 use std::env::Env;
@@ -47,7 +47,7 @@ where
     let mut noticed = LastReply::new();
     let mut walk = Walk::new(rt, alloc, asked)?;
     let answered = walked(rt, asked, &mut walk, &mut noticed);
-    let told = tell_end(rt, &answered, walk.tally.failed, &noticed);
+    let told = tell_end(rt, asked, &answered, walk.tally.failed, &noticed);
     say(rt, "", &walk.tally, "")?;
     told
 }
@@ -74,9 +74,19 @@ where
     Ok(Answer::Lost)
 }
 
+/// What a fault may be of.
+fn subject_of<'a>(asked: &Mirror<'a>) -> Subject<'a> {
+    Subject {
+        server: asked.server,
+        password_file: asked.user.password_file,
+        file: asked.folder,
+    }
+}
+
 /// Tells why a mirror came to no end, and gives the exit status; so many things failed.
 fn tell_end<R: Eprint>(
     rt: &R,
+    asked: &Mirror<'_>,
     answered: &Result<Answer<Global>, SessionFault>,
     failed: u64,
     noticed: &LastReply,
@@ -99,6 +109,6 @@ fn tell_end<R: Eprint>(
             Status::Failed,
         ),
         Ok(_) => told(rt, "error: ", &"out of memory", "", Status::Failed),
-        Err(stop) => stop.tell(rt),
+        Err(stop) => stop.tell(rt, subject_of(asked)),
     }
 }

@@ -2,7 +2,7 @@
 use crate::removals::Counts;
 use crate::sentence::sentence_of;
 use crate::trouble::Trouble;
-use ftp_tool_listing::put_shown;
+use ftp_tool_shown::put_shown;
 use std::alloc::{AllocError, Global};
 use std::fmt::Display;
 use std::io;

@@ -63,7 +63,9 @@ fn sentence_of(answer: &Answer<Global>) -> &'static str {
     match answer {
         Answer::BadOperation => "the path is no path that can be sent",
         Answer::Unopened => "no data connection was opened",
-        Answer::Foreign => "another host than the server's was named, or came",
+        Answer::Foreign => {
+            "another host than the server's was named, or came; with --extended the server names none"
+        }
         Answer::Broken { got: _, mark: _ } => "the data connection broke",
         Answer::Strange => "the server says what has no place",
         _ => "the server answers what was not asked",

@@ -99,7 +99,11 @@ impl<'a, R: Machine> Walk<'a, R> {
     /// Tells why something was not done.
     fn fail(&mut self, below: &str, trouble: Trouble) {
         self.tally.add_failed();
-        let _told = tell_trouble(self.rt, self.alloc, below, trouble);
+        let place = match trouble {
+            Trouble::Here(_) if below.is_empty() => self.mirror.folder,
+            _ => below,
+        };
+        let _told = tell_trouble(self.rt, self.alloc, place, trouble);
     }
 
     fn perform<S: ClientSession>(

@@ -10,6 +10,7 @@ pub mod laws;
 mod line;
 mod manner;
 mod mend;
+mod named;
 mod serving;
 mod starting;
 mod talk;

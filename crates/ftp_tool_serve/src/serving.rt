@@ -4,13 +4,14 @@ ghost use Rattle.ftp_tool_serve.specs.Listening.{MayListen};
 
 use crate::connection::{Service, session};
 use crate::journal::Log;
-use crate::starting::{Shown, is_folder, opened, tell_left, tell_roots};
-use crate::tells::{NoClient, Told};
+use crate::starting::{Unserved, is_folder, opened, tell_left, tell_roots};
+use crate::tells::{NoClient, OfFile, Told};
 use crate::users::{roots_of, users_of};
 use ftp_control::{TURNS, Watch};
 use ftp_tool_accounts::Users;
 use ftp_tool_guesses::Guesses;
 use ftp_tool_log::Lines;
+use ftp_tool_shown::Shown;
 use ftp_tool_sockets::{Limits, PassivePorts, Patience, SystemWatch, pause};
 use ftp_tool_status::Status;
 use ftp_tool_words::Sessions;
@@ -19,7 +20,7 @@ use std::alloc::Global;
 use std::cell::RefCell;
 use std::fmt::Display;
 use std::fs::Files;
-use std::io::{Eprint, Print};
+use std::io::{Eprint, ErrorKind, Print};
 use std::net::{IpAddr, Net, SocketAddr, TcpListener, TcpStream};
 use std::time::Clock;
 use std::{fs, io};
@@ -106,7 +107,7 @@ where
     }
     match users_of(rt, job.accounts) {
         Ok(_) => serve_dir(rt, &job),
-        Err(fault) => refuse(rt, "accounts: ", &fault),
+        Err(fault) => refuse(rt, "accounts: ", &OfFile(job.accounts, &fault)),
     }
 }
 
@@ -124,13 +125,14 @@ fn refuse<R: Eprint, F: Display>(rt: &R, what: &str, fault: &F) -> io::Result<St
     Ok(Status::Failed)
 }
 
-/// Tells why there is no port to listen at.
-fn tell_refusal<R: Eprint>(
+/// Tells that a folder can't be written.
+fn tell_unwritten<R: Eprint>(
     rt: &R,
-    what: &str,
+    dir: &str,
     error: io::Error,
 ) -> io::Result<Option<TcpListener>> {
-    eprintln!(rt; "error: {what}: {error}")?;
+    let dir = Shown(dir.as_bytes());
+    eprintln!(rt; "error: {dir}: the folder can't be written: {error}")?;
     Ok(None)
 }
 
@@ -149,7 +151,7 @@ where
     match users_of(rt, file) {
         Ok(users) => Some(users),
         Err(fault) => {
-            lines.tell(rt, &Told("error: accounts: ", &fault));
+            lines.tell(rt, &Told("error: accounts: ", &OfFile(file, &fault)));
             None
         }
     }
@@ -169,7 +171,7 @@ where
 {
     let roots = match roots_of(rt, job.accounts) {
         Ok(roots) => roots,
-        Err(fault) => return refuse(rt, "accounts: ", &fault),
+        Err(fault) => return refuse(rt, "accounts: ", &OfFile(job.accounts, &fault)),
     };
     let reasons = Reasons::new();
     let lines = Lines::new();
@@ -188,7 +190,7 @@ fn refuse_folder<R: Files + Eprint>(
     job: &Serving<'_>,
     fault: &LoadFault,
 ) -> io::Result<Status> {
-    let status = refuse(rt, "", &Shown(fault))?;
+    let status = refuse(rt, "", &Unserved(fault))?;
     if job.odd == Odd::Refuse && is_folder(rt, job.dir) {
         eprintln!(rt; "note: with --skip what can't be served is left out")?;
     }
@@ -238,7 +240,7 @@ where
 {
     match try_writing(rt, job) {
         Ok(()) => listener_at(rt, job),
-        Err(error) => tell_refusal(rt, "the folder can't be written", error),
+        Err(error) => tell_unwritten(rt, job.dir, error),
     }
 }
 
@@ -252,8 +254,23 @@ where
             Ok(()) => Ok(Some(listener)),
             Err(error) => Err(error),
         },
-        Err(error) => tell_refusal(rt, "no port to listen at", error),
+        Err(error) => tell_unheard(rt, SocketAddr::new(job.host, job.port), &error),
     }
+}
+
+/// Tells why an address and its port are not listened at, and what may help.
+fn tell_unheard<R: Eprint>(
+    rt: &R,
+    address: SocketAddr,
+    error: &io::Error,
+) -> io::Result<Option<TcpListener>> {
+    let hint = match error.kind() {
+        ErrorKind::PermissionDenied => "; ports below 1024 are root's: --port names another",
+        ErrorKind::AddrInUse => "; another program listens there: --port names another port",
+        _ => "",
+    };
+    eprintln!(rt; "error: no port to listen at: {address}: {error}{hint}")?;
+    Ok(None)
 }
 
 /// Serves a folder at a port that is listened at.

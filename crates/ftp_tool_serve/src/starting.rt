@@ -1,6 +1,6 @@
 // How the folder is opened, and what is told of it and of the accounts before anybody is served.
+use crate::named::Named;
 use crate::serving::{Odd, Serving};
-use crate::telling::Quoted;
 use crate::tells::Told;
 use ftp_control::Watch;
 use ftp_path::Path;
@@ -80,28 +80,26 @@ pub(crate) fn tell_roots<R: Clock + AllocGlobal, T: Tree<Global>>(
     }
 }
 
-/// Why something can't be served; a limit with its number.
+/// Why something can't be served: its place, and the reason; a limit with its number.
 #[derive(Clone, Copy)]
-pub(crate) struct Shown<'a>(pub(crate) &'a LoadFault);
+pub(crate) struct Unserved<'a>(pub(crate) &'a LoadFault);
 
-impl<'a> Display for Shown<'a> {
+impl<'a> Display for Unserved<'a> {
     fn fmt<W: fmt::Write>(&self, formatter: &mut Formatter<W>) -> fmt::Result {
-        match self.0 {
-            LoadFault::Refused {
-                place,
-                why: Reason::Tree(TreeFault::TooBig),
-            } => write!(
+        let LoadFault::Refused { place, why } = self.0 else {
+            return write!(formatter, "{}", self.0);
+        };
+        let place = Named(place.as_bytes());
+        match why {
+            Reason::Tree(TreeFault::TooBig) => write!(
                 formatter,
-                "{place:?}: past a limit: a file has at most 67,108,864 octets, a name 255, and a path 900"
+                "{place}: past a limit: a file has at most 67,108,864 octets, a name 255, and a path 900"
             ),
-            LoadFault::Refused {
-                place,
-                why: Reason::Tree(TreeFault::Full),
-            } => write!(
+            Reason::Tree(TreeFault::Full) => write!(
                 formatter,
-                "{place:?}: past a limit: below one root at most 16,384 files and directories are served, and files of 67,108,864 octets together"
+                "{place}: past a limit: below one root at most 16,384 files and directories are served, and files of 67,108,864 octets together"
             ),
-            other => write!(formatter, "{other}"),
+            other => write!(formatter, "{place}: {other}"),
         }
     }
 }
@@ -116,7 +114,7 @@ struct NotServed<'a> {
 impl<'a> Display for NotServed<'a> {
     fn fmt<W: fmt::Write>(&self, formatter: &mut Formatter<W>) -> fmt::Result {
         let NotServed { count, first } = self;
-        let first = Shown(first);
+        let first = Unserved(first);
         write!(
             formatter,
             "note: {count} of the folder's entries are not served; the first is {first}"
@@ -133,7 +131,7 @@ impl<'a> Display for NoRoot<'a> {
         write!(
             formatter,
             "note: accounts: no directory is at {}: who has this root can't log in",
-            Quoted(self.0)
+            Named(self.0)
         )
     }
 }

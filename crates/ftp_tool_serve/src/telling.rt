@@ -3,8 +3,6 @@ use crate::line::Line;
 use crate::manner::{Login, login_by};
 use ftp_command::{Verb, verb_of};
 use ftp_tree_folder::Touches;
-use std::fmt;
-use std::fmt::{Display, Formatter};
 
 /// The code of a login (RFC 959, section 4.2.2).
 const LOGGED_IN: u16 = 230;
@@ -139,17 +137,4 @@ fn is_told(verb: Verb) -> bool {
             | Verb::Rnfr
             | Verb::Rnto
     )
-}
-
-/// A text of a client, in quotation marks and with each octet that is none of a line as an escape.
-#[derive(Clone, Copy)]
-pub(crate) struct Quoted<'a>(pub(crate) &'a [u8]);
-
-impl<'a> Display for Quoted<'a> {
-    fn fmt<W: fmt::Write>(&self, formatter: &mut Formatter<W>) -> fmt::Result {
-        match str::from_utf8(self.0) {
-            Ok(text) => write!(formatter, "{text:?}"),
-            Err(_) => write!(formatter, "\"{}\"", self.0.escape_ascii()),
-        }
-    }
 }

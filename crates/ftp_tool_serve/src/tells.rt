@@ -1,7 +1,8 @@
 // Who tells of sessions on standard error, and what a line of that says.
-use crate::telling::Quoted;
+use crate::named::Named;
 use ftp_command::Verb;
 use ftp_tool_log::Lines;
+use ftp_tool_shown::Shown;
 use std::fmt::{Display, Formatter};
 use std::net::SocketAddr;
 use std::time::Clock;
@@ -50,6 +51,19 @@ impl<'a, T: Display> Display for Told<'a, T> {
     }
 }
 
+/// What is told of a file, behind its name; of none where it is not known.
+#[derive(Clone, Copy)]
+pub(crate) struct OfFile<'a, T>(pub(crate) Option<&'a str>, pub(crate) &'a T);
+
+impl<'a, T: Display> Display for OfFile<'a, T> {
+    fn fmt<W: fmt::Write>(&self, formatter: &mut Formatter<W>) -> fmt::Result {
+        if let Some(file) = self.0 {
+            write!(formatter, "{}: ", Shown(file.as_bytes()))?;
+        }
+        write!(formatter, "{}", self.1)
+    }
+}
+
 /// Why the system gives no connection.
 #[derive(Drop)]
 pub(crate) struct NoClient(pub(crate) io::Error);
@@ -78,11 +92,11 @@ pub(crate) struct Entry<'a> {
 impl<'a> Display for Entry<'a> {
     fn fmt<W: fmt::Write>(&self, formatter: &mut Formatter<W>) -> fmt::Result {
         let verb = verb_text(self.verb);
-        write!(formatter, "{} {} {verb} ", self.peer, Quoted(self.user))?;
+        write!(formatter, "{} {} {verb} ", self.peer, Named(self.user))?;
         write!(
             formatter,
             "{} {} {}",
-            Quoted(self.names),
+            Named(self.names),
             self.moved,
             self.outcome
         )

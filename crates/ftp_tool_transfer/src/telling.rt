@@ -1,23 +1,29 @@
 // What an answer that is none of those wished for tells, in a sentence and an exit status.
 use ftp_operation::Answer;
-use ftp_tool_connection::{LastReply, told};
+use ftp_tool_connection::{LastReply, Refusal, told};
+use ftp_tool_shown::Shown;
 use ftp_tool_status::Status;
 use std::alloc::Global;
 use std::fmt::{Display, Formatter};
 use std::io::Eprint;
 use std::{fmt, io};
 
-/// Tells on standard error why an operation was not done, and gives the exit status.
-pub fn tell<R: Eprint>(rt: &R, answer: &Answer<Global>, noticed: &LastReply) -> io::Result<Status> {
+/// Tells on standard error why an operation at a path was not done, and gives the exit status.
+pub fn tell<R: Eprint>(
+    rt: &R,
+    path: &str,
+    answer: &Answer<Global>,
+    noticed: &LastReply,
+) -> io::Result<Status> {
     let status = status(answer);
     match answer {
-        Answer::Refused(code) => told(
-            rt,
-            "error: the server refuses it: ",
-            &noticed.refusal(*code),
-            "",
-            status,
-        ),
+        Answer::Refused(code) => {
+            let why = Refused {
+                path: Shown(path.as_bytes()),
+                refusal: noticed.refusal(*code),
+            };
+            told(rt, "error: ", &why, "", status)
+        }
         Answer::Lost => told(
             rt,
             "error: the control connection ended",
@@ -36,11 +42,27 @@ pub fn tell<R: Eprint>(rt: &R, answer: &Answer<Global>, noticed: &LastReply) -> 
     }
 }
 
+/// What a server refuses, and how it says so.
+#[derive(Clone, Copy)]
+struct Refused<'a> {
+    path: Shown<'a>,
+    refusal: Refusal<'a>,
+}
+
+impl<'a> Display for Refused<'a> {
+    fn fmt<W: fmt::Write>(&self, formatter: &mut Formatter<W>) -> fmt::Result {
+        let Refused { path, refusal } = self;
+        write!(formatter, "{path}: the server refuses it: {refusal}")
+    }
+}
+
 fn sentence(answer: &Answer<Global>) -> &'static str {
     match answer {
         Answer::BadOperation => "the path is no path that can be sent",
         Answer::Unopened => "no data connection was opened, and nothing is done",
-        Answer::Foreign => "another host than the server's was named, or came",
+        Answer::Foreign => {
+            "another host than the server's was named, or came; with --extended the server names none"
+        }
         Answer::Broken { got: _, mark: _ } => "the data connection broke; it may be done in part",
         Answer::Memory => "out of memory",
         _ => "the server answers what was not asked",
@@ -57,13 +79,35 @@ fn status(answer: &Answer<Global>) -> Status {
 }
 
 /// Tells that a file has too many octets to be held in memory, and gives the exit status.
-pub fn tell_too_large<R: Eprint>(rt: &R, size: u64, limit: u64) -> io::Result<Status> {
-    let part = Part {
-        count: size,
-        between: " octets are past the limit of ",
-        total: limit,
+pub fn tell_too_large<R: Eprint>(rt: &R, name: &str, size: u64, limit: u64) -> io::Result<Status> {
+    let part = TooLarge {
+        name: Shown(name.as_bytes()),
+        part: Part {
+            count: size,
+            between: " octets are past the limit of ",
+            total: limit,
+        },
     };
-    told(rt, "error: ", &part, "", Status::Refused)
+    told(
+        rt,
+        "error: ",
+        &part,
+        ", which --limit sets",
+        Status::Refused,
+    )
+}
+
+/// A file that has too many octets.
+#[derive(Clone, Copy)]
+struct TooLarge<'a> {
+    name: Shown<'a>,
+    part: Part<'a>,
+}
+
+impl<'a> Display for TooLarge<'a> {
+    fn fmt<W: fmt::Write>(&self, formatter: &mut Formatter<W>) -> fmt::Result {
+        write!(formatter, "{}: {}", self.name, self.part)
+    }
 }
 
 /// How much of a file there is, as it is told: both numbers, and a text between them.

@@ -22,7 +22,8 @@ impl UrlFault {
     /// What is wanted in its place.
     pub fn wanted(self) -> &'static str {
         match self {
-            UrlFault::NoUrl => "a URL ftp://[USER[:PASSWORD]@]HOST[:PORT]/PATH is wanted",
+            UrlFault::NoUrl =>
+                "a URL ftp://[USER[:PASSWORD]@]HOST[:PORT]/PATH is wanted, an IPv6 address in brackets",
             UrlFault::Scheme => "ftp:// is wanted, no other scheme",
             UrlFault::Query => "a URL without a query is wanted; a ? of a name is %3F",
             UrlFault::Fragment => "a URL without a fragment is wanted; a # of a name is %23",

@@ -164,13 +164,26 @@ fn password_in<S: Secrets>(rt: &S, alloc: Global, file: &str) -> io::Result<Text
         Ok(octets) => Ok(Text::copy_of(alloc, first_line(octets.as_slice()))?),
         Err(NotPrivate::Kind) => Err(Error::new(
             ErrorKind::InvalidInput,
-            "a file of at most 1,024 octets is wanted for the password",
+            "a file of at most 1,024 octets is wanted",
         )),
         Err(NotPrivate::Shared(_)) => Err(Error::new(
             ErrorKind::PermissionDenied,
-            "others may use the file of the password: its owner alone may",
+            "others may use it, and its owner alone may (mode 600)",
         )),
-        Err(NotPrivate::System(error)) => Err(error),
+        Err(NotPrivate::System(error)) => Err(unread(error)),
+    }
+}
+
+/// Why a file that is named is not read; of memory the error itself.
+fn unread(error: Error) -> Error {
+    let kind = error.kind();
+    match kind {
+        ErrorKind::NotFound => Error::new(kind, "it is not there"),
+        ErrorKind::PermissionDenied => Error::new(
+            kind,
+            "it can't be read, or is not owned by root or who runs",
+        ),
+        _ => error,
     }
 }
 

@@ -38,7 +38,9 @@ fn suited_in(
 ) -> io::Result<Option<NetrcEntry<Text<Global>>>> {
     match netrc_entry(alloc, octets, host.as_bytes(), user) {
         Ok(entry) => Ok(entry),
-        Err(NetrcFault::Quote) => Err(bad(".netrc: a word in quotes does not end on its line")),
+        Err(NetrcFault::Quote) => Err(bad(
+            ".netrc: a word in quotes does not end on its line; NETRC names another file",
+        )),
         Err(NetrcFault::Memory) => Err(Error::from(ErrorKind::OutOfMemory)),
     }
 }
@@ -46,8 +48,20 @@ fn suited_in(
 /// The octets of the file, where there is one.
 fn file<S: Secrets>(rt: &S) -> io::Result<Option<Vec<u8, Global>>> {
     match &rt.variable("NETRC")? {
-        Some(name) => Ok(Some(octets_of(rt, name.as_str())?)),
+        Some(name) => named_file(rt, name.as_str()),
         None => file_at_home(rt),
+    }
+}
+
+/// The octets of the file that NETRC names, which has to be there.
+fn named_file<S: Secrets>(rt: &S, name: &str) -> io::Result<Option<Vec<u8, Global>>> {
+    match octets_of(rt, name) {
+        Ok(octets) => Ok(Some(octets)),
+        Err(error) if error.kind() == ErrorKind::NotFound => Err(Error::new(
+            ErrorKind::NotFound,
+            ".netrc: the file that NETRC names is not there",
+        )),
+        Err(error) => Err(error),
     }
 }
 
@@ -68,16 +82,18 @@ fn file_at_home<S: Secrets>(rt: &S) -> io::Result<Option<Vec<u8, Global>>> {
 fn octets_of<S: Secrets>(rt: &S, name: &str) -> io::Result<Vec<u8, Global>> {
     match rt.private(name, FILE_LIMIT) {
         Ok(octets) => Ok(octets),
-        Err(NotPrivate::Kind) => Err(bad("a file of at most 65,536 octets is wanted for .netrc")),
+        Err(NotPrivate::Kind) => Err(bad(
+            ".netrc: a file of at most 65,536 octets is wanted; NETRC names another one",
+        )),
         Err(NotPrivate::Shared(_)) => Err(Error::new(
             ErrorKind::PermissionDenied,
-            "others may use .netrc: its owner alone may (mode 600)",
+            ".netrc: others may use it (mode 600 is wanted); NETRC names another file",
         )),
         Err(NotPrivate::System(error)) if error.kind() == ErrorKind::NotFound => Err(error),
         Err(NotPrivate::System(error)) if error.kind() == ErrorKind::OutOfMemory => Err(error),
         Err(NotPrivate::System(_)) => Err(Error::new(
             ErrorKind::PermissionDenied,
-            ".netrc can't be read, or another user owns it; NETRC names another file",
+            ".netrc: it can't be read, or another user owns it; NETRC names another file",
         )),
     }
 }
@@ -94,7 +110,7 @@ pub(crate) fn no_password() -> Error {
 pub(crate) fn no_password_of_url() -> Error {
     Error::new(
         ErrorKind::NotFound,
-        "the user of a URL needs --password-file or an entry in .netrc; FTP_PASSWORD is sent for the user of --user alone",
+        "the user of a URL needs --password-file or .netrc; --user takes FTP_PASSWORD",
     )
 }
 

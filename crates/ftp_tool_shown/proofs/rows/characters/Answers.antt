@@ -1,6 +1,6 @@
 use Rattle.std.proofs.Common.{refl}
-use Rattle.ftp_tool_listing.specs.Shown.{shown_from}
-use Rattle.ftp_tool_listing.proofs.rows.characters.Goals as goal
+use Rattle.ftp_tool_shown.specs.Shown.{shown_from}
+use Rattle.ftp_tool_shown.proofs.rows.characters.Goals as goal
 
 pub returns : goal.returns
 unfolding shown_from

@@ -1,6 +1,6 @@
 use Rattle.std.proofs.Common.{◌≡◌, ◌++◌, drop}
-use Rattle.ftp_tool_listing.specs.Shown.{shown, shown_from}
-use Rattle.ftp_tool_listing.proofs.shown.put_shown.Given as goal
+use Rattle.ftp_tool_shown.specs.Shown.{shown, shown_from}
+use Rattle.ftp_tool_shown.proofs.shown.put_shown.Given as goal
 
 -- what was put and what the rest shows are what all octets show
 abbrev pub invariant-loop-place : goal.invariant-loop-place

@@ -3,7 +3,7 @@ use Rattle.std.proofs.Common.{◌≡◌, ◌<◌, ◌≤◌, ◌++◌, ◌-◌, 
 use Rattle.std.proofs.Math.Nat.{le_of_eq}
 use Rattle.std.proofs.Math.Seq.{drop-cons}
 use Rattle.std.proofs.lemmas.List.{append-nil, at_drop_all, length-drop, take_all}
-use Rattle.ftp_tool_listing.specs.Shown.{kept_of, octet_shown, shown_from}
+use Rattle.ftp_tool_shown.specs.Shown.{kept_of, octet_shown, shown_from}
 
 -- the octet at the front is shown, and then the rest
 pub front : (kept octet : ℕ) (octets : List ℕ) → shown_from kept (octet ∷ octets)

@@ -1,7 +1,8 @@
-// Octets as a terminal is to show them.
-ghost use Rattle.std.specs.Prelude.{◌≡◌, ◌<◌, ◌≤◌, ◌++◌, ◌-◌, length, get_or, OnOk, IfOk};
-ghost use Rattle.ftp_tool_listing.specs.Shown.{is_four, is_from, is_hidden_80, is_hidden_81, is_hidden_c2, is_hidden_ef, is_hidden_four, is_hidden_three, is_hidden_two, is_plain, is_second_of_four, is_second_of_three, is_tail, is_three};
-ghost use Rattle.ftp_tool_listing.specs.Shown.{digit, escaped, kept_of, len_four, len_three, len_two, octet_shown, shown, shown_len};
+// Octets as a terminal is to show them: appended, and written as a text.
+ghost use Rattle.std.specs.Prelude.{◌≡◌, ◌<◌, ◌≤◌, ◌++◌, ◌-◌, length, get_or, take, OnOk, IfOk, Some};
+ghost use Rattle.std.specs.Fmt.{WritesOnOk};
+ghost use Rattle.ftp_tool_shown.specs.Shown.{is_four, is_from, is_hidden_80, is_hidden_81, is_hidden_c2, is_hidden_ef, is_hidden_four, is_hidden_three, is_hidden_two, is_plain, is_second_of_four, is_second_of_three, is_tail, is_three};
+ghost use Rattle.ftp_tool_shown.specs.Shown.{digit, escaped, front_shown, hexadecimal, kept_of, len_four, len_three, len_two, octet_shown, shown, shown_len};
 
 use std::alloc::{AllocError, Global};
 use std::fmt;
@@ -21,52 +22,66 @@ pub fn put_shown(octets: &[u8], out: &mut Vec<u8, Global>) -> Result<(), AllocEr
     Ok(())
 }
 
-/// Octets of a stranger, whose text is what `put_shown` appends of them: which of them stand as they are is decided by the same function.
+/// Octets of a stranger as a text: what `put_shown` appends of them.
 #[derive(Clone, Copy)]
 pub struct Shown<'a>(pub &'a [u8]);
 
 impl<'a> Display for Shown<'a> {
+    ghost output = { λ it. Some (shown it.0.now) };
+
     fn fmt<W: fmt::Write>(&self, formatter: &mut Formatter<W>) -> fmt::Result {
-        let mut kept = 0;
+        let mut written = 0;
         for place in 0..self.0.len() {
-            kept = write_next(kept, &self.0[place..], formatter)?;
+            let rest = &self.0[place..];
+            write_front(written, rest, formatter)?;
+            written = kept_of(written, rest).saturating_sub(1);
         }
         Ok(())
     }
 }
 
-/// Writes the character at the front, where it stands as it is and is not written yet, or the first octet as an escape; gives how many octets after the
-/// first are written.
-fn write_next<W: fmt::Write>(
-    kept: u8,
+/// Writes what is written at once of octets of which so many at the front are written already: a character, or an escape of an octet.
+fn write_front<W: fmt::Write>(
+    written: u8,
     octets: &[u8],
     formatter: &mut Formatter<W>,
-) -> Result<u8, fmt::Error>
+) -> fmt::Result
     requires { 0 < length octets.now }
+    ensures { WritesOnOk W.write_str_gives formatter.old result (front_shown written octets.now) formatter.new }
 {
-    if kept == 0 {
-        match shown_len(octets) {
-            0 => write_escaped(octets[0], formatter)?,
-            count => formatter.write_str(text_of(octets, count))?,
-        }
+    if written != 0 {
+        return Ok(());
     }
-    Ok(kept_of(kept, octets).saturating_sub(1))
+    match shown_len(octets) {
+        0 => write_escaped(octets[0], formatter),
+        count => formatter.write_str(front_of(octets, count)),
+    }
 }
 
-/// So many octets at the front as a text.
-fn text_of(octets: &[u8], count: u8) -> &str {
-    let front = octets.get(..usize::from(count)).unwrap_or(octets);
-    str::from_utf8(front).unwrap_or("?")
+/// The character at the front as a text, which has so many octets and is shown as it stands.
+fn front_of(octets: &[u8], count: u8) -> &str
+    requires is_len { count ≡ shown_len octets.now }
+    requires is_shown { 0 < count }
+    ensures { result.now ≡ take count octets.now }
+{
+    let Ok(text) = str::from_utf8(&octets[..usize::from(count)]) else {
+        unreachable!();
+    };
+    text
 }
 
 /// Writes an octet as an escape.
-fn write_escaped<W: fmt::Write>(octet: u8, formatter: &mut Formatter<W>) -> fmt::Result {
+fn write_escaped<W: fmt::Write>(octet: u8, formatter: &mut Formatter<W>) -> fmt::Result
+    ensures { WritesOnOk W.write_str_gives formatter.old result (escaped octet) formatter.new }
+{
     if octet == b'\\' {
         return formatter.write_str("\\\\");
     }
-    formatter.write_str("\\x")?;
-    formatter.write_char(char::from(digit(octet / 16)))?;
-    formatter.write_char(char::from(digit(octet % 16)))
+    let escape = hexadecimal(octet);
+    let Ok(text) = str::from_utf8(&escape) else {
+        unreachable!();
+    };
+    formatter.write_str(text)
 }
 
 /// Appends the first octet, where of so many at the front it is known that they stand as they are; gives how many these are behind it.
@@ -98,8 +113,15 @@ fn put_escaped(octet: u8, out: &mut Vec<u8, Global>) -> Result<(), AllocError>
     if octet == b'\\' {
         out.extend_from_slice(b"\\\\")
     } else {
-        out.extend_from_slice(&[b'\\', b'x', digit(octet / 16), digit(octet % 16)])
+        out.extend_from_slice(&hexadecimal(octet))
     }
+}
+
+/// `\xHH`, the escape of an octet but a backslash.
+fn hexadecimal(octet: u8) -> [u8; 4]
+    ensures { result ≡ hexadecimal octet }
+{
+    [b'\\', b'x', digit(octet / 16), digit(octet % 16)]
 }
 
 /// A hexadecimal digit.

@@ -1,8 +1,7 @@
 -- How octets of a stranger are shown, so that no terminal obeys them and nobody takes them for others (own choice): UTF-8 as it stands (RFC 3629,
 -- section 4), and `\xHH` for each octet that is of no character, or of one that is hidden: a control character, a mark of direction, one without width,
 -- or a tag.
-use Rattle.std.specs.Prelude.{ℕ, ◌+◌, ◌-◌, ◌/◌, ◌%◌, ◌==◌, ◌&&◌, ◌||◌, ◌++◌, Bool, false, not, nat_le, nat_lt, List, [], ◌∷◌, length, if◌then◌else◌}
-use Rattle.std.specs.List.{list_all}
+use Rattle.std.specs.Prelude.{ℕ, ◌+◌, ◌-◌, ◌/◌, ◌%◌, ◌==◌, ◌&&◌, ◌||◌, ◌++◌, Bool, not, nat_le, nat_lt, List, [], ◌∷◌, get_or, take, if◌then◌else◌}
 
 -- a number from one to another
 abbrev pub is_from : ℕ → ℕ → ℕ → Bool
@@ -95,9 +94,13 @@ shown_len (first ∷ rest) =
 abbrev pub digit : ℕ → ℕ
 digit value = if nat_lt value 10 then 48 + value else 87 + value
 
+-- `\xHH` of an octet
+abbrev pub hexadecimal : ℕ → List ℕ
+hexadecimal octet = 92 ∷ 120 ∷ digit (octet / 16) ∷ digit (octet % 16) ∷ []
+
 -- an octet as an escape: a backslash twice, and any other as `\xHH`
 abbrev pub escaped : ℕ → List ℕ
-escaped octet = if octet == 92 then 92 ∷ 92 ∷ [] else 92 ∷ 120 ∷ digit (octet / 16) ∷ digit (octet % 16) ∷ []
+escaped octet = if octet == 92 then 92 ∷ 92 ∷ [] else hexadecimal octet
 
 -- an octet at the front of a row of which so many stand as they are
 abbrev pub octet_shown : ℕ → ℕ → List ℕ
@@ -117,17 +120,8 @@ shown_from kept (octet ∷ octets) =
 abbrev pub shown : List ℕ → List ℕ
 shown octets = shown_from 0 octets
 
--- `.` and `..`, which name a directory and the one above
-abbrev pub is_dots : List ℕ → Bool
-is_dots [] = false
-is_dots (first ∷ []) = first == 46
-is_dots (first ∷ second ∷ []) = first == 46 && second == 46
-is_dots (first ∷ second ∷ third ∷ rest) = false
-
--- an octet that is no slash
-abbrev pub is_no_slash : ℕ → Bool
-is_no_slash octet = not (octet == 47)
-
--- a text that is the name of one file in a directory: not empty, neither `.` nor `..`, and without a slash
-abbrev pub is_name : List ℕ → Bool
-is_name name = not (length name == 0) && not (is_dots name) && list_all is_no_slash name
+-- What is written at once of octets of which so many at the front are written already: nothing amid a character, else the character where it stands as it
+-- is, and else the first octet as an escape.
+abbrev pub front_shown : ℕ → List ℕ → List ℕ
+front_shown written octets =
+    if written == 0 then (if shown_len octets == 0 then escaped (get_or octets 0 0) else take (shown_len octets) octets) else []

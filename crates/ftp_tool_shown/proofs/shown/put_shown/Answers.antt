@@ -1,6 +1,6 @@
 use Rattle.std.proofs.Common.{◌≤◌, ◌∙◌, length, arith}
-use Rattle.ftp_tool_listing.proofs.ShownLemmas.{all_put, one_more, tail_is}
-use Rattle.ftp_tool_listing.proofs.shown.put_shown.Goals as goal
+use Rattle.ftp_tool_shown.proofs.ShownLemmas.{all_put, one_more, tail_is}
+use Rattle.ftp_tool_shown.proofs.shown.put_shown.Goals as goal
 
 pub loop-place-preserved : goal.loop-place-preserved
 loop-place-preserved c =

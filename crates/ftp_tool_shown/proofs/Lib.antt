@@ -1,0 +1,2 @@
+mod ShownLemmas
+mod WritingLemmas
