@@ -15,17 +15,19 @@ pub fn play_all(alloc: Global, rows: &[u8]) -> Paper {
         if rest.is_empty() {
             break;
         }
-        let (row, behind) = row_in_front(rest);
+        let (row, others) = row_in_front(rest);
+        let (row, _) = rest.split_at(row.len().saturating_add(1).min(rest.len()));
         play_row(alloc, row, &mut paper);
-        rest = behind;
+        rest = others;
     }
     paper
 }
 
-/// A row: its name, the words of its command line, and a script.
+/// A row: its name, words of how it is played, and a script.
 fn play_row(alloc: Global, row: &[u8], paper: &mut Paper) {
     let (name, row) = cut(row, b'\n');
     let (words, script) = cut(row, b'\n');
+    let script = script_of(words, script);
     paper.line(name);
     paper.line(words);
     let whole = played(alloc, words, script, 0);
@@ -35,6 +37,14 @@ fn play_row(alloc: Global, row: &[u8], paper: &mut Paper) {
         compare(*piece, whole.text(), again.text(), paper);
     }
     paper.line(b"");
+}
+
+/// The script of a row: its last line has its LF, unless the words say `unended`.
+fn script_of<'a>(words: &[u8], lines: &'a [u8]) -> &'a [u8] {
+    if has(words, b"unended") {
+        return lines.strip_suffix(b"\n").unwrap_or(lines);
+    }
+    lines
 }
 
 /// Says whether a script writes the same by these pieces, and else what it writes.
