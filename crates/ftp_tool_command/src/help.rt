@@ -50,27 +50,28 @@ Example:
   ftp_tool serve --port 21 --dir /srv/files --sessions forever --host 0.0.0.0 --accounts /etc/ftp_tool.accounts --log";
 
 pub const RUN: &str = "\
-Input: a script, lines with LF at their ends. The first is login USER PASS, but with --user no line is, and passwords are as with get,
-without a URL; each other says an operation, as where, cd P, put H P T, upload H P T or get H P. P and T are fields: octets 33 to 126, with
-\\s for SP, \\n for LF, \\r for CR, \\\\ for a backslash, \\xHH for any octet, and \\e alone for none. H is type, structure, mode, p passive
-or a active, n plain or e extended, as IFSpn. The README of ftp_tool_script has each form. Everything goes in cleartext, passwords too.
+Input: a script, lines with LF at their ends, also at the last. The first is login USER PASS, but with --user no line is, and passwords are
+as with get, without a URL; each other says an operation, as where, cd P, put H P T, upload H P T or get H P. P and T are fields: octets 33
+to 126, with \\s for SP, \\n for LF, \\r for CR, \\\\ for a backslash, \\xHH for any octet, and \\e alone for none. H is type, structure, mode,
+p passive or a active, n plain or e extended, as IFSpn. The README of ftp_tool_script has each form. Everything goes in cleartext, passwords
+too.
 Output: the report of each operation, once it is done, as done, octets T or refused 550; all go over one control connection, which a
 server ends that says, takes and sends nothing for the seconds of --timeout.
-Status: 0 done; 1 an operation was refused, could not be sent or broke; 2 bad command line, or a line of the script fits no form, and then
-nothing is sent; 3 the control connection or a device failed, or memory was refused.
+Status: 0 done; 1 an operation was refused, could not be sent or broke; 2 bad command line, or a line of the script fits no form or lacks
+its LF, and then nothing is sent; 3 the control connection or a device failed, or memory was refused.
 
 Example:
   printf 'login anonymous a@b\\nput IFSpn f abc\\nget IFSpn f\\n' | ftp_tool run --host 127.0.0.1 --port 2121";
 
 pub const LOOP: &str = "\
 A client and a server over an empty tree, in one process, over loopback sockets; guest with the password secret and anonymous may log in.
-Input: a script, each line with LF at its end. The first line is login USER PASS; each other an operation, with a space between fields:
+Input: a script, each line with LF at its end, also the last. The first is login USER PASS; each other an operation, with SP between fields:
 where, up, cd P, mkdir P, rmdir P, delete P, modified P, facts P, rename P Q, put H P T, append H P T, putfrom H P N T, upload H P T,
 get H P, getfrom H P N, peek H P N, size H P, list H P, names H P. H is a letter each of AI, FR, SB, pa (passive, active) and ne (plain,
 extended), and m for restart markers. In fields \\s is a space, \\n LF, \\r CR, \\xHH an octet, and \\e alone nothing.
 Output: for each operation its report, as done, octets T or refused CODE.
-Status: 0 done; 1 done, and an operation was refused or failed; 2 bad command line or script; 3 a read, a write or a socket failed, or
-memory was refused. 2 and 3 are told on standard error.
+Status: 0 done; 1 done, and an operation was refused or failed; 2 bad command line, or a line of the script fits no form or lacks its LF;
+3 a read, a write or a socket failed, or memory was refused. 2 and 3 are told on standard error.
 
 Example:
   printf 'login guest secret\\nput IFSpn f abc\\nget IFSpn f\\n' | ftp_tool loop";
@@ -80,8 +81,8 @@ A client and a server over an empty tree, in one process, over memory; guest wit
 Input: a script, as for loop.
 Output: with --transcript each line of the control connection, as it was taken whole, C: or S: before it; then for each operation its
 report, as done, octets T or refused CODE. The output is the same for each N.
-Status: 0 done; 1 done, and an operation was refused or failed; 2 bad command line or script; 3 a read or a write failed, or memory was
-refused. 2 and 3 are told on standard error.
+Status: 0 done; 1 done, and an operation was refused or failed; 2 bad command line, or a line of the script fits no form or lacks its LF;
+3 a read or a write failed, or memory was refused. 2 and 3 are told on standard error.
 
 Example:
   printf 'login guest secret\\nput IFSpn f abc\\nget IFSpn f\\n' | ftp_tool pair --transcript";

@@ -1,41 +1,80 @@
 -- A script, line by line.
-use Rattle.std.proofs.Common.{◌≡◌, ◌+◌, ◌<◌, ◌==◌, ℕ, suc, Bool, true, false, List, [], ◌∷◌, ◌++◌, length, map, drop, get_or, Option, Some, None, option_map, Result, Ok, Err, refl, sym, ap, ◌∙◌, append_assoc, arith}
+use Rattle.std.proofs.Common.{◌≡◌, ◌+◌, ◌<◌, ◌==◌, ℕ, suc, true, false, List, [], ◌∷◌, ◌++◌, length, map, drop, get_or, Option, Some, None, option_map, Result, Ok, Err, refl, sym, ap, ◌∙◌, append_assoc, arith, ne_eqb}
 use Rattle.std.proofs.Math.Seq.{drop-cons}
-use Rattle.std.proofs.lemmas.List.{map-append}
-use Rattle.std.specs.Prelude.{if◌then◌else◌}
-use Rattle.ftp_facts.specs.Listing.{but_empty_last}
+use Rattle.std.proofs.lemmas.Bool.{false≢true}
+use Rattle.std.proofs.lemmas.List.{length-map, map-append}
 use Rattle.ftp_tool_script.specs.declared.order.Order.{Order}
 use Rattle.ftp_tool_script.specs.Line.{order_value}
-use Rattle.ftp_tool_script.specs.Script.{orders_behind, orders_value, with_line}
+use Rattle.ftp_tool_script.specs.declared.script.ScriptFault.{ScriptFault}
+use Rattle.ftp_tool_script.specs.declared.script.ScriptFault.TheVariants.{Line, Memory}
+use Rattle.ftp_tool_script.specs.Script.{ReadsAll, before_last, if_ended, last_of, orders_behind, orders_value, script_between, script_in, with_line}
 
 -- ---- lines
 
--- a line before either of two rows
-before : (b : Bool) (line : List ℕ) (one other : List (List ℕ)) → line ∷ (if b then one else other) ≡ (if b then line ∷ one else line ∷ other)
-before true line one other = refl
-before false line one other = refl
+-- a row in front of one more
+pub before_one : {X : Type 0} (lines : List X) (last : X) → before_last (lines ++ last ∷ []) ≡ lines
+before_one [] last = refl
+before_one (line ∷ []) last = refl
+before_one (line ∷ next ∷ lines) last = ap (λ rest. line ∷ rest) (before_one (next ∷ lines) last)
 
--- the last line counts where it is not empty
-pub last_line : (lines : List (List ℕ)) (last : List ℕ) → but_empty_last (lines ++ last ∷ []) ≡ (if length last == 0 then lines else lines ++ last ∷ [])
-last_line [] last = refl
-last_line (line ∷ []) last = before (length last == 0) line [] (last ∷ [])
-last_line (line ∷ next ∷ lines) last =
-    ap (λ rest. line ∷ rest) (last_line (next ∷ lines) last) ∙ before (length last == 0) line (next ∷ lines) (next ∷ lines ++ last ∷ [])
+-- one more is the last
+pub one_is_last : (lines : List (List ℕ)) (last : List ℕ) → last_of (lines ++ last ∷ []) ≡ last
+one_is_last [] last = refl
+one_is_last (line ∷ []) last = refl
+one_is_last (line ∷ next ∷ lines) last = one_is_last (next ∷ lines) last
 
--- the last piece is no line
-pub left_out : {X : Type 0} (seen : X → List ℕ) (pieces lines : List X) (last : X) → pieces ≡ lines ++ last ∷ [] → (length (seen last) == 0) ≡ true
-    → map seen lines ≡ but_empty_last (map seen pieces)
-left_out seen pieces lines last is none =
-    sym (ap (λ l. but_empty_last (map seen l)) is ∙ ap but_empty_last (map-append seen lines (last ∷ [])) ∙ last_line (map seen lines) (seen last)
-    ∙ ap (λ b. if b then map seen lines else map seen lines ++ seen last ∷ []) none)
+-- a script of lines and what stands after them
+between_is : {X : Type 0} (seen : X → List ℕ) (pieces lines : List X) (last : X) → pieces ≡ lines ++ last ∷ []
+    → script_between (map seen pieces) ≡ if_ended (length pieces) (seen last) (script_in (map seen lines))
+between_is seen pieces lines last is =
+    let cut : map seen pieces ≡ map seen lines ++ seen last ∷ [] = ap (map seen) is ∙ map-append seen lines (last ∷ []) in
+    ap (λ n. if_ended n (last_of (map seen pieces)) (script_in (before_last (map seen pieces)))) (length-map pieces seen)
+    ∙ ap (λ l. if_ended (length pieces) (last_of l) (script_in (before_last l))) cut
+    ∙ ap (λ l. if_ended (length pieces) l (script_in (before_last (map seen lines ++ seen last ∷ [])))) (one_is_last (map seen lines) (seen last))
+    ∙ ap (λ l. if_ended (length pieces) (seen last) (script_in l)) (before_one (map seen lines) (seen last))
 
--- the last piece is a line
-pub left_in : {X : Type 0} (seen : X → List ℕ) (pieces lines : List X) (last : X) → pieces ≡ lines ++ last ∷ [] → (length (seen last) == 0) ≡ false
-    → map seen pieces ≡ but_empty_last (map seen pieces)
-left_in seen pieces lines last is some =
-    ap (map seen) is ∙ map-append seen lines (last ∷ [])
-    ∙ sym (ap (λ l. but_empty_last (map seen l)) is ∙ ap but_empty_last (map-append seen lines (last ∷ [])) ∙ last_line (map seen lines) (seen last)
-    ∙ ap (λ b. if b then map seen lines else map seen lines ++ seen last ∷ []) some)
+-- nothing stands after the lines
+none_left : {V : Type 0} (number : ℕ) (rest : List ℕ) (said : Result V ℕ) → (length rest == 0) ≡ true → if_ended number rest said ≡ said
+none_left number [] said none = refl
+none_left number (octet ∷ rest) said none =
+    let some : (length (octet ∷ rest) == 0) ≡ false = ne_eqb (suc (length rest)) 0 (λ e. absurd (omega (arith, e))) in
+    absurd (false≢true (sym some ∙ none))
+
+-- something does
+some_left : {V : Type 0} (number : ℕ) (rest : List ℕ) (value : V) → (length rest == 0) ≡ false → if_ended number rest (Ok value) ≡ Err number
+some_left number [] value some = absurd (cc)
+some_left number (octet ∷ rest) value some = refl
+
+-- a line before is refused, whatever stands after
+still_refused : {V : Type 0} (number line : ℕ) (rest : List ℕ) → if_ended {V = V} number rest (Err line) ≡ Err line
+still_refused number line [] = refl
+still_refused number line (octet ∷ rest) = refl
+
+-- a script whose last line is ended
+pub all_ended : {X : Type 0} (seen : X → List ℕ) (pieces lines : List X) (last : X) (said : Result ((List ℕ × List ℕ) × List (Order (List ℕ))) ℕ)
+    → pieces ≡ lines ++ last ∷ [] → (length (seen last) == 0) ≡ true → script_in (map seen lines) ≡ said → script_between (map seen pieces) ≡ said
+all_ended seen pieces lines last said is none lines_say =
+    between_is seen pieces lines last is ∙ none_left (length pieces) (seen last) (script_in (map seen lines)) none ∙ lines_say
+
+-- a script whose last line is not
+pub not_ended : {X : Type 0} (seen : X → List ℕ) (pieces lines : List X) (last : X) (value : (List ℕ × List ℕ) × List (Order (List ℕ)))
+    → pieces ≡ lines ++ last ∷ [] → (length (seen last) == 0) ≡ false → script_in (map seen lines) ≡ Ok value
+    → script_between (map seen pieces) ≡ Err (length pieces)
+not_ended seen pieces lines last value is some lines_say =
+    between_is seen pieces lines last is ∙ ap (if_ended (length pieces) (seen last)) lines_say ∙ some_left (length pieces) (seen last) value some
+
+-- a script of which a line before is refused
+pub line_before : {X : Type 0} (seen : X → List ℕ) (pieces lines : List X) (last : X) (line : ℕ) → pieces ≡ lines ++ last ∷ []
+    → script_in (map seen lines) ≡ Err line → script_between (map seen pieces) ≡ Err line
+line_before seen pieces lines last line is lines_say =
+    between_is seen pieces lines last is ∙ ap (if_ended (length pieces) (seen last)) lines_say ∙ still_refused (length pieces) line (seen last)
+
+-- the same, of why a script is refused
+pub refused_before : {X Y : Type 0} (seen : X → List ℕ) (kept : Y → (List ℕ × List ℕ) × List (Order (List ℕ))) (pieces lines : List X) (last : X)
+    (fault : ScriptFault) → pieces ≡ lines ++ last ∷ [] → ReadsAll kept (Err fault) (script_in (map seen lines))
+    → ReadsAll kept (Err fault) (script_between (map seen pieces))
+refused_before seen kept pieces lines last (Line number) is said = line_before seen pieces lines last number is said
+refused_before seen kept pieces lines last Memory is said = tt
 
 -- ---- orders
 

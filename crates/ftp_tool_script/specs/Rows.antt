@@ -45,11 +45,15 @@ TransfersSaid =
     × (order_value (codes "list IFSpn f") ≡ Some (Once (Ops.List (codes "f") plain)))
     × (order_value (codes "names IFSpn f") ≡ Some (Once (Ops.Names (codes "f") plain)))
 
--- a login, a script whose last line lacks its end, a faulty third line, and a script without a line
+-- a login, a script, the same without the end of its last line, a faulty third line before a last one without its end, a login alone that lacks
+-- its end, and a script without a line
 abbrev pub ScriptsSaid : Type 0
 ScriptsSaid =
     (login_value (codes "login guest secret") ≡ Some (codes "guest", codes "secret"))
-    × (script_value (codes "login a b" ++ 10 ∷ codes "where" ++ 10 ∷ codes "up") ≡ Ok ((codes "a", codes "b"), Once Ops.Where ∷ Once Ops.Up ∷ []))
+    × (script_value (codes "login a b" ++ 10 ∷ codes "where" ++ 10 ∷ codes "up" ++ 10 ∷ []) ≡ Ok ((codes "a", codes "b"), Once Ops.Where ∷ Once Ops.Up ∷ []))
+    × (script_value (codes "login a b" ++ 10 ∷ codes "where" ++ 10 ∷ codes "up") ≡ Err 3)
+    × (script_value (codes "login a b" ++ 10 ∷ codes "where" ++ 10 ∷ codes "cd" ++ 10 ∷ codes "up") ≡ Err 3)
+    × (script_value (codes "login a b") ≡ Err 1)
     × (script_value (codes "login a b" ++ 10 ∷ codes "where" ++ 10 ∷ codes "cd" ++ 10 ∷ codes "up" ++ 10 ∷ []) ≡ Err 3)
     × (script_value [] ≡ Err 1)
 

@@ -1,9 +1,9 @@
-// A whole script: a login, and orders behind it.
+// A whole script: a login, and orders after it.
 ghost use Rattle.std.specs.Prelude.{◌≡◌, ◌==◌, ◌++◌, ◌∷◌, [], map, option_map, IfOk, Some};
 ghost use Rattle.std.specs.List.{slice_split};
-ghost use Rattle.ftp_facts.specs.Listing.{but_empty_last, line_feed};
+ghost use Rattle.ftp_facts.specs.Listing.{line_feed};
 ghost use Rattle.ftp_tool_script.specs.Line.{Reads, order_value};
-ghost use Rattle.ftp_tool_script.specs.Script.{ReadsAll, at_line, orders_behind, orders_value, script_from, script_in, script_value};
+ghost use Rattle.ftp_tool_script.specs.Script.{ReadsAll, at_line, orders_behind, orders_value, script_between, script_from, script_in, script_value};
 
 use crate::cut::pieces_at;
 use crate::fault::LineFault;
@@ -29,12 +29,12 @@ pub enum ScriptFault {
     Memory,
 }
 
-/// What a script says. Each line is ended by LF, which the last may lack; a script without a line lacks its first.
+/// What a script says. Each line is ended by LF: a last one that is not is refused. A script without a line lacks its first.
 pub fn script_of<A: Allocator + Copy>(alloc: A, text: &[u8]) -> Result<Script<A>, ScriptFault>
     ensures { ReadsAll (λ script. ((script.login.user, script.login.pass), script.orders.items)) result (script_value text.now) }
 {
     match pieces_of(alloc, text) {
-        Ok(pieces) => script_in(alloc, but_empty_last(pieces.as_slice())),
+        Ok(pieces) => script_between(alloc, pieces.as_slice()),
         Err(AllocError) => Err(ScriptFault::Memory),
     }
 }
@@ -46,18 +46,22 @@ fn pieces_of<A: Allocator + Copy>(alloc: A, text: &[u8]) -> Result<Vec<&[u8], A>
     pieces_at(alloc, b'\n', text)
 }
 
-/// The lines: behind the last end no line stands.
-fn but_empty_last<'a, 'b>(pieces: &'b [&'a [u8]]) -> &'b [&'a [u8]]
-    ensures { map (λ line. line.now) result.now ≡ but_empty_last (map (λ piece. piece.now) pieces.now) }
+/// The script of what stands before, between and after ends of lines: nothing may stand after the last, since that is a line without its end.
+fn script_between<A: Allocator + Copy>(alloc: A, pieces: &[&[u8]]) -> Result<Script<A>, ScriptFault>
+    ensures { ReadsAll (λ script. ((script.login.user, script.login.pass), script.orders.items)) result (script_between (map (λ piece. piece.now) pieces.now)) }
 {
-    if let Some((last, lines)) = pieces.split_last() {
-        if last.is_empty() {
-            return lines;
-        }
+    let Some((rest, lines)) = pieces.split_last() else {
+        return Err(ScriptFault::Line(1));
+    };
+    let script = script_in(alloc, lines)?;
+    if rest.is_empty() {
+        Ok(script)
+    } else {
+        Err(ScriptFault::Line(pieces.len()))
     }
-    pieces
 }
 
+/// The script of lines.
 fn script_in<A: Allocator + Copy>(alloc: A, lines: &[&[u8]]) -> Result<Script<A>, ScriptFault>
     ensures { ReadsAll (λ script. ((script.login.user, script.login.pass), script.orders.items)) result (script_in (map (λ line. line.now) lines.now)) }
 {

@@ -1,6 +1,8 @@
-// A handle whose standard input has a text, and at whose ports a client may wait already.
+// A handle whose standard input has a text, and at whose ports clients may wait already.
 use std::alloc::{Allocator, Global};
+use std::cell::Cell;
 use std::fmt::Display;
+use std::fs::{Files, Metadata, OpenOptions, Permissions};
 use std::io;
 use std::io::{BufRead, Eprint, Lines, Print, Write};
 use std::net::{Net, SocketAddr, TcpListener, TcpStream};
@@ -9,12 +11,46 @@ use std::time::{Clock, Duration};
 /// What a client sends over each data connection that it opens.
 pub(crate) const SENT: &str = "sent by the client\n";
 
-/// Gives what another handle gives.
+/// Clients of a control connection.
 #[derive(Drop)]
+pub(crate) struct Guests<'a> {
+    /// What one says that is gone then, where there is one.
+    pub(crate) gone: Option<&'a [u8]>,
+    /// What the next one says, which stays.
+    pub(crate) stays: &'a [u8],
+    /// The one that stays, once it came.
+    pub(crate) seat: Cell<Option<TcpStream>>,
+}
+
+impl<'a> Guests<'a> {
+    /// Connects them to a port, and says their lines.
+    fn come(&self, rt: &HostRuntime, port: SocketAddr) -> io::Result<()> {
+        if let Some(lines) = self.gone {
+            let mut gone = rt.connect(port)?;
+            gone.write_all(lines)?;
+        }
+        let mut stays = rt.connect(port)?;
+        stays.write_all(self.stays)?;
+        self.seat.set(Some(stays));
+        Ok(())
+    }
+}
+
+/// Who connects to a port as soon as it is listened at.
+#[derive(Clone, Copy)]
+enum Meets<'a> {
+    Nobody,
+    /// A client that has sent its octets and ended.
+    Sender,
+    Guests(&'a Guests<'a>),
+}
+
+/// Gives what another handle gives.
+#[derive(Clone, Copy)]
 pub(crate) struct Handle<'a> {
     rt: &'a HostRuntime,
     text: &'a [u8],
-    meets: bool,
+    meets: Meets<'a>,
 }
 
 impl<'a> Handle<'a> {
@@ -23,7 +59,7 @@ impl<'a> Handle<'a> {
         Handle {
             rt,
             text,
-            meets: false,
+            meets: Meets::Nobody,
         }
     }
 
@@ -32,7 +68,16 @@ impl<'a> Handle<'a> {
         Handle {
             rt,
             text: b"",
-            meets: true,
+            meets: Meets::Sender,
+        }
+    }
+
+    /// A handle to whose port these clients come.
+    pub(crate) fn receiving(rt: &'a HostRuntime, guests: &'a Guests<'a>) -> Handle<'a> {
+        Handle {
+            rt,
+            text: b"",
+            meets: Meets::Guests(guests),
         }
     }
 }
@@ -60,15 +105,67 @@ impl<'a> Net for Handle<'a> {
 
     fn bind(&self, addr: SocketAddr) -> io::Result<TcpListener> {
         let listener = self.rt.bind(addr)?;
-        if self.meets {
-            let mut client = self.rt.connect(listener.local_addr()?)?;
-            client.write_all(SENT.as_bytes())?;
+        let port = listener.local_addr()?;
+        match self.meets {
+            Meets::Nobody => {}
+            Meets::Sender => self.rt.connect(port)?.write_all(SENT.as_bytes())?,
+            Meets::Guests(guests) => guests.come(self.rt, port)?,
         }
         Ok(listener)
     }
 
     fn connect(&self, addr: SocketAddr) -> io::Result<TcpStream> {
         self.rt.connect(addr)
+    }
+}
+
+impl<'a> Files for Handle<'a> {
+    type File = <HostRuntime as Files>::File;
+
+    type Dir = <HostRuntime as Files>::Dir;
+
+    fn open_file(&self, how: &OpenOptions, path: &str) -> io::Result<<HostRuntime as Files>::File> {
+        self.rt.open_file(how, path)
+    }
+
+    fn open_dir(&self, path: &str) -> io::Result<<HostRuntime as Files>::Dir> {
+        self.rt.open_dir(path)
+    }
+
+    fn metadata(&self, path: &str) -> io::Result<Metadata> {
+        self.rt.metadata(path)
+    }
+
+    fn symlink_metadata(&self, path: &str) -> io::Result<Metadata> {
+        self.rt.symlink_metadata(path)
+    }
+
+    fn copy(&self, from: &str, to: &str) -> io::Result<u64> {
+        self.rt.copy(from, to)
+    }
+
+    fn rename(&self, from: &str, to: &str) -> io::Result<()> {
+        self.rt.rename(from, to)
+    }
+
+    fn remove_file(&self, path: &str) -> io::Result<()> {
+        self.rt.remove_file(path)
+    }
+
+    fn create_dir(&self, path: &str) -> io::Result<()> {
+        self.rt.create_dir(path)
+    }
+
+    fn remove_dir(&self, path: &str) -> io::Result<()> {
+        self.rt.remove_dir(path)
+    }
+
+    fn remove_dir_all<B: Allocator>(&self, alloc: B, path: &str) -> io::Result<()> {
+        self.rt.remove_dir_all(alloc, path)
+    }
+
+    fn set_permissions(&self, path: &str, permissions: Permissions) -> io::Result<()> {
+        self.rt.set_permissions(path, permissions)
     }
 }
 

@@ -71,7 +71,7 @@ fn say(paper: &mut Paper, port: u16) {
 }
 
 /// Puts the replies; of those that name a port the code alone, since the system chooses it.
-fn put_replies(paper: &mut Paper, replies: &[u8]) {
+pub(crate) fn put_replies(paper: &mut Paper, replies: &[u8]) {
     let mut rest = replies;
     for _ in 0..replies.len() {
         if rest.is_empty() {

@@ -1,4 +1,5 @@
 // What `serve` answers where nobody is served.
+use crate::handle::Handle;
 use crate::made::{deep, file};
 use crate::statuses::put;
 use ftp_tool_serve::{Limits, Log, Odd, Others, Serving, Sessions, serve, users_of};
@@ -39,7 +40,7 @@ const FOLDERS: &[(&str, &str)] = &[
 /// Files of accounts, with their modes.
 const FILES: &[(&str, &str, u32)] = &[
     ("accounts", "# who may log in\n\nguest:secret:/\n", 0o600),
-    ("accounts that others may read", "guest:secret:/\n", 0o640),
+    ("accounts that others may read", "guest:secret:/\n", 0o644),
     ("two fields", "a::/a\nb:/b\n", 0o600),
     ("no user", "a::/a\n# b\n\n:b:/b\n", 0o600),
     ("a password with CR", "a:\r:/a\n", 0o600),
@@ -59,7 +60,7 @@ fn address(octets: [u8; 4]) -> IpAddr {
 }
 
 /// A folder that nobody is served.
-fn nobody<'a>(dir: &'a str) -> Serving<'a> {
+pub(crate) fn nobody<'a>(dir: &'a str) -> Serving<'a> {
     Serving {
         host: address(HERE),
         port: PORT,
@@ -90,7 +91,7 @@ fn with_accounts<'a>(file: &'a str) -> Serving<'a> {
 
 /// Writes the status of a job.
 fn status_row(rt: &HostRuntime, name: &str, job: Serving<'_>) -> io::Result<()> {
-    let status = serve(rt, job)?;
+    let status = serve(&Handle::typing(rt, b""), job)?;
     let mut paper = Paper::new(rt.alloc());
     put(&mut paper, name, status);
     rt.write_all(paper.text())

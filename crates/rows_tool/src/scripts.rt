@@ -7,7 +7,7 @@ use std::alloc::Global;
 /// The most octets of a round, of the pieces that a script is played by again.
 const PIECES: &[u32] = &[1, 7];
 
-/// Plays each row: what it writes by rounds without a limit, and whether that is the same by small pieces.
+/// Plays each row: what it writes by rounds without a limit, whether that is the same by small pieces, and with each growth refused, where that is asked for.
 pub fn play_all(alloc: Global, rows: &[u8]) -> Paper {
     let mut paper = Paper::new(alloc);
     let mut rest = rows;
@@ -15,26 +15,65 @@ pub fn play_all(alloc: Global, rows: &[u8]) -> Paper {
         if rest.is_empty() {
             break;
         }
-        let (row, behind) = row_in_front(rest);
+        let (row, others) = row_in_front(rest);
+        let (row, _) = rest.split_at(row.len().saturating_add(1).min(rest.len()));
         play_row(alloc, row, &mut paper);
-        rest = behind;
+        rest = others;
     }
     paper
 }
 
-/// A row: its name, the words of its command line, and a script.
+/// A row: its name, words of how it is played, and a script.
 fn play_row(alloc: Global, row: &[u8], paper: &mut Paper) {
     let (name, row) = cut(row, b'\n');
     let (words, script) = cut(row, b'\n');
+    let script = script_of(words, script);
     paper.line(name);
     paper.line(words);
-    let whole = played(alloc, words, script, 0);
-    paper.put(whole.text());
+    let whole = play_with(alloc, words, script, 0, 0);
+    paper.put(whole.paper.text());
     for piece in PIECES {
-        let again = played(alloc, words, script, *piece);
-        compare(*piece, whole.text(), again.text(), paper);
+        let again = play_with(alloc, words, script, *piece, 0);
+        compare(*piece, whole.paper.text(), again.paper.text(), paper);
+    }
+    if has(words, b"refused") {
+        refuse_each(alloc, words, script, &whole, paper);
     }
     paper.line(b"");
+}
+
+/// The script of a row: its last line has its LF, unless the words say `unended`.
+fn script_of<'a>(words: &[u8], lines: &'a [u8]) -> &'a [u8] {
+    if has(words, b"unended") {
+        return lines.strip_suffix(b"\n").unwrap_or(lines);
+    }
+    lines
+}
+
+/// Plays a script with each growth refused in turn: it ends with 3, or writes the same. Says whether so it is, and else what it writes.
+fn refuse_each(alloc: Global, words: &[u8], script: &[u8], whole: &Played, paper: &mut Paper) {
+    let mut fails = false;
+    for refused in 1..=whole.growths {
+        let again = play_with(alloc, words, script, 0, refused);
+        if again.status == Status::Failed {
+            fails = true;
+        } else if again.paper.text() != whole.paper.text() {
+            tell_other(refused, &again, paper);
+        }
+    }
+    if fails {
+        paper.line(b"each growth refused: exit 3, or the same");
+    } else {
+        paper.line(b"each growth refused: WRONG, it never fails");
+    }
+}
+
+/// Tells what a script writes with a growth refused that neither ends with 3 nor writes the same.
+fn tell_other(refused: u64, again: &Played, paper: &mut Paper) {
+    paper.put(b"growth ");
+    paper.number(refused);
+    paper.line(b" refused: WRONG, it writes");
+    paper.put(again.paper.text());
 }
 
 /// Says whether a script writes the same by these pieces, and else what it writes.
@@ -49,19 +88,31 @@ fn compare(piece: u32, whole: &[u8], again: &[u8], paper: &mut Paper) {
     }
 }
 
-/// What a script writes, and how it ends. It is over the allocator of the rows of events, so that a world is compiled for one alone.
-fn played(alloc: Global, words: &[u8], script: &[u8], piece: u32) -> Paper {
+/// What a script writes, how it ends, and how many growths were asked for.
+#[derive(Drop)]
+struct Played {
+    paper: Paper,
+    status: Status,
+    growths: u64,
+}
+
+/// Plays a script with this growth refused, none for 0. It is over the allocator of the rows of events, so that a world is compiled for one alone.
+fn play_with(alloc: Global, words: &[u8], script: &[u8], piece: u32, refused: u64) -> Played {
     let mut paper = Paper::new(alloc);
     let mut reader = FailingReader::new(script, usize::MAX, u32::MAX);
     let mut writer = FailingWriter::new(alloc, usize::MAX, u32::MAX);
     let mut faults = FailingWriter::new(alloc, usize::MAX, u32::MAX);
     let settings = settings_of(words, piece);
-    let heap = Refusing::new(alloc, 0);
+    let heap = Refusing::new(alloc, refused);
     let status = play(&heap, settings, &mut reader, &mut writer, &mut faults);
     paper.put(writer.taken());
     paper.put(faults.taken());
     put_status(status, &mut paper);
-    paper
+    Played {
+        paper,
+        status,
+        growths: refused.wrapping_sub(heap.left()),
+    }
 }
 
 fn put_status(status: Status, paper: &mut Paper) {

@@ -22,6 +22,7 @@ const SCRIPTS: &[(&str, &[u8])] = &[
     ("run, a line that fits no form", b"login a b\nwhere\nlook\n"),
     ("run, no line", b""),
     ("run, no login", b"where\n"),
+    ("run, a last line without its end", b"login a b\nwhere"),
 ];
 
 pub(crate) const HOW: How = How {
@@ -86,6 +87,8 @@ pub(crate) fn rows(rt: &HostRuntime, paper: &mut Paper) -> io::Result<()> {
         let status = run(&Handle::typing(rt, *text), ABSENT)?;
         put(paper, what, status);
     }
+    let status = ftp_tool_loop::play(&Handle::typing(rt, b"login a b\nwhere"))?;
+    put(paper, "loop, a last line without its end", status);
     for (what, has_password, task) in TASKS {
         let status = fetch(rt, &asked(*has_password), *task)?;
         put(paper, what, status);

@@ -4,4 +4,4 @@ use Rattle.ftp_tool_script.proofs.rows.scripts.Goals as goal
 
 pub returns : goal.returns
 unfolding login_value order_value
-returns c = (refl, refl, refl, refl)
+returns c = (refl, refl, refl, refl, refl, refl, refl)
