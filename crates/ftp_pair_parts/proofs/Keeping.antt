@@ -160,9 +160,9 @@ far_kept {was} {calm} {old} {new} before after fits fits_too before_is after_is 
   failures_is = moved.1.2;
   calm_is = is ∙ ap (λ b. was && b) (both_none _ _ moved.0.0 moved.1.0
       (stayed moved.0.0 before.refusals after.refusals fits (omega (arith, moved.0.1))
-          (ap (λ (c : Counts). c.refusals) after_is ∙ moved.0.2 ∙ ap (λ (c : Counts). moved_on moved.0.0 c.refusals) (sym before_is)))
+      (ap (λ (c : Counts). c.refusals) after_is ∙ moved.0.2 ∙ ap (λ (c : Counts). moved_on moved.0.0 c.refusals) (sym before_is)))
       (stayed moved.1.0 before.failures after.failures fits_too (omega (arith, moved.1.1))
-          (ap (λ (c : Counts). c.failures) after_is ∙ moved.1.2 ∙ ap (λ (c : Counts). moved_on moved.1.0 c.failures) (sym before_is))));
+      (ap (λ (c : Counts). c.failures) after_is ∙ moved.1.2 ∙ ap (λ (c : Counts). moved_on moved.1.0 c.failures) (sym before_is))));
 }
 
 -- a bound is one

@@ -14,6 +14,6 @@ returns-clause-does g c calm =
     )
 
 pub returns-clause-counted : goal.returns-clause-counted
-returns-clause-counted g c = 
+returns-clause-counted g c =
     let carried = then {most = 3 * (c.args.count + 2)} c.lend_none.ensures.counted c.carry.ensures.counted (omega arith) in
     then carried c.finish.ensures.counted (omega arith)

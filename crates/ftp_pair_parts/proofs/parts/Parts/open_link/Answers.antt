@@ -5,7 +5,7 @@ use Rattle.ftp_pair_parts.specs.Calm.{Tally}
 use Rattle.ftp_pair_parts.proofs.parts.Parts.open_link.Goals as goal
 
 pub returns-clause-counted : goal.returns-clause-counted
-returns-clause-counted g c = 
+returns-clause-counted g c =
     let mid : Tally = record { near = (g.N.Near.client c.data_opened.new.self).refusals; far = (g.F.Far.server c.args.self.now.far).counts } in
     after
     (far_kept {old = mid} (counts_told c.counts-counts.result) (counts_told c.counts.result) c.both_stay-self.ensures.fits.0 c.both_stay-self.ensures.fits.1 c.counts-counts.ensures c.counts.ensures

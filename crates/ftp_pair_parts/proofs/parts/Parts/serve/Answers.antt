@@ -8,7 +8,7 @@ returns-clause-report g c had =
     (c.serve_near-3.ensures.report (c.serve_near-2.ensures.report (c.serve_near.ensures.report had)))))
 
 pub returns-clause-counted : goal.returns-clause-counted
-returns-clause-counted g c = 
+returns-clause-counted g c =
     let near = then (then c.serve_near.ensures.counted c.serve_near-2.ensures.counted (at_most 6)) c.serve_near-3.ensures.counted (at_most 9) in
     let far = then (then c.serve_far.ensures.counted c.serve_far-2.ensures.counted (at_most 6)) c.serve_far-3.ensures.counted (at_most 9) in
     then near far (at_most 18)

@@ -15,7 +15,7 @@ returns-clause-does g c calm =
     )
 
 pub returns-clause-counted : goal.returns-clause-counted
-returns-clause-counted g c = 
+returns-clause-counted g c =
     let told = then c.lend_none.ensures.counted c.tell.ensures.counted (at_most 3) in
     then told c.finish.ensures.counted (omega arith)
 

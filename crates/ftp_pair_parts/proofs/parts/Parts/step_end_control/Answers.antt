@@ -14,7 +14,7 @@ returns-clause-does g c calm =
     )
 
 pub returns-clause-counted : goal.returns-clause-counted
-returns-clause-counted g c = 
+returns-clause-counted g c =
     let ended = then c.lend_none.ensures.counted c.end_control.ensures.counted (at_most 0) in
     then ended c.finish.ensures.counted (omega arith)
 

@@ -38,7 +38,7 @@ pub returns-then-not-start-clause-counted : goal.returns-then-not-start-clause-c
 returns-then-not-start-clause-counted g c = then c.make_room.ensures.counted c.start.ensures.counted (omega arith)
 
 pub returns-clause-counted : goal.returns-clause-counted
-returns-clause-counted g c = 
+returns-clause-counted g c =
     let begun = then c.make_room.ensures.counted c.start.ensures.counted (at_most 3) in
     let noted = then begun c.note.ensures.counted (at_most 6) in
     then noted c.finish.ensures.counted (omega arith)

@@ -15,7 +15,7 @@ returns-clause-does g c calm =
     )
 
 pub returns-clause-counted : goal.returns-clause-counted
-returns-clause-counted g c = 
+returns-clause-counted g c =
     let opened = then c.lend_none.ensures.counted c.open_link.ensures.counted (at_most 6) in
     then opened c.finish.ensures.counted (omega arith)
 

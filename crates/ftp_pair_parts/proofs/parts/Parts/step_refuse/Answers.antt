@@ -20,6 +20,6 @@ pub returns-in_err-ready_marked-clause-counted : goal.returns-in_err-ready_marke
 returns-in_err-ready_marked-clause-counted g c = fewer c.ready_marked.ensures.counted (omega arith)
 
 pub returns-clause-counted : goal.returns-clause-counted
-returns-clause-counted g c = 
+returns-clause-counted g c =
     let marked = then c.ready_marked.ensures.counted c.refuse_link.ensures.counted (at_most 3) in
     then marked c.finish.ensures.counted (omega arith)
