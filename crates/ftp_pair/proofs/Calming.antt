@@ -1,5 +1,5 @@
 -- When a world is calm, by what its ends have counted.
-use Rattle.std.proofs.Common.{◌≡◌, ℕ, ◌+◌, ◌*◌, ◌-◌, ◌<◌, ◌≤◌, ◌^◌, ◌&&◌, Bool, true, false, List, [], ◌∷◌, ◌++◌, map, refl, sym, ap, subst, ◌∙◌, arith, Ok, Err}
+use Rattle.std.proofs.Common.{◌≡◌, ℕ, ◌+◌, ◌*◌, ◌-◌, ◌<◌, ◌≤◌, ◌^◌, ◌&&◌, Bool, true, false, List, [], ◌∷◌, ◌++◌, map, take, length, get_or, refl, sym, ap, subst, ◌∙◌, arith, Ok, Err}
 use Rattle.std.specs.declared.result.Result.{Result}
 use Rattle.std.specs.Prelude.{OnErr, nat_eq, if◌then◌else◌}
 use Rattle.std.proofs.lemmas.Bool.Decides.{nat_tests}
@@ -7,6 +7,7 @@ use Rattle.std.proofs.lemmas.List.{map-append}
 use Rattle.ftp_pair_world.specs.Events.{Event}
 use Rattle.ftp_pair_parts.specs.Calm.{Keeps, Tally, most_in}
 use Rattle.ftp_pair_parts.proofs.Keeping.{fewer, none, none_in_all, stayed, then as follows}
+use Rattle.ftp_pair.proofs.Running.{front_more}
 use Rattle.ftp_pair.specs.Session.{AreCounts, Counted, KeepsCalm, KeepsCalmBy, Seen, is_same, most_of}
 
 -- where too few failures were counted for a count to come round, it is told by the counts at both ends
@@ -36,7 +37,7 @@ most_front [] rest = omega arith
 most_front (event ∷ front) rest = let less = most_front front rest in omega (arith, less)
 
 -- after one event more
-pub counted_more : {S : Type 0} (f : S → Event) (given : List S) (event : S) (old mid new : Seen) → Counted (most_of (map f given)) old mid → Counted (most_in (f event)) mid new
+counted_more : {S : Type 0} (f : S → Event) (given : List S) (event : S) (old mid new : Seen) → Counted (most_of (map f given)) old mid → Counted (most_in (f event)) mid new
     → Counted (most_of (map f (given ++ event ∷ []))) old new
 counted_more f given event old mid new so one =
     follows so one (subst (λ l. most_of (map f given) + most_in (f event) ≤ most_of l) (sym (map-append f given (event ∷ []))) (at_most _ _ (most_last (map f given) (f event))))
@@ -44,12 +45,18 @@ counted_more f given event old mid new so one =
     at_most : (a b : ℕ) → a ≡ b → a ≤ b
     at_most a b same = omega (arith, same)
 
+-- after the first events of a list, and the next, which happened as a copy of its own
+pub counted_on : {S : Type 0} (f : S → Event) (events : List S) (i : ℕ) (d next own : S) (old mid new : Seen) → i < length events → next ≡ get_or events i d → own ≡ next
+    → Counted (most_of (map f (take i events))) old mid → Counted (most_in (f own)) mid new → Counted (most_of (map f (take (i + 1) events))) old new
+counted_on f events i d next own old mid new inside is same so one =
+    subst (λ l. Counted (most_of (map f l)) old new) (front_more events i d next own inside is same) (counted_more f (take i events) own old mid new so one)
+
 -- events that were a front of all
 pub calm_by_front : {S : Type 0} (f : S → Event) (all front rest : List S) (old new : Seen) → all ≡ front ++ rest → Counted (most_of (map f front)) old new → KeepsCalmBy (map f all) old new
 calm_by_front f all front rest old new is so few =
     let less : most_of (map f front) ≤ most_of (map f all) =
-        subst (λ l. most_of (map f front) ≤ most_of (map f l)) (sym is)
-        (subst (λ l. most_of (map f front) ≤ most_of l) (sym (map-append f front rest)) (most_front (map f front) (map f rest))) in
+    subst (λ l. most_of (map f front) ≤ most_of (map f l)) (sym is)
+    (subst (λ l. most_of (map f front) ≤ most_of l) (sym (map-append f front rest)) (most_front (map f front) (map f rest))) in
     keeps_calm (most_of (map f front)) old new (omega (arith, few, less)) so
 
 -- one event alone

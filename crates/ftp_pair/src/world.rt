@@ -81,15 +81,17 @@ impl<A: Allocator + Copy, T: Tree<A>, N: Near<A>, F: Far<A, T>> World<A, T, N, F
         self.parts.step(self.alloc, event)
     }
 
-    /// The events happen in order, each where it is possible. Refused the room of one, those before it have happened, and no other.
-    pub fn run(&mut self, events: Vec<Event<A>>) -> Result<(), AllocError>
-        ensures leads { OnOk result (LeadsCalmly (map event_of events.items) self.old self.new) }
-        ensures agrees { OnOk result (AgreesAfter (map event_of events.items) self.old self.new) }
-        ensures partly { OnErr result (LeadsPartly (map event_of events.items) self.old self.new) }
-        ensures calm { KeepsCalmBy (map event_of events.items) self.old self.new }
+    /// The events happen in order, each where it is possible, on a copy of what it is given. Refused the room of one, or of its copy, those before it
+    /// have happened, and no other.
+    pub fn run(&mut self, events: &[Event<A>]) -> Result<(), AllocError>
+        ensures leads { OnOk result (LeadsCalmly (map event_of events.now) self.old self.new) }
+        ensures agrees { OnOk result (AgreesAfter (map event_of events.now) self.old self.new) }
+        ensures partly { OnErr result (LeadsPartly (map event_of events.now) self.old self.new) }
+        ensures calm { KeepsCalmBy (map event_of events.now) self.old self.new }
     {
         for event in events {
-            self.step(event)?;
+            let own = event.copied(self.alloc)?;
+            self.step(own)?;
         }
         Ok(())
     }
