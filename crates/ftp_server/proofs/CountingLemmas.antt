@@ -1,5 +1,5 @@
 -- How far counts move in a call: by one where a step failed, and by one where the line that waits did.
-use Rattle.std.proofs.Common.{◌≡◌, ℕ, zero, suc, ◌+◌, ◌%◌, ◌^◌, ◌≤◌, Result, Ok, Err, refl, sym, ap, ◌∙◌, arith}
+use Rattle.std.proofs.Common.{◌≡◌, ℕ, zero, suc, ◌+◌, ◌%◌, ◌^◌, ◌≤◌, ap, subst, ◌∙◌, arith}
 use Rattle.ftp_direct.specs.Run.{moved_on}
 use Rattle.ftp_server_model.specs.Counting.{CountsOn, MovesOn}
 use Rattle.ftp_server_model.specs.Failing.{Counts}
@@ -16,18 +16,18 @@ pub by_fault : (fault : Fault) (before after : ℕ) → Counted fault before aft
 by_fault Memory before after same = (0, omega arith, same)
 by_fault Device before after next = (1, omega arith, next)
 
--- one more, by wrapping
-pub by_one : (before after : ℕ) → after ≡ (before + 1) % 2 ^ 64 → MovesOn 1 before after
-by_one before after next = (1, omega arith, next)
-
--- more at most
-pub at_most : {most : ℕ} (wider before after : ℕ) → most ≤ wider → MovesOn most before after → MovesOn wider before after
-at_most wider before after few moved = (moved.0, omega (arith, few, moved.1), moved.2)
+-- the same, where nothing had moved it before
+pub later_fault : (fault : Fault) (first before after : ℕ) → before ≡ first → Counted fault before after → MovesOn 1 first after
+later_fault fault first before after same counted = subst (λ n. MovesOn 1 n after) same (by_fault fault before after counted)
 
 -- counts that move on twice
 twice : (more first count : ℕ) → moved_on more (moved_on first count) ≡ moved_on (first + more) count
-twice zero first count = ap (λ n. moved_on n count) (omega arith)
-twice (suc more) first count = ap (λ n. (n + 1) % 2 ^ 64) (twice more first count) ∙ ap (λ n. moved_on n count) (omega arith)
+twice zero first count =
+    let sum : first ≡ first + zero = omega arith in
+    ap (λ n. moved_on n count) sum
+twice (suc more) first count =
+    let sum : suc (first + more) ≡ first + suc more = omega arith in
+    ap (λ n. (n + 1) % 2 ^ 64) (twice more first count) ∙ ap (λ n. moved_on n count) sum
 
 -- one at most, and then one at most
 pub then_one : (before between after : ℕ) → MovesOn 1 before between → MovesOn 1 between after → MovesOn 2 before after

@@ -61,5 +61,5 @@ returns-then-is_err-clause-few g c =
 pub returns-then-not-may_receive-clause-few : goal.returns-then-not-may_receive-clause-few
 returns-then-not-may_receive-clause-few g c = stayed 1 _ _ (ap (λ n. n.failures) c.loop-count.invariant.steady)
 
-pub returns-clause-few : goal.returns-clause-few
-returns-clause-few g c = stayed 1 _ _ (ap (λ n. n.failures) c.loop-count.invariant.steady)
+pub returns-after-loop-count-clause-few : goal.returns-after-loop-count-clause-few
+returns-after-loop-count-clause-few g c = stayed 1 _ _ (ap (λ n. n.failures) c.loop-count.invariant.steady)
