@@ -43,5 +43,5 @@ returns-then-is_err-clause-few g c =
 pub returns-then-not-may_hear-clause-few : goal.returns-then-not-may_hear-clause-few
 returns-then-not-may_hear-clause-few g c = stayed 1 _ _ (ap (λ n. n.failures) c.loop-octet.invariant.steady)
 
-pub returns-after-loop-octet-clause-few : goal.returns-clause-few
+pub returns-after-loop-octet-clause-few : goal.returns-after-loop-octet-clause-few
 returns-after-loop-octet-clause-few g c = stayed 1 _ _ (ap (λ n. n.failures) c.loop-octet.invariant.steady)
