@@ -5,6 +5,7 @@ ghost use Rattle.ftp_operation.specs.declared.op.Op.{Op as AnyOp};
 ghost use Rattle.ftp_ends.specs.Limits.{held_limit};
 ghost use Rattle.ftp_ends.specs.Octets.{has_octets};
 ghost use Rattle.ftp_client_model.specs.Calls.{control_end, data_closed, data_end, data_fault, data_opened, data_refused, gives_control, gives_data, handed_back, is_busy, listen_refused, listening, may_hear, may_receive, report_of, reports, starts, to_give, uploads, wants};
+ghost use Rattle.ftp_client_model.specs.Counting.{CountsOn};
 ghost use Rattle.ftp_client_model.specs.Failing.{HearsIfRoom, Holds, HoldsIfRoom, ReceivesIfRoom, data_end_short, data_fault_short, data_opened_short, data_refused_short, listen_refused_short, listening_short, short, starts_short, uploads_short};
 ghost use Rattle.ftp_client_model.specs.Held.{stored_limit, talk_len};
 ghost use Rattle.ftp_client_model.specs.Most.{IsMostHeard, IsMostReceived};
@@ -61,6 +62,7 @@ impl<A: Allocator + Copy, F: ClientTransfer<A>> Counted<A, F> {
         ensures left { op.new ≡ handed_back (is_busy (counted_of F.flow self.old).view) op.old }
         ensures busy { IsTrue (is_busy (counted_of F.flow self.old).view) → Holds (counted_of F.flow self.old) (counted_of F.flow self.new) (counted_of F.flow self.old).view }
         ensures none { op.old ≡ None → Holds (counted_of F.flow self.old) (counted_of F.flow self.new) (counted_of F.flow self.old).view }
+        ensures counted { CountsOn self.old.refusals self.new.refusals }
     {
         if self.dialogue.is_busy() {
             return;
@@ -81,6 +83,7 @@ impl<A: Allocator + Copy, F: ClientTransfer<A>> Counted<A, F> {
         ensures left { texts.new ≡ handed_back (is_busy (counted_of F.flow self.old).view) texts.old }
         ensures busy { IsTrue (is_busy (counted_of F.flow self.old).view) → Holds (counted_of F.flow self.old) (counted_of F.flow self.new) (counted_of F.flow self.old).view }
         ensures none { texts.old ≡ None → Holds (counted_of F.flow self.old) (counted_of F.flow self.new) (counted_of F.flow self.old).view }
+        ensures counted { CountsOn self.old.refusals self.new.refusals }
     {
         if self.dialogue.is_busy() {
             return;
@@ -107,6 +110,7 @@ impl<A: Allocator + Copy, F: ClientTransfer<A>> Counted<A, F> {
         ensures took { HearsIfRoom (counted_of F.flow self.old) (counted_of F.flow self.new) piece.now result }
         ensures some { IsTrue (may_hear (counted_of F.flow self.old).view) → 0 < length piece.now → 0 < result }
         ensures most { self.new.refusals ≡ self.old.refusals → IsMostHeard result piece.now (counted_of F.flow self.new).view }
+        ensures counted { CountsOn self.old.refusals self.new.refusals }
     {
         let mut taken = 0;
         while taken < piece.len() && self.dialogue.may_hear() {
@@ -140,8 +144,9 @@ impl<A: Allocator + Copy, F: ClientTransfer<A>> Counted<A, F> {
 
     /// A port is listened at.
     pub(crate) fn listening(&mut self, port: u16)
-        ensures { HoldsIfRoom (counted_of F.flow self.old) (counted_of F.flow self.new)
+        ensures moved { HoldsIfRoom (counted_of F.flow self.old) (counted_of F.flow self.new)
             (listening port (counted_of F.flow self.old).view) (listening_short port (counted_of F.flow self.old).view) }
+        ensures counted { CountsOn self.old.refusals self.new.refusals }
     {
         if listening(&mut self.dialogue, port).is_err() {
             self.shorten();
@@ -150,8 +155,9 @@ impl<A: Allocator + Copy, F: ClientTransfer<A>> Counted<A, F> {
 
     /// No port was had.
     pub(crate) fn listen_refused(&mut self)
-        ensures { HoldsIfRoom (counted_of F.flow self.old) (counted_of F.flow self.new)
+        ensures moved { HoldsIfRoom (counted_of F.flow self.old) (counted_of F.flow self.new)
             (listen_refused (counted_of F.flow self.old).view) (listen_refused_short (counted_of F.flow self.old).view) }
+        ensures counted { CountsOn self.old.refusals self.new.refusals }
     {
         if listen_refused(&mut self.dialogue).is_err() {
             self.shorten();
@@ -160,8 +166,9 @@ impl<A: Allocator + Copy, F: ClientTransfer<A>> Counted<A, F> {
 
     /// The link is open; this host is at its other end.
     pub(crate) fn data_opened(&mut self, host: Host)
-        ensures { HoldsIfRoom (counted_of F.flow self.old) (counted_of F.flow self.new)
+        ensures moved { HoldsIfRoom (counted_of F.flow self.old) (counted_of F.flow self.new)
             (data_opened host (counted_of F.flow self.old).view) (data_opened_short (counted_of F.flow self.old).view) }
+        ensures counted { CountsOn self.old.refusals self.new.refusals }
     {
         if data_opened(&mut self.dialogue, host).is_err() {
             self.shorten();
@@ -170,8 +177,9 @@ impl<A: Allocator + Copy, F: ClientTransfer<A>> Counted<A, F> {
 
     /// The link was not had.
     pub(crate) fn data_refused(&mut self)
-        ensures { HoldsIfRoom (counted_of F.flow self.old) (counted_of F.flow self.new)
+        ensures moved { HoldsIfRoom (counted_of F.flow self.old) (counted_of F.flow self.new)
             (data_refused (counted_of F.flow self.old).view) (data_refused_short (counted_of F.flow self.old).view) }
+        ensures counted { CountsOn self.old.refusals self.new.refusals }
     {
         if data_refused(&mut self.dialogue).is_err() {
             self.shorten();
@@ -184,6 +192,7 @@ impl<A: Allocator + Copy, F: ClientTransfer<A>> Counted<A, F> {
         ensures took { ReceivesIfRoom (counted_of F.flow self.old) (counted_of F.flow self.new) piece.now result }
         ensures some { IsTrue (may_receive (counted_of F.flow self.old).view) → 0 < length piece.now → 0 < result }
         ensures most { self.new.refusals ≡ self.old.refusals → IsMostReceived result piece.now (counted_of F.flow self.new).view }
+        ensures counted { CountsOn self.old.refusals self.new.refusals }
     {
         if !self.dialogue.may_receive() {
             return 0;
@@ -199,8 +208,9 @@ impl<A: Allocator + Copy, F: ClientTransfer<A>> Counted<A, F> {
 
     /// The other end closed the link.
     pub(crate) fn data_end(&mut self)
-        ensures { HoldsIfRoom (counted_of F.flow self.old) (counted_of F.flow self.new)
+        ensures moved { HoldsIfRoom (counted_of F.flow self.old) (counted_of F.flow self.new)
             (data_end (counted_of F.flow self.old).view) (data_end_short (counted_of F.flow self.old).view) }
+        ensures counted { CountsOn self.old.refusals self.new.refusals }
     {
         if data_end(&mut self.dialogue).is_err() {
             self.shorten();
@@ -209,8 +219,9 @@ impl<A: Allocator + Copy, F: ClientTransfer<A>> Counted<A, F> {
 
     /// The link broke.
     pub(crate) fn data_fault(&mut self)
-        ensures { HoldsIfRoom (counted_of F.flow self.old) (counted_of F.flow self.new)
+        ensures moved { HoldsIfRoom (counted_of F.flow self.old) (counted_of F.flow self.new)
             (data_fault (counted_of F.flow self.old).view) (data_fault_short (counted_of F.flow self.old).view) }
+        ensures counted { CountsOn self.old.refusals self.new.refusals }
     {
         if data_fault(&mut self.dialogue).is_err() {
             self.shorten();
@@ -225,6 +236,7 @@ impl<A: Allocator + Copy, F: ClientTransfer<A>> Counted<A, F> {
             (gives_data result (counted_of F.flow self.old).view) (short (counted_of F.flow self.old).view) }
         ensures some { 0 < length room.old → 0 < length (to_give (counted_of F.flow self.old).view) → 0 < result }
         ensures most { result ≡ min (length room.old) (length (to_give (counted_of F.flow self.old).view)) }
+        ensures counted { CountsOn self.old.refusals self.new.refusals }
     {
         let count = self.dialogue.give(room);
         if self.dialogue.carry_on().is_err() {
@@ -294,6 +306,7 @@ impl<A: Allocator + Copy, F: ClientTransfer<A>> Counted<A, F> {
     fn shorten(&mut self)
         ensures view { (counted_of F.flow self.new).view ≡ short (counted_of F.flow self.old).view }
         ensures count { self.new.refusals ≢ self.old.refusals }
+        ensures counted { CountsOn self.old.refusals self.new.refusals }
     {
         self.dialogue.fail(Failure::Memory);
         self.refusals = self.refusals.wrapping_add(1);

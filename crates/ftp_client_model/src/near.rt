@@ -3,6 +3,7 @@ ghost use Rattle.std.specs.Prelude.{◌≡◌, ◌<◌, ◌≤◌, ℕ, List, So
 ghost use Rattle.ftp_operation.specs.declared.op.Op.{Op};
 ghost use Rattle.ftp_operation.specs.Answer.{said_of};
 ghost use Rattle.ftp_client_model.specs.Calls.{starts, uploads, is_busy, handed_back, report_of, reports, gives_control, may_hear, control_end, listening, listen_refused, data_opened, data_refused, data_end, data_fault, data_closed, gives_data, to_give, may_receive, wants};
+ghost use Rattle.ftp_client_model.specs.Counting.{CountsOn};
 ghost use Rattle.ftp_client_model.specs.Failing.{Client, Holds, HoldsIfRoom, HearsIfRoom, ReceivesIfRoom, starts_short, uploads_short, short, listening_short, listen_refused_short, data_opened_short, data_refused_short, data_end_short, data_fault_short};
 ghost use Rattle.ftp_client_model.specs.Most.{IsMostHeard, IsMostReceived};
 ghost use Rattle.ftp_client_model.specs.Tries.{over_breaks};
@@ -16,7 +17,7 @@ use ftp_facts::Text;
 use ftp_operation::{Answer, How, Op};
 use std::alloc::Allocator;
 
-/// The client's end. Where the count of refused growths changed in a call (it moves on by wrapping), the client is short of
+/// The client's end. Where the count of refused growths changed in a call (it moves on by one, wrapping), the client is short of
 /// memory, and every operation answers so.
 pub trait Near<A: Allocator + Copy>: Drop {
     /// What it holds, and how many growths were refused to it.
@@ -29,7 +30,8 @@ pub trait Near<A: Allocator + Copy>: Drop {
             → HoldsIfRoom (client self.old) (client self.new) (starts given (client self.old).view) (starts_short given (client self.old).view) }
         ensures left { op.new ≡ handed_back (is_busy (client self.old).view) op.old }
         ensures busy { IsTrue (is_busy (client self.old).view) → Holds (client self.old) (client self.new) (client self.old).view }
-        ensures none { op.old ≡ None → Holds (client self.old) (client self.new) (client self.old).view };
+        ensures none { op.old ≡ None → Holds (client self.old) (client self.new) (client self.old).view }
+        ensures counted { CountsOn (client self.old).refusals (client self.new).refusals };
 
     /// Begins an upload that goes on after breaks, and has one report (own choice: at most 16 tries). `texts` has the path and the octets; they are
     /// taken as `begin` takes an operation. An end has this call; who owns one has `upload`.
@@ -39,7 +41,8 @@ pub trait Near<A: Allocator + Copy>: Drop {
             (uploads (over_breaks path octets how) (client self.old).view) (uploads_short (over_breaks path octets how) (client self.old).view) }
         ensures left { texts.new ≡ handed_back (is_busy (client self.old).view) texts.old }
         ensures busy { IsTrue (is_busy (client self.old).view) → Holds (client self.old) (client self.new) (client self.old).view }
-        ensures none { texts.old ≡ None → Holds (client self.old) (client self.new) (client self.old).view };
+        ensures none { texts.old ≡ None → Holds (client self.old) (client self.new) (client self.old).view }
+        ensures counted { CountsOn (client self.old).refusals (client self.new).refusals };
 
     /// The report of the operation, if it is done; it is given once.
     fn report(&mut self) -> Option<Answer<A>>
@@ -53,7 +56,8 @@ pub trait Near<A: Allocator + Copy>: Drop {
         ensures some { IsTrue (may_hear (client self.old).view) → 0 < length piece.now → 0 < result }
 
         // Where no growth was refused it takes all of them, or as many as it may.
-        ensures most { (client self.new).refusals ≡ (client self.old).refusals → IsMostHeard result piece.now (client self.new).view };
+        ensures most { (client self.new).refusals ≡ (client self.old).refusals → IsMostHeard result piece.now (client self.new).view }
+        ensures counted { CountsOn (client self.old).refusals (client self.new).refusals };
 
     /// Gives octets of the control connection, and says how many. Takes no memory.
     fn control_out(&mut self, room: &mut [u8]) -> usize
@@ -71,19 +75,23 @@ pub trait Near<A: Allocator + Copy>: Drop {
 
     /// A port is listened at.
     fn listening(&mut self, port: u16)
-        ensures { HoldsIfRoom (client self.old) (client self.new) (listening port (client self.old).view) (listening_short port (client self.old).view) };
+        ensures moved { HoldsIfRoom (client self.old) (client self.new) (listening port (client self.old).view) (listening_short port (client self.old).view) }
+        ensures counted { CountsOn (client self.old).refusals (client self.new).refusals };
 
     /// No port was had.
     fn listen_refused(&mut self)
-        ensures { HoldsIfRoom (client self.old) (client self.new) (listen_refused (client self.old).view) (listen_refused_short (client self.old).view) };
+        ensures moved { HoldsIfRoom (client self.old) (client self.new) (listen_refused (client self.old).view) (listen_refused_short (client self.old).view) }
+        ensures counted { CountsOn (client self.old).refusals (client self.new).refusals };
 
     /// The link is open; this host is at its other end.
     fn data_opened(&mut self, host: Host)
-        ensures { HoldsIfRoom (client self.old) (client self.new) (data_opened host (client self.old).view) (data_opened_short (client self.old).view) };
+        ensures moved { HoldsIfRoom (client self.old) (client self.new) (data_opened host (client self.old).view) (data_opened_short (client self.old).view) }
+        ensures counted { CountsOn (client self.old).refusals (client self.new).refusals };
 
     /// The link was not had.
     fn data_refused(&mut self)
-        ensures { HoldsIfRoom (client self.old) (client self.new) (data_refused (client self.old).view) (data_refused_short (client self.old).view) };
+        ensures moved { HoldsIfRoom (client self.old) (client self.new) (data_refused (client self.old).view) (data_refused_short (client self.old).view) }
+        ensures counted { CountsOn (client self.old).refusals (client self.new).refusals };
 
     /// Takes octets of the link, and says how many.
     fn data_hear(&mut self, piece: &[u8]) -> usize
@@ -92,15 +100,18 @@ pub trait Near<A: Allocator + Copy>: Drop {
         ensures some { IsTrue (may_receive (client self.old).view) → 0 < length piece.now → 0 < result }
 
         // Where no growth was refused it takes all of them, or as many as it may.
-        ensures most { (client self.new).refusals ≡ (client self.old).refusals → IsMostReceived result piece.now (client self.new).view };
+        ensures most { (client self.new).refusals ≡ (client self.old).refusals → IsMostReceived result piece.now (client self.new).view }
+        ensures counted { CountsOn (client self.old).refusals (client self.new).refusals };
 
     /// The other end closed the link.
     fn data_end(&mut self)
-        ensures { HoldsIfRoom (client self.old) (client self.new) (data_end (client self.old).view) (data_end_short (client self.old).view) };
+        ensures moved { HoldsIfRoom (client self.old) (client self.new) (data_end (client self.old).view) (data_end_short (client self.old).view) }
+        ensures counted { CountsOn (client self.old).refusals (client self.new).refusals };
 
     /// The link broke.
     fn data_fault(&mut self)
-        ensures { HoldsIfRoom (client self.old) (client self.new) (data_fault (client self.old).view) (data_fault_short (client self.old).view) };
+        ensures moved { HoldsIfRoom (client self.old) (client self.new) (data_fault (client self.old).view) (data_fault_short (client self.old).view) }
+        ensures counted { CountsOn (client self.old).refusals (client self.new).refusals };
 
     /// Gives octets of the link, and says how many.
     fn data_out(&mut self, room: &mut [u8]) -> usize
@@ -110,7 +121,8 @@ pub trait Near<A: Allocator + Copy>: Drop {
         ensures some { 0 < length room.old → 0 < length (to_give (client self.old).view) → 0 < result }
 
         // It gives all that is left, or fills the room.
-        ensures most { result ≡ min (length room.old) (length (to_give (client self.old).view)) };
+        ensures most { result ≡ min (length room.old) (length (to_give (client self.old).view)) }
+        ensures counted { CountsOn (client self.old).refusals (client self.new).refusals };
 
     /// A close that it wanted is done.
     fn data_closed(&mut self)

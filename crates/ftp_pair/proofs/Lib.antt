@@ -3,3 +3,4 @@ pub mod Running
 pub mod Reaching
 pub mod Agreeing
 pub mod Settling
+pub mod Calming

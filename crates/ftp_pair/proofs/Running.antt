@@ -1,7 +1,7 @@
 -- One event after the other.
-use Rattle.std.proofs.Common.{◌≡◌, ◌∙◌, Bool, List, [], ◌∷◌, ◌++◌, map, take, length, refl, sym, ap, subst, append-nil, arith, Ok, Err}
+use Rattle.std.proofs.Common.{◌≡◌, ◌∙◌, ◌+◌, ◌<◌, ℕ, Bool, List, [], ◌∷◌, ◌++◌, map, take, length, get_or, refl, sym, ap, subst, Ok, Err}
 use Rattle.std.specs.Prelude.{OnErr}
-use Rattle.std.proofs.lemmas.List.{map-append}
+use Rattle.std.proofs.lemmas.List.{map-append, take_more}
 use Rattle.std.specs.declared.result.Result.{Result}
 use Rattle.std.specs.Iterator.{Yields}
 use Rattle.std.specs.Vec.Iter.{into_iter_items, into_iter_steps}
@@ -45,6 +45,17 @@ pub taken_front : {X A : Type 0} (s : IntoIter X A) (xs : List X) (t : IntoIter 
 taken_front s [] t y = ap into_iter_items y
 taken_front s (x ∷ xs) t y = y.1.0 ∙ ap (λ ys. x ∷ ys) (taken_front y.0 xs t y.2)
 
+-- the first of a list, and the next
+pub front_more : {S : Type 0} (list : List S) (i : ℕ) (d next own : S) → i < length list → next ≡ get_or list i d → own ≡ next → take i list ++ own ∷ [] ≡ take (i + 1) list
+front_more list i d next own inside is same = ap (λ one. take i list ++ one ∷ []) (same ∙ is) ∙ sym (take_more list i d inside)
+
+-- the first events, and the next, which happened as a copy of its own
+pub led_on : {S : Type 0} (f : S → Event) (events : List S) (i : ℕ) (d next own : S) (possible : Bool) (old mid new : Seen) → i < length events → next ≡ get_or events i d → own ≡ next
+    → LeadsCalmly (map f (take i events)) old mid → Steps mid.calm new.calm (λ read. Happens read (f own) mid.world possible new.world)
+    → LeadsCalmly (map f (take (i + 1) events)) old new
+led_on f events i d next own possible old mid new inside is same leads steps =
+    subst (λ l. LeadsCalmly (map f l) old new) (front_more events i d next own inside is same) (one_more_of f (take i events) own possible old mid new leads steps)
+
 -- the names of a front are the front of the names
 take_front : {S R : Type 0} (f : S → R) (front rest : List S) → take (length front) (map f (front ++ rest)) ≡ map f front
 take_front f [] rest = refl
@@ -54,16 +65,6 @@ take_front f (one ∷ front) rest = ap (λ l. f one ∷ l) (take_front f front r
 pub partly : {S : Type 0} (f : S → Event) (all front rest : List S) (old new : Seen) → all ≡ front ++ rest → LeadsCalmly (map f front) old new → LeadsPartly (map f all) old new
 partly f all front rest old new is leads =
     (length front, subst (λ l. LeadsCalmly l old new) (sym (ap (λ l. take (length front) (map f l)) is ∙ take_front f front rest)) leads)
-
--- a list without length has no items
-no_items : {S : Type 0} (l : List S) → length l ≡ 0 → l ≡ []
-no_items [] none = refl
-no_items (one ∷ l) none = absurd (omega (arith, none))
-
--- events that were all
-pub wholly : {S : Type 0} (f : S → Event) (all front rest : List S) (old new : Seen) → all ≡ front ++ rest → length rest ≡ 0 → LeadsCalmly (map f front) old new → LeadsCalmly (map f all) old new
-wholly f all front rest old new is none leads =
-    subst (λ l. LeadsCalmly (map f l) old new) (sym (is ∙ ap (λ l. front ++ l) (no_items rest none) ∙ append-nil front)) leads
 
 -- what holds anyway holds of an error
 pub on_err : {T E P : Type 0} (r : Result T E) → P → OnErr r P

@@ -1,5 +1,5 @@
 -- What a session in a world of two ends has come to: from which ends, by which events, and what is known of it then.
-use Rattle.std.specs.Prelude.{◌≡◌, ℕ, Bool, true, List, [], ◌∷◌, ◌++◌, take}
+use Rattle.std.specs.Prelude.{◌≡◌, ℕ, ◌+◌, ◌<◌, ◌^◌, Bool, true, ◌&&◌, nat_eq, List, [], ◌∷◌, ◌++◌, take}
 use Rattle.ftp_client_model.specs.Failing.{Client}
 use Rattle.ftp_server_model.specs.Far.{Server}
 use Rattle.ftp_server_model.specs.Machine.{Reading, IsReading}
@@ -7,18 +7,47 @@ use Rattle.ftp_pair_world.specs.Agreement.{AreHonest, AreSingle, IsDirect, Leads
 use Rattle.ftp_pair_world.specs.Claims.{Beginning, IsAnswered, IsFair, AreTimed, state_of, world_of}
 use Rattle.ftp_pair_world.specs.Events.{Event, IsQuiet}
 use Rattle.ftp_pair_world.specs.World.{World}
+use Rattle.ftp_pair_parts.specs.Calm.{Keeps, Tally, most_in, tally_of}
 use Rattle.ftp_pair_parts.specs.Happening.{IsSmall}
 use Rattle.ftp_pair_parts.specs.Shown.{shown}
 use Rattle.ftp_pair_parts.specs.declared.parts.Parts.{Parts}
 
--- a world, and whether nothing failed in it so far: no end was refused memory, and no device failed
+-- a world, whether nothing failed in it so far: no end was refused memory, and no device failed; and what both ends have counted of that
 pub record Seen : Type 0 where
   pub world : World
   pub calm : Bool
+  pub tally : Tally
 
 -- what parts show
 abbrev pub seen : {A T N F : Type 0} → (N → Client) → (F → Server) → Parts A T N F → Seen
-seen near far parts = record { world = shown near far parts; calm = parts.calm }
+seen near far parts = record { world = shown near far parts; calm = parts.calm; tally = tally_of near far parts }
+
+-- ---- when a world is calm
+
+-- counts are of 64 bits
+abbrev pub AreCounts : Tally → Type 0
+AreCounts t = (t.near < 2 ^ 64) × (t.far.refusals < 2 ^ 64) × (t.far.failures < 2 ^ 64)
+
+-- no count has moved
+abbrev pub is_same : Tally → Tally → Bool
+is_same old new = nat_eq new.near old.near && (nat_eq new.far.refusals old.far.refusals && nat_eq new.far.failures old.far.failures)
+
+-- a world is calm just where it was, and each count is what it was
+abbrev pub KeepsCalm : Seen → Seen → Type 0
+KeepsCalm old new = AreCounts old.tally → new.calm ≡ (old.calm && is_same old.tally new.tally)
+
+-- how many failures can be counted in events at most
+abbrev pub most_of : List Event → ℕ
+most_of [] = 0
+most_of (event ∷ events) = most_in event + most_of events
+
+-- so it is after events in which so few failures can be counted that no count comes round: 2^64 octets can't be delivered in them, nor so many events be
+abbrev pub KeepsCalmBy : List Event → Seen → Seen → Type 0
+KeepsCalmBy given old new = most_of given < 2 ^ 64 → KeepsCalm old new
+
+-- so many failures at most were counted, and calm is what it was, and that there were none
+abbrev pub Counted : ℕ → Seen → Seen → Type 0
+Counted most old new = Keeps most old.calm new.calm old.tally new.tally
 
 -- ---- what events lead to
 

@@ -3,7 +3,7 @@ ghost use Rattle.std.specs.Prelude.{◌≡◌, ◌<◌, ◌-◌, true, false, if
 ghost use Rattle.ftp_pair_settling.specs.Steady.{IsSteady};
 ghost use Rattle.ftp_pair_world.specs.Still.{IsStill};
 ghost use Rattle.ftp_pair_parts.specs.Happening.{Stirs};
-ghost use Rattle.ftp_pair.specs.Session.{LeadsSmall, SettlesAfter};
+ghost use Rattle.ftp_pair.specs.Session.{Counted, KeepsCalm, LeadsSmall, SettlesAfter};
 
 use crate::world::World;
 use ftp_client_model::Near;
@@ -30,6 +30,7 @@ impl<A: Allocator + Copy, T: Tree<A>, N: Near<A>, F: Far<A, T>> World<A, T, N, F
         ensures leads { LeadsSmall self.old self.new }
         ensures still { self.new.calm ≡ true → IsStill self.new.world }
         ensures settles { SettlesAfter self.old self.new }
+        ensures calm { KeepsCalm self.old self.new }
     {
         let mut left = TURNS;
         while left != 0 {
@@ -45,6 +46,7 @@ impl<A: Allocator + Copy, T: Tree<A>, N: Near<A>, F: Far<A, T>> World<A, T, N, F
         ensures does { result ≡ true → Stirs self.old.calm self.new.calm self.old.world self.new.world }
         ensures still { result ≡ false → IsStill self.old.world }
         ensures same { result ≡ false → self.new ≡ self.old }
+        ensures counted { Counted 12312 self.old self.new }
         ensures steady { self.old.calm ≡ true → ∥ IsSteady self.old.world ∥₁ }
     {
         self.parts.turn()

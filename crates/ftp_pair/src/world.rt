@@ -1,14 +1,15 @@
 // A world of two ends.
-ghost use Rattle.std.specs.Prelude.{◌≡◌, true, length, map, nat_eq, option_map, IfErr, IfOk, OnErr, OnOk};
+ghost use Rattle.std.specs.Prelude.{◌≡◌, ◌∷◌, [], true, length, map, nat_eq, option_map, IfErr, IfOk, OnErr, OnOk};
 ghost use Rattle.std.specs.List.{slice_get};
 ghost use Rattle.ftp_operation.specs.Answer.{said_of};
 ghost use Rattle.ftp_pair_world.specs.Agreement.{begun_by};
 ghost use Rattle.ftp_pair_world.specs.Claims.{Beginning, IsFair, world_of};
 ghost use Rattle.ftp_pair_world.specs.Events.{Happens, IsQuiet};
 ghost use Rattle.ftp_pair_world.specs.World.{world};
+ghost use Rattle.ftp_pair_parts.specs.Calm.{most_in};
 ghost use Rattle.ftp_pair_parts.specs.Happening.{event_of};
 ghost use Rattle.ftp_pair_parts.specs.Shown.{HasRoom, Steps, mark_of};
-ghost use Rattle.ftp_pair.specs.Session.{AgreesAfter, AgreesBy, AgreesHere, IsReached, LeadsCalmly, LeadsPartly, Reached, seen};
+ghost use Rattle.ftp_pair.specs.Session.{AgreesAfter, AgreesBy, AgreesHere, Counted, IsReached, KeepsCalmBy, LeadsCalmly, LeadsPartly, Reached, seen};
 
 use ftp_client_model::Near;
 use ftp_operation::Answer;
@@ -49,6 +50,7 @@ impl<A: Allocator + Copy, T: Tree<A>, N: Near<A>, F: Far<A, T>> World<A, T, N, F
         requires fair { (from : Beginning) × IsFair from × (world (N.client near).view (F.server far).view ≡ world_of from) }
         ensures world { IfOk result (λ w. w.world ≡ world (N.client near).view (F.server far).view) }
         ensures calm { IfOk result (λ w. w.calm ≡ true) }
+        ensures counted { IfOk result (λ w. w.tally ≡ record { near = (N.client near).refusals; far = (F.server far).counts }) }
         ensures err { IfErr result (λ ends. ends ≡ (near, far)) }
     {
         match Parts::new(alloc, near, far) {
@@ -72,19 +74,24 @@ impl<A: Allocator + Copy, T: Tree<A>, N: Near<A>, F: Far<A, T>> World<A, T, N, F
     pub fn step(&mut self, event: Event<A>) -> Result<bool, AllocError>
         ensures does { IfOk result (λ possible. Steps self.old.calm self.new.calm (λ read. Happens read (event_of event) self.old.world possible self.new.world)) }
         ensures agrees { IfOk result (λ possible. AgreesBy (event_of event) (begun_by (event_of event) possible) self.old self.new) }
+        ensures calm { KeepsCalmBy (event_of event ∷ []) self.old self.new }
+        ensures counted { Counted (most_in (event_of event)) self.old self.new }
         ensures err { OnErr result (self.new ≡ self.old) }
     {
         self.parts.step(self.alloc, event)
     }
 
-    /// The events happen in order, each where it is possible. Refused the room of one, those before it have happened, and no other.
-    pub fn run(&mut self, events: Vec<Event<A>>) -> Result<(), AllocError>
-        ensures leads { OnOk result (LeadsCalmly (map event_of events.items) self.old self.new) }
-        ensures agrees { OnOk result (AgreesAfter (map event_of events.items) self.old self.new) }
-        ensures partly { OnErr result (LeadsPartly (map event_of events.items) self.old self.new) }
+    /// The events happen in order, each where it is possible, on a copy of what it is given. Refused the room of one, or of its copy, those before it
+    /// have happened, and no other.
+    pub fn run(&mut self, events: &[Event<A>]) -> Result<(), AllocError>
+        ensures leads { OnOk result (LeadsCalmly (map event_of events.now) self.old self.new) }
+        ensures agrees { OnOk result (AgreesAfter (map event_of events.now) self.old self.new) }
+        ensures partly { OnErr result (LeadsPartly (map event_of events.now) self.old self.new) }
+        ensures calm { KeepsCalmBy (map event_of events.now) self.old self.new }
     {
         for event in events {
-            self.step(event)?;
+            let own = event.copied(self.alloc)?;
+            self.step(own)?;
         }
         Ok(())
     }
@@ -128,14 +135,16 @@ impl<A: Allocator + Copy, T: Tree<A>, N: Near<A>, F: Far<A, T>> World<A, T, N, F
 
     /// The client.
     pub fn near(&self) -> &N
-        ensures { (N.client result.now).view ≡ self.now.world.near }
+        ensures view { (N.client result.now).view ≡ self.now.world.near }
+        ensures refusals { (N.client result.now).refusals ≡ self.now.tally.near }
     {
         &self.parts.near
     }
 
     /// The server.
     pub fn far(&self) -> &F
-        ensures { (F.server result.now).view ≡ self.now.world.far }
+        ensures view { (F.server result.now).view ≡ self.now.world.far }
+        ensures counts { (F.server result.now).counts ≡ self.now.tally.far }
     {
         &self.parts.far
     }

@@ -1,4 +1,5 @@
 -- Lemmas, each file about one part of an event.
+pub mod Keeping
 pub mod Filling
 pub mod Taking
 pub mod Busy

@@ -5,6 +5,7 @@ ghost use Rattle.ftp_client_model.specs.Tries.{over_breaks};
 ghost use Rattle.ftp_server_model.specs.Calls.{clocked};
 ghost use Rattle.ftp_operation.specs.declared.op.Op.{Op};
 ghost use Rattle.ftp_pair_world.specs.Events.{Happens, Next, Upload, begun_at, lends_none};
+ghost use Rattle.ftp_pair_parts.specs.Calm.{Counted, tally_of};
 ghost use Rattle.ftp_pair_parts.specs.Shown.{shown, Calmly, HasRoom, Steps, is_unlinked};
 
 use crate::counts::{both_stay, stays};
@@ -31,6 +32,8 @@ impl<A: Allocator + Copy, T: Tree<A>, N: Near<A>, F: Far<A, T>> Parts<A, T, N, F
         ensures ok { IfOk result (λ possible. Steps self.old.calm self.new.calm (λ read. Happens read (Next op moment.seconds) (shown N.client F.server self.old) possible (shown N.client F.server self.new))) }
         ensures err { OnErr result ((shown N.client F.server self.new ≡ shown N.client F.server self.old) × (self.new.calm ≡ self.old.calm)) }
         ensures report { HasRoom N.client self.new }
+        ensures unmoved { OnErr result (tally_of N.client F.server self.new ≡ tally_of N.client F.server self.old) }
+        ensures counted { Counted 24 N.client F.server self.old self.new }
     {
         if !self.is_unlinked() {
             return Ok(false);
@@ -58,6 +61,8 @@ impl<A: Allocator + Copy, T: Tree<A>, N: Near<A>, F: Far<A, T>> Parts<A, T, N, F
         ensures ok { IfOk result (λ possible. Steps self.old.calm self.new.calm (λ read. Happens read (Upload (over_breaks texts.0 texts.1 how) moment.seconds) (shown N.client F.server self.old) possible (shown N.client F.server self.new))) }
         ensures err { OnErr result ((shown N.client F.server self.new ≡ shown N.client F.server self.old) × (self.new.calm ≡ self.old.calm)) }
         ensures report { HasRoom N.client self.new }
+        ensures unmoved { OnErr result (tally_of N.client F.server self.new ≡ tally_of N.client F.server self.old) }
+        ensures counted { Counted 24 N.client F.server self.old self.new }
     {
         if !self.is_unlinked() {
             return Ok(false);
@@ -86,6 +91,8 @@ impl<A: Allocator + Copy, T: Tree<A>, N: Near<A>, F: Far<A, T>> Parts<A, T, N, F
         ensures report { HasRoom N.client self.old → HasRoom N.client self.new }
         ensures marks { OnOk result (vec_len self.new.marks < vec_capacity self.new.marks) }
         ensures calm { self.new.calm ≡ self.old.calm }
+        ensures ends { tally_of N.client F.server self.new ≡ tally_of N.client F.server self.old }
+        ensures counted { Counted 0 N.client F.server self.old self.new }
     {
         self.reports.reserve(1)?;
         self.marks.reserve(1)?;
@@ -103,6 +110,7 @@ impl<A: Allocator + Copy, T: Tree<A>, N: Near<A>, F: Far<A, T>> Parts<A, T, N, F
         ensures busy { result ≡ false → (is_busy (N.client self.old.near).view ≡ true) × (shown N.client F.server self.new ≡ shown N.client F.server self.old) × (self.new.calm ≡ self.old.calm) }
         ensures marks { self.new.marks ≡ self.old.marks }
         ensures reports { self.new.reports ≡ self.old.reports }
+        ensures counted { Counted 3 N.client F.server self.old self.new }
     {
         let refusals = self.near.refusals();
         self.near.begin(given);
@@ -122,6 +130,7 @@ impl<A: Allocator + Copy, T: Tree<A>, N: Near<A>, F: Far<A, T>> Parts<A, T, N, F
         ensures busy { result ≡ false → (is_busy (N.client self.old.near).view ≡ true) × (shown N.client F.server self.new ≡ shown N.client F.server self.old) × (self.new.calm ≡ self.old.calm) }
         ensures marks { self.new.marks ≡ self.old.marks }
         ensures reports { self.new.reports ≡ self.old.reports }
+        ensures counted { Counted 3 N.client F.server self.old self.new }
     {
         let refusals = self.near.refusals();
         self.near.begin_upload(given, how);
@@ -138,6 +147,7 @@ impl<A: Allocator + Copy, T: Tree<A>, N: Near<A>, F: Far<A, T>> Parts<A, T, N, F
         requires none { marks.items ≡ [] }
         ensures moved { Calmly self.old self.new (shown N.client F.server self.new ≡ begun_at moment.seconds (N.client self.old.near).view (lends_none (shown N.client F.server self.old))) }
         ensures reports { self.new.reports ≡ self.old.reports }
+        ensures counted { Counted 3 N.client F.server self.old self.new }
     {
         self.set_clock(moment);
         keep(&mut self.marks, marks);
@@ -150,6 +160,7 @@ impl<A: Allocator + Copy, T: Tree<A>, N: Near<A>, F: Far<A, T>> Parts<A, T, N, F
         ensures moved { Calmly self.old self.new (shown N.client F.server self.new ≡ record (shown N.client F.server self.old) { far = clocked moment.seconds (shown N.client F.server self.old).far }) }
         ensures marks { self.new.marks ≡ self.old.marks }
         ensures reports { self.new.reports ≡ self.old.reports }
+        ensures counted { Counted 3 N.client F.server self.old self.new }
     {
         let counts = self.far.counts();
         self.far.clock(moment);

@@ -1,7 +1,8 @@
 // A delivery: a queue is filled, and its first octets are offered.
-ghost use Rattle.std.specs.Prelude.{◌≡◌, ◌+◌, ◌<◌, ◌≤◌, true, false, vec_capacity, IfOk, IsTrue, OnErr, OnOk};
+ghost use Rattle.std.specs.Prelude.{◌≡◌, ◌+◌, ◌*◌, ◌<◌, ◌≤◌, true, false, vec_capacity, IfOk, IsTrue, OnErr, OnOk};
 ghost use Rattle.ftp_server_model.specs.Machine.{Reading, IsReading};
 ghost use Rattle.ftp_pair_world.specs.Events.{can_happen, Deliver, Happens, filled};
+ghost use Rattle.ftp_pair_parts.specs.Calm.{Counted, tally_of};
 ghost use Rattle.ftp_pair_parts.specs.Shown.{shown, Calmly, FillsTo, HasRoom, Offers, Carries, Steps, queue_of, len_of, room_of};
 
 use crate::parts::Parts;
@@ -18,6 +19,8 @@ impl<A: Allocator + Copy, T: Tree<A>, N: Near<A>, F: Far<A, T>> Parts<A, T, N, F
         ensures ok { IfOk result (λ possible. Steps self.old.calm self.new.calm (λ read. Happens read (Deliver (queue_of queue) count) (shown N.client F.server self.old) possible (shown N.client F.server self.new))) }
         ensures err { OnErr result ((shown N.client F.server self.new ≡ shown N.client F.server self.old) × (self.new.calm ≡ self.old.calm)) }
         ensures report { HasRoom N.client self.new }
+        ensures unmoved { OnErr result (tally_of N.client F.server self.new ≡ tally_of N.client F.server self.old) }
+        ensures counted { Counted (3 * (count + 8)) N.client F.server self.old self.new }
     {
         if !self.can_deliver(queue, count) {
             return Ok(false);
@@ -44,6 +47,8 @@ impl<A: Allocator + Copy, T: Tree<A>, N: Near<A>, F: Far<A, T>> Parts<A, T, N, F
         ensures lent { OnOk result (count ≤ vec_capacity self.new.taken.octets) }
         ensures calm { self.new.calm ≡ self.old.calm }
         ensures report { HasRoom N.client self.old → HasRoom N.client self.new }
+        ensures ends { tally_of N.client F.server self.new ≡ tally_of N.client F.server self.old }
+        ensures counted { Counted 0 N.client F.server self.old self.new }
     {
         self.reserve_in(queue, count.max(ROOM))?;
         self.taken.reserve(count)
@@ -55,6 +60,8 @@ impl<A: Allocator + Copy, T: Tree<A>, N: Near<A>, F: Far<A, T>> Parts<A, T, N, F
         ensures ok { OnOk result (len_of queue self.new + count ≤ room_of queue self.new) }
         ensures calm { self.new.calm ≡ self.old.calm }
         ensures report { HasRoom N.client self.old → HasRoom N.client self.new }
+        ensures ends { tally_of N.client F.server self.new ≡ tally_of N.client F.server self.old }
+        ensures counted { Counted 0 N.client F.server self.old self.new }
     {
         match queue {
             Queue::ControlToServer => self.control_to_server.reserve(count),
@@ -74,6 +81,7 @@ impl<A: Allocator + Copy, T: Tree<A>, N: Near<A>, F: Far<A, T>> Parts<A, T, N, F
         requires lent { count ≤ vec_capacity self.old.taken.octets }
         ensures does { Steps self.old.calm self.new.calm (λ read. Happens read (Deliver (queue_of queue) count) (shown N.client F.server self.old) true (shown N.client F.server self.new)) }
         ensures report { HasRoom N.client self.new }
+        ensures counted { Counted (3 * (count + 8)) N.client F.server self.old self.new }
     {
         self.lend_none();
         self.carry(queue, count);
@@ -87,6 +95,7 @@ impl<A: Allocator + Copy, T: Tree<A>, N: Near<A>, F: Far<A, T>> Parts<A, T, N, F
         requires lent { count ≤ vec_capacity self.old.taken.octets }
         ensures done { Calmly self.old self.new ((read : Reading) → IsReading read → Carries read (queue_of queue) count (shown N.client F.server self.old) (shown N.client F.server self.new)) }
         ensures report { HasRoom N.client self.old → HasRoom N.client self.new }
+        ensures counted { Counted (3 * (count + 2)) N.client F.server self.old self.new }
     {
         if count == 0 {
             self.pull(queue, ROOM);
@@ -102,6 +111,7 @@ impl<A: Allocator + Copy, T: Tree<A>, N: Near<A>, F: Far<A, T>> Parts<A, T, N, F
         requires lent { count ≤ vec_capacity self.old.taken.octets }
         ensures done { Calmly self.old self.new ((read : Reading) → IsReading read → Offers read (queue_of queue) count (shown N.client F.server self.old) (shown N.client F.server self.new)) }
         ensures report { HasRoom N.client self.old → HasRoom N.client self.new }
+        ensures counted { Counted (3 * (count + 2)) N.client F.server self.old self.new }
     {
         self.fill(queue, count);
         self.push(queue, count);
@@ -113,6 +123,7 @@ impl<A: Allocator + Copy, T: Tree<A>, N: Near<A>, F: Far<A, T>> Parts<A, T, N, F
         ensures taken { self.new.taken ≡ self.old.taken }
         ensures report { HasRoom N.client self.old → HasRoom N.client self.new }
         ensures filled { Calmly self.old self.new (FillsTo (queue_of queue) count (shown N.client F.server self.old) (shown N.client F.server self.new)) }
+        ensures counted { Counted (3 * (count + 1)) N.client F.server self.old self.new }
     {
         while self.len_of(queue) < count && self.owes(queue) {
             let most = (count - self.len_of(queue)).min(ROOM);

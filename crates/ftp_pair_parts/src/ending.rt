@@ -1,6 +1,7 @@
 // The end of the control connection, and ends that are told that the other has closed.
 ghost use Rattle.std.specs.Prelude.{◌≡◌, ◌<◌};
 ghost use Rattle.ftp_pair_world.specs.Events.{Happens, EndControl, End, DataToServer, DataToClient, ends_control, told, is_closed, can_happen, lends_none};
+ghost use Rattle.ftp_pair_parts.specs.Calm.{Counted};
 ghost use Rattle.ftp_pair_parts.specs.Shown.{shown, Calmly, HasRoom, Steps, queue_of};
 
 use crate::counts::{both_stay, stays};
@@ -17,6 +18,7 @@ impl<A: Allocator + Copy, T: Tree<A>, N: Near<A>, F: Far<A, T>> Parts<A, T, N, F
         requires report { HasRoom N.client self.old }
         ensures does { Steps self.old.calm self.new.calm (λ read. Happens read EndControl (shown N.client F.server self.old) result (shown N.client F.server self.new)) }
         ensures report { HasRoom N.client self.new }
+        ensures counted { Counted 24 N.client F.server self.old self.new }
     {
         if !self.is_joined() {
             return false;
@@ -40,6 +42,7 @@ impl<A: Allocator + Copy, T: Tree<A>, N: Near<A>, F: Far<A, T>> Parts<A, T, N, F
         ensures moved { shown N.client F.server self.new ≡ ends_control (shown N.client F.server self.old) }
         ensures calm { self.new.calm ≡ self.old.calm }
         ensures report { HasRoom N.client self.old → HasRoom N.client self.new }
+        ensures counted { Counted 0 N.client F.server self.old self.new }
     {
         self.near.control_end();
         self.far.control_end();
@@ -53,6 +56,7 @@ impl<A: Allocator + Copy, T: Tree<A>, N: Near<A>, F: Far<A, T>> Parts<A, T, N, F
         ensures does { Steps self.old.calm self.new.calm (λ read. Happens read (End (queue_of queue)) (shown N.client F.server self.old) result (shown N.client F.server self.new)) }
         ensures possible { result ≡ can_happen (End (queue_of queue)) (shown N.client F.server self.old) }
         ensures report { HasRoom N.client self.new }
+        ensures counted { Counted 24 N.client F.server self.old self.new }
     {
         if !self.can_end(queue) {
             return false;
@@ -88,6 +92,7 @@ impl<A: Allocator + Copy, T: Tree<A>, N: Near<A>, F: Far<A, T>> Parts<A, T, N, F
     pub(crate) fn tell(&mut self, queue: Queue)
         ensures moved { Calmly self.old self.new (shown N.client F.server self.new ≡ told (queue_of queue) (shown N.client F.server self.old)) }
         ensures report { HasRoom N.client self.old → HasRoom N.client self.new }
+        ensures counted { Counted 3 N.client F.server self.old self.new }
     {
         match queue {
             Queue::ControlToServer => self.far.control_end(),
@@ -101,6 +106,7 @@ impl<A: Allocator + Copy, T: Tree<A>, N: Near<A>, F: Far<A, T>> Parts<A, T, N, F
     pub(crate) fn tell_data_to_server(&mut self)
         ensures moved { Calmly self.old self.new (shown N.client F.server self.new ≡ told DataToServer (shown N.client F.server self.old)) }
         ensures report { HasRoom N.client self.old → HasRoom N.client self.new }
+        ensures counted { Counted 3 N.client F.server self.old self.new }
     {
         let counts = self.far.counts();
         self.far.data_end();
@@ -112,6 +118,7 @@ impl<A: Allocator + Copy, T: Tree<A>, N: Near<A>, F: Far<A, T>> Parts<A, T, N, F
     fn tell_data_to_client(&mut self)
         ensures moved { Calmly self.old self.new (shown N.client F.server self.new ≡ told DataToClient (shown N.client F.server self.old)) }
         ensures report { HasRoom N.client self.old → HasRoom N.client self.new }
+        ensures counted { Counted 3 N.client F.server self.old self.new }
     {
         let refusals = self.near.refusals();
         self.near.data_end();

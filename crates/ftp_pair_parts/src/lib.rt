@@ -2,6 +2,7 @@
 #![tactic(auto)]
 
 mod begin;
+mod copying;
 mod counts;
 mod deliver;
 mod ending;

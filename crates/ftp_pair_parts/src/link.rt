@@ -5,6 +5,7 @@ ghost use Rattle.ftp_ends.specs.Link.{is_connecting, is_wanted};
 ghost use Rattle.ftp_server_model.specs.Calls as far;
 ghost use Rattle.ftp_pair_world.specs.Events.{Happens, Open, Break, Refuse, broken_by, refused_by, can_happen, is_asked_for, link_opens, lends_none};
 ghost use Rattle.ftp_pair_world.specs.World.{gone, marked_last, with_mark};
+ghost use Rattle.ftp_pair_parts.specs.Calm.{Counted, tally_of};
 ghost use Rattle.ftp_pair_parts.specs.Shown.{shown, Calmly, HasRoom, Steps, link_of, mark_of};
 
 use crate::counts::{both_stay, stays};
@@ -71,6 +72,7 @@ impl<A: Allocator + Copy, T: Tree<A>, N: Near<A>, F: Far<A, T>> Parts<A, T, N, F
         ensures does { Steps self.old.calm self.new.calm (λ read. Happens read Open (shown N.client F.server self.old) result (shown N.client F.server self.new)) }
         ensures possible { result ≡ can_happen Open (shown N.client F.server self.old) }
         ensures report { HasRoom N.client self.new }
+        ensures counted { Counted 24 N.client F.server self.old self.new }
     {
         if !self.is_asked_for() {
             return false;
@@ -85,6 +87,7 @@ impl<A: Allocator + Copy, T: Tree<A>, N: Near<A>, F: Far<A, T>> Parts<A, T, N, F
     pub(crate) fn open_link(&mut self)
         ensures moved { Calmly self.old self.new (shown N.client F.server self.new ≡ link_opens (shown N.client F.server self.old)) }
         ensures report { HasRoom N.client self.old → HasRoom N.client self.new }
+        ensures counted { Counted 6 N.client F.server self.old self.new }
     {
         let near_refusals = self.near.refusals();
         let counts = self.far.counts();
@@ -104,6 +107,8 @@ impl<A: Allocator + Copy, T: Tree<A>, N: Near<A>, F: Far<A, T>> Parts<A, T, N, F
         ensures ok { IfOk result (λ possible. Steps self.old.calm self.new.calm (λ read. Happens read Refuse (shown N.client F.server self.old) possible (shown N.client F.server self.new))) }
         ensures err { OnErr result ((shown N.client F.server self.new ≡ shown N.client F.server self.old) × (self.new.calm ≡ self.old.calm)) }
         ensures report { HasRoom N.client self.new }
+        ensures unmoved { OnErr result (tally_of N.client F.server self.new ≡ tally_of N.client F.server self.old) }
+        ensures counted { Counted 24 N.client F.server self.old self.new }
     {
         if !self.is_asked_for() {
             return Ok(false);
@@ -121,6 +126,8 @@ impl<A: Allocator + Copy, T: Tree<A>, N: Near<A>, F: Far<A, T>> Parts<A, T, N, F
         ensures room { OnOk result (vec_len self.new.reports < vec_capacity self.new.reports) }
         ensures report { HasRoom N.client self.old → HasRoom N.client self.new }
         ensures calm { self.new.calm ≡ self.old.calm }
+        ensures ends { tally_of N.client F.server self.new ≡ tally_of N.client F.server self.old }
+        ensures counted { Counted 0 N.client F.server self.old self.new }
     {
         self.reports.reserve(1)?;
         self.add_mark(mark)?;
@@ -132,6 +139,7 @@ impl<A: Allocator + Copy, T: Tree<A>, N: Near<A>, F: Far<A, T>> Parts<A, T, N, F
     fn refuse_link(&mut self)
         ensures moved { Calmly self.old self.new (shown N.client F.server self.new ≡ refused_by (is_connecting (near.wants (N.client self.old.near).view)) (shown N.client F.server self.old)) }
         ensures reports { self.new.reports ≡ self.old.reports }
+        ensures counted { Counted 3 N.client F.server self.old self.new }
     {
         if is_connecting(self.near.wants()) {
             self.refuse_near();
@@ -143,6 +151,7 @@ impl<A: Allocator + Copy, T: Tree<A>, N: Near<A>, F: Far<A, T>> Parts<A, T, N, F
     fn refuse_near(&mut self)
         ensures moved { Calmly self.old self.new (shown N.client F.server self.new ≡ refused_by true (shown N.client F.server self.old)) }
         ensures reports { self.new.reports ≡ self.old.reports }
+        ensures counted { Counted 3 N.client F.server self.old self.new }
     {
         let refusals = self.near.refusals();
         self.near.data_refused();
@@ -153,6 +162,7 @@ impl<A: Allocator + Copy, T: Tree<A>, N: Near<A>, F: Far<A, T>> Parts<A, T, N, F
     fn refuse_far(&mut self)
         ensures moved { Calmly self.old self.new (shown N.client F.server self.new ≡ refused_by false (shown N.client F.server self.old)) }
         ensures reports { self.new.reports ≡ self.old.reports }
+        ensures counted { Counted 3 N.client F.server self.old self.new }
     {
         let counts = self.far.counts();
         self.far.data_refused();
@@ -165,6 +175,8 @@ impl<A: Allocator + Copy, T: Tree<A>, N: Near<A>, F: Far<A, T>> Parts<A, T, N, F
         ensures ok { IfOk result (λ possible. Steps self.old.calm self.new.calm (λ read. Happens read Break (shown N.client F.server self.old) possible (shown N.client F.server self.new))) }
         ensures err { OnErr result ((shown N.client F.server self.new ≡ shown N.client F.server self.old) × (self.new.calm ≡ self.old.calm)) }
         ensures report { HasRoom N.client self.new }
+        ensures unmoved { OnErr result (tally_of N.client F.server self.new ≡ tally_of N.client F.server self.old) }
+        ensures counted { Counted 24 N.client F.server self.old self.new }
     {
         if !self.is_linked() {
             return Ok(false);
@@ -185,6 +197,7 @@ impl<A: Allocator + Copy, T: Tree<A>, N: Near<A>, F: Far<A, T>> Parts<A, T, N, F
     fn break_link(&mut self)
         ensures moved { Calmly self.old self.new (shown N.client F.server self.new ≡ gone (broken_by (link_of self.old.link) (shown N.client F.server self.old))) }
         ensures report { HasRoom N.client self.old → HasRoom N.client self.new }
+        ensures counted { Counted 6 N.client F.server self.old self.new }
     {
         self.tell_break();
         self.lose_link();
@@ -194,6 +207,7 @@ impl<A: Allocator + Copy, T: Tree<A>, N: Near<A>, F: Far<A, T>> Parts<A, T, N, F
     fn tell_break(&mut self)
         ensures moved { Calmly self.old self.new (shown N.client F.server self.new ≡ broken_by (link_of self.old.link) (shown N.client F.server self.old)) }
         ensures report { HasRoom N.client self.old → HasRoom N.client self.new }
+        ensures counted { Counted 6 N.client F.server self.old self.new }
     {
         match self.link {
             Link::Gone => {}
@@ -210,6 +224,7 @@ impl<A: Allocator + Copy, T: Tree<A>, N: Near<A>, F: Far<A, T>> Parts<A, T, N, F
     fn fault_near(&mut self)
         ensures moved { Calmly self.old self.new (shown N.client F.server self.new ≡ record (shown N.client F.server self.old) { near = near.data_fault (N.client self.old.near).view }) }
         ensures report { HasRoom N.client self.old → HasRoom N.client self.new }
+        ensures counted { Counted 3 N.client F.server self.old self.new }
     {
         let refusals = self.near.refusals();
         self.near.data_fault();
@@ -220,6 +235,7 @@ impl<A: Allocator + Copy, T: Tree<A>, N: Near<A>, F: Far<A, T>> Parts<A, T, N, F
     fn fault_far(&mut self)
         ensures moved { Calmly self.old self.new (shown N.client F.server self.new ≡ record (shown N.client F.server self.old) { far = far.data_fault (F.server self.old.far).view }) }
         ensures report { HasRoom N.client self.old → HasRoom N.client self.new }
+        ensures counted { Counted 3 N.client F.server self.old self.new }
     {
         let counts = self.far.counts();
         self.far.data_fault();
@@ -233,6 +249,8 @@ impl<A: Allocator + Copy, T: Tree<A>, N: Near<A>, F: Far<A, T>> Parts<A, T, N, F
         ensures calm { self.new.calm ≡ self.old.calm }
         ensures reports { self.new.reports ≡ self.old.reports }
         ensures near { self.new.near ≡ self.old.near }
+        ensures ends { tally_of N.client F.server self.new ≡ tally_of N.client F.server self.old }
+        ensures counted { Counted 0 N.client F.server self.old self.new }
     {
         mark_last(&mut self.marks, mark)
     }

@@ -1,6 +1,7 @@
 // How a world begins.
 ghost use Rattle.std.specs.Prelude.{◌≡◌, IfOk, IfErr, true};
 ghost use Rattle.ftp_pair_world.specs.World.{world};
+ghost use Rattle.ftp_pair_parts.specs.Calm.{tally_of};
 ghost use Rattle.ftp_pair_parts.specs.Shown.{shown, HasRoom};
 
 use crate::parts::Parts;
@@ -16,6 +17,7 @@ impl<A: Allocator + Copy, T: Tree<A>, N: Near<A>, F: Far<A, T>> Parts<A, T, N, F
     pub fn new(alloc: A, near: N, far: F) -> Result<Self, (N, F)>
         ensures ok { IfOk result (λ parts. shown N.client F.server parts ≡ world (N.client near).view (F.server far).view) }
         ensures calm { IfOk result (λ parts. parts.calm ≡ true) }
+        ensures counted { IfOk result (λ parts. tally_of N.client F.server parts ≡ record { near = (N.client near).refusals; far = (F.server far).counts }) }
         ensures report { IfOk result (λ parts. HasRoom N.client parts) }
         ensures err { IfErr result (λ ends. ends ≡ (near, far)) }
     {

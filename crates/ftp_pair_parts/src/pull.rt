@@ -1,6 +1,7 @@
 // One output call of a sender fills its queue.
 ghost use Rattle.std.specs.Prelude.{◌≡◌, ◌+◌, ◌≤◌, vec_len, vec_capacity};
 ghost use Rattle.ftp_pair_world.specs.Events.{pulled, due, Gives, ControlToServer, ControlToClient, DataToServer, DataToClient};
+ghost use Rattle.ftp_pair_parts.specs.Calm.{Counted};
 ghost use Rattle.ftp_pair_parts.specs.Shown.{shown, Calmly, HasRoom, queue_of, len_of, room_of};
 
 use crate::counts::{both_stay, stays};
@@ -18,10 +19,12 @@ impl<A: Allocator + Copy, T: Tree<A>, N: Near<A>, F: Far<A, T>> Parts<A, T, N, F
         requires room { vec_len self.old.control_to_server.octets + most ≤ vec_capacity self.old.control_to_server.octets }
         ensures moved { Calmly self.old self.new (shown N.client F.server self.new ≡ pulled ControlToServer (shown N.client F.server self.old) result) }
         ensures gives { Gives most (due ControlToServer (shown N.client F.server self.old)) result }
+        ensures within { result ≤ most }
         ensures taken { self.new.taken ≡ self.old.taken }
         ensures report { HasRoom N.client self.old → HasRoom N.client self.new }
         ensures len { vec_len self.new.control_to_server.octets ≡ vec_len self.old.control_to_server.octets + result }
         ensures room { vec_capacity self.old.control_to_server.octets ≤ vec_capacity self.new.control_to_server.octets }
+        ensures counted { Counted 3 N.client F.server self.old self.new }
     {
         let mut octets = [0u8; ROOM];
         let room = &mut octets[..most];
@@ -36,10 +39,12 @@ impl<A: Allocator + Copy, T: Tree<A>, N: Near<A>, F: Far<A, T>> Parts<A, T, N, F
         requires room { vec_len self.old.control_to_client.octets + most ≤ vec_capacity self.old.control_to_client.octets }
         ensures moved { Calmly self.old self.new (shown N.client F.server self.new ≡ pulled ControlToClient (shown N.client F.server self.old) result) }
         ensures gives { Gives most (due ControlToClient (shown N.client F.server self.old)) result }
+        ensures within { result ≤ most }
         ensures taken { self.new.taken ≡ self.old.taken }
         ensures report { HasRoom N.client self.old → HasRoom N.client self.new }
         ensures len { vec_len self.new.control_to_client.octets ≡ vec_len self.old.control_to_client.octets + result }
         ensures room { vec_capacity self.old.control_to_client.octets ≤ vec_capacity self.new.control_to_client.octets }
+        ensures counted { Counted 3 N.client F.server self.old self.new }
     {
         let mut octets = [0u8; ROOM];
         let room = &mut octets[..most];
@@ -56,10 +61,12 @@ impl<A: Allocator + Copy, T: Tree<A>, N: Near<A>, F: Far<A, T>> Parts<A, T, N, F
         requires room { vec_len self.old.data_to_server.octets + most ≤ vec_capacity self.old.data_to_server.octets }
         ensures moved { Calmly self.old self.new (shown N.client F.server self.new ≡ pulled DataToServer (shown N.client F.server self.old) result) }
         ensures gives { Gives most (due DataToServer (shown N.client F.server self.old)) result }
+        ensures within { result ≤ most }
         ensures taken { self.new.taken ≡ self.old.taken }
         ensures report { HasRoom N.client self.old → HasRoom N.client self.new }
         ensures len { vec_len self.new.data_to_server.octets ≡ vec_len self.old.data_to_server.octets + result }
         ensures room { vec_capacity self.old.data_to_server.octets ≤ vec_capacity self.new.data_to_server.octets }
+        ensures counted { Counted 3 N.client F.server self.old self.new }
     {
         let mut octets = [0u8; ROOM];
         let room = &mut octets[..most];
@@ -76,10 +83,12 @@ impl<A: Allocator + Copy, T: Tree<A>, N: Near<A>, F: Far<A, T>> Parts<A, T, N, F
         requires room { vec_len self.old.data_to_client.octets + most ≤ vec_capacity self.old.data_to_client.octets }
         ensures moved { Calmly self.old self.new (shown N.client F.server self.new ≡ pulled DataToClient (shown N.client F.server self.old) result) }
         ensures gives { Calmly self.old self.new (Gives most (due DataToClient (shown N.client F.server self.old)) result) }
+        ensures within { result ≤ most }
         ensures taken { self.new.taken ≡ self.old.taken }
         ensures report { HasRoom N.client self.old → HasRoom N.client self.new }
         ensures len { vec_len self.new.data_to_client.octets ≡ vec_len self.old.data_to_client.octets + result }
         ensures room { vec_capacity self.old.data_to_client.octets ≤ vec_capacity self.new.data_to_client.octets }
+        ensures counted { Counted 3 N.client F.server self.old self.new }
     {
         let mut octets = [0u8; ROOM];
         let room = &mut octets[..most];
@@ -96,10 +105,12 @@ impl<A: Allocator + Copy, T: Tree<A>, N: Near<A>, F: Far<A, T>> Parts<A, T, N, F
         requires room { len_of queue self.old + most ≤ room_of queue self.old }
         ensures moved { Calmly self.old self.new (shown N.client F.server self.new ≡ pulled (queue_of queue) (shown N.client F.server self.old) result) }
         ensures gives { Calmly self.old self.new (Gives most (due (queue_of queue) (shown N.client F.server self.old)) result) }
+        ensures within { result ≤ most }
         ensures taken { self.new.taken ≡ self.old.taken }
         ensures report { HasRoom N.client self.old → HasRoom N.client self.new }
         ensures len { len_of queue self.new ≡ len_of queue self.old + result }
         ensures room { room_of queue self.old ≤ room_of queue self.new }
+        ensures counted { Counted 3 N.client F.server self.old self.new }
     {
         match queue {
             Queue::ControlToServer => self.pull_control_to_server(most),

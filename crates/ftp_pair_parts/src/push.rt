@@ -2,6 +2,7 @@
 ghost use Rattle.std.specs.Prelude.{◌≡◌, ◌≤◌, vec_capacity};
 ghost use Rattle.ftp_server_model.specs.Machine.{Reading, IsReading};
 ghost use Rattle.ftp_pair_world.specs.Events.{pushed, taking, Takes, ControlToServer, ControlToClient, DataToServer, DataToClient};
+ghost use Rattle.ftp_pair_parts.specs.Calm.{Counted};
 ghost use Rattle.ftp_pair_parts.specs.Shown.{shown, Calmly, HasRoom, queue_of};
 
 use crate::counts::{both_stay, count_on, stays};
@@ -18,6 +19,7 @@ impl<A: Allocator + Copy, T: Tree<A>, N: Near<A>, F: Far<A, T>> Parts<A, T, N, F
         ensures moved { Calmly self.old self.new ((read : Reading) → IsReading read → shown N.client F.server self.new ≡ pushed read ControlToClient result (taking ControlToClient result (shown N.client F.server self.old))) }
         ensures report { HasRoom N.client self.old → HasRoom N.client self.new }
         ensures takes { Calmly self.old self.new ((read : Reading) → IsReading read → Takes read ControlToClient most (shown N.client F.server self.old) result) }
+        ensures counted { Counted 3 N.client F.server self.old self.new }
     {
         let refusals = self.near.refusals();
         let taken = self.near.hear(self.control_to_client.front(most));
@@ -32,6 +34,7 @@ impl<A: Allocator + Copy, T: Tree<A>, N: Near<A>, F: Far<A, T>> Parts<A, T, N, F
         ensures moved { Calmly self.old self.new ((read : Reading) → IsReading read → shown N.client F.server self.new ≡ pushed read ControlToServer result (taking ControlToServer result (shown N.client F.server self.old))) }
         ensures report { HasRoom N.client self.old → HasRoom N.client self.new }
         ensures takes { Calmly self.old self.new ((read : Reading) → IsReading read → Takes read ControlToServer most (shown N.client F.server self.old) result) }
+        ensures counted { Counted 3 N.client F.server self.old self.new }
     {
         let counts = self.far.counts();
         let taken = self.far.hear(self.control_to_server.front(most));
@@ -45,6 +48,7 @@ impl<A: Allocator + Copy, T: Tree<A>, N: Near<A>, F: Far<A, T>> Parts<A, T, N, F
         ensures moved { Calmly self.old self.new ((read : Reading) → IsReading read → shown N.client F.server self.new ≡ pushed read DataToClient result (taking DataToClient result (shown N.client F.server self.old))) }
         ensures report { HasRoom N.client self.old → HasRoom N.client self.new }
         ensures takes { Calmly self.old self.new ((read : Reading) → IsReading read → Takes read DataToClient most (shown N.client F.server self.old) result) }
+        ensures counted { Counted 3 N.client F.server self.old self.new }
     {
         let refusals = self.near.refusals();
         let taken = self.near.data_hear(self.data_to_client.front(most));
@@ -60,6 +64,7 @@ impl<A: Allocator + Copy, T: Tree<A>, N: Near<A>, F: Far<A, T>> Parts<A, T, N, F
         ensures moved { Calmly self.old self.new ((read : Reading) → IsReading read → shown N.client F.server self.new ≡ pushed read DataToServer result (taking DataToServer result (shown N.client F.server self.old))) }
         ensures report { HasRoom N.client self.old → HasRoom N.client self.new }
         ensures takes { Calmly self.old self.new ((read : Reading) → IsReading read → Takes read DataToServer most (shown N.client F.server self.old) result) }
+        ensures counted { Counted 3 N.client F.server self.old self.new }
     {
         let counts = self.far.counts();
         let taken = self.far.data_hear(self.data_to_server.front(most));
@@ -75,6 +80,7 @@ impl<A: Allocator + Copy, T: Tree<A>, N: Near<A>, F: Far<A, T>> Parts<A, T, N, F
         ensures moved { Calmly self.old self.new ((read : Reading) → IsReading read → shown N.client F.server self.new ≡ pushed read (queue_of queue) result (taking (queue_of queue) result (shown N.client F.server self.old))) }
         ensures takes { Calmly self.old self.new ((read : Reading) → IsReading read → Takes read (queue_of queue) most (shown N.client F.server self.old) result) }
         ensures report { HasRoom N.client self.old → HasRoom N.client self.new }
+        ensures counted { Counted 3 N.client F.server self.old self.new }
     {
         match queue {
             Queue::ControlToServer => self.push_control_to_server(most),

@@ -2,6 +2,7 @@
 ghost use Rattle.std.specs.Prelude.{◌≡◌};
 ghost use Rattle.ftp_pair_world.specs.Serving.{near_served, near_closes, near_listens, left_by_near, far_served, far_closes, far_listens, left_by_far, served};
 ghost use Rattle.ftp_pair_world.specs.World.{gone, next_listen, parted, port_at};
+ghost use Rattle.ftp_pair_parts.specs.Calm.{Counted};
 ghost use Rattle.ftp_pair_parts.specs.Shown.{shown, Calmly, HasRoom};
 
 use crate::counts::{both_stay, stays};
@@ -38,6 +39,7 @@ impl<A: Allocator + Copy, T: Tree<A>, N: Near<A>, F: Far<A, T>> Parts<A, T, N, F
     pub(crate) fn serve_near(&mut self)
         ensures moved { Calmly self.old self.new (shown N.client F.server self.new ≡ near_served (shown N.client F.server self.old)) }
         ensures report { HasRoom N.client self.old → HasRoom N.client self.new }
+        ensures counted { Counted 3 N.client F.server self.old self.new }
     {
         match self.near.wants() {
             Wants::CloseData => self.near_closes(),
@@ -51,6 +53,7 @@ impl<A: Allocator + Copy, T: Tree<A>, N: Near<A>, F: Far<A, T>> Parts<A, T, N, F
     fn near_closes(&mut self)
         ensures moved { Calmly self.old self.new (shown N.client F.server self.new ≡ near_closes (shown N.client F.server self.old)) }
         ensures report { HasRoom N.client self.old → HasRoom N.client self.new }
+        ensures counted { Counted 3 N.client F.server self.old self.new }
     {
         self.near.data_closed();
         match self.link {
@@ -64,6 +67,7 @@ impl<A: Allocator + Copy, T: Tree<A>, N: Near<A>, F: Far<A, T>> Parts<A, T, N, F
     fn near_listens(&mut self)
         ensures moved { Calmly self.old self.new (shown N.client F.server self.new ≡ near_listens (shown N.client F.server self.old)) }
         ensures report { HasRoom N.client self.old → HasRoom N.client self.new }
+        ensures counted { Counted 3 N.client F.server self.old self.new }
     {
         let refusals = self.near.refusals();
         self.near.listening(port_of(self.listens));
@@ -74,6 +78,7 @@ impl<A: Allocator + Copy, T: Tree<A>, N: Near<A>, F: Far<A, T>> Parts<A, T, N, F
     fn near_leaves(&mut self)
         ensures moved { Calmly self.old self.new (shown N.client F.server self.new ≡ left_by_near (shown N.client F.server self.old).control (shown N.client F.server self.old)) }
         ensures report { HasRoom N.client self.old → HasRoom N.client self.new }
+        ensures counted { Counted 3 N.client F.server self.old self.new }
     {
         match self.control {
             Control::Stands => self.control = Control::LeftByNear,
@@ -86,6 +91,7 @@ impl<A: Allocator + Copy, T: Tree<A>, N: Near<A>, F: Far<A, T>> Parts<A, T, N, F
         ensures moved { shown N.client F.server self.new ≡ gone (shown N.client F.server self.old) }
         ensures calm { self.new.calm ≡ self.old.calm }
         ensures report { HasRoom N.client self.old → HasRoom N.client self.new }
+        ensures counted { Counted 0 N.client F.server self.old self.new }
     {
         self.link = Link::Gone;
         self.data_to_server.clear();
@@ -96,6 +102,7 @@ impl<A: Allocator + Copy, T: Tree<A>, N: Near<A>, F: Far<A, T>> Parts<A, T, N, F
         ensures moved { shown N.client F.server self.new ≡ parted (shown N.client F.server self.old) }
         ensures calm { self.new.calm ≡ self.old.calm }
         ensures report { HasRoom N.client self.old → HasRoom N.client self.new }
+        ensures counted { Counted 0 N.client F.server self.old self.new }
     {
         self.control = Control::Parted;
         self.control_to_server.clear();
@@ -105,6 +112,7 @@ impl<A: Allocator + Copy, T: Tree<A>, N: Near<A>, F: Far<A, T>> Parts<A, T, N, F
     pub(crate) fn serve_far(&mut self)
         ensures moved { Calmly self.old self.new (shown N.client F.server self.new ≡ far_served (shown N.client F.server self.old)) }
         ensures report { HasRoom N.client self.old → HasRoom N.client self.new }
+        ensures counted { Counted 3 N.client F.server self.old self.new }
     {
         match self.far.wants() {
             Wants::CloseData => self.far_closes(),
@@ -118,6 +126,7 @@ impl<A: Allocator + Copy, T: Tree<A>, N: Near<A>, F: Far<A, T>> Parts<A, T, N, F
     fn far_closes(&mut self)
         ensures moved { Calmly self.old self.new (shown N.client F.server self.new ≡ far_closes (shown N.client F.server self.old)) }
         ensures report { HasRoom N.client self.old → HasRoom N.client self.new }
+        ensures counted { Counted 3 N.client F.server self.old self.new }
     {
         let counts = self.far.counts();
         self.far.data_closed();
@@ -133,6 +142,7 @@ impl<A: Allocator + Copy, T: Tree<A>, N: Near<A>, F: Far<A, T>> Parts<A, T, N, F
     fn far_listens(&mut self)
         ensures moved { Calmly self.old self.new (shown N.client F.server self.new ≡ far_listens (shown N.client F.server self.old)) }
         ensures report { HasRoom N.client self.old → HasRoom N.client self.new }
+        ensures counted { Counted 3 N.client F.server self.old self.new }
     {
         let counts = self.far.counts();
         self.far.listening(port_of(self.listens));
@@ -143,6 +153,7 @@ impl<A: Allocator + Copy, T: Tree<A>, N: Near<A>, F: Far<A, T>> Parts<A, T, N, F
     fn far_leaves(&mut self)
         ensures moved { Calmly self.old self.new (shown N.client F.server self.new ≡ left_by_far (shown N.client F.server self.old).control (shown N.client F.server self.old)) }
         ensures report { HasRoom N.client self.old → HasRoom N.client self.new }
+        ensures counted { Counted 3 N.client F.server self.old self.new }
     {
         match self.control {
             Control::Stands => self.control = Control::LeftByFar,
@@ -155,6 +166,7 @@ impl<A: Allocator + Copy, T: Tree<A>, N: Near<A>, F: Far<A, T>> Parts<A, T, N, F
     pub(crate) fn serve(&mut self)
         ensures moved { Calmly self.old self.new (shown N.client F.server self.new ≡ served (shown N.client F.server self.old)) }
         ensures report { HasRoom N.client self.old → HasRoom N.client self.new }
+        ensures counted { Counted 18 N.client F.server self.old self.new }
     {
         self.serve_near();
         self.serve_near();

@@ -2,6 +2,7 @@
 ghost use Rattle.std.specs.Prelude.{◌≡◌, ◌<◌, vec_capacity, IfOk, OnErr};
 ghost use Rattle.ftp_pair_world.specs.Events.{Happens, lends_none};
 ghost use Rattle.ftp_pair_world.specs.Serving.{after_event, collected};
+ghost use Rattle.ftp_pair_parts.specs.Calm.{Counted, most_in, tally_of};
 ghost use Rattle.ftp_pair_parts.specs.Happening.{event_of};
 ghost use Rattle.ftp_pair_parts.specs.Shown.{shown, Calmly, HasRoom, Steps};
 
@@ -20,6 +21,8 @@ impl<A: Allocator + Copy, T: Tree<A>, N: Near<A>, F: Far<A, T>> Parts<A, T, N, F
         ensures ok { IfOk result (λ possible. Steps self.old.calm self.new.calm (λ read. Happens read (event_of event) (shown N.client F.server self.old) possible (shown N.client F.server self.new))) }
         ensures err { OnErr result ((shown N.client F.server self.new ≡ shown N.client F.server self.old) × (self.new.calm ≡ self.old.calm)) }
         ensures report { HasRoom N.client self.new }
+        ensures unmoved { OnErr result (tally_of N.client F.server self.new ≡ tally_of N.client F.server self.old) }
+        ensures counted { Counted (most_in (event_of event)) N.client F.server self.old self.new }
     {
         match event {
             Event::Deliver(queue, count) => self.step_deliver(queue, count),
@@ -50,6 +53,7 @@ impl<A: Allocator + Copy, T: Tree<A>, N: Near<A>, F: Far<A, T>> Parts<A, T, N, F
         ensures lent { vec_capacity self.new.taken.octets ≡ vec_capacity self.old.taken.octets }
         ensures calm { self.new.calm ≡ self.old.calm }
         ensures report { HasRoom N.client self.old → HasRoom N.client self.new }
+        ensures counted { Counted 0 N.client F.server self.old self.new }
     {
         self.taken.clear();
     }
@@ -59,6 +63,7 @@ impl<A: Allocator + Copy, T: Tree<A>, N: Near<A>, F: Far<A, T>> Parts<A, T, N, F
         requires report { HasRoom N.client self.old }
         ensures moved { Calmly self.old self.new (shown N.client F.server self.new ≡ after_event (shown N.client F.server self.old)) }
         ensures report { HasRoom N.client self.new }
+        ensures counted { Counted 18 N.client F.server self.old self.new }
     {
         self.serve();
         self.collect();
@@ -71,6 +76,7 @@ impl<A: Allocator + Copy, T: Tree<A>, N: Near<A>, F: Far<A, T>> Parts<A, T, N, F
         ensures moved { shown N.client F.server self.new ≡ collected (shown N.client F.server self.old) }
         ensures report { HasRoom N.client self.new }
         ensures calm { self.new.calm ≡ self.old.calm }
+        ensures counted { Counted 0 N.client F.server self.old self.new }
     {
         if let Some(answer) = self.near.report() {
             keep(&mut self.reports, answer);

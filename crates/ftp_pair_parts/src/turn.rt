@@ -2,6 +2,7 @@
 ghost use Rattle.std.specs.Prelude.{◌≡◌, ◌<◌, true, false, IfSome, IfNone, IsTrue};
 ghost use Rattle.ftp_pair_world.specs.Events.{can_happen, Deliver, End, Happens};
 ghost use Rattle.ftp_pair_world.specs.Still.{IsStill};
+ghost use Rattle.ftp_pair_parts.specs.Calm.{Counted, most_in};
 ghost use Rattle.ftp_pair_parts.specs.Happening.{turn_of, Stirs};
 ghost use Rattle.ftp_pair_parts.specs.Shown.{shown, HasRoom, NoneEnds, NoneFlows, Steps, queue_of};
 
@@ -27,6 +28,7 @@ impl<A: Allocator + Copy, T: Tree<A>, N: Near<A>, F: Far<A, T>> Parts<A, T, N, F
         ensures does { result ≡ true → Stirs self.old.calm self.new.calm (shown N.client F.server self.old) (shown N.client F.server self.new) }
         ensures still { result ≡ false → IsStill (shown N.client F.server self.old) }
         ensures same { result ≡ false → self.new ≡ self.old }
+        ensures counted { Counted 12312 N.client F.server self.old self.new }
         ensures report { HasRoom N.client self.new }
     {
         let Some(turn) = self.next_turn() else {
@@ -100,6 +102,7 @@ impl<A: Allocator + Copy, T: Tree<A>, N: Near<A>, F: Far<A, T>> Parts<A, T, N, F
         requires possible { IsTrue (can_happen (turn_of turn) (shown N.client F.server self.old)) }
         ensures does { Steps self.old.calm self.new.calm (λ read. Happens read (turn_of turn) (shown N.client F.server self.old) true (shown N.client F.server self.new)) }
         ensures report { HasRoom N.client self.new }
+        ensures counted { Counted (most_in (turn_of turn)) N.client F.server self.old self.new }
     {
         match turn {
             Turn::Deliver(queue) => self.deliver(queue, ROOM),

@@ -5,6 +5,7 @@ use Rattle.ftp_ends.specs.declared.link.Wants.TheVariants as Want
 use Rattle.ftp_server_parts.specs.ServerTransfer.{takes_octets}
 use Rattle.ftp_server_model.specs.Calls.{wants_of}
 use Rattle.ftp_server_model.specs.Endpoint.{disconnected}
+use Rattle.ftp_server_model.specs.Counting.{CountsOn}
 use Rattle.ftp_server_model.specs.Failing.{AreReceived, InstallFails, Late, WaitingFails}
 use Rattle.ftp_server_model.specs.Far.{Receives, Server, Steps}
 use Rattle.ftp_server_model.specs.Machine.{later, with_session}
@@ -40,16 +41,19 @@ said_lost NoMemory octets v w s (Err e) comes lost = comes w lost
 
 -- and then the count: `mid` is behind the octets
 pub received : {T E : Type 0} (octets : List ℕ) (old new : Server) (mid : View) (r : Result T E) → OnOk r (ReceivesTo octets old.view mid) → OnErr r (AreReceived old.view octets mid)
-    → new.view ≡ mid → OnOk r (new.counts ≡ old.counts) → OnErr r (new.counts ≢ old.counts) → Receives octets old new
-received octets old new mid (Ok x) taken lost view same moved = record {
+    → new.view ≡ mid → OnOk r (new.counts ≡ old.counts) → OnErr r (new.counts ≢ old.counts) → CountsOn old.counts new.counts
+    → Receives octets old new
+received octets old new mid (Ok x) taken lost view same moved counted = record {
   done = λ e. view ∙ taken.0;
   may = λ e. taken.1;
   failed = λ differ. absurd (differ same);
+  counted = counted;
 }
-received octets old new mid (Err x) taken lost view same moved = record {
+received octets old new mid (Err x) taken lost view same moved counted = record {
   done = λ e. absurd (moved e);
   may = λ e. absurd (moved e);
   failed = λ differ. subst (λ w. AreReceived old.view octets w) (sym view) lost;
+  counted = counted;
 }
 
 -- ---- the line that waits, behind a step: `mid` is behind that line
@@ -66,15 +70,18 @@ settles_behind_fault (Err x) failures old mid new failed late same view moved =
 
 pub settles : {T E U F : Type 0} (step : Result T E) (l : Result U F) (failures : ℕ) (old mid new : Server) → is_err step ≡ false → OnOk l (mid.view ≡ later old.view)
     → OnErr l (WaitingFails old.view.waiting old.view mid.view) → mid.counts.refusals ≡ old.counts.refusals → OnOk l (mid.counts.failures ≡ old.counts.failures)
-    → new.view ≡ mid.view → OnOk l (new.counts ≡ mid.counts) → OnErr l (new.counts ≢ record mid.counts { failures = failures }) → IsSettled step failures old new
-settles (Err x) l failures old mid new fine done lost same steady view counts moved = absurd (let wrong : true ≡ false = fine in cc)
-settles (Ok x) (Ok y) failures old mid new fine done lost same steady view counts moved = λ stood. record {
+    → new.view ≡ mid.view → OnOk l (new.counts ≡ mid.counts) → OnErr l (new.counts ≢ record mid.counts { failures = failures }) → CountsOn old.counts new.counts
+    → IsSettled step failures old new
+settles (Err x) l failures old mid new fine done lost same steady view counts moved counted = absurd (let wrong : true ≡ false = fine in cc)
+settles (Ok x) (Ok y) failures old mid new fine done lost same steady view counts moved counted = λ stood. record {
   done = λ e. view ∙ done;
   failed = λ differ. absurd (differ (counts ∙ λ i. record { refusals = same i; failures = steady i }));
+  counted = counted;
 }
-settles (Ok x) (Err y) failures old mid new fine done lost same steady view counts moved = λ stood. record {
+settles (Ok x) (Err y) failures old mid new fine done lost same steady view counts moved counted = λ stood. record {
   done = λ e. absurd (moved (e ∙ λ i. record { refusals = sym same i; failures = sym stood i }));
   failed = λ differ. inr (inr (subst (λ w. WaitingFails old.view.waiting old.view w) (sym view) lost));
+  counted = counted;
 }
 
 -- ---- a step that may fail, and then the line that waits: `mid` is behind the step
@@ -92,20 +99,23 @@ on_any (Err x) p = tt
 
 pub steps : {T E : Type 0} (Fails : View → View → Type 0) (step : View → View) (old mid new : Server) (failures : ℕ) (r : Result T E) → failures ≡ old.counts.failures
     → mid.counts.refusals ≡ old.counts.refusals → OnOk r (mid.view ≡ step old.view) → OnOk r (mid.counts ≡ old.counts)
-    → OnErr r ((x : View) → Late mid.view x → Fails old.view x) → IsSettled r failures mid new → Steps Fails step old new
-steps Fails step old mid new failures (Ok x) stood refusals view counts lost settled =
+    → OnErr r ((x : View) → Late mid.view x → Fails old.view x) → IsSettled r failures mid new → CountsOn old.counts new.counts
+    → Steps Fails step old new
+steps Fails step old mid new failures (Ok x) stood refusals view counts lost settled counted =
     let acts = settled (stood ∙ ap (λ n. n.failures) (sym counts)) in
     record {
       done = λ same. acts.done (same ∙ sym counts) ∙ ap later view;
       failed = λ moved. inr (subst (λ v. Late v new.view) view (late (acts.failed (λ same. moved (same ∙ counts)))));
+      counted = counted;
     }
   where
     late : ⊥ ⊎ Late mid.view new.view → Late mid.view new.view
     late (inl none) = absurd none
     late (inr is) = is
-steps Fails step old mid new failures (Err x) stood refusals view counts lost settled = record {
+steps Fails step old mid new failures (Err x) stood refusals view counts lost settled counted = record {
   done = λ same. absurd (settled.1 (same ∙ λ i. record { refusals = sym refusals i; failures = sym stood i }));
   failed = λ moved. inl (lost new.view settled.0);
+  counted = counted;
 }
 
 -- an upload that could not be installed, and then the line that waits

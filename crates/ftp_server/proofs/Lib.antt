@@ -1,4 +1,5 @@
 pub mod BusyLemmas
+pub mod CountingLemmas
 pub mod CallLemmas
 pub mod ConcludeLemmas
 pub mod DataLemmas

@@ -1,5 +1,6 @@
 // ABOR during a transfer (RFC 959, section 4.1.3).
 ghost use Rattle.std.specs.Prelude.{◌≡◌, ◌≤◌, ◌+◌, None, OnErr, OnOk, length, true};
+ghost use Rattle.ftp_server_model.specs.Counting.{MovesOn};
 ghost use Rattle.ftp_server_model.specs.Endpoint.{forgotten};
 ghost use Rattle.ftp_server_model.specs.Failing.{AbortFails};
 ghost use Rattle.ftp_server_model.specs.Machine.{aborted, aborts, is_transferring, with_session};
@@ -29,6 +30,7 @@ impl<A: Allocator + Copy, T: Tree<A>, J: ServerTransfer<A, T>> Server<A, T, J> {
         ensures steady { OnOk result (counts_of T.failures self.new ≡ counts_of T.failures self.old) }
         ensures lost { OnErr result (AbortFails (view_of T.table J.view self.old).session.connection (view_of T.table J.view self.old) (view_of T.table J.view self.new)) }
         ensures refusals { self.new.refusals ≡ self.old.refusals }
+        ensures few { MovesOn 1 (T.failures self.old.session.tree) (T.failures self.new.session.tree) }
     {
         let broken = self.break_off();
         self.output.put_fixed(FixedReply::AbortDone);
@@ -44,6 +46,7 @@ impl<A: Allocator + Copy, T: Tree<A>, J: ServerTransfer<A, T>> Server<A, T, J> {
         ensures refusals { self.new.refusals ≡ self.old.refusals }
         ensures room { length self.new.output ≤ length self.old.output + 64 }
         ensures waiting { self.new.waiting ≡ self.old.waiting }
+        ensures few { MovesOn 1 (T.failures self.old.session.tree) (T.failures self.new.session.tree) }
     {
         if !is_transferring(&self.session.connection) {
             return Ok(());

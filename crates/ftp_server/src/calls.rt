@@ -1,5 +1,6 @@
 // The calls of a server: a step, and then the line that waits (RFC 959, sections 3.2 and 4.1).
 ghost use Rattle.std.specs.Prelude.{◌≡◌, ◌≢◌, ◌<◌, ◌≤◌, length, min, take, OnErr, OnOk};
+ghost use Rattle.ftp_server_model.specs.Counting.{MovesOn};
 ghost use Rattle.ftp_server_model.specs.Calls.{clock_step, close_step, control_end, control_step, listening_step, no_port_step, opened_step, refused_step};
 ghost use Rattle.ftp_server_model.specs.Far.{Acts, counts_told};
 ghost use Rattle.ftp_server.specs.Settled.{IsSettled};
@@ -31,6 +32,8 @@ impl<A: Allocator + Copy, T: Tree<A>, J: ServerTransfer<A, T>> Server<A, T, J> {
         ensures view { view_of T.table J.view self.new ≡ view_of T.table J.view self.old }
         ensures done { OnOk outcome (counts_of T.failures self.new ≡ counts_of T.failures self.old) }
         ensures failed { OnErr outcome (counts_of T.failures self.new ≢ record (counts_of T.failures self.old) { failures = failures }) }
+        ensures few { MovesOn 1 self.old.refusals self.new.refusals }
+        ensures device { T.failures self.new.session.tree ≡ T.failures self.old.session.tree }
     {
         if outcome.is_err() && self.session.tree.device_failures() == failures {
             self.refusals = self.refusals.wrapping_add(1);
@@ -47,7 +50,9 @@ impl<A: Allocator + Copy, T: Tree<A>, J: ServerTransfer<A, T>> Server<A, T, J> {
 
     /// The end of a call whose step may have failed; it began where the device's count stood at `failures`.
     pub(crate) fn settle_behind(&mut self, step: Result<(), Failed>, failures: u64)
-        ensures { IsSettled step failures (server_of T.table T.failures J.view self.old) (server_of T.table T.failures J.view self.new) }
+        ensures settled { IsSettled step failures (server_of T.table T.failures J.view self.old) (server_of T.table T.failures J.view self.new) }
+        ensures refusals { MovesOn 1 self.old.refusals self.new.refusals }
+        ensures few { MovesOn 1 (T.failures self.old.session.tree) (T.failures self.new.session.tree) }
     {
         let settled = self.later();
         if step.is_err() {

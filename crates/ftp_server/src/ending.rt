@@ -1,5 +1,6 @@
 // The data connection ends or breaks (RFC 959, section 3.4).
 ghost use Rattle.std.specs.Prelude.{◌≡◌, OnErr, OnOk};
+ghost use Rattle.ftp_server_model.specs.Counting.{MovesOn};
 ghost use Rattle.ftp_server_model.specs.Calls.{break_step, connection_of as connection_in, end_step};
 ghost use Rattle.ftp_server_model.specs.Endpoint.{disconnected};
 ghost use Rattle.ftp_server_model.specs.Machine.{with_session};
@@ -26,6 +27,7 @@ impl<A: Allocator + Copy, T: Tree<A>, J: ServerTransfer<A, T>> Server<A, T, J> {
         ensures steady { OnOk result (counts_of T.failures self.new ≡ counts_of T.failures self.old) }
         ensures lost { let v = view_of T.table J.view self.old in OnErr result (InstallIsLost (connection_in v.session) (disconnected v.session) v (view_of T.table J.view self.new)) }
         ensures refusals { self.new.refusals ≡ self.old.refusals }
+        ensures few { MovesOn 1 (T.failures self.old.session.tree) (T.failures self.new.session.tree) }
     {
         if self.session.closing {
             return Ok(());
@@ -57,6 +59,7 @@ impl<A: Allocator + Copy, T: Tree<A>, J: ServerTransfer<A, T>> Server<A, T, J> {
         ensures steady { OnOk result (counts_of T.failures self.new ≡ counts_of T.failures self.old) }
         ensures lost { let v = view_of T.table J.view self.old in OnErr result (InstallIsLost (connection_in v.session) (disconnected v.session) v (view_of T.table J.view self.new)) }
         ensures refusals { self.new.refusals ≡ self.old.refusals }
+        ensures few { MovesOn 1 (T.failures self.old.session.tree) (T.failures self.new.session.tree) }
     {
         if self.session.closing {
             return Ok(());

@@ -1,5 +1,6 @@
 // A line is acted on, or waits (RFC 959, sections 4.1.3 and 5.4).
 ghost use Rattle.std.specs.Prelude.{◌≡◌, ◌≤◌, OnErr, OnOk, true, false};
+ghost use Rattle.ftp_server_model.specs.Counting.{MovesOn};
 ghost use Rattle.ftp_server_model.specs.Machine.{completed, is_idle, later, obeyed};
 ghost use Rattle.ftp_server_model.specs.Failing.{LineFails, WaitingFails};
 ghost use Rattle.ftp_path.specs.Login.{login_limit};
@@ -52,6 +53,7 @@ impl<A: Allocator + Copy, T: Tree<A>, J: ServerTransfer<A, T>> Server<A, T, J> {
         ensures steady { OnOk result (T.failures self.new.session.tree ≡ T.failures self.old.session.tree) }
         ensures lost { OnErr result (LineFails heard (view_of T.table J.view self.old) (view_of T.table J.view self.new)) }
         ensures refusals { self.new.refusals ≡ self.old.refusals }
+        ensures few { MovesOn 1 (T.failures self.old.session.tree) (T.failures self.new.session.tree) }
     {
         match self.session.decide(&self.footing, heard) {
             Ok(kind) => {
@@ -79,6 +81,7 @@ impl<A: Allocator + Copy, T: Tree<A>, J: ServerTransfer<A, T>> Server<A, T, J> {
         ensures steady { OnOk result (T.failures self.new.session.tree ≡ T.failures self.old.session.tree) }
         ensures lost { OnErr result (WaitingFails (view_of T.table J.view self.old).waiting (view_of T.table J.view self.old) (view_of T.table J.view self.new)) }
         ensures refusals { self.new.refusals ≡ self.old.refusals }
+        ensures few { MovesOn 1 (T.failures self.old.session.tree) (T.failures self.new.session.tree) }
     {
         if !self.is_idle() {
             return Ok(());

@@ -2,6 +2,7 @@
 -- count changed; else what the call leaves that was refused memory or whose device failed.
 use Rattle.std.specs.Prelude.{◌≡◌, ◌≢◌, ◌⊎◌, ℕ, List}
 use Rattle.ftp_server_model.specs.Calls.{receives, MayReceive}
+use Rattle.ftp_server_model.specs.Counting.{CountsOn}
 use Rattle.ftp_server_model.specs.Failing.{Counts, Late, AreHeard, AreReceived}
 use Rattle.ftp_server_model.specs.Machine.{Reading, IsReading, later, hears, MayHear}
 use Rattle.ftp_server_model.specs.View.{View}
@@ -20,6 +21,7 @@ pub record Server : Type 0 where
 pub record Steps (Fails : View → View → Type 0) (step : View → View) (old new : Server) : Type 0 where
   pub done : new.counts ≡ old.counts → new.view ≡ later (step old.view)
   pub failed : new.counts ≢ old.counts → Fails old.view new.view ⊎ Late (step old.view) new.view
+  pub counted : CountsOn old.counts new.counts
 
 -- a call whose step takes no memory and asks nothing of the device
 abbrev pub Acts : (View → View) → (old new : Server) → Type 0
@@ -30,6 +32,7 @@ pub record HearsBy (read : Reading) (octets : List ℕ) (old new : Server) : Typ
   pub done : new.counts ≡ old.counts → new.view ≡ hears read old.view octets
   pub may : new.counts ≡ old.counts → MayHear read old.view octets
   pub failed : new.counts ≢ old.counts → AreHeard read old.view octets new.view
+  pub counted : CountsOn old.counts new.counts
 
 -- there is one reading of lines, so this is however they are read
 abbrev pub Hears : List ℕ → (old new : Server) → Type 0
@@ -40,3 +43,4 @@ pub record Receives (octets : List ℕ) (old new : Server) : Type 0 where
   pub done : new.counts ≡ old.counts → new.view ≡ receives old.view octets
   pub may : new.counts ≡ old.counts → MayReceive old.view octets
   pub failed : new.counts ≢ old.counts → AreReceived old.view octets new.view
+  pub counted : CountsOn old.counts new.counts

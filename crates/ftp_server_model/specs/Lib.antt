@@ -17,6 +17,7 @@ pub mod Told
 pub mod Calls
 pub mod Kept
 pub mod Failing
+pub mod Counting
 pub mod Far
 pub mod Most
 pub mod Bounds

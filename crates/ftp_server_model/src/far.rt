@@ -15,7 +15,7 @@ use ftp_tree::Tree;
 use std::alloc::Allocator;
 
 /// The server's end. Its `view` is what it holds; where a count of refused growths or of device failures changed in a call
-/// (both wrap), the call left what `specs/Failing` says, and every later call is a step again.
+/// (both wrap, and move by as many as `specs/Counting` says at most), the call left what `specs/Failing` says, and every later call is a step again.
 pub trait Far<A: Allocator + Copy, T: Tree<A>>: Drop {
     ghost server: { Self → Server };
 

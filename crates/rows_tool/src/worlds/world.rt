@@ -122,7 +122,7 @@ impl<A: Allocator + Copy, T: Tree<A>, N: Near<A> + Holds, F: Far<A, T> + Holds> 
         let Ok(events) = beginning_of(alloc, order, moment) else {
             return Became::NoMemory;
         };
-        match self.world.run(events) {
+        match self.world.run(events.as_slice()) {
             // It began where it is the next one of those that have marks.
             Ok(()) if self.world.marks(number as usize).is_some() => Became::Happened,
             Ok(()) => Became::Impossible,
@@ -144,7 +144,7 @@ impl<A: Allocator + Copy, T: Tree<A>, N: Near<A> + Holds, F: Far<A, T> + Holds> 
         let Ok(events) = events_of(alloc, happenings) else {
             return Became::NoMemory;
         };
-        match self.world.run(events) {
+        match self.world.run(events.as_slice()) {
             Ok(()) => Became::Happened,
             Err(_) => Became::NoMemory,
         }

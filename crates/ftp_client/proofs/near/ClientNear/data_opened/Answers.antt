@@ -2,4 +2,4 @@ use Rattle.ftp_client.proofs.FitLemmas.{kept}
 use Rattle.ftp_client.proofs.near.ClientNear.data_opened.Goals as goal
 
 pub invariant_of-self : goal.invariant_of-self
-invariant_of-self g c = record { fit = kept _ _ g.F.ClientTransfer.flow c.args.self.now.counted c.data_opened.new.self c.args.self.now.fit (λ near. near.opened c.args.host c.data_opened.ensures) }
+invariant_of-self g c = record { fit = kept _ _ g.F.ClientTransfer.flow c.args.self.now.counted c.data_opened.new.self c.args.self.now.fit (λ near. near.opened c.args.host c.data_opened.ensures.moved) }

@@ -1,7 +1,8 @@
-use Rattle.std.proofs.Common.{sym, subst, arith}
+use Rattle.std.proofs.Common.{◌-◌, ◌*◌, sym, subst, arith}
 use Rattle.ftp_pair_world.specs.Still.{IsStill}
-use Rattle.ftp_pair.specs.Session.{LeadsSmall, Seen}
+use Rattle.ftp_pair.specs.Session.{Counted, LeadsSmall, Seen}
 use Rattle.ftp_pair.proofs.Agreeing.{settles}
+use Rattle.ftp_pair.proofs.Calming.{left_few, settled_calm, turned}
 use Rattle.ftp_pair.proofs.Settling.{none_counted, one_small, smaller}
 use Rattle.ftp_pair.proofs.world.World.settle.Goals as goal
 
@@ -21,4 +22,15 @@ loop-left-preserved g c = record {
   leads = one_small c.args.self.now c.loop-left.self c.turn.new.self c.loop-left.invariant.leads (c.turn.ensures.does c.if-not-turn.false);
   left = none_counted c.loop-left.left c.left_after-left.result 1099511627776 c.is_calm.result c.loop-left.self c.turn.new.self c.loop-left.invariant.left (c.turn.ensures.does c.if-not-turn.false)
       c.is_calm.ensures.calm c.left_after-left.ensures;
+  counted = turned c.loop-left.left c.left_after-left.result c.is_calm.result c.args.self.now c.loop-left.self c.turn.new.self (omega (arith, c.loop-left-test.true)) c.loop-left.invariant.few
+      c.loop-left.invariant.counted c.turn.ensures.counted c.is_calm.ensures.calm c.left_after-left.ensures;
+  few = left_few c.loop-left.left c.left_after-left.result c.is_calm.result c.loop-left.invariant.few c.left_after-left.ensures;
 }
+
+pub returns-then-not-turn-clause-calm : goal.returns-then-not-turn-clause-calm
+returns-then-not-turn-clause-calm g c =
+    settled_calm c.loop-left.left c.args.self.now c.turn.new.self
+    (subst (Counted (12312 * (1099511627776 - c.loop-left.left)) c.args.self.now) (sym (c.turn.ensures.same c.if-not-turn.true)) c.loop-left.invariant.counted)
+
+pub returns-clause-calm : goal.returns-clause-calm
+returns-clause-calm g c = settled_calm c.loop-left.left c.args.self.now c.loop-left.self c.loop-left.invariant.counted

@@ -1,5 +1,5 @@
-use Rattle.std.proofs.Common.{◌≡◌, true}
-use Rattle.ftp_pair.specs.Session.{LeadsSmall}
+use Rattle.std.proofs.Common.{◌≡◌, ◌≤◌, ◌-◌, ◌*◌, true}
+use Rattle.ftp_pair.specs.Session.{Counted, LeadsSmall}
 use Rattle.ftp_pair.proofs.Settling.{still_to_do}
 use Rattle.ftp_pair.proofs.world.World.settle.Given as goal
 
@@ -7,6 +7,8 @@ abbrev pub invariant-loop-left : goal.invariant-loop-left
 invariant-loop-left g l = record {
   leads : LeadsSmall l.fn.self l.self;
   left : l.self.calm ≡ true → l.left ≡ 1099511627776;
+  counted : Counted (12312 * (1099511627776 - l.left)) l.fn.self l.self;
+  few : l.left ≤ 1099511627776;
 }
 
 abbrev pub decreases-loop-left : goal.decreases-loop-left

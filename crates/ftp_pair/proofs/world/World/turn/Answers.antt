@@ -1,4 +1,5 @@
 use Rattle.std.proofs.Common.{◌∙◌, ◌≡◌, true, false, ap, subst}
+use Rattle.ftp_pair_parts.specs.Calm.{Keeps, tally_of}
 use Rattle.ftp_pair_parts.specs.Happening.{Stirs}
 use Rattle.ftp_pair_parts.specs.Shown.{shown}
 use Rattle.ftp_pair_settling.specs.Steady.{IsSteady}
@@ -28,3 +29,7 @@ invariant_of-self-inside g c = (
       (λ is. ap (seen g.N.Near.client g.F.Far.server) (c.turn.ensures.same is)) c.self.inside.reached,
   tt,
 )
+
+pub returns-clause-counted : goal.returns-clause-counted
+returns-clause-counted g c =
+    subst (λ (s : Seen). Keeps 12312 s.calm c.turn.new.self.calm s.tally (tally_of g.N.Near.client g.F.Far.server c.turn.new.self)) c.self.view_is c.turn.ensures.counted

@@ -1,5 +1,7 @@
 use Rattle.ftp_pair_parts.specs.Shown.{shown, queue_of}
 use Rattle.ftp_pair_parts.proofs.Filling.{offers}
+use Rattle.std.proofs.Common.{arith}
+use Rattle.ftp_pair_parts.proofs.Keeping.{then}
 use Rattle.ftp_pair_parts.proofs.parts.Parts.offer.Goals as goal
 
 pub returns-clause-done : goal.returns-clause-done
@@ -11,3 +13,6 @@ returns-clause-done g c calm =
       λ read reads. offers read (queue_of c.args.queue) c.args.count c.push.result (shown g.N.Near.client g.F.Far.server c.args.self.now) (shown g.N.Near.client g.F.Far.server c.fill.new.self) (shown g.N.Near.client g.F.Far.server c.push.new.self)
           filled.1 (takes.1 read reads) (moved.1 read reads),
     )
+
+pub returns-clause-counted : goal.returns-clause-counted
+returns-clause-counted g c = then c.fill.ensures.counted c.push.ensures.counted (omega arith)

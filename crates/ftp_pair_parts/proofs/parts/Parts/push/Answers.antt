@@ -43,3 +43,15 @@ pub returns-in-DataToClient-clause-takes : goal.returns-in-DataToClient-clause-t
 returns-in-DataToClient-clause-takes g c calm =
     let takes = c.push_data_to_client.ensures.takes calm in
     (takes.0, λ read reads. takes_over read DataToClient (queue_of c.args.queue) c.args.most c.push_data_to_client.result (shown g.N.Near.client g.F.Far.server c.args.self.now) (ap queue_of (sym c.in-DataToClient.is)) (takes.1 read reads))
+
+pub returns-in-ControlToServer-clause-counted : goal.returns-in-ControlToServer-clause-counted
+returns-in-ControlToServer-clause-counted g c = c.push_control_to_server.ensures.counted
+
+pub returns-in-ControlToClient-clause-counted : goal.returns-in-ControlToClient-clause-counted
+returns-in-ControlToClient-clause-counted g c = c.push_control_to_client.ensures.counted
+
+pub returns-in-DataToServer-clause-counted : goal.returns-in-DataToServer-clause-counted
+returns-in-DataToServer-clause-counted g c = c.push_data_to_server.ensures.counted
+
+pub returns-in-DataToClient-clause-counted : goal.returns-in-DataToClient-clause-counted
+returns-in-DataToClient-clause-counted g c = c.push_data_to_client.ensures.counted

@@ -7,11 +7,13 @@ use Rattle.ftp_pair_world.specs.World.{World}
 use Rattle.ftp_pair_parts.specs.Shown.{shown}
 use Rattle.ftp_pair_parts.proofs.Busy.{hears_busy}
 use Rattle.ftp_pair_parts.proofs.Taking.{heard_front, near_takes}
+use Rattle.std.proofs.Common.{refl}
+use Rattle.ftp_pair_parts.proofs.Keeping.{near_kept}
 use Rattle.ftp_pair_parts.proofs.parts.Parts.push_control_to_client.Goals as goal
 
 pub returns-clause-takes : goal.returns-clause-takes
 returns-clause-takes g c calm =
-    let s = c.stays-self.ensures calm in (
+    let s = c.stays-self.ensures.kept calm in (
       s.0,
       λ read reads. near_takes read c.args.most c.hear-taken.result c.front.result.now (shown g.N.Near.client g.F.Far.server c.args.self.now) c.front.ensures c.hear-taken.ensures.within
           (c.hear-taken.ensures.took.0 (sym c.refusals.ensures ∙ s.1 ∙ c.refusals-refusals.ensures)).1 c.hear-taken.ensures.some,
@@ -32,9 +34,13 @@ pushed_client_of read taken most piece w view queue lent e few view_is queue_is 
 
 pub returns-clause-moved : goal.returns-clause-moved
 returns-clause-moved g c calm =
-    let s = c.stays-self.ensures calm in (
+    let s = c.stays-self.ensures.kept calm in (
       s.0,
       λ read reads. pushed_client_of read c.hear-taken.result c.args.most c.front.result.now (shown g.N.Near.client g.F.Far.server c.args.self.now) _ _ _
           c.front.ensures c.hear-taken.ensures.within (c.hear-taken.ensures.took.0 (sym c.refusals.ensures ∙ s.1 ∙ c.refusals-refusals.ensures)).0
           c.take_front.ensures.left c.take_front.ensures.items,
     )
+
+pub returns-clause-counted : goal.returns-clause-counted
+returns-clause-counted g c =
+    near_kept c.refusals-refusals.result c.refusals.result c.stays-self.ensures.fits c.refusals-refusals.ensures c.refusals.ensures c.hear-taken.ensures.counted refl c.stays-self.ensures.is

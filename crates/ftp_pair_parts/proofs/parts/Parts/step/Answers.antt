@@ -1,7 +1,8 @@
-use Rattle.std.proofs.Common.{sym, ap}
+use Rattle.std.proofs.Common.{sym, ap, subst}
 use Rattle.ftp_pair_parts.specs.Happening.{event_of}
 use Rattle.ftp_pair_parts.specs.Shown.{shown}
 use Rattle.ftp_pair_parts.proofs.Whole.{stepped, stepped_on}
+use Rattle.ftp_pair_parts.specs.Calm.{Counted, most_in}
 use Rattle.ftp_pair_parts.proofs.parts.Parts.step.Goals as goal
 
 pub returns-in-Deliver-clause-ok : goal.returns-in-Deliver-clause-ok
@@ -27,3 +28,27 @@ returns-in-Next-clause-ok g c = stepped c.step_next-possible.result c.args.self.
 
 pub returns-in-Upload-clause-ok : goal.returns-in-Upload-clause-ok
 returns-in-Upload-clause-ok g c = stepped c.step_upload-possible.result c.args.self.now.calm c.step_upload-possible.new.self.calm (shown g.N.Near.client g.F.Far.server c.args.self.now) (shown g.N.Near.client g.F.Far.server c.step_upload-possible.new.self) (ap event_of (sym c.in-Upload.is)) c.step_upload-possible.ensures.ok
+
+pub returns-in-Deliver-clause-counted : goal.returns-in-Deliver-clause-counted
+returns-in-Deliver-clause-counted g c = subst (λ e. Counted (most_in (event_of e)) g.N.Near.client g.F.Far.server c.args.self.now c.step_deliver.new.self) (sym c.in-Deliver.is) c.step_deliver.ensures.counted
+
+pub returns-in-Open-clause-counted : goal.returns-in-Open-clause-counted
+returns-in-Open-clause-counted g c = subst (λ e. Counted (most_in (event_of e)) g.N.Near.client g.F.Far.server c.args.self.now c.step_open.new.self) (sym c.in-Open.is) c.step_open.ensures.counted
+
+pub returns-in-Refuse-clause-counted : goal.returns-in-Refuse-clause-counted
+returns-in-Refuse-clause-counted g c = subst (λ e. Counted (most_in (event_of e)) g.N.Near.client g.F.Far.server c.args.self.now c.step_refuse.new.self) (sym c.in-Refuse.is) c.step_refuse.ensures.counted
+
+pub returns-in-End-clause-counted : goal.returns-in-End-clause-counted
+returns-in-End-clause-counted g c = subst (λ e. Counted (most_in (event_of e)) g.N.Near.client g.F.Far.server c.args.self.now c.step_end.new.self) (sym c.in-End.is) c.step_end.ensures.counted
+
+pub returns-in-Break-clause-counted : goal.returns-in-Break-clause-counted
+returns-in-Break-clause-counted g c = subst (λ e. Counted (most_in (event_of e)) g.N.Near.client g.F.Far.server c.args.self.now c.step_break.new.self) (sym c.in-Break.is) c.step_break.ensures.counted
+
+pub returns-in-EndControl-clause-counted : goal.returns-in-EndControl-clause-counted
+returns-in-EndControl-clause-counted g c = subst (λ e. Counted (most_in (event_of e)) g.N.Near.client g.F.Far.server c.args.self.now c.step_end_control.new.self) (sym c.in-EndControl.is) c.step_end_control.ensures.counted
+
+pub returns-in-Next-clause-counted : goal.returns-in-Next-clause-counted
+returns-in-Next-clause-counted g c = subst (λ e. Counted (most_in (event_of e)) g.N.Near.client g.F.Far.server c.args.self.now c.step_next-possible.new.self) (sym c.in-Next.is) c.step_next-possible.ensures.counted
+
+pub returns-in-Upload-clause-counted : goal.returns-in-Upload-clause-counted
+returns-in-Upload-clause-counted g c = subst (λ e. Counted (most_in (event_of e)) g.N.Near.client g.F.Far.server c.args.self.now c.step_upload-possible.new.self) (sym c.in-Upload.is) c.step_upload-possible.ensures.counted

@@ -1,8 +1,9 @@
-use Rattle.std.proofs.Common.{ap, refl, sym, ◌∙◌}
+use Rattle.std.proofs.Common.{ap, refl, sym, ◌∙◌, arith}
 use Rattle.ftp_client_model.specs.Calls.{is_busy}
 use Rattle.ftp_client_model.specs.Tries.{over_breaks}
 use Rattle.ftp_pair_parts.specs.Shown.{shown}
 use Rattle.ftp_pair_parts.proofs.Beginning.{busy_not, linked_not, uploaded}
+use Rattle.ftp_pair_parts.proofs.Keeping.{none, fewer, then, at_most}
 use Rattle.ftp_pair_parts.proofs.parts.Parts.step_upload.Goals as goal
 
 pub returns-clause-ok : goal.returns-clause-ok
@@ -27,3 +28,18 @@ returns-then-not-start_upload-clause-ok g c calm =
       sym c.make_room.ensures.calm ∙ sym busy.2 ∙ calm,
       λ read reads. (busy_not (shown g.N.Near.client g.F.Far.server c.args.self.now) (ap (λ w. is_busy w.near) (sym c.make_room.ensures.same) ∙ busy.0), busy.1 ∙ c.make_room.ensures.same),
     )
+
+pub returns-then-not-is_unlinked-clause-counted : goal.returns-then-not-is_unlinked-clause-counted
+returns-then-not-is_unlinked-clause-counted g c = none _ _ _
+
+pub returns-in_err-marks-clause-counted : goal.returns-in_err-marks-clause-counted
+returns-in_err-marks-clause-counted g c = fewer c.make_room.ensures.counted (omega arith)
+
+pub returns-then-not-start_upload-clause-counted : goal.returns-then-not-start_upload-clause-counted
+returns-then-not-start_upload-clause-counted g c = then c.make_room.ensures.counted c.start_upload.ensures.counted (omega arith)
+
+pub returns-clause-counted : goal.returns-clause-counted
+returns-clause-counted g c =
+    let begun = then c.make_room.ensures.counted c.start_upload.ensures.counted (at_most 3) in
+    let noted = then begun c.note.ensures.counted (at_most 6) in
+    then noted c.finish.ensures.counted (omega arith)

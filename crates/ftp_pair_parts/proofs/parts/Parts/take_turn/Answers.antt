@@ -1,7 +1,9 @@
-use Rattle.std.proofs.Common.{true, sym, ap}
+use Rattle.std.proofs.Common.{true, sym, ap, subst, arith}
 use Rattle.ftp_pair_parts.specs.Happening.{turn_of}
 use Rattle.ftp_pair_parts.specs.Shown.{shown}
 use Rattle.ftp_pair_parts.proofs.Whole.{stepped_on, stepped_sure}
+use Rattle.ftp_pair_parts.proofs.Keeping.{fewer}
+use Rattle.ftp_pair_parts.specs.Calm.{Counted, most_in}
 use Rattle.ftp_pair_parts.proofs.parts.Parts.take_turn.Goals as goal
 
 pub returns-in-Deliver-clause-does : goal.returns-in-Deliver-clause-does
@@ -16,3 +18,12 @@ pub returns-in-End-clause-does : goal.returns-in-End-clause-does
 returns-in-End-clause-does g c =
     stepped_sure c.step_end.result c.args.self.now.calm c.step_end.new.self.calm (shown g.N.Near.client g.F.Far.server c.args.self.now) (shown g.N.Near.client g.F.Far.server c.step_end.new.self)
     (ap turn_of (sym c.in-End.is)) c.step_end.ensures.possible c.requires.possible c.step_end.ensures.does
+
+pub returns-in-Deliver-clause-counted : goal.returns-in-Deliver-clause-counted
+returns-in-Deliver-clause-counted g c = subst (λ t. Counted (most_in (turn_of t)) g.N.Near.client g.F.Far.server c.args.self.now c.deliver.new.self) (sym c.in-Deliver.is) c.deliver.ensures.counted
+
+pub returns-in-Open-clause-counted : goal.returns-in-Open-clause-counted
+returns-in-Open-clause-counted g c = subst (λ t. Counted (most_in (turn_of t)) g.N.Near.client g.F.Far.server c.args.self.now c.step_open.new.self) (sym c.in-Open.is) c.step_open.ensures.counted
+
+pub returns-in-End-clause-counted : goal.returns-in-End-clause-counted
+returns-in-End-clause-counted g c = subst (λ t. Counted (most_in (turn_of t)) g.N.Near.client g.F.Far.server c.args.self.now c.step_end.new.self) (sym c.in-End.is) c.step_end.ensures.counted

@@ -1,6 +1,13 @@
 use Rattle.ftp_pair_parts.specs.Happening.{turn_of}
-use Rattle.ftp_pair_parts.proofs.Turning.{turn_small}
+use Rattle.ftp_pair_parts.proofs.Turning.{turn_small, turn_few}
+use Rattle.ftp_pair_parts.proofs.Keeping.{none, fewer}
 use Rattle.ftp_pair_parts.proofs.parts.Parts.turn.Goals as goal
 
 pub returns-clause-does : goal.returns-clause-does
 returns-clause-does g c is = record { event = turn_of c.in-Some.turn; small = turn_small c.in-Some.turn; happened = c.take_turn.ensures.does }
+
+pub returns-clause-counted : goal.returns-clause-counted
+returns-clause-counted g c = fewer c.take_turn.ensures.counted (turn_few c.in-Some.turn)
+
+pub returns-in_default-clause-counted : goal.returns-in_default-clause-counted
+returns-in_default-clause-counted g c = none _ _ _

@@ -2,7 +2,8 @@ use Rattle.ftp_server_model.specs.Calls.{connection_of, break_step}
 use Rattle.ftp_server_model.specs.Failing.{EndFails}
 use Rattle.ftp_server.proofs.DataLemmas.{install_fails, steps}
 use Rattle.ftp_server.proofs.HearLemmas.{on_err}
-use Rattle.ftp_server.specs.Server.{server_of, view_of}
+use Rattle.ftp_server.specs.Server.{counts_of, server_of, view_of}
+use Rattle.ftp_server.proofs.CountingLemmas.{by_step}
 use Rattle.ftp_server.proofs.server.Server.data_fault.Goals as goal
 
 pub returns : goal.returns
@@ -11,4 +12,5 @@ returns g c =
     let r = c.break_transfer-broken in let v = view_of table view c.args.self.now in let w = view_of table view r.new.self in
     steps EndFails break_step (server_of table failures view c.args.self.now) (server_of table failures view r.new.self) (server_of table failures view c.settle_behind.new.self)
     c.device_failures-failures.result r.result c.device_failures-failures.ensures r.ensures.refusals r.ensures.done r.ensures.steady
-    (on_err r.result (λ is x after. install_fails (connection_of v.session) v w x is after) r.ensures.lost) c.settle_behind.ensures
+    (on_err r.result (λ is x after. install_fails (connection_of v.session) v w x is after) r.ensures.lost) c.settle_behind.ensures.settled
+    (by_step (counts_of failures c.args.self.now) (counts_of failures r.new.self) (counts_of failures c.settle_behind.new.self) r.ensures.refusals r.ensures.few c.settle_behind.ensures.refusals c.settle_behind.ensures.few)

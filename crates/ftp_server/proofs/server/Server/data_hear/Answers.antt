@@ -5,6 +5,7 @@ use Rattle.ftp_server.proofs.CallLemmas.{unfailed}
 use Rattle.ftp_server.proofs.DataLemmas.{received}
 use Rattle.ftp_server.proofs.HearLemmas.{on_both, on_err}
 use Rattle.ftp_server.specs.Server.{counts_of, server_of, view_of}
+use Rattle.ftp_server.proofs.CountingLemmas.{by_octets}
 use Rattle.ftp_server.proofs.server.Server.data_hear.Goals as goal
 
 pub returns-clause-took : goal.returns-clause-took
@@ -17,6 +18,7 @@ returns-clause-took g c =
     r c.receive_octets-taken.ensures.done c.receive_octets-taken.ensures.lost c.count.ensures.view
     (on_both r (λ p q. p ∙ q) c.count.ensures.done c.receive_octets-taken.ensures.steady)
     (on_err r (λ h e. h (e ∙ sym same)) c.count.ensures.failed)
+    (by_octets (counts_of failures c.args.self.now) (counts_of failures mid) (counts_of failures c.count.new.self) c.receive_octets-taken.ensures.refusals c.receive_octets-taken.ensures.few c.count.ensures.few c.count.ensures.device)
 
 pub returns-clause-most : goal.returns-clause-most
 returns-clause-most g c = λ fine.

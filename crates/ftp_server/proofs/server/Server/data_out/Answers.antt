@@ -3,7 +3,8 @@ use Rattle.ftp_server_model.specs.Calls.{given_step, to_give}
 use Rattle.ftp_server_model.specs.Failing.{GiveFails}
 use Rattle.ftp_server.proofs.DataLemmas.{not_failed, on_any, steps}
 use Rattle.ftp_server.proofs.TakenLemmas.{some_given}
-use Rattle.ftp_server.specs.Server.{server_of, view_of}
+use Rattle.ftp_server.specs.Server.{counts_of, server_of, view_of}
+use Rattle.ftp_server.proofs.CountingLemmas.{by_step, stayed}
 use Rattle.ftp_server.proofs.server.Server.data_out.Goals as goal
 
 pub returns-clause-now : goal.returns-clause-now
@@ -12,7 +13,9 @@ returns-clause-now g c =
     let r = c.give-given in
     steps (GiveFails r.result.count) (given_step r.result.count) (server_of table failures view c.args.self.now) (server_of table failures view r.new.self) (server_of table failures view c.settle_behind.new.self)
     c.device_failures-failures.result r.result.outcome c.device_failures-failures.ensures (ap (λ n. n.refusals) r.ensures.steady) r.ensures.done (on_any r.result.outcome r.ensures.steady)
-    r.ensures.lost c.settle_behind.ensures
+    r.ensures.lost c.settle_behind.ensures.settled
+    (by_step (counts_of failures c.args.self.now) (counts_of failures r.new.self) (counts_of failures c.settle_behind.new.self) (ap (λ n. n.refusals) r.ensures.steady)
+    (stayed 1 _ _ (ap (λ n. n.failures) r.ensures.steady)) c.settle_behind.ensures.refusals c.settle_behind.ensures.few)
 
 pub returns-clause-some : goal.returns-clause-some
 returns-clause-some g c = λ same wide more.
@@ -20,7 +23,7 @@ returns-clause-some g c = λ same wide more.
     let r = c.give-given in
     some_given (length c.args.room.now) (length (to_give (view_of table view c.args.self.now))) r.result.count
     (not_failed r.result.outcome c.device_failures-failures.result (server_of table failures view c.args.self.now) (server_of table failures view r.new.self)
-    (server_of table failures view c.settle_behind.new.self) c.device_failures-failures.ensures (ap (λ n. n.refusals) r.ensures.steady) c.settle_behind.ensures same r.ensures.full)
+    (server_of table failures view c.settle_behind.new.self) c.device_failures-failures.ensures (ap (λ n. n.refusals) r.ensures.steady) c.settle_behind.ensures.settled same r.ensures.full)
     wide more
 
 pub returns-clause-most : goal.returns-clause-most
@@ -28,4 +31,4 @@ returns-clause-most g c = λ same.
     let table = g.T.Tree.table in let failures = g.T.Tree.failures in let view = g.J.ServerTransfer.view in
     let r = c.give-given in
     not_failed r.result.outcome c.device_failures-failures.result (server_of table failures view c.args.self.now) (server_of table failures view r.new.self)
-    (server_of table failures view c.settle_behind.new.self) c.device_failures-failures.ensures (ap (λ n. n.refusals) r.ensures.steady) c.settle_behind.ensures same r.ensures.full
+    (server_of table failures view c.settle_behind.new.self) c.device_failures-failures.ensures (ap (λ n. n.refusals) r.ensures.steady) c.settle_behind.ensures.settled same r.ensures.full

@@ -4,6 +4,7 @@ use Rattle.ftp_server_model.specs.Most.{IsMostHeard}
 use Rattle.ftp_server.proofs.CallLemmas.{took, unfailed}
 use Rattle.ftp_server.proofs.HearLemmas.{on_both, on_err}
 use Rattle.ftp_server.specs.Server.{counts_of, server_of, view_of}
+use Rattle.ftp_server.proofs.CountingLemmas.{by_octets}
 use Rattle.ftp_server.proofs.server.Server.hear.Goals as goal
 
 pub returns-clause-took : goal.returns-clause-took
@@ -16,6 +17,7 @@ returns-clause-took g c =
     r c.hear_octets-taken.ensures.done c.hear_octets-taken.ensures.lost c.count.ensures.view
     (on_both r (λ p q. p ∙ q) c.count.ensures.done c.hear_octets-taken.ensures.steady)
     (on_err r (λ h e. h (e ∙ sym same)) c.count.ensures.failed)
+    (by_octets (counts_of failures c.args.self.now) (counts_of failures mid) (counts_of failures c.count.new.self) c.hear_octets-taken.ensures.refusals c.hear_octets-taken.ensures.few c.count.ensures.few c.count.ensures.device)
 
 pub returns-clause-most : goal.returns-clause-most
 returns-clause-most g c = λ fine.

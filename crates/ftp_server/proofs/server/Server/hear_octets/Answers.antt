@@ -1,4 +1,6 @@
-use Rattle.std.proofs.Common.{◌+◌, ◌∙◌, ap, arith, inr, sym}
+use Rattle.std.proofs.Common.{◌+◌, ◌∙◌, ap, arith, inr, subst, sym}
+use Rattle.ftp_server_model.specs.Counting.{MovesOn}
+use Rattle.ftp_server.proofs.CountingLemmas.{stayed}
 use Rattle.ftp_server.proofs.HearLemmas.{of_ok, on_err, piece_lost, piece_more, some_taken}
 use Rattle.ftp_server.specs.Server.{view_of}
 use Rattle.ftp_server.proofs.server.Server.hear_octets.Goals as goal
@@ -33,3 +35,13 @@ returns-then-not-may_hear-clause-some g c = λ may some.
 
 pub returns-then-not-may_hear-clause-most : goal.returns-then-not-may_hear-clause-most
 returns-then-not-may_hear-clause-most g c = inr (sym c.may_hear.ensures ∙ c.if-not-may_hear.true)
+
+pub returns-then-is_err-clause-few : goal.returns-then-is_err-clause-few
+returns-then-is_err-clause-few g c =
+    subst (λ n. MovesOn 1 n (g.T.Tree.failures c.hear_octet-outcome.new.self.session.tree)) (ap (λ n. n.failures) c.loop-octet.invariant.steady) c.hear_octet-outcome.ensures.few
+
+pub returns-then-not-may_hear-clause-few : goal.returns-then-not-may_hear-clause-few
+returns-then-not-may_hear-clause-few g c = stayed 1 _ _ (ap (λ n. n.failures) c.loop-octet.invariant.steady)
+
+pub returns-after-loop-octet-clause-few : goal.returns-after-loop-octet-clause-few
+returns-after-loop-octet-clause-few g c = stayed 1 _ _ (ap (λ n. n.failures) c.loop-octet.invariant.steady)

@@ -10,6 +10,7 @@ use Rattle.ftp_server_model.specs.declared.session.Pending.TheVariants as Pendin
 use Rattle.ftp_server_session.specs.Line.{LineLost}
 use Rattle.ftp_server_session.specs.Session.{session_of}
 use Rattle.ftp_tree.specs.Tree.{under}
+use Rattle.ftp_server.proofs.CountingLemmas.{by_fault, stayed}
 use Rattle.ftp_server.proofs.BusyLemmas.{busy_seen, idle_calm, idle_room, said_room, short_decided}
 use Rattle.ftp_server.proofs.NameLemmas.{decided_named}
 use Rattle.ftp_server.specs.Server.{view_of}
@@ -52,3 +53,9 @@ returns-in-Err-clause-lost g c =
     let session = session_of g.T.Tree.table g.J.ServerTransfer.view c.decide.new.self in
     subst (λ owed. LineFails c.args.heard v (record (with_session session v) { owed = owed })) (sym c.put_fixed.ensures.octets)
     (line_fails c.args.heard v session c.in-Err.ensures.0)
+
+pub returns-in-Ok-clause-few : goal.returns-in-Ok-clause-few
+returns-in-Ok-clause-few g c = stayed 1 _ _ (ap (λ n. n.failures) c.complete.ensures.steady ∙ c.in-Ok.ensures.1)
+
+pub returns-in-Err-clause-few : goal.returns-in-Err-clause-few
+returns-in-Err-clause-few g c = by_fault c.in-Err.field-0 _ _ c.in-Err.ensures.1

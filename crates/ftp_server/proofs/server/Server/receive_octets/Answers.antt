@@ -1,5 +1,7 @@
-use Rattle.std.proofs.Common.{◌<◌, ◌∙◌, List, ℕ, arith, inr, length, subst, sym, take}
+use Rattle.std.proofs.Common.{◌<◌, ◌∙◌, List, ℕ, ap, arith, inr, length, subst, sym, take}
 use Rattle.ftp_server_model.specs.Failing.{AreReceived}
+use Rattle.ftp_server_model.specs.Counting.{MovesOn}
+use Rattle.ftp_server.proofs.CountingLemmas.{stayed}
 use Rattle.ftp_server.proofs.HearLemmas.{of_ok, on_err}
 use Rattle.ftp_server.proofs.TakenLemmas.{row_lost, row_more, some_taken}
 use Rattle.ftp_server.specs.Data.{ReceivesTo}
@@ -51,3 +53,13 @@ loop-count-smaller g c =
     let more : 0 < length c.split_at.result.1.now = omega (arith, c.loop-count-test.true, c.split_at.ensures.back_len) in
     let some : 0 < c.receive-taken.result.count = c.receive-taken.ensures.some (sym c.may_receive.ensures ∙ c.if-not-may_receive.false) more in
     omega (arith, some, c.loop-count-test.true, c.receive-taken.ensures.within, c.split_at.ensures.back_len)
+
+pub returns-then-is_err-clause-few : goal.returns-then-is_err-clause-few
+returns-then-is_err-clause-few g c =
+    subst (λ n. MovesOn 1 n (g.T.Tree.failures c.receive-taken.new.self.session.tree)) (ap (λ n. n.failures) c.loop-count.invariant.steady) c.receive-taken.ensures.few
+
+pub returns-then-not-may_receive-clause-few : goal.returns-then-not-may_receive-clause-few
+returns-then-not-may_receive-clause-few g c = stayed 1 _ _ (ap (λ n. n.failures) c.loop-count.invariant.steady)
+
+pub returns-after-loop-count-clause-few : goal.returns-after-loop-count-clause-few
+returns-after-loop-count-clause-few g c = stayed 1 _ _ (ap (λ n. n.failures) c.loop-count.invariant.steady)

@@ -1,0 +1,9 @@
+use Rattle.std.proofs.Common.{refl, sym, ap}
+use Rattle.ftp_server_model.specs.Far.{counts_told}
+use Rattle.ftp_pair_parts.proofs.Keeping.{far_kept}
+use Rattle.ftp_pair_parts.proofs.parts.Parts.fault_far.Goals as goal
+
+pub returns-clause-counted : goal.returns-clause-counted
+returns-clause-counted g c =
+    far_kept (counts_told c.counts-counts.result) (counts_told c.counts.result) c.both_stay-self.ensures.fits.0 c.both_stay-self.ensures.fits.1 c.counts-counts.ensures c.counts.ensures
+    c.data_fault.ensures.counted refl c.both_stay-self.ensures.is

@@ -1,0 +1,14 @@
+use Rattle.std.proofs.Common.{refl}
+use Rattle.ftp_pair_parts.proofs.Keeping.{near_kept, far_kept, after, at_most}
+use Rattle.ftp_server_model.specs.Far.{counts_told}
+use Rattle.ftp_pair_parts.specs.Calm.{Tally}
+use Rattle.ftp_pair_parts.proofs.parts.Parts.open_link.Goals as goal
+
+pub returns-clause-counted : goal.returns-clause-counted
+returns-clause-counted g c =
+    let mid : Tally = record { near = (g.N.Near.client c.data_opened.new.self).refusals; far = (g.F.Far.server c.args.self.now.far).counts } in
+    after
+    (far_kept {old = mid} (counts_told c.counts-counts.result) (counts_told c.counts.result) c.both_stay-self.ensures.fits.0 c.both_stay-self.ensures.fits.1 c.counts-counts.ensures c.counts.ensures
+    c.data_opened-2.ensures.counted refl c.both_stay-self.ensures.is)
+    (near_kept {new = mid} c.refusals-near_refusals.result c.refusals.result c.stays-calm.ensures.fits c.refusals-near_refusals.ensures c.refusals.ensures c.data_opened.ensures.counted refl c.stays-calm.ensures.is)
+    (at_most 6)
