@@ -9,6 +9,7 @@ pub mod Calls
 pub mod Sent
 pub mod InFlight
 pub mod Failing
+pub mod Growing
 pub mod Most
 pub mod Bounds
 pub mod Busy
