@@ -7,6 +7,7 @@ ghost use Rattle.ftp_ends.specs.Octets.{has_octets};
 ghost use Rattle.ftp_client_model.specs.Calls.{control_end, data_closed, data_end, data_fault, data_opened, data_refused, gives_control, gives_data, handed_back, is_busy, listen_refused, listening, may_hear, may_receive, report_of, reports, starts, to_give, uploads, wants};
 ghost use Rattle.ftp_client_model.specs.Counting.{CountsOn};
 ghost use Rattle.ftp_client_model.specs.Failing.{HearsIfRoom, Holds, HoldsIfRoom, ReceivesIfRoom, data_end_short, data_fault_short, data_opened_short, data_refused_short, listen_refused_short, listening_short, short, starts_short, uploads_short};
+ghost use Rattle.ftp_client_model.specs.Growing.{giving_grows};
 ghost use Rattle.ftp_client_model.specs.Held.{stored_limit, talk_len};
 ghost use Rattle.ftp_client_model.specs.Most.{IsMostHeard, IsMostReceived};
 ghost use Rattle.ftp_client_model.specs.Tries.{over_breaks};
@@ -237,6 +238,7 @@ impl<A: Allocator + Copy, F: ClientTransfer<A>> Counted<A, F> {
         ensures some { 0 < length room.old → 0 < length (to_give (counted_of F.flow self.old).view) → 0 < result }
         ensures most { result ≡ min (length room.old) (length (to_give (counted_of F.flow self.old).view)) }
         ensures counted { CountsOn self.old.refusals self.new.refusals }
+        ensures spare { giving_grows result (counted_of F.flow self.old).view ≡ false → self.new.refusals ≡ self.old.refusals }
     {
         let count = self.dialogue.give(room);
         if self.dialogue.carry_on().is_err() {

@@ -10,6 +10,7 @@ pub mod Sent
 pub mod InFlight
 pub mod Failing
 pub mod Counting
+pub mod Growing
 pub mod Most
 pub mod Bounds
 pub mod Busy

@@ -5,6 +5,7 @@ ghost use Rattle.ftp_operation.specs.Answer.{said_of};
 ghost use Rattle.ftp_client_model.specs.Calls.{starts, uploads, is_busy, handed_back, report_of, reports, gives_control, may_hear, control_end, listening, listen_refused, data_opened, data_refused, data_end, data_fault, data_closed, gives_data, to_give, may_receive, wants};
 ghost use Rattle.ftp_client_model.specs.Counting.{CountsOn};
 ghost use Rattle.ftp_client_model.specs.Failing.{Client, Holds, HoldsIfRoom, HearsIfRoom, ReceivesIfRoom, starts_short, uploads_short, short, listening_short, listen_refused_short, data_opened_short, data_refused_short, data_end_short, data_fault_short};
+ghost use Rattle.ftp_client_model.specs.Growing.{giving_grows};
 ghost use Rattle.ftp_client_model.specs.Most.{IsMostHeard, IsMostReceived};
 ghost use Rattle.ftp_client_model.specs.Tries.{over_breaks};
 ghost use Rattle.ftp_ends.specs.Octets.{has_octets};
@@ -123,6 +124,9 @@ pub trait Near<A: Allocator + Copy>: Drop {
         // It gives all that is left, or fills the room.
         ensures most { result ≡ min (length room.old) (length (to_give (client self.old).view)) }
         ensures counted { CountsOn (client self.old).refusals (client self.new).refusals };
+
+        // It takes memory at most for the next operation of an upload over breaks.
+        ensures spare { giving_grows result (client self.old).view ≡ false → (client self.new).refusals ≡ (client self.old).refusals }
 
     /// A close that it wanted is done.
     fn data_closed(&mut self)

@@ -7,3 +7,4 @@ pub mod AgainLemmas
 pub mod JudgedLemmas
 pub mod AwaitedLemmas
 pub mod GivenLemmas
+pub mod GrowLemmas

@@ -4,9 +4,9 @@ use Rattle.ftp_operation.specs.Answer.{Memory, said_of}
 use Rattle.ftp_operation.specs.declared.op.Op.{Op}
 use Rattle.ftp_ends.specs.Ear.{Ear, quiet}
 use Rattle.ftp_reply.specs.Reader.{Gathered, Between}
-use Rattle.ftp_client_model.specs.Calls.{left_of, went}
-use Rattle.ftp_client_model.specs.Dialogue.{is_to_abort, is_unsent, marked_flow}
-use Rattle.ftp_client_model.specs.declared.client.ClientLink.{ClientLink}
+use Rattle.ftp_client_model.specs.Calls.{left_of}
+pub use Rattle.ftp_client_model.specs.Growing.{job_to_abort, job_went}
+use Rattle.ftp_client_model.specs.Dialogue.{is_unsent, marked_flow}
 use Rattle.ftp_client_model.specs.View.{View, Flow, Job, Idle, Waiting, Doing, Transferring, Told, dropped, failed_job, silent}
 use Rattle.ftp_client_model.specs.View.{Transfer as Moved}
 use Rattle.ftp_client_model.specs.declared.client.Failure.TheVariants as Failures
@@ -78,11 +78,6 @@ abbrev pub job_left : Job → List ℕ
 job_left (Transferring op transfer) = left_of transfer.flow
 job_left job = []
 
--- so many of them went out
-abbrev pub job_went : ℕ → Job → Job
-job_went count (Transferring op transfer) = Transferring op (record transfer { flow = went count transfer.flow })
-job_went count job = job
-
 -- octets came
 abbrev pub job_heard : List ℕ → Job → Job
 job_heard octets (Transferring op transfer) = Transferring op (record transfer { flow = heard_all transfer.flow octets })
@@ -97,11 +92,6 @@ JobNotYet octets job = Unit {0}
 abbrev pub job_unsent : Job → Bool
 job_unsent (Transferring op transfer) = is_unsent transfer.abort
 job_unsent job = false
-
--- the transfer under way is to be ended by an ABOR
-abbrev pub job_to_abort : ClientLink → Job → Bool
-job_to_abort connection (Transferring op transfer) = is_to_abort connection op transfer
-job_to_abort connection job = false
 
 -- of a client
 abbrev pub to_abort : View → Bool

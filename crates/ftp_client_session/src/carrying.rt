@@ -2,6 +2,7 @@
 // and 5.4).
 ghost use Rattle.std.specs.Prelude.{◌≡◌, IsTrue, OnErr, OnOk};
 ghost use Rattle.ftp_client_model.specs.Calls.{is_sound};
+ghost use Rattle.ftp_client_model.specs.Growing.{answering_grows, carrying_grows, judging_grows};
 ghost use Rattle.ftp_client_model.specs.Dialogue.{aborts_once_enough, answers_once_over, carries_on, closes_once_given, finishes_read, has_begun, is_unsent, judged};
 
 use crate::dialogue::Dialogue;
@@ -15,12 +16,13 @@ use std::mem;
 impl<A: Allocator + Copy, F: ClientTransfer<A>> Dialogue<A, F> {
     ghost use Rattle.ftp_client_session.specs.Client.{in_transfer, shorted, to_abort, view_of};
 
-    /// What follows of where a transfer stands.
+    /// What follows of where a transfer stands. It takes memory only for an ABOR, the answer of a download, and the next operation of a run.
     pub fn carry_on(&mut self) -> Result<(), AllocError>
         ensures ok { OnOk result (view_of F.flow self.new ≡ carries_on (view_of F.flow self.old)) }
         ensures err { OnErr result (shorted (view_of F.flow self.new) ≡ shorted (view_of F.flow self.old)) }
         ensures sound { OnErr result (IsTrue (is_sound (view_of F.flow self.new).standing)) }
         ensures was { OnErr result (IsTrue (is_sound (view_of F.flow self.old).standing)) }
+        ensures grows { OnErr result (IsTrue (carrying_grows (view_of F.flow self.old))) }
     {
         self.close_once_given();
         let Ok(()) = self.abort_once_enough() else {
@@ -50,6 +52,7 @@ impl<A: Allocator + Copy, F: ClientTransfer<A>> Dialogue<A, F> {
         ensures ok { OnOk result (view_of F.flow self.new ≡ aborts_once_enough (view_of F.flow self.old).job (view_of F.flow self.old)) }
         ensures err { OnErr result (view_of F.flow self.new ≡ view_of F.flow self.old) }
         ensures was { OnErr result (IsTrue (is_sound self.old.standing)) }
+        ensures grows { OnErr result (IsTrue (to_abort (view_of F.flow self.old))) }
     {
         if !self.is_to_abort() {
             return Ok(());
@@ -85,6 +88,7 @@ impl<A: Allocator + Copy, F: ClientTransfer<A>> Dialogue<A, F> {
         ensures err { OnErr result (shorted (view_of F.flow self.new) ≡ shorted (view_of F.flow self.old)) }
         ensures sound { OnErr result (IsTrue (is_sound self.new.standing)) }
         ensures was { OnErr result (IsTrue (is_sound self.old.standing)) }
+        ensures grows { OnErr result (IsTrue (answering_grows (view_of F.flow self.old).job (view_of F.flow self.old))) }
     {
         let Task::Transferring(transfer) = &self.place else {
             return Ok(());
@@ -108,6 +112,7 @@ impl<A: Allocator + Copy, F: ClientTransfer<A>> Dialogue<A, F> {
         ensures err { OnErr result (shorted (view_of F.flow self.new) ≡ shorted (view_of F.flow self.old)) }
         ensures sound { OnErr result (IsTrue (is_sound self.new.standing)) }
         ensures was { OnErr result (IsTrue (is_sound self.old.standing)) }
+        ensures grows { OnErr result (IsTrue (judging_grows ending code (view_of F.flow self.old).run (view_of F.flow self.old).job)) }
     {
         let Task::Transferring(_) = &self.place else {
             return Ok(());

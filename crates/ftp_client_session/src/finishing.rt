@@ -1,9 +1,10 @@
 // How an operation ends, and how a client fails (RFC 959, section 5.4).
-ghost use Rattle.std.specs.Prelude.{◌≡◌, IfOk, IsTrue, OnErr, OnOk, option_map};
+ghost use Rattle.std.specs.Prelude.{◌≡◌, IfOk, IsTrue, OnErr, OnOk, is_some, option_map};
 ghost use Rattle.std.specs.Bool.{then_some};
 ghost use Rattle.ftp_operation.specs.Answer.{said_of};
 ghost use Rattle.ftp_client_model.specs.Calls.{is_sound};
 ghost use Rattle.ftp_client_model.specs.Dialogue.{begins, finishes, finishes_by, finishes_read, next_with};
+ghost use Rattle.ftp_client_model.specs.Growing.{is_followed};
 ghost use Rattle.ftp_client_model.specs.Tries.{run_at};
 ghost use Rattle.ftp_client_model.specs.View.{done_with, dropped, failure_said, fails, stands, strange};
 
@@ -28,12 +29,13 @@ impl<A: Allocator + Copy, F: ClientTransfer<A>> Dialogue<A, F> {
         self.connection = ClientLink::Free;
     }
 
-    /// The operation is answered; no link of it is needed. A run goes on with its next operation.
+    /// The operation is answered; no link of it is needed. A run goes on with its next operation; only that takes memory.
     pub fn finish(&mut self, answer: Answer<A>) -> Result<(), AllocError>
         ensures ok { OnOk result (view_of F.flow self.new ≡ finishes (said_of answer) (view_of F.flow self.old)) }
         ensures err { OnErr result (shorted (view_of F.flow self.new) ≡ shorted (view_of F.flow self.old)) }
         ensures sound { OnErr result (IsTrue (is_sound self.new.standing)) }
         ensures was { OnErr result (IsTrue (is_sound self.old.standing)) }
+        ensures followed { OnErr result (IsTrue (is_some (next_with (view_of F.flow self.old).run self.old.op (said_of answer)))) }
     {
         match &self.place {
             Task::Idle | Task::Waiting | Task::Told(_) => {
@@ -60,6 +62,7 @@ impl<A: Allocator + Copy, F: ClientTransfer<A>> Dialogue<A, F> {
             ≡ finishes_by (next_with (view_of F.flow self.old).run self.old.op (said_of answer)) (said_of answer) (view_of F.flow self.old)) }
         ensures err { OnErr result (shorted (view_of F.flow self.new) ≡ shorted (view_of F.flow self.old)) }
         ensures sound { OnErr result (IsTrue (is_sound self.new.standing)) }
+        ensures followed { OnErr result (IsTrue (is_some (next_with (view_of F.flow self.old).run self.old.op (said_of answer)))) }
     {
         match self.next(&answer) {
             Ok(false) => {
@@ -84,6 +87,7 @@ impl<A: Allocator + Copy, F: ClientTransfer<A>> Dialogue<A, F> {
             then_some follows self.new.op ≡ next_with (view_of F.flow self.old).run self.old.op (said_of answer.now)) }
         ensures place { self.new.place ≡ self.old.place }
         ensures view { view_of F.flow self.new ≡ record (view_of F.flow self.old) { job = job_of F.flow self.new.op self.old.place } }
+        ensures followed { OnErr result (IsTrue (is_some (next_with (view_of F.flow self.old).run self.old.op (said_of answer.now)))) }
     {
         match &mut self.run {
             None => Ok(false),
@@ -125,6 +129,7 @@ impl<A: Allocator + Copy, F: ClientTransfer<A>> Dialogue<A, F> {
         ensures err { OnErr result (shorted (view_of F.flow self.new) ≡ shorted (view_of F.flow self.old)) }
         ensures sound { OnErr result (IsTrue (is_sound self.new.standing)) }
         ensures was { OnErr result (IsTrue (is_sound self.old.standing)) }
+        ensures followed { OnErr result (IsTrue (is_followed (view_of F.flow self.old).run self.old.op (option_map said_of answer))) }
     {
         match answer {
             None => {

@@ -1,5 +1,5 @@
 // How far an operation has come (RFC 959, section 5.4).
-ghost use Rattle.std.specs.Prelude.{◌≡◌, ◌<◌, ◌≤◌, ℕ, List, IfErr, IfOk, length, min, option_map, take};
+ghost use Rattle.std.specs.Prelude.{◌≡◌, ◌<◌, ◌≤◌, ℕ, List, IfErr, IfOk, IsTrue, OnErr, length, min, option_map, take};
 ghost use Rattle.ftp_operation.specs.Answer.{Memory, said_of};
 ghost use Rattle.ftp_operation.specs.declared.op.Op.{Op};
 ghost use Rattle.ftp_ends.specs.Octets.{has_octets};
@@ -48,7 +48,7 @@ impl<A: Allocator + Copy, F: Drop> Drop for Task<A, F> {
 impl<A: Allocator + Copy, F: ClientTransfer<A>> Task<A, F> {
     ghost use Rattle.ftp_client_session.specs.Calm.{is_under_way};
     ghost use Rattle.ftp_client_session.specs.Client.{JobNotYet, job_heard, job_left, job_noted, job_of, job_unsent, job_went};
-    ghost use Rattle.ftp_client_session.specs.Judged.{job_judged};
+    ghost use Rattle.ftp_client_session.specs.Judged.{job_is_down, job_judged};
 
     /// Notes the mmmm of a 110 reply to an upload.
     pub(crate) fn note(&mut self, op: &Op<Text<A>>, mark: Option<u64>)
@@ -112,7 +112,7 @@ impl<A: Allocator + Copy, F: ClientTransfer<A>> Task<A, F> {
         }
     }
 
-    /// What a transfer is answered, by its final reply's code and its link's end.
+    /// What a transfer is answered, by its final reply's code and its link's end. Only the answer of a download takes memory.
     pub(crate) fn judged(
         self,
         ending: Ending,
@@ -120,7 +120,8 @@ impl<A: Allocator + Copy, F: ClientTransfer<A>> Task<A, F> {
         op: &Op<Text<A>>,
         alloc: &A,
     ) -> Result<Option<Answer<A>>, AllocError>
-        ensures { IfOk result (λ answer. option_map said_of answer ≡ job_judged ending code (job_of F.flow op.now self)) }
+        ensures answer { IfOk result (λ answer. option_map said_of answer ≡ job_judged ending code (job_of F.flow op.now self)) }
+        ensures down { OnErr result (IsTrue (job_is_down (job_of F.flow op.now self))) }
     {
         match self {
             Task::Transferring(transfer) => {

@@ -1,6 +1,7 @@
 // The answer of a transfer, from its final reply and its link's end (RFC 959, section 5.4).
-ghost use Rattle.std.specs.Prelude.{◌≡◌, IfOk, option_map};
+ghost use Rattle.std.specs.Prelude.{◌≡◌, IfOk, IsTrue, OnErr, option_map};
 ghost use Rattle.ftp_operation.specs.Answer.{said_of};
+ghost use Rattle.ftp_client_model.specs.Calls.{is_down};
 ghost use Rattle.ftp_client_model.specs.Dialogue.{broken_off_answer, ended_answer, judged, refused_answer};
 
 use crate::transfer::ClientTransfer;
@@ -11,7 +12,7 @@ use ftp_operation::{Answer, Op};
 use std::alloc::{AllocError, Allocator};
 
 /// The answer of a transfer whose final reply has this code: another host first, then a Peek that sent its ABOR, whatever the final
-/// reply says, then a refusal, whatever became of the link.
+/// reply says, then a refusal, whatever became of the link. Only the answer of a download takes memory.
 pub fn judged<A: Allocator + Copy, F: ClientTransfer<A>>(
     ending: Ending,
     abort: Abort,
@@ -20,7 +21,8 @@ pub fn judged<A: Allocator + Copy, F: ClientTransfer<A>>(
     flow: F,
     alloc: &A,
 ) -> Result<Option<Answer<A>>, AllocError>
-    ensures { IfOk result (λ answer. option_map said_of answer ≡ judged ending abort code op.now (F.flow op.now flow)) }
+    ensures answer { IfOk result (λ answer. option_map said_of answer ≡ judged ending abort code op.now (F.flow op.now flow)) }
+    ensures down { OnErr result (IsTrue (is_down (F.flow op.now flow))) }
 {
     if let Ending::Foreign = ending {
         return Ok(Some(Answer::Foreign));
@@ -42,7 +44,8 @@ fn refused_answer<A: Allocator + Copy, F: ClientTransfer<A>>(
     flow: F,
     alloc: &A,
 ) -> Result<Option<Answer<A>>, AllocError>
-    ensures { IfOk result (λ answer. option_map said_of answer ≡ refused_answer ending code op.now (F.flow op.now flow)) }
+    ensures answer { IfOk result (λ answer. option_map said_of answer ≡ refused_answer ending code op.now (F.flow op.now flow)) }
+    ensures down { OnErr result (IsTrue (is_down (F.flow op.now flow))) }
 {
     if code == 425 {
         return Ok(Some(Answer::Unopened));
@@ -60,7 +63,8 @@ fn broken_off_answer<A: Allocator + Copy, F: ClientTransfer<A>>(
     flow: F,
     alloc: &A,
 ) -> Result<Option<Answer<A>>, AllocError>
-    ensures { IfOk result (λ answer. option_map said_of answer ≡ broken_off_answer ending op.now (F.flow op.now flow)) }
+    ensures answer { IfOk result (λ answer. option_map said_of answer ≡ broken_off_answer ending op.now (F.flow op.now flow)) }
+    ensures down { OnErr result (IsTrue (is_down (F.flow op.now flow))) }
 {
     match ending {
         Ending::Clean => match op {
@@ -78,7 +82,8 @@ fn ended_answer<A: Allocator + Copy, F: ClientTransfer<A>>(
     flow: F,
     alloc: &A,
 ) -> Result<Option<Answer<A>>, AllocError>
-    ensures { IfOk result (λ answer. option_map said_of answer ≡ ended_answer ending op.now (F.flow op.now flow)) }
+    ensures answer { IfOk result (λ answer. option_map said_of answer ≡ ended_answer ending op.now (F.flow op.now flow)) }
+    ensures down { OnErr result (IsTrue (is_down (F.flow op.now flow))) }
 {
     match ending {
         Ending::Clean | Ending::Ours => flow.whole(op, alloc),

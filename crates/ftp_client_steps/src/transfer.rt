@@ -1,5 +1,5 @@
 // What goes over the data connection of a client's transfer, as a client uses it (RFC 959, sections 3.1 to 3.5).
-ghost use Rattle.std.specs.Prelude.{◌≡◌, ◌<◌, ◌≤◌, ℕ, List, IfErr, IfOk, length, min, take, option_map};
+ghost use Rattle.std.specs.Prelude.{◌≡◌, ◌<◌, ◌≤◌, ℕ, List, IfErr, IfOk, IsTrue, OnErr, length, min, take, option_map};
 ghost use Rattle.ftp_operation.specs.Answer.{said_of};
 ghost use Rattle.ftp_operation.specs.declared.op.Op.{Op as AnyOp};
 ghost use Rattle.ftp_client_model.specs.Calls.{is_down, left_of, went};
@@ -37,17 +37,20 @@ pub trait ClientTransfer<A: Allocator + Copy>: Drop {
     fn note(&mut self, op: &Op<Text<A>>, mark: Option<u64>)
         ensures { flow op.now self.new ≡ marked_flow mark (flow op.now self.old) };
 
-    /// What its settled octets answer.
+    /// What its settled octets answer. Only the answer of a download takes memory.
     fn content(self, op: &Op<Text<A>>, alloc: &A) -> Result<Option<Answer<A>>, AllocError>
-        ensures { IfOk result (λ answer. option_map said_of answer ≡ content_answer op.now (settled_of (flow op.now self))) };
+        ensures answer { IfOk result (λ answer. option_map said_of answer ≡ content_answer op.now (settled_of (flow op.now self))) }
+        ensures down { OnErr result (IsTrue (is_down (flow op.now self))) };
 
-    /// What it answers after a clean end.
+    /// What it answers after a clean end. Only the answer of a download takes memory.
     fn whole(self, op: &Op<Text<A>>, alloc: &A) -> Result<Option<Answer<A>>, AllocError>
-        ensures { IfOk result (λ answer. option_map said_of answer ≡ whole_answer op.now (flow op.now self)) };
+        ensures answer { IfOk result (λ answer. option_map said_of answer ≡ whole_answer op.now (flow op.now self)) }
+        ensures down { OnErr result (IsTrue (is_down (flow op.now self))) };
 
-    /// What it answers where it was cut.
+    /// What it answers where it was cut. Only the answer of a download takes memory.
     fn cut(self, op: &Op<Text<A>>, alloc: &A) -> Result<Option<Answer<A>>, AllocError>
-        ensures { IfOk result (λ answer. option_map said_of answer ≡ cut_answer op.now (flow op.now self)) };
+        ensures answer { IfOk result (λ answer. option_map said_of answer ≡ cut_answer op.now (flow op.now self)) }
+        ensures down { OnErr result (IsTrue (is_down (flow op.now self))) };
 
     /// Takes octets of a download, and says how many: all, or up to one behind which a Peek has enough. `Err` says behind how many of them
     /// memory was refused; it is of no use any more then.

@@ -1,6 +1,6 @@
 // An upload that goes on over breaks, as a run of operations, each chosen by the answer of the one before (own choice: RFC 959,
 // section 3.5, leaves the recovery of a transfer to the user).
-ghost use Rattle.std.specs.Prelude.{◌≡◌, [], IfOk, OnErr, Some, true, unwrap_or};
+ghost use Rattle.std.specs.Prelude.{◌≡◌, [], IfOk, IsTrue, OnErr, Some, is_some, true, unwrap_or};
 ghost use Rattle.std.specs.Bool.{then_some};
 ghost use Rattle.ftp_operation.specs.Answer.{said_of};
 ghost use Rattle.ftp_operation.specs.Operation.{can_be_sent};
@@ -58,7 +58,7 @@ pub fn first_try<A: Allocator + Copy>(
 }
 
 /// What follows an operation that was answered so takes its place; `false` says that nothing does. Behind the last try nothing does.
-/// Refused memory, nothing changes.
+/// Refused memory, nothing changes; where nothing follows none is taken.
 pub fn next_in<A: Allocator + Copy>(
     run: &mut Run<A>,
     op: &mut Op<Text<A>>,
@@ -68,6 +68,7 @@ pub fn next_in<A: Allocator + Copy>(
     ensures next { IfOk result (λ follows. then_some follows op.new ≡ next_in (run_in op.old run.old) op.old (said_of answer.now)) }
     ensures run { run_in op.new run.new ≡ run_in op.old run.old }
     ensures err { OnErr result (op.new ≡ op.old) }
+    ensures follows { OnErr result (IsTrue (is_some (next_in (run_in op.old run.old) op.old (said_of answer.now)))) }
 {
     if run.left == 0 {
         return Ok(false);
@@ -97,6 +98,7 @@ fn after_size<A: Allocator + Copy>(
     ensures next { IfOk result (λ follows. then_some follows op.new ≡ after_size (upload_in op.old run.old) (said_of answer.now)) }
     ensures run { run_in op.new run.new ≡ run_in op.old run.old }
     ensures err { OnErr result (op.new ≡ op.old) }
+    ensures follows { OnErr result (IsTrue (is_some (after_size (upload_in op.old run.old) (said_of answer.now)))) }
 {
     match answer {
         Answer::Number(count) => put_behind(run, op, *count, alloc),
@@ -121,6 +123,7 @@ fn after_try<A: Allocator + Copy>(
     ensures next { IfOk result (λ follows. then_some follows op.new ≡ after_try (upload_in op.old run.old) op.old (said_of answer.now)) }
     ensures run { run_in op.new run.new ≡ run_in op.old run.old }
     ensures err { OnErr result (op.new ≡ op.old) }
+    ensures follows { OnErr result (IsTrue (is_some (after_try (upload_in op.old run.old) op.old (said_of answer.now)))) }
 {
     match answer {
         Answer::Broken { .. } => {

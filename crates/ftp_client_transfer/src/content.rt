@@ -1,5 +1,5 @@
 // What the octets of a download answer (RFC 959, section 4.1.3; RFC 3659, section 7).
-ghost use Rattle.std.specs.Prelude.{◌≡◌, ◌≤◌, IfOk, length, option_map, take};
+ghost use Rattle.std.specs.Prelude.{◌≡◌, ◌≤◌, [], IfOk, Some, length, option_map, take};
 ghost use Rattle.ftp_operation.specs.Answer.{Entries, Names, said_of};
 ghost use Rattle.ftp_facts.specs.Listing.{entries_value, names_value};
 ghost use Rattle.ftp_client_model.specs.Octets.{content_answer};
@@ -23,6 +23,17 @@ pub(crate) fn content_in<A: Allocator + Copy>(
         Op::Names(_, _) => names_answer(octets.as_slice(), alloc),
         Op::Peek(_, count, _) => Ok(Some(Answer::Octets(first(octets, *count)))),
         _ => Ok(Some(Answer::Octets(Text::from_vec(octets)))),
+    }
+}
+
+/// What no octets answer. It takes no memory.
+pub(crate) fn nothing_in<A: Allocator + Copy>(op: &Op<Text<A>>, alloc: &A) -> Answer<A>
+    ensures { Some (said_of result) ≡ content_answer op.now [] }
+{
+    match op {
+        Op::List(_, _) => Answer::Entries(Vec::new(*alloc)),
+        Op::Names(_, _) => Answer::Names(Vec::new(*alloc)),
+        _ => Answer::Octets(Text::from_vec(Vec::new(*alloc))),
     }
 }
 

@@ -2,7 +2,7 @@
 ghost use Rattle.std.specs.Prelude.{◌≡◌, ◌<◌, ◌≤◌, ◌⊎◌, None};
 ghost use Rattle.ftp_client_model.specs.Plan.{count_of};
 
-use crate::content::content_in;
+use crate::content::{content_in, nothing_in};
 use crate::download::Download;
 use crate::upload::Upload;
 use ftp_client_steps::{ClientTransfer, count_of, listing_settings};
@@ -88,7 +88,7 @@ impl<A: Allocator + Copy> ClientTransfer<A> for OperationTransfer<A> {
 
     fn content(self, op: &Op<Text<A>>, alloc: &A) -> Result<Option<Answer<A>>, AllocError> {
         match self {
-            OperationTransfer::Upload(_) => content_in(op, Vec::new(*alloc), alloc),
+            OperationTransfer::Upload(_) => Ok(Some(nothing_in(op, alloc))),
             OperationTransfer::Download(download) => content_in(
                 op,
                 download.decoder.into_sink(),

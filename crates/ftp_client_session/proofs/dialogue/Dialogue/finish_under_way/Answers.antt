@@ -1,4 +1,5 @@
 use Rattle.std.proofs.Common.{◌≡◌, ◌∙◌, Some, refl, sym, ap}
+use Rattle.std.specs.Prelude.{is_some}
 use Rattle.std.specs.Bool.{then_some}
 use Rattle.std.proofs.lemmas.Result.{on_ok_weaker, on_err_weaker}
 use Rattle.ftp_operation.specs.Answer.{said_of}
@@ -30,3 +31,11 @@ returns-in-Ok-true-clause-err g c =
     (job_of g.F.ClientTransfer.flow op d.place) (under_way g.F.ClientTransfer.flow op d.place c.requires) (under_way g.F.ClientTransfer.flow d.op d.place c.requires)
     c.next.ensures.view begun)
     c.try_again.ensures.err
+
+pub returns-in-Ok-true-clause-followed : goal.returns-in-Ok-true-clause-followed
+returns-in-Ok-true-clause-followed g c =
+    let d = c.args.self.now in
+    let v : View = view_of g.F.ClientTransfer.flow d in
+    let op = c.next.new.self.op in
+    let next : Some op ≡ next_with v.run d.op (said_of c.args.answer) = ap (λ follows. then_some follows op) (sym c.in-Ok-true.field-0-test) ∙ c.in-Ok-true.ensures.next in
+    on_err_weaker c.try_again.result (λ begun. ap is_some (sym next)) c.try_again.ensures.err
