@@ -6,7 +6,7 @@ use Rattle.ftp_control.proofs.Lanes.{adds_then}
 use Rattle.ftp_control.specs.Asking.{Asked, Adds}
 use Rattle.ftp_control.specs.Courses.{Course, Carries, IsFair, IsFairLeave, after, asked_by, asked_in, begun, course_of, move_in}
 use Rattle.ftp_control.specs.Deeds.{Deed, Heard, Said, Read, Ended, Other, Done, Led, Stand}
-use Rattle.ftp_control.specs.Lane.{IsEnded, Lane, Move, Moves, Stays, Waits, Reads, Writes, Gives, Takes, Fails, Ends, Breaks, Stops, with_fate, Asks, Opens, Leaves}
+use Rattle.ftp_control.specs.Lane.{IsEnded, Lane, Move, Moves, Stays, Waits, Reads, Writes, Gives, Notes, Takes, Fails, Ends, Breaks, Stops, with_fate, Asks, Opens, Leaves}
 use Rattle.ftp_control.specs.Side.{Side}
 use Rattle.ftp_control.specs.declared.whole.Fate.{Fate}
 use Rattle.ftp_control.specs.declared.whole.Fate.TheVariants.{Failed, Broken, Over}
@@ -57,6 +57,7 @@ follows (Gives octets rest) course old new before same = subst (λ l. Follows (a
   consumed = before.consumed;
   appended = before.appended;
 })
+follows Notes course old new before same = subst (λ l. Follows course l) (sym same) (record { given = before.given; read = before.read; consumed = before.consumed; appended = before.appended })
 follows (Takes octets) course old new before took = subst (λ l. Follows (after (Takes octets) course) l) (sym took.1) (record {
   given = before.given;
   read = before.read ∙ ap (λ l. course.told ++ l) took.0 ∙ sym (append_assoc course.told octets new.untold);
@@ -95,6 +96,7 @@ fair (Waits lost) course old new before moved = tt
 fair (Reads octets) course old new before moved = tt
 fair (Writes octets) course old new before moved = tt
 fair (Gives octets rest) course old new before moved = tt
+fair Notes course old new before moved = tt
 fair (Takes octets) course old new before moved = tt
 fair Fails course old new before moved = tt
 fair Breaks course old new before moved = tt
@@ -112,6 +114,7 @@ adds (Waits lost) old new waited = waited.asked
 adds (Reads octets) old new read = adds_none old.asked new.asked read.asked
 adds (Writes octets) old new wrote = adds_none old.asked new.asked wrote.asked
 adds (Gives octets rest) old new same = adds_none old.asked new.asked (ap (λ l. l.asked) same.0)
+adds Notes old new same = adds_none old.asked new.asked (ap (λ l. l.asked) same)
 adds (Takes octets) old new took = adds_none old.asked new.asked (ap (λ l. l.asked) took.1)
 adds Fails old new failed = adds_none old.asked new.asked (ap (λ l. l.asked) failed.0)
 adds Breaks old new same = adds_none old.asked new.asked (ap (λ l. l.asked) same)

@@ -8,7 +8,7 @@ use Rattle.std.specs.Io.KnownBytes.{Consumes, Keeps}
 use Rattle.ftp_endpoint.specs.declared.host.Host.{Host}
 use Rattle.ftp_control.specs.Asking.{Asked, Reset, Ended, Shut, Adds, Drops, Leaves, Replaces, told_lost}
 use Rattle.ftp_control.specs.Carrying.{Sends, on_their_way, told_by}
-use Rattle.ftp_control.specs.Lane.{IsEnded, with_fate, IsHad, IsLeft, IsOpened, IsRead, IsWaited, IsWritten, Lane, lane_of, no_lane, with_given}
+use Rattle.ftp_control.specs.Lane.{IsEnded, with_fate, IsHad, IsLeft, IsOpened, IsRead, IsWaited, IsWritten, Lane, lane_of, no_lane, with_given, with_rest}
 use Rattle.ftp_control.specs.Machine.{IsFairEnd}
 use Rattle.ftp_control.specs.Whole.{IsWhole, is_well}
 use Rattle.ftp_control.specs.declared.whole.Fate.{Fate}
@@ -231,6 +231,11 @@ module _ {S : Type 0} (remaining contents : S → Option (List ℕ)) where
       ∙ ap (λ r. part old.stream old.fate r new.at new.end asked room untold) rest
       ∙ ap (λ l. record (part old.stream old.fate old.rest old.at old.end asked room untold) { unwritten = l })
       (ap (λ n. drop n (take new.end room)) at ∙ ap (λ n. drop old.at (take n room)) end)
+
+  -- more is to be given
+  pub rest_lane : (old new : DataConnection S) (asked : Option (List Asked)) (room : List ℕ) → new.stream ≡ old.stream → new.at ≡ old.at → new.end ≡ old.end
+      → new.rest ≡ Rests.More → new.fate ≡ old.fate → lane_of remaining contents asked new room [] ≡ with_rest Rests.More (lane_of remaining contents asked old room [])
+  rest_lane old new asked room stream at end rest fate = same_lane (record old { rest = Rests.More }) new asked room [] stream at end rest fate
 
 -- kept octets are those of which none was read
 pub keeps_consumes : (old new : Option (List ℕ)) → Keeps old new → Consumes old new []

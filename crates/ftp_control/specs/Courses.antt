@@ -3,7 +3,7 @@ use Rattle.std.specs.Prelude.{◌≡◌, ⊤, ℕ, Bool, true, false, List, [], 
 use Rattle.std.specs.Io.KnownBytes.{Appends}
 use Rattle.ftp_control.specs.Asking.{Asked, Listened, Came, Connected, NotCame, NotConnected, Ended as EndedBy, Reset, Shut, Lost, Adds, told_lost}
 use Rattle.ftp_control.specs.Deeds.{Deed, Heard, Said, Read, Ended, Other}
-use Rattle.ftp_control.specs.Lane.{Lane, Move, Stays, Waits, Reads, Writes, Gives, Takes, Fails, Ends, Breaks, Stops, Asks, Opens, Leaves}
+use Rattle.ftp_control.specs.Lane.{Lane, Move, Stays, Waits, Reads, Writes, Gives, Notes, Takes, Fails, Ends, Breaks, Stops, Asks, Opens, Leaves}
 use Rattle.ftp_control.specs.Side.{Side}
 
 -- what went over one so far: what was left to be read and what was written to it when it was opened; whether it was read and written; what
@@ -29,6 +29,7 @@ after (Waits lost) course = course
 after (Reads octets) course = record course { is_read = true; read = course.read ++ octets }
 after (Writes octets) course = record course { is_written = true; written = course.written ++ octets }
 after (Gives octets rest) course = record course { given = course.given ++ octets }
+after Notes course = course
 after (Takes octets) course = record course { told = course.told ++ octets }
 after Fails course = course
 after Ends course = course
@@ -48,6 +49,7 @@ asked_by (Waits lost) = told_lost lost
 asked_by (Reads octets) = []
 asked_by (Writes octets) = []
 asked_by (Gives octets rest) = []
+asked_by Notes = []
 asked_by (Takes octets) = []
 asked_by Fails = []
 asked_by Ends = []
@@ -79,6 +81,7 @@ IsFair (Waits lost) course = ⊤
 IsFair (Reads octets) course = ⊤
 IsFair (Writes octets) course = ⊤
 IsFair (Gives octets rest) course = ⊤
+IsFair Notes course = ⊤
 IsFair (Takes octets) course = ⊤
 IsFair Fails course = ⊤
 IsFair Breaks course = ⊤

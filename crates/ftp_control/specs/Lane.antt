@@ -10,7 +10,7 @@ use Rattle.ftp_control.specs.declared.data.DataConnection.{DataConnection}
 use Rattle.ftp_control.specs.declared.whole.Fate.{Fate}
 use Rattle.ftp_control.specs.declared.whole.Fate.TheVariants.{Sound, Failed, Broken, Over}
 use Rattle.ftp_control.specs.declared.whole.Rest.{Rest}
-use Rattle.ftp_control.specs.declared.whole.Rest.TheVariants.{Nothing}
+use Rattle.ftp_control.specs.declared.whole.Rest.TheVariants.{Nothing, More}
 
 -- whether one stands, and what became of it; whether this end had more to give for it when it gave last, or when it was opened; what is left to be
 -- read of it and what was written to it, where its stream tells that; the octets that this end gave and that are not written yet; those that were
@@ -50,6 +50,10 @@ with_untold untold lane = record lane { untold = untold }
 abbrev pub with_given : List ℕ → Rest → Lane → Lane
 with_given octets rest lane = record lane { rest = rest; unwritten = lane.unwritten ++ octets }
 
+-- this end has more for it, or not
+abbrev pub with_rest : Rest → Lane → Lane
+with_rest rest lane = record lane { rest = rest }
+
 -- this became of it
 abbrev pub with_fate : Fate → Lane → Lane
 with_fate fate lane = record lane { fate = fate }
@@ -74,6 +78,8 @@ pub data Move : Type 0 where
   Writes : (octets : List ℕ) → Move
   -- this end gives these for it, and then has more or not
   Gives : (octets : List ℕ) → (rest : Rest) → Move
+  -- this end has more for it
+  Notes : Move
   -- this end is told of these, the first of those that were read and not told; or they are let go
   Takes : (octets : List ℕ) → Move
   -- a read or a write of it failed
@@ -168,6 +174,7 @@ Moves (Waits lost) old new = IsWaited lost old new
 Moves (Reads octets) old new = IsRead octets old new
 Moves (Writes octets) old new = IsWritten octets old new
 Moves (Gives octets rest) old new = (new ≡ with_given octets rest old) × IsOpen old
+Moves Notes old new = new ≡ with_rest More old
 Moves (Takes octets) old new = (old.untold ≡ octets ++ new.untold) × (new ≡ with_untold new.untold old)
 Moves Fails old new = (new ≡ with_fate Failed old) × IsOpen old
 Moves Ends old new = (new ≡ with_fate Over old) × IsOpen old × IsAtEnd old.left × (old.untold ≡ [])

@@ -4,7 +4,7 @@ use Rattle.std.specs.Prelude.{◌≡◌, ◌≢◌, ◌⊎◌, ◌<◌, ⊤, ℕ
 use Rattle.ftp_control.specs.Asking.{Asked, Listened, Came, Connected, NotCame, NotConnected, Ended, Reset}
 use Rattle.ftp_control.specs.Deeds.{Deed, Done, Heard, Said, Read, Ended as ToldEnded, Other, Stand}
 use Rattle.ftp_control.specs.Driving.{Fails as BreaksOff, Leads, Quietly}
-use Rattle.ftp_control.specs.Lane.{IsOpen, Lane, Move, Moves, Stays, Waits, Reads, Writes, Gives as GivesOctets, Takes, Fails, Ends, Breaks, Stops, Asks, Opens, Leaves, with_untold}
+use Rattle.ftp_control.specs.Lane.{IsOpen, Lane, Move, Moves, Stays, Waits, Reads, Writes, Gives as GivesOctets, Notes, Takes, Fails, Ends, Breaks, Stops, Asks, Opens, Leaves, with_untold}
 use Rattle.ftp_control.specs.Side.{Side}
 use Rattle.ftp_control.specs.Unheard.{Source, left_of, unheard_of, written_of}
 use Rattle.ftp_control.specs.Whole.{is_well}
@@ -60,6 +60,8 @@ pub data Call (Own : Type 0) : Type 0 where
   Received : (octets : List ℕ) → (count : ℕ) → Call Own
   Gave : (count : ℕ) → (octets : List ℕ) → (rest : Rest) → Call Own
   NoPort End Break Closed : Call Own
+  -- it is seen that it wants to send: it has more to give
+  Noted : Call Own
   -- it is waited at, or looked at the control connection, and that told that it ended, or not; octets are read, written, and let go; a read or a
   -- write of it failed, behind the octets that it moved; it is closed or reset
   Waited : (lost : Bool) → Call Own
@@ -75,6 +77,7 @@ move_of (Opened host asked at_first so_far rest) = Opens host asked at_first so_
 move_of (Refused asked) = Asks asked
 move_of (Received octets count) = Takes (take count octets)
 move_of (Gave count octets rest) = GivesOctets octets rest
+move_of Noted = Notes
 move_of NoPort = Asks (Listened None ∷ [])
 move_of End = Ends
 move_of Break = Breaks
@@ -169,6 +172,7 @@ module _ (machine : Machine) where
   Does (Refused asked) old new = machine.Refused old new
   Does (Received octets count) old new = machine.Received octets count old new
   Does (Gave count octets rest) old new = (octets ≡ take count (machine.to_give old)) × machine.Gave count old new × (rest ≡ rest_by (machine.wants new))
+  Does Noted old new = (new ≡ old) × (machine.wants old ≡ Want.Send)
   Does NoPort old new = machine.NoPort old new
   Does End old new = machine.End old new
   Does Break old new = machine.Break old new

@@ -80,7 +80,18 @@ impl<S: Read + Write> DataConnection<S> {
         }
     }
 
-    /// Whether this end had more octets for it when it gave last, or when it was opened.
+    /// This end has more octets for it.
+    pub fn more(&mut self)
+        ensures rest { self.new.rest ≡ Rest.More }
+        ensures at { self.new.at ≡ self.old.at }
+        ensures end { self.new.end ≡ self.old.end }
+        ensures stream { self.new.stream ≡ self.old.stream }
+        ensures fate { self.new.fate ≡ self.old.fate }
+    {
+        self.rest = Rest::More;
+    }
+
+    /// Whether this end had more octets for it when it gave last, when it was seen to want to send, or when it was opened.
     pub fn rest(&self) -> Rest
         ensures { result ≡ self.now.rest }
     {

@@ -19,7 +19,7 @@ use Rattle.ftp_control.specs.declared.whole.Fate.TheVariants as Fates
 use Rattle.ftp_control.proofs.Going.{goes_then}
 use Rattle.ftp_control.proofs.Idling.{asked_waits, breaks_told, came, came_none, leaves, waits}
 use Rattle.ftp_control.proofs.Lanes.{same_lane}
-use Rattle.ftp_control.proofs.Getting.{stirs_lead, then_gets, then_stirs}
+use Rattle.ftp_control.proofs.Getting.{gets_goes, stirs_lead, then_gets, then_stirs}
 use Rattle.ftp_ends.specs.declared.link.Wants.{Wants}
 use Rattle.ftp_ends.specs.declared.link.Wants.TheVariants as Want
 use Rattle.ftp_control_drive.specs.Calling.{Ends}
@@ -117,6 +117,10 @@ module _ (machine : Machine) where
   pub turned_off : {U : Type 0} (a b : Stand (side_of machine)) → Fails a b ⊎ (Fails a b × U) → Fails a b
   turned_off a b (inl fails) = fails
   turned_off a b (inr other) = other.0
+
+  pub turned : {T U : Type 0} (a b : Stand (side_of machine)) (r : Result T Cause) → GetsOn machine a b r ⊎ (Goes a b r × U) → Goes a b r
+  turned a b r (inl gets) = gets_goes a b r gets
+  turned a b r (inr other) = other.0
 
   -- deeds, and then a turn
   pub then_turns : {T U : Type 0} (a b c : Stand (side_of machine)) (r : Result T Cause) → Leads a b → GetsOn machine b c r ⊎ (Goes b c r × U)

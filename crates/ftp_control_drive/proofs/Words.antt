@@ -14,7 +14,7 @@ pub use Rattle.ftp_control.specs.Driving.{Fails, Leads, Quietly}
 pub use Rattle.ftp_control.specs.Lane.{IsOpen, Lane, no_lane, with_given, with_untold}
 pub use Rattle.ftp_control.specs.Machine.{Closed, held, side_of, stand_of}
 pub use Rattle.ftp_control.specs.Outcome.{in_hand}
-pub use Rattle.ftp_control_drive.proofs.Steps.{asks, came_nothing, ends_err, fated_lane, flushed_so, handing, leaves_flushed, loses, may_leave, sent_fate, then_turns, turned_off, turned_on}
+pub use Rattle.ftp_control_drive.proofs.Steps.{asks, came_nothing, ends_err, fated_lane, flushed_so, handing, leaves_flushed, loses, may_leave, sent_fate, then_turns, turned, turned_off, turned_on}
 pub use Rattle.ftp_control_drive.specs.Calling.{Ends}
 pub use Rattle.ftp_control_drive.specs.Standing.{IsKept, Why, lane_at, standing}
 pub use Rattle.std.proofs.lemmas.List.{nil_from_length, take-append-le}

@@ -5,7 +5,7 @@ ghost use Rattle.ftp_control.specs.Lane.{no_lane};
 ghost use Rattle.ftp_control.specs.Machine.{IsFlushed, held, stand_of};
 ghost use Rattle.ftp_control.specs.Unheard.{unheard_of};
 ghost use Rattle.ftp_control_drive.specs.Calling.{Ends};
-ghost use Rattle.ftp_control_drive.specs.Standing.{IsKept, IsOpenAt, TurnsOn, Why, lane_at, standing};
+ghost use Rattle.ftp_control_drive.specs.Standing.{Follows, IsKept, IsOpenAt, LeadsOn, TurnsOn, Why, lane_at, standing};
 
 use crate::calls::EndCalls;
 use crate::data::Data;
@@ -79,7 +79,7 @@ where
             turns.next()?;
             match K::over(self.end) {
                 Some(over) => return Ok(over),
-                None => self.turn()?,
+                None => self.noted_turn()?,
             }
         }
     }
@@ -104,6 +104,27 @@ where
             return self.send();
         }
         self.act()
+    }
+
+    /// Notes whether the end wants to send, and makes one turn.
+    fn noted_turn(&mut self) -> Result<(), Cause>
+        ensures goes { Follows K.machine K.here R.remaining W.contents P.history S.remaining S.contents self.old self.new result }
+        ensures why { Why K.machine K.serves (K.here self.new.end.now) (P.history self.new.ports.now) self.new.control.now result }
+        ensures kept { IsKept self.old self.new }
+    {
+        self.note();
+        self.turn()
+    }
+
+    /// Notes that an end which wants to send has more octets for its data connection, which may have been opened before.
+    fn note(&mut self)
+        ensures leads { LeadsOn K.machine K.here R.remaining W.contents P.history S.remaining S.contents self.old self.new }
+        ensures control { self.new.control.now ≡ self.old.control.now }
+        ensures kept { IsKept self.old self.new }
+    {
+        if K::wants(self.end) == Wants::Send {
+            self.data.connection.more();
+        }
     }
 
     /// Whether octets that were read are to be heard now: of one that asks before all else, of one that serves beside what it waits for.
