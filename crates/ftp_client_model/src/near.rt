@@ -123,10 +123,10 @@ pub trait Near<A: Allocator + Copy>: Drop {
 
         // It gives all that is left, or fills the room.
         ensures most { result ≡ min (length room.old) (length (to_give (client self.old).view)) }
-        ensures counted { CountsOn (client self.old).refusals (client self.new).refusals };
 
         // It takes memory at most for the next operation of an upload over breaks.
         ensures spare { giving_grows result (client self.old).view ≡ false → (client self.new).refusals ≡ (client self.old).refusals }
+        ensures counted { CountsOn (client self.old).refusals (client self.new).refusals };
 
     /// A close that it wanted is done.
     fn data_closed(&mut self)

@@ -18,7 +18,7 @@ use Rattle.ftp_server_model.specs.declared.reply.FixedReply.TheVariants as Texts
 use Rattle.ftp_server_model.specs.declared.reply.ReplyKind.TheVariants as Replies
 use Rattle.ftp_server_model.specs.Ask.{has_size, or_empty, size_of, stamp_of}
 use Rattle.ftp_server_model.specs.Replies.{Turn, tells}
-use Rattle.ftp_server_session.specs.Session.{connection_of}
+use Rattle.ftp_server_session.specs.Session.{connection_of, has_transfer}
 use Rattle.ftp_endpoint.specs.declared.endpoint.Endpoint.{Endpoint}
 use Rattle.ftp_command.specs.declared.command.Passive.{Passive}
 use Rattle.ftp_ends.specs.Link.{is_v6}
@@ -204,6 +204,16 @@ idle_parts false r e = (refl, e)
 -- where a line may be acted on, the data connection is not busy
 pub idle_calm : (v : View) → is_idle v ≡ true → is_connection_busy v.session.connection ≡ false
 idle_calm v e = (idle_parts (is_connection_busy v.session.connection) (has_room v) e).0
+
+-- so no transfer stands, however it is seen
+pub idle_free : {J : Type 0} (view : J → Transfer) (c : ServerLink J) → is_connection_busy (connection_of view c) ≡ false → has_transfer c ≡ false
+idle_free view Data.Free is = refl
+idle_free view (Data.Asked asked) is = refl
+idle_free view (Data.Active endpoint) is = refl
+idle_free view Data.Passive is = refl
+idle_free view Data.Ready is = refl
+idle_free view (Data.Opening transfer way) is = absurd (let wrong : true ≡ false = is in cc)
+idle_free view (Data.Transferring transfer) is = absurd (let wrong : true ≡ false = is in cc)
 
 -- and there is room
 pub idle_room : (v : View) → is_idle v ≡ true → length v.owed ≤ 4096

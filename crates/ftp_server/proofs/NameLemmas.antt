@@ -43,6 +43,7 @@ use Rattle.ftp_server_model.specs.declared.session.ServerLink.TheVariants as Dat
 use Rattle.ftp_server_model.specs.declared.session.Facts.{Facts}
 use Rattle.ftp_server_model.specs.declared.session.Pending.{Pending}
 use Rattle.ftp_server_model.specs.declared.session.Pending.TheVariants as Pendings
+use Rattle.ftp_server_session.specs.Line.{LineLost}
 use Rattle.ftp_server.specs.Busy.{HasRoom, MayWait, heard_name_len, is_busy, name_len, waiting_limit}
 
 -- ---- a turn leaves a name of at most so many octets
@@ -196,6 +197,13 @@ pub decided_named : (turn : Turn) (footing : Footing) (heard : HeardLine (List �
     → access_len s.access ≤ login_limit → heard_name_len heard ≤ login_limit → access_len turn.0.access ≤ login_limit
 decided_named turn footing heard pending s is named short =
     subst (Within login_limit) (sym is) (within_decided login_limit footing heard pending s named short)
+
+-- nor does one that could not be done
+pub lost_named : (heard : HeardLine (List ℕ)) (old new : Session) → LineLost heard old new → access_len old.access ≤ login_limit → access_len new.access ≤ login_limit
+lost_named TooLong old new lost named = absurd lost
+lost_named (Bad fault) old new lost named = absurd lost
+lost_named (Asks command) old new lost named =
+    subst (Named login_limit) (sym lost.2) (forgets_named login_limit (is_transfer command) (record old { pending = Pendings.Nothing }) named)
 
 -- ---- the line that waits, and all that is held
 

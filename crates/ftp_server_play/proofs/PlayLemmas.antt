@@ -12,6 +12,7 @@ use Rattle.ftp_server_model.specs.Play.{Cue, Gift, IsApart, LogsInAt, call, left
 use Rattle.ftp_server_model.specs.View.{View}
 use Rattle.ftp_server_laws.proofs.RootTheorems.{roots_are_apart}
 use Rattle.ftp_server_play.proofs.CallLemmas.{makes_gives}
+use Rattle.ftp_server_play.proofs.CountLemmas.{calm_all}
 use Rattle.ftp_server_play.specs.Cues.{cue_of, cues_of, gift_of, gifts_of}
 use Rattle.ftp_server_play.specs.declared.cue.Cue.{Cue as Held}
 use Rattle.ftp_server_play.specs.declared.cue.Gift.{Gift as Given}
@@ -197,6 +198,7 @@ plays_as calm cues gifts old new made = record {
   gave = λ read is. gave_as read is calm cues gifts old new made;
   left = λ read is all. left_as read is calm cues gifts old new made all;
   steady = steady_as calm cues gifts old new made;
+  fine = λ read is few same. calm_all read is calm cues gifts old new few made same;
 }
 
 -- ---- at a root

@@ -1,6 +1,6 @@
 -- What calls by a list leave, and what they give, however lines are read: as the definitions say up to the first in which a count of the
 -- server moved, and each by its own clauses from there on.
-use Rattle.std.specs.Prelude.{◌≡◌, ◌≤◌, ℕ, List, length, take}
+use Rattle.std.specs.Prelude.{◌≡◌, ◌*◌, ◌<◌, ◌≤◌, ◌^◌, ℕ, List, length, take}
 use Rattle.ftp_endpoint.specs.declared.host.Host.{Host}
 use Rattle.ftp_path.specs.Path.{Names}
 use Rattle.ftp_tree.specs.Tree.{Table}
@@ -16,11 +16,13 @@ use Rattle.ftp_server_play.specs.Making.{ArePlayed}
 abbrev pub Gives : Cue → Gift → (old new : Server) → Type 0
 Gives cue gift old new = new.counts ≡ old.counts → (read : Reading) → IsReading read → (gift, new.view) ≡ call read cue old.view
 
--- the first calls gave what the definitions say; where these are all, so is what was left, and neither count moved
+-- the first calls gave what the definitions say; where these are all, so is what was left, and neither count moved; where the counts are what
+-- they were after a list that is too short for a count to come round, these are all
 pub record PlaysAs (calm : ℕ) (cues : List Cue) (gifts : List Gift) (old new : Server) : Type 0 where
   pub gave : (read : Reading) → IsReading read → take calm gifts ≡ played read (take calm cues) old.view
   pub left : (read : Reading) → IsReading read → calm ≡ length cues → new.view ≡ left_by read cues old.view
   pub steady : calm ≡ length cues → new.counts ≡ old.counts
+  pub fine : (read : Reading) → IsReading read → 2 * length cues < 2 ^ 64 → new.counts ≡ old.counts → calm ≡ length cues
 
 -- the first of the calls were made
 pub record PlaysSome (cues : List Cue) (old new : Server) : Type 0 where

@@ -1,13 +1,14 @@
 // The order of decisions on a line (own choice).
-ghost use Rattle.std.specs.Prelude.{◌≡◌, false, if◌then◌else◌};
+ghost use Rattle.std.specs.Prelude.{◌≡◌, false, true, if◌then◌else◌};
 ghost use Rattle.ftp_server_model.specs.Endpoint.{forgotten};
 ghost use Rattle.ftp_server_session.specs.Line.{HasPathTexts, HeardPaths};
+ghost use Rattle.ftp_server_session.specs.Session.{has_transfer};
 
 use crate::footing::Footing;
 use crate::session::Session;
 use ftp_command::{Argument, Command};
 use ftp_path::Path;
-use ftp_server_model::{FixedReply, HeardLine, Pending, ReplyKind};
+use ftp_server_model::{FixedReply, HeardLine, Pending, ReplyKind, ServerLink};
 use ftp_server_parts::{
     Fault, ServerTransfer, fault_text, is_free, is_in, is_transfer, pending_for,
 };
@@ -15,11 +16,28 @@ use ftp_tree::Tree;
 use std::alloc::Allocator;
 
 impl<A: Allocator + Copy, T: Tree<A>, J: ServerTransfer<A, T>> Session<A, T, J> {
-    ghost use Rattle.ftp_server_session.specs.Session.{footing_of, has_transfer, session_of};
+    ghost use Rattle.ftp_server_session.specs.Session.{footing_of, session_of};
     ghost use Rattle.ftp_server_session.specs.Line.{Asked, Decides};
 
-    /// Acts on a line: what was pending is taken, the order of decisions gone through, and the reply that is to be said answered.
+    /// Acts on a line: what was pending is taken, the order of decisions gone through, and the reply that is to be said answered. A server has
+    /// its lines wait while a transfer is under way; one that comes here then is out of sequence, and nothing is done.
     pub fn decide(
+        &mut self,
+        footing: &Footing<A>,
+        heard: HeardLine<Argument<A>>,
+    ) -> Result<ReplyKind<Path<A>>, Fault>
+        requires { HeardPaths heard }
+        ensures idle { has_transfer self.old.connection ≡ false → Decides T.table T.failures J.view (footing_of footing.now) heard self.old self.new result }
+        ensures busy { has_transfer self.old.connection ≡ true → (result ≡ Ok (ReplyKind.Fixed FixedReply.BadSequence)) × (self.new ≡ self.old) }
+    {
+        if has_transfer(&self.connection) {
+            return Ok(ReplyKind::Fixed(FixedReply::BadSequence));
+        }
+        self.decide_idle(footing, heard)
+    }
+
+    /// The same where no transfer is under way.
+    fn decide_idle(
         &mut self,
         footing: &Footing<A>,
         heard: HeardLine<Argument<A>>,
@@ -73,4 +91,14 @@ impl<A: Allocator + Copy, T: Tree<A>, J: ServerTransfer<A, T>> Session<A, T, J> 
         }
         self.forget();
     }
+}
+
+/// Whether a transfer is under way, its data connection open or still to come.
+fn has_transfer<J>(connection: &ServerLink<J>) -> bool
+    ensures { result ≡ has_transfer connection.now }
+{
+    matches!(
+        connection,
+        ServerLink::Opening(_, _) | ServerLink::Transferring(_)
+    )
 }

@@ -13,22 +13,12 @@ use ftp_wire::Encoder;
 use std::alloc::Allocator;
 
 /// A file that is sent. It holds no octet of the file but those in one block.
+#[derive(Drop)]
 pub struct Download<A: Allocator + Copy> {
     pub(crate) path: Path<A>,
     /// The place in the file of the next octet that is encoded.
     pub(crate) at: u64,
     pub(crate) encoder: Encoder,
-}
-
-/// By hand: a derived drop is proved again, part by part, wherever a download is let go.
-impl<A: Allocator + Copy> Drop for Download<A> {
-    fn drop(self) {
-        let Self {
-            path: _,
-            at: _,
-            encoder: _,
-        } = self;
-    }
 }
 
 impl<A: Allocator + Copy> Download<A> {

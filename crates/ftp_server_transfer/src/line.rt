@@ -29,6 +29,7 @@ pub(crate) const TEXT_LIMIT: usize = 900;
 const ENOUGH: usize = 512;
 
 /// What a listing says of each name.
+#[derive(Drop)]
 pub enum What<A: Allocator + Copy> {
     /// LIST: a line as many clients read it.
     Lines,
@@ -36,15 +37,6 @@ pub enum What<A: Allocator + Copy> {
     Names(Named<A>),
     /// MLSD: these facts and the name.
     Entries(Facts),
-}
-
-/// By hand: a derived drop is proved again, part by part, wherever it is let go.
-impl<A: Allocator + Copy> Drop for What<A> {
-    fn drop(self) {
-        match self {
-            What::Lines | What::Names(_) | What::Entries(_) => {}
-        }
-    }
 }
 
 /// Puts the next lines from a place on, with LF behind each, and says where to go on; none where no line is left. These are as

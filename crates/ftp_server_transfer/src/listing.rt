@@ -27,6 +27,7 @@ pub struct Made {
 }
 
 /// The octets of a listing that are still to be given. It holds some lines, and some behind them, and makes the others from the tree.
+#[derive(Drop)]
 pub struct Listing<A: Allocator + Copy> {
     alloc: A,
     pub(crate) what: What<A>,
@@ -43,22 +44,6 @@ pub struct Listing<A: Allocator + Copy> {
     ghost known: { is_some place ≡ true → 0 < length ahead.items },
     ghost few: { length lines.items ≤ lines_limit },
     ghost few_ahead: { length ahead.items ≤ lines_limit },
-}
-
-/// By hand: a derived drop is proved again, part by part, wherever a listing is let go.
-impl<A: Allocator + Copy> Drop for Listing<A> {
-    fn drop(self) {
-        let Self {
-            alloc: _,
-            what: _,
-            path: _,
-            encoder: _,
-            lines: _,
-            given: _,
-            ahead: _,
-            place: _,
-        } = self;
-    }
 }
 
 impl<A: Allocator + Copy> Listing<A> {

@@ -8,15 +8,9 @@ use std::alloc::{AllocError, Allocator};
 use std::marker::Model;
 
 /// A text that names what is listed: at most 900 octets.
+#[derive(Drop)]
 pub struct Named<A: Allocator + Copy> {
     text: Text<A>,
-}
-
-/// By hand: a derived drop is proved again wherever it is let go.
-impl<A: Allocator + Copy> Drop for Named<A> {
-    fn drop(self) {
-        let Self { text: _ } = self;
-    }
 }
 
 impl<A: Allocator + Copy> Model for Named<A> {

@@ -18,6 +18,7 @@ use std::alloc::{AllocError, Allocator};
 use std::mem;
 
 /// A transfer of a server.
+#[derive(Drop)]
 pub enum TreeTransfer<A: Allocator + Copy> {
     /// An upload below its limits.
     Upload(Upload<A>),
@@ -25,16 +26,6 @@ pub enum TreeTransfer<A: Allocator + Copy> {
     OverLimit,
     Download(Download<A>),
     Listing(Listing<A>),
-}
-
-/// By hand: a derived drop is made anew in each crate that lets a transfer go, and with it each server of that crate.
-impl<A: Allocator + Copy> Drop for TreeTransfer<A> {
-    fn drop(self) {
-        match self {
-            TreeTransfer::Upload(_) | TreeTransfer::OverLimit => {}
-            TreeTransfer::Download(_) | TreeTransfer::Listing(_) => {}
-        }
-    }
 }
 
 impl<A: Allocator + Copy, T: Tree<A>> ServerTransfer<A, T> for TreeTransfer<A> {

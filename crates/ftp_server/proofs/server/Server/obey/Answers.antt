@@ -1,4 +1,4 @@
-use Rattle.std.proofs.Common.{List, length, ℕ, ap, subst, sym, ◌∙◌}
+use Rattle.std.proofs.Common.{List, length, ℕ, ap, arith, subst, sym, ◌∙◌}
 use Rattle.ftp_server_model.specs.Act.{decided}
 use Rattle.ftp_server_model.specs.Failing.{LineFails}
 use Rattle.ftp_server_model.specs.Machine.{completed, obeyed, replied, turned, with_session}
@@ -11,8 +11,8 @@ use Rattle.ftp_server_session.specs.Line.{LineLost}
 use Rattle.ftp_server_session.specs.Session.{session_of}
 use Rattle.ftp_tree.specs.Tree.{under}
 use Rattle.ftp_server.proofs.CountingLemmas.{by_fault, stayed}
-use Rattle.ftp_server.proofs.BusyLemmas.{busy_seen, idle_calm, idle_room, said_room, short_decided}
-use Rattle.ftp_server.proofs.NameLemmas.{decided_named}
+use Rattle.ftp_server.proofs.BusyLemmas.{busy_seen, idle_calm, idle_free, idle_room, said_room, short_decided}
+use Rattle.ftp_server.proofs.NameLemmas.{decided_named, lost_named}
 use Rattle.ftp_server.specs.Server.{view_of}
 use Rattle.ftp_server.proofs.server.Server.obey.Goals as goal
 
@@ -22,24 +22,46 @@ invariant_of-self g c =
     let v : View = view_of table view c.args.self.now in
     let s : Session = record v.session { pending = Pendings.Nothing } in
     let new = c.decide.new.self in
+    let free = idle_free (view (under (table c.args.self.now.session.tree) c.args.self.now.session.root)) c.args.self.now.session.connection (idle_calm v c.requires.idle) in
+    let done = c.in-Ok.ensures.idle free in
     record {
       room = λ busy.
           said_room (session_of table view new, c.in-Ok.kind) (decided v.footing c.args.heard v.session.pending s)
-          (length v.owed) (length c.say.new.output) c.in-Ok.ensures.0
+          (length v.owed) (length c.say.new.output) done.0
           (short_decided v.footing c.args.heard v.session.pending s (idle_calm v c.requires.idle))
           c.say.ensures.short (idle_room v c.requires.idle)
           (busy_seen (view (under (table new.tree) new.root)) new.connection ∙ busy);
       paths = c.args.self.now.paths;
-      named = decided_named (session_of table view new, c.in-Ok.kind) v.footing c.args.heard v.session.pending s c.in-Ok.ensures.0 c.args.self.now.named c.requires.named;
+      named = decided_named (session_of table view new, c.in-Ok.kind) v.footing c.args.heard v.session.pending s done.0 c.args.self.now.named c.requires.named;
+    }
+
+pub invariant_of-self-in-Err : goal.invariant_of-self-in-Err
+invariant_of-self-in-Err g c =
+    let table = g.T.Tree.table in let view = g.J.ServerTransfer.view in
+    let v : View = view_of table view c.args.self.now in
+    let free = idle_free (view (under (table c.args.self.now.session.tree) c.args.self.now.session.root)) c.args.self.now.session.connection (idle_calm v c.requires.idle) in
+    record {
+      room = λ busy. omega (arith, idle_room v c.requires.idle, c.put_fixed.ensures.room);
+      paths = c.args.self.now.paths;
+      named = lost_named c.args.heard v.session (session_of table view c.decide.new.self) (c.in-Err.ensures.idle free).0 c.args.self.now.named;
     }
 
 pub returns-in-Ok-clause-done : goal.returns-in-Ok-clause-done
 unfolding obeyed
 returns-in-Ok-clause-done g c =
-    let v : View = view_of g.T.Tree.table g.J.ServerTransfer.view c.args.self.now in
+    let table = g.T.Tree.table in let view = g.J.ServerTransfer.view in
+    let v : View = view_of table view c.args.self.now in
+    let free = idle_free (view (under (table c.args.self.now.session.tree) c.args.self.now.session.root)) c.args.self.now.session.connection (idle_calm v c.requires.idle) in
     let session = session_of g.T.Tree.table g.J.ServerTransfer.view c.decide.new.self in
     c.complete.ensures.done ∙ ap (λ owed. completed (record (with_session session v) { owed = owed })) c.say.ensures.said
-    ∙ ap (λ turn. completed (turned turn v)) c.in-Ok.ensures.0
+    ∙ ap (λ turn. completed (turned turn v)) (c.in-Ok.ensures.idle free).0
+
+pub returns-in-Ok-clause-steady : goal.returns-in-Ok-clause-steady
+returns-in-Ok-clause-steady g c =
+    let table = g.T.Tree.table in let view = g.J.ServerTransfer.view in
+    let v : View = view_of table view c.args.self.now in
+    let free = idle_free (view (under (table c.args.self.now.session.tree) c.args.self.now.session.root)) c.args.self.now.session.connection (idle_calm v c.requires.idle) in
+    ap (λ n. n.failures) c.complete.ensures.steady ∙ (c.in-Ok.ensures.idle free).1
 
 -- a line that could not be done leaves its session, and is answered 451
 line_fails : (heard : HeardLine (List ℕ)) (v : View) (session : Session) → LineLost heard v.session session → LineFails heard v (replied LocalFault session v)
@@ -49,13 +71,23 @@ line_fails (Asks command) v session lost = (lost.0, lost.1, ap (λ s. replied Lo
 
 pub returns-in-Err-clause-lost : goal.returns-in-Err-clause-lost
 returns-in-Err-clause-lost g c =
-    let v : View = view_of g.T.Tree.table g.J.ServerTransfer.view c.args.self.now in
+    let table = g.T.Tree.table in let view = g.J.ServerTransfer.view in
+    let v : View = view_of table view c.args.self.now in
+    let free = idle_free (view (under (table c.args.self.now.session.tree) c.args.self.now.session.root)) c.args.self.now.session.connection (idle_calm v c.requires.idle) in
     let session = session_of g.T.Tree.table g.J.ServerTransfer.view c.decide.new.self in
     subst (λ owed. LineFails c.args.heard v (record (with_session session v) { owed = owed })) (sym c.put_fixed.ensures.octets)
-    (line_fails c.args.heard v session c.in-Err.ensures.0)
+    (line_fails c.args.heard v session (c.in-Err.ensures.idle free).0)
 
 pub returns-in-Ok-clause-few : goal.returns-in-Ok-clause-few
-returns-in-Ok-clause-few g c = stayed 1 _ _ (ap (λ n. n.failures) c.complete.ensures.steady ∙ c.in-Ok.ensures.1)
+returns-in-Ok-clause-few g c =
+    let table = g.T.Tree.table in let view = g.J.ServerTransfer.view in
+    let v : View = view_of table view c.args.self.now in
+    let free = idle_free (view (under (table c.args.self.now.session.tree) c.args.self.now.session.root)) c.args.self.now.session.connection (idle_calm v c.requires.idle) in
+    stayed 1 _ _ (ap (λ n. n.failures) c.complete.ensures.steady ∙ (c.in-Ok.ensures.idle free).1)
 
 pub returns-in-Err-clause-few : goal.returns-in-Err-clause-few
-returns-in-Err-clause-few g c = by_fault c.in-Err.field-0 _ _ c.in-Err.ensures.1
+returns-in-Err-clause-few g c =
+    let table = g.T.Tree.table in let view = g.J.ServerTransfer.view in
+    let v : View = view_of table view c.args.self.now in
+    let free = idle_free (view (under (table c.args.self.now.session.tree) c.args.self.now.session.root)) c.args.self.now.session.connection (idle_calm v c.requires.idle) in
+    by_fault c.in-Err.field-0 _ _ (c.in-Err.ensures.idle free).1
