@@ -1,5 +1,5 @@
 // A world of two ends.
-ghost use Rattle.std.specs.Prelude.{◌≡◌, true, length, map, nat_eq, option_map, IfErr, IfOk, OnErr, OnOk};
+ghost use Rattle.std.specs.Prelude.{◌≡◌, ◌∷◌, [], true, length, map, nat_eq, option_map, IfErr, IfOk, OnErr, OnOk};
 ghost use Rattle.std.specs.List.{slice_get};
 ghost use Rattle.ftp_operation.specs.Answer.{said_of};
 ghost use Rattle.ftp_pair_world.specs.Agreement.{begun_by};
