@@ -60,7 +60,7 @@ where
 
     fn play_pair<F: Write>(&self, settings: PairSettings, faults: &mut F) -> Status {
         let mut reader = self.reader();
-        ftp_tool_pair::play(
+        ftp_tool_pair::pair(
             self.alloc(),
             settings,
             &mut reader,

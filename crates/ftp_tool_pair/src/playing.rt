@@ -45,7 +45,7 @@ pub struct PairSettings {
 /// order was answered as wanted. `Refused`: an order was refused or failed. `BadWords`: a line of the script fits no form, and nothing was done.
 /// `Failed`: a read or a write failed, or memory was refused, also to one of the ends. `faults` is told of the last two.
 #[tactic(auto, using(crate::proofs::Reporting::tells_none, crate::proofs::Reporting::tells_script))]
-pub fn play<A, R, W, F>(
+pub fn pair<A, R, W, F>(
     alloc: A,
     settings: PairSettings,
     reader: &mut R,

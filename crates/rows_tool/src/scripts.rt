@@ -1,5 +1,5 @@
 // Scripts, as the program `pair` plays them.
-use ftp_tool_pair::{PairSettings, play};
+use ftp_tool_pair::{PairSettings, pair};
 use ftp_tool_status::Status;
 use rows_base::{FailingReader, FailingWriter, Paper, Refusing, cut, row_in_front, split};
 use std::alloc::Global;
@@ -104,7 +104,7 @@ fn play_with(alloc: Global, words: &[u8], script: &[u8], piece: u32, refused: u6
     let mut faults = FailingWriter::new(alloc, usize::MAX, u32::MAX);
     let settings = settings_of(words, piece);
     let heap = Refusing::new(alloc, refused);
-    let status = play(&heap, settings, &mut reader, &mut writer, &mut faults);
+    let status = pair(&heap, settings, &mut reader, &mut writer, &mut faults);
     paper.put(writer.taken());
     paper.put(faults.taken());
     put_status(status, &mut paper);
