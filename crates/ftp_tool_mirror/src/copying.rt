@@ -1,5 +1,6 @@
 // One file that is copied, one way or the other.
 use crate::asked::Mirror;
+use crate::folder::facts_here;
 use crate::telling::shown;
 use crate::trouble::Trouble;
 use ftp_facts::{Moment, Text};
@@ -92,6 +93,33 @@ fn check_whole(arrived: Arrival, count: u64, limit: u64) -> Result<(), Trouble> 
         Arrival::Changed => Err(Trouble::Answered(
             "it changed at the server each time that it came",
         )),
+    }
+}
+
+/// Whether the file here is the server's still, though the listing tells another moment: it has the size that is listed, and the moment that the server
+/// tells when it is asked for this file alone, which is what a copy is given (RFC 3659, section 3).
+pub(crate) fn is_current<R, S>(
+    rt: &R,
+    alloc: Global,
+    seat: &mut S,
+    mirror: &Mirror<'_>,
+    below: &str,
+    facts: Facts,
+) -> Result<bool, Trouble>
+where
+    R: Places,
+    S: ClientSession,
+{
+    let Some(here) = facts_here(rt, mirror.folder, below) else {
+        return Ok(false);
+    };
+    if here.size != facts.size || here.moment.is_none() {
+        return Ok(false);
+    }
+    match &seat.answer(Request::One(Some(Op::Modified(mirror.path(alloc, below)?)))) {
+        Answer::Stamp(moment) => Ok(here.moment == Some(moment.seconds)),
+        Answer::Lost => Err(Trouble::Lost),
+        _ => Ok(false),
     }
 }
 

@@ -73,6 +73,17 @@ pub(crate) fn put_item(
     Ok(())
 }
 
+/// What is known of the file `below` a folder; none where no file stands there, or the system tells nothing of it.
+pub(crate) fn facts_here<R: Places>(rt: &R, folder: &str, below: &str) -> Option<Facts> {
+    match rt.found(folder, below) {
+        Ok(Some(found)) => match kind_of(&found) {
+            Kind::File(facts) => Some(facts),
+            Kind::Dir | Kind::Other | Kind::Excluded => None,
+        },
+        Ok(None) | Err(_) => None,
+    }
+}
+
 fn kind_of(found: &Metadata) -> Kind {
     if found.is_dir() {
         Kind::Dir

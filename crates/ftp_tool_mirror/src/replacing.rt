@@ -118,7 +118,7 @@ impl<'a, R: Machine> Walk<'a, R> {
         below: &str,
     ) -> Result<bool, Trouble> {
         match self.mirror.rules.way {
-            Way::Down => Ok(self.rt.stands(self.mirror.folder, below)?),
+            Way::Down => Ok(self.rt.found(self.mirror.folder, below)?.is_some()),
             Way::Up => stands_there(seat, self.mirror.path(self.alloc, below)?),
         }
     }

@@ -1,7 +1,7 @@
 // The way through a tree, one thing after another.
 use crate::asked::{Doing, Mirror};
 use crate::changing::{change_there, word_of};
-use crate::copying::{begun, copy_up, download, is_same, leave};
+use crate::copying::{begun, copy_up, download, is_current, is_same, leave};
 use crate::folder::entries_here;
 use crate::machine::Machine;
 use crate::removals::Settled;
@@ -178,8 +178,8 @@ impl<'a, R: Machine> Walk<'a, R> {
 
     /// Whether something stands in the folder of this machine; where its directory does not, or is none, nothing does.
     fn stands_here(&self, below: &str) -> Result<bool, Trouble> {
-        match self.rt.stands(self.mirror.folder, below) {
-            Ok(stands) => Ok(stands),
+        match self.rt.found(self.mirror.folder, below) {
+            Ok(found) => Ok(found.is_some()),
             Err(error) if error.kind() == ErrorKind::NotFound => Ok(false),
             Err(error) if error.kind() == ErrorKind::NotADirectory => Ok(false),
             Err(error) => Err(Trouble::Here(error)),
@@ -206,7 +206,7 @@ impl<'a, R: Machine> Walk<'a, R> {
         below: &str,
     ) -> Result<(), Trouble> {
         match deed {
-            Deed::Copy(facts) => self.copy(seat, below, facts),
+            Deed::Copy(facts) => self.copy_changed(seat, below, facts),
             Deed::Compare(facts) => self.compare(seat, below, facts),
             Deed::MakeDir => self.make_and_enter(seat, below),
             Deed::Enter => self.enter(seat, below),
@@ -235,6 +235,21 @@ impl<'a, R: Machine> Walk<'a, R> {
         };
         let what = "neither file nor directory; it is left out";
         let _told = tell(self.rt, self.alloc, kind, below, &what);
+    }
+
+    /// Copies a file, unless the one of this machine is the server's still, whatever its listing says.
+    fn copy_changed<S: ClientSession>(
+        &mut self,
+        seat: &mut S,
+        below: &str,
+        facts: Facts,
+    ) -> Result<(), Trouble> {
+        if matches!(self.mirror.rules.way, Way::Down)
+            && is_current(self.rt, self.alloc, seat, self.mirror, below, facts)?
+        {
+            return Ok(());
+        }
+        self.copy(seat, below, facts)
     }
 
     /// Copies a file.

@@ -29,8 +29,8 @@ pub trait Places {
     /// What stands in the directory there, `most` entries at most, without `.` and `..`.
     fn sightings(&self, root: &str, below: &str, most: usize) -> io::Result<Sightings>;
 
-    /// Whether anything stands there.
-    fn stands(&self, root: &str, below: &str) -> io::Result<bool>;
+    /// What the system says of what stands there, of a link itself; none where nothing does.
+    fn found(&self, root: &str, below: &str) -> io::Result<Option<Metadata>>;
 
     /// The octets of the file there, where it has `limit` octets at most.
     fn read_below(&self, root: &str, below: &str, limit: u64) -> io::Result<Reading>;
@@ -58,9 +58,9 @@ impl<R: Files + AllocGlobal> Places for R {
         seen(self, self.alloc(), &folder, most)
     }
 
-    fn stands(&self, root: &str, below: &str) -> io::Result<bool> {
+    fn found(&self, root: &str, below: &str) -> io::Result<Option<Metadata>> {
         let (folder, name) = parent(self.alloc(), root, below)?;
-        is_there(self, folder.path_of(self.alloc(), name)?.as_str())
+        found_at(self, folder.path_of(self.alloc(), name)?.as_str())
     }
 
     fn read_below(&self, root: &str, below: &str, limit: u64) -> io::Result<Reading> {
@@ -101,7 +101,7 @@ impl<R: Files + AllocGlobal> Places for R {
         let (folder, before) = parent(self.alloc(), root, below)?;
         let from = folder.path_of(self.alloc(), before)?;
         let to = folder.path_of(self.alloc(), name)?;
-        if is_there(self, to.as_str())? {
+        if found_at(self, to.as_str())?.is_some() {
             return Err(Error::from(ErrorKind::AlreadyExists));
         }
         fs::rename(self, from.as_str(), to.as_str())
@@ -120,11 +120,11 @@ fn parent<'a>(alloc: Global, root: &str, below: &'a str) -> io::Result<(Folder, 
     Ok((Folder::reach(alloc, root, dir)?, name))
 }
 
-/// Whether anything has a name, be it a link.
-fn is_there<R: Files>(files: &R, path: &str) -> io::Result<bool> {
+/// What the system says of what has a name, be it a link; none where nothing has it.
+fn found_at<R: Files>(files: &R, path: &str) -> io::Result<Option<Metadata>> {
     match fs::symlink_metadata(files, path) {
-        Ok(_) => Ok(true),
-        Err(error) if error.kind() == ErrorKind::NotFound => Ok(false),
+        Ok(found) => Ok(Some(found)),
+        Err(error) if error.kind() == ErrorKind::NotFound => Ok(None),
         Err(error) => Err(error),
     }
 }
@@ -177,10 +177,9 @@ fn put_sighting<R: Files>(
     all: &mut Vec<Sighting, Global>,
 ) -> io::Result<()> {
     let found = match std::str::from_utf8(name) {
-        Ok(text) => match fs::symlink_metadata(files, folder.path_of(alloc, text)?.as_str()) {
-            Ok(found) => Some(found),
-            Err(error) if error.kind() == ErrorKind::NotFound => return Ok(()),
-            Err(error) => return Err(error),
+        Ok(text) => match found_at(files, folder.path_of(alloc, text)?.as_str())? {
+            Some(found) => Some(found),
+            None => return Ok(()),
         },
         Err(_) => None,
     };
