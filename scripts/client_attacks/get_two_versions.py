@@ -105,10 +105,29 @@ def after_the_last(rows):
         rows.row(f"{program}, replaced each time: status 1, 16 tries, no file", (status, octets, tries) == (1, b"", 16), (status, octets[:1], tries, told))
 
 
+def listed_otherwise(rows):
+    """The listing tells another moment than MDTM: a second run copies nothing, and one after a change does."""
+    for number, listed in enumerate(("99991231235959", "19700101000000", "20380119031408", "21060207062816")):
+        file = rows.folder / f"twice{number}" / "s"
+        for run, octets, moment, comes in (("first", b"12", FIRST, True), ("second", b"12", FIRST, False), ("changed", b"21", SECOND, True)):
+            server = FakeServer({
+                "SIZE": "213 2",
+                "MDTM": f"213 {moment}",
+                "RETR": lambda session, _: session.send(octets),
+                "MLSD": lambda session, _: session.send(f"Type=file;Size=2;Modify={listed}; s\r\n".encode()),
+            })
+            status, _, told = rows.tool("mirror", f"127.0.0.1:{server.port}/", file.parent.name)
+            server.close()
+            came = any(command.startswith("RETR") for command in server.commands)
+            seen = (status, came, file.read_bytes() if file.exists() else b"")
+            rows.row(f"mirror, listed as of {listed}, {run} run", seen == (0, comes, octets), (seen, told))
+
+
 def main():
     rows = Rows()
     replaced(rows)
     after_the_last(rows)
+    listed_otherwise(rows)
     rows.finish()
 
 
