@@ -7,10 +7,10 @@ use Rattle.ftp_pair_parts.proofs.parts.Parts.start_upload.Goals as goal
 
 pub returns-clause-counted : goal.returns-clause-counted
 returns-clause-counted g c =
-    near_kept c.refusals-refusals.result c.refusals.result c.stays-self.ensures.fits c.refusals-refusals.ensures c.refusals.ensures c.upload.ensures.counted refl c.stays-self.ensures.is
+    near_kept c.refusals-refusals.result c.refusals.result c.stays-self.ensures.fits c.refusals-refusals.ensures c.refusals.ensures c.begin_upload.ensures.counted refl c.stays-self.ensures.is
 
 pub returns-then-is_some-clause-counted : goal.returns-then-is_some-clause-counted
 returns-then-is_some-clause-counted g c =
     let busy = is_busy (g.N.Near.client c.args.self.now.near).view in
-    let back = ap is_some (ap (handed_back busy) (sym c.requires.1.1.1.1) ∙ sym c.upload.ensures.left) ∙ sym c.is_some.ensures ∙ c.if-is_some.true in
-    held 3 (c.upload.ensures.busy (handed_some busy g.texts back)).1 refl
+    let back = ap is_some (ap (handed_back busy) (sym c.requires.1.1.1.1) ∙ sym c.begin_upload.ensures.left) ∙ sym c.is_some.ensures ∙ c.if-is_some.true in
+    held 3 (c.begin_upload.ensures.busy (handed_some busy g.texts back)).1 refl
