@@ -10,11 +10,11 @@ pub(crate) struct Named<'a>(pub(crate) &'a [u8]);
 impl<'a> Display for Named<'a> {
     fn fmt<W: fmt::Write>(&self, formatter: &mut Formatter<W>) -> fmt::Result {
         formatter.write_str("\"")?;
-        let mut between = "";
-        for part in self.0.split(|octet| *octet == b'"') {
-            formatter.write_str(between)?;
+        for (index, part) in self.0.split(|octet| *octet == b'"').enumerate() {
+            if index > 0 {
+                formatter.write_str("\\x22")?;
+            }
             Shown(part).fmt(formatter)?;
-            between = "\\x22";
         }
         formatter.write_str("\"")
     }
