@@ -34,10 +34,10 @@ fn put_served<'a>(
     rt: &'a HostRuntime,
     paper: &mut Paper,
     name: &str,
-    guests: &'a Guests<'a>,
+    guests: Guests<'a>,
 ) -> io::Result<()> {
     let count = if guests.gone.is_some() { 2 } else { 1 };
-    let status = serve(&Handle::receiving(rt, guests), job(count))?;
+    let status = serve(&Handle::receiving(rt, &guests), job(count))?;
     put(paper, name, status);
     if let Some(client) = guests.seat.replace(None) {
         let replies = io::read_to_string(rt.alloc(), client)?;
@@ -56,7 +56,7 @@ pub(crate) fn rows(rt: &HostRuntime) -> io::Result<()> {
             stays: STAYS,
             seat: Cell::new(None),
         };
-        put_served(rt, &mut paper, *name, &guests)?;
+        put_served(rt, &mut paper, *name, guests)?;
         rt.write_all(paper.text())?;
     }
     Ok(())
