@@ -7,6 +7,7 @@ use Rattle.ftp_control.specs.declared.control.Control.{Control}
 use Rattle.ftp_ends.specs.declared.link.Wants.TheVariants as Want
 use Rattle.ftp_operation.specs.Answer as Answers
 use Rattle.ftp_client_model.specs.Calls.{control_end, data_closed, data_end, data_fault, data_opened, data_refused, gives_control, gives_data, is_sound, listen_refused, listening, may_hear, may_receive, report_of, reports, to_give, wants}
+use Rattle.ftp_client_model.specs.Counting.{CountsOn}
 use Rattle.ftp_client_model.specs.View.{Job, Idle, Waiting, Doing, Transferring, Told}
 use Rattle.ftp_client_model.specs.Failing.{Client, HearsIfRoom, Holds, HoldsIfRoom, ReceivesIfRoom, data_end_short, data_fault_short, data_opened_short, data_refused_short, listen_refused_short, listening_short, short}
 
@@ -22,29 +23,34 @@ is_under_way (Doing op step) = true
 is_under_way (Transferring op transfer) = true
 is_under_way (Told answer) = false
 
+-- each of its calls that may take memory tells by its count of refused growths whether it was refused: the count stays, or moves on by one
+abbrev pub Counted : Type 0 → (old new : Client) → Type 0
+Counted Held old new = Held × CountsOn old.refusals new.refusals
+
 -- it is told of a close only as it wants that, while an operation is under way and it has not failed; it is done with its data connections where
 -- none is under way
 abbrev pub client_machine : Machine
 client_machine = record {
   Here = Client;
   wants = λ client. wants client.view;
+  serves = false;
   owed = λ client. client.view.owed;
   to_give = λ client. to_give client.view;
   may_hear = λ client. may_hear client.view;
   may_receive = λ client. may_receive client.view;
-  Hears = λ octets unheard old new. HearsIfRoom old new unheard (length octets);
+  Hears = λ octets unheard old new. Counted (HearsIfRoom old new unheard (length octets)) old new;
   Gives = λ count old new. Holds old new (gives_control count old.view);
   IsCut = λ old new. Holds old new (control_end old.view);
   Own = Option Answers.Said;
   Owns = λ said old new. (said ≡ report_of old.view) × Holds old new (reports old.view);
-  Listening = λ port old new. HoldsIfRoom old new (listening port old.view) (listening_short port old.view);
-  Opened = λ host old new. HoldsIfRoom old new (data_opened host old.view) (data_opened_short old.view);
-  Received = λ octets count old new. ReceivesIfRoom old new octets count;
-  Gave = λ count old new. HoldsIfRoom old new (gives_data count old.view) (short old.view);
-  NoPort = λ old new. HoldsIfRoom old new (listen_refused old.view) (listen_refused_short old.view);
-  Refused = λ old new. HoldsIfRoom old new (data_refused old.view) (data_refused_short old.view);
-  End = λ old new. HoldsIfRoom old new (data_end old.view) (data_end_short old.view);
-  Break = λ old new. HoldsIfRoom old new (data_fault old.view) (data_fault_short old.view);
+  Listening = λ port old new. Counted (HoldsIfRoom old new (listening port old.view) (listening_short port old.view)) old new;
+  Opened = λ host old new. Counted (HoldsIfRoom old new (data_opened host old.view) (data_opened_short old.view)) old new;
+  Received = λ octets count old new. Counted (ReceivesIfRoom old new octets count) old new;
+  Gave = λ count old new. Counted (HoldsIfRoom old new (gives_data count old.view) (short old.view)) old new;
+  NoPort = λ old new. Counted (HoldsIfRoom old new (listen_refused old.view) (listen_refused_short old.view)) old new;
+  Refused = λ old new. Counted (HoldsIfRoom old new (data_refused old.view) (data_refused_short old.view)) old new;
+  End = λ old new. Counted (HoldsIfRoom old new (data_end old.view) (data_end_short old.view)) old new;
+  Break = λ old new. Counted (HoldsIfRoom old new (data_fault old.view) (data_fault_short old.view)) old new;
   Closed = λ old new. Holds old new (data_closed old.view);
   IsCloseDue = λ client. IsTrue (is_sound client.view.standing) → IsTrue (is_under_way client.view.job) → wants client.view ≡ Want.CloseData;
   IsDone = λ client. is_under_way client.view.job ≡ false;

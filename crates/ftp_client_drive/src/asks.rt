@@ -1,5 +1,5 @@
 // The calls of a client, as a drive makes them.
-ghost use Rattle.std.specs.Prelude.{false, None};
+ghost use Rattle.std.specs.Prelude.{◌≡◌, false, None, true};
 ghost use Rattle.ftp_client_drive.specs.Driving.{Reports};
 ghost use Rattle.ftp_client_drive.specs.Side.{client_machine};
 
@@ -28,8 +28,6 @@ impl<A: Allocator + Copy, N: Near<A>> EndCalls<N> for Asks<A> {
 
     /// It was asked for its report, and had none.
     ghost goes_on = { None };
-
-    ghost serves = { false };
 
     fn serves() -> bool {
         false
@@ -94,6 +92,8 @@ impl<A: Allocator + Copy, N: Near<A>> EndCalls<N> for Asks<A> {
     fn data_closed(end: &mut N) {
         end.data_closed();
     }
+
+    ghost is_over = { λ old new asked serves. absurd (let e : false ≡ true = serves in cc) };
 
     ghost close_due = { λ there wanted sound under. wanted };
 }

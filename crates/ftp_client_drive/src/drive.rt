@@ -52,7 +52,7 @@ where
         }
         Err(cause) => {
             let mut data = data;
-            client.control_end();
+            data.cut::<Asks<A>, N>(client);
             data.reset(ports);
             data.finish(ports);
             client.data_closed();

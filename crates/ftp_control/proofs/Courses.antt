@@ -124,21 +124,20 @@ adds (Asks asked) old new asks = asks.0
 adds (Opens host asked at_first so_far rest) old new had = had.adds
 adds (Leaves asked) old new left = left.adds
 
--- the data connection of an end: which call moves it how; what moves control octets leaves it
+-- the data connection of an end: which call moves it how; what moves control octets leaves it, but for what is seen of it then
 pub record Carrier (side : Side) (move_of : side.Call → Move) : Type 0 where
   pub lane : side.End → Lane
   pub called : (call : side.Call) (old new : side.End) → side.Called call old new → Moves (move_of call) (lane old) (lane new)
-  pub heard : (octets unheard : List ℕ) (old new : side.End) → side.Hears octets unheard old new → lane new ≡ lane old
+  pub heard : (octets unheard : List ℕ) (old new : side.End) → side.Hears octets unheard old new → Moves Notes (lane old) (lane new)
   pub gave : (octets : List ℕ) (old new : side.End) → side.Gives octets old new → lane new ≡ lane old
-  pub owed : (old new : side.End) → side.OwesNone old new → lane new ≡ lane old
-  pub cut : (old new : side.End) → side.IsCut old new → lane new ≡ lane old
+  pub cut : (old new : side.End) → side.IsCut old new → Moves Notes (lane old) (lane new)
 
 module _ {side : Side} (move_of : side.Call → Move) (carrier : Carrier side move_of) where
   moves : (deed : Deed side) (old new : Stand side) → Done deed old new → Moves (move_in move_of deed) (carrier.lane old.owner) (carrier.lane new.owner)
   moves (Heard octets) old new done = carrier.heard octets old.unheard old.owner new.owner done.hears
   moves (Said octets) old new done = carrier.gave octets old.owner new.owner done.gives
-  moves (Read octets) old new done = carrier.owed old.owner new.owner done.owes
-  moves Ended old new done = carrier.cut done.asked new.owner done.cut ∙ carrier.owed old.owner done.asked done.owes
+  moves (Read octets) old new done = ap carrier.lane done.owner
+  moves Ended old new done = carrier.cut old.owner new.owner done.cut
   moves (Other call) old new done = carrier.called call old.owner new.owner done.0
 
   record Tells (deeds : List (Deed side)) (start now : Lane) : Type 0 where

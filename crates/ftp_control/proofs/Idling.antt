@@ -7,14 +7,15 @@ use Rattle.std.proofs.lemmas.List.{append-nil, take-append-drop}
 use Rattle.ftp_control.specs.Asking.{Adds, Asked, told_lost}
 use Rattle.ftp_control.specs.Deeds.{Heard, Other, Stand, with_owner}
 use Rattle.ftp_control.specs.Driving.{Breaks, Leads, Quietly}
-use Rattle.ftp_control.specs.Lane.{IsLeft, IsOpen, IsRead, IsWaited, IsWritten, Lane, with_asked, with_fate, with_untold}
+use Rattle.ftp_control.specs.Lane.{IsLeft, IsOpen, IsRead, IsWaited, IsWritten, Lane, with_asked, with_fate, with_rest, with_untold}
 use Rattle.ftp_control.proofs.Getting.{stirs_by, stirs_lead, stirs_then}
 use Rattle.ftp_control.specs.Unheard.{Source}
-use Rattle.ftp_control.specs.Machine.{Aside, Stirs, awaits, Break, End, Failed, Gives, Got, Held, Idles, IsBroken, IsFairEnd, Left, LeavesFlushed, MayLeave, LetGo, Machine, Received, Waited, Wrote, held, move_of, side_of}
+use Rattle.ftp_control.specs.Machine.{Aside, Called, Stirs, awaits, Break, End, Failed, Gives, Got, Held, Idles, IsBroken, IsFairEnd, IsListening, Left, LeavesFlushed, MayLeave, LetGo, Machine, Received, Waited, Wrote, held, move_of, seen, side_of}
 use Rattle.ftp_control.proofs.Courses.{Carrier}
 use Rattle.ftp_control.specs.Outcome.{IsSent, IsWrote}
 use Rattle.ftp_control.specs.declared.whole.Fate.TheVariants.{Broken, Failed as HasFailed, Over, Sound}
 use Rattle.ftp_control.proofs.Leading.{leads_by, leads_then, quiet_call, quiet_nothing, quiet_then}
+use Rattle.ftp_ends.specs.declared.link.Wants.{Wants}
 use Rattle.ftp_ends.specs.declared.link.Wants.TheVariants as Want
 
 -- one of which no read or write failed, or of which one did
@@ -24,12 +25,16 @@ sound_so lane sound = ap (λ f. with_fate f lane) (sym sound)
 failed_so : (lane : Lane) → lane.fate ≡ HasFailed → lane ≡ with_fate HasFailed (with_fate Sound lane)
 failed_so lane failed = ap (λ f. with_fate f lane) failed
 
+-- what is seen of one is whether this end has more for it
+pub is_seen : (want : Wants) (old new : Lane) → new ≡ seen want old → new ≡ with_rest new.rest old
+is_seen want old new same = subst (λ n. n ≡ with_rest n.rest old) (sym same) refl
+
 module _ (machine : Machine) where
   pub idles_nothing : (lane : Lane) → Idles machine lane lane
   idles_nothing lane here = quiet_nothing (side_of machine) (held here lane)
 
   -- it is waited at, or looked at the control connection
-  pub waits : (lost : Bool) (here : machine.Here) (old new : Lane) → (awaits (machine.wants here) ≡ true) ⊎ (old.fate ≡ HasFailed) → IsWaited lost old new
+  pub waits : (lost : Bool) (here : machine.Here) (old new : Lane) → awaits (machine.wants here) ≡ true → IsWaited lost old new
       → (left : Source) (unheard : List ℕ) (written : Option (List ℕ))
       → Stirs machine (record { owner = held here old; left = left; unheard = unheard; written = written })
       (record { owner = held here new; left = left; unheard = unheard; written = written })
@@ -118,11 +123,15 @@ module _ (machine : Machine) where
       (idles_failed mid (read.stands ∙ read.is_open.0, refl) end old.left old.unheard old.written))
 
   -- it took so many of them
+  pub received : (old new : machine.Here) (lane : Lane) (count : ℕ) (octets : List ℕ) → IsOpen lane → machine.wants old ≡ Want.Receive → machine.Received octets count old new
+      → Called machine (Received octets count) (held old (with_untold octets lane)) (held new (with_untold (drop count octets) lane))
+  received old new lane count octets is_open wants took = (took, (sym (take-append-drop count octets), refl), (is_open, wants))
+
   pub receives : (old new : machine.Here) (lane : Lane) (count : ℕ) (octets : List ℕ) → IsOpen lane → machine.wants old ≡ Want.Receive → machine.Received octets count old new
       → Quietly (side_of machine) (held old (with_untold octets lane)) (held new (with_untold (drop count octets) lane))
   receives old new lane count octets is_open wants took =
       quiet_call (side_of machine) (Received octets count) (held old (with_untold octets lane)) (held new (with_untold (drop count octets) lane))
-      (took, (sym (take-append-drop count octets), refl), (is_open, wants))
+      (received old new lane count octets is_open wants took)
 
   -- octets that it no longer wants are let go
   pub lets_go : (here : machine.Here) (lane : Lane) (octets : List ℕ) → machine.wants here ≢ Want.Receive
@@ -132,10 +141,10 @@ module _ (machine : Machine) where
 
   -- it heard the first of the octets that were read
   pub hears_first : (old new : Stand (side_of machine)) (count : ℕ) → machine.Hears (take count old.unheard) old.unheard old.owner.end new.owner.end
-      → new.owner.lane ≡ old.owner.lane → new.unheard ≡ drop count old.unheard → new.left ≡ old.left → new.written ≡ old.written → 0 < length (take count old.unheard)
-      → Stirs machine old new
-  hears_first old new count hears lane unheard left written some = stirs_by (Heard (take count old.unheard)) old new some (record {
-    hears = (hears, lane);
+      → new.owner.lane ≡ seen (machine.wants old.owner.end) old.owner.lane → IsListening machine old.owner.end → new.unheard ≡ drop count old.unheard
+      → new.left ≡ old.left → new.written ≡ old.written → 0 < length (take count old.unheard) → Stirs machine old new
+  hears_first old new count hears lane listening unheard left written some = stirs_by (Heard (take count old.unheard)) old new some (record {
+    hears = (hears, lane, listening);
     next = sym (ap (λ l. take count old.unheard ++ l) unheard ∙ take-append-drop count old.unheard);
     left = left;
     written = written;
@@ -147,10 +156,9 @@ module _ (machine : Machine) where
   carrier = record {
     lane = λ end. end.lane;
     called = λ call old new called. called.1;
-    heard = λ octets unheard old new hears. hears.1;
+    heard = λ octets unheard old new hears. is_seen (machine.wants old.end) old.lane new.lane hears.1;
     gave = λ octets old new gives. gives.lane;
-    owed = λ old new owes. owes.lane;
-    cut = λ old new cut. cut.1;
+    cut = λ old new cut. is_seen (machine.wants old.end) old.lane new.lane cut.1;
   }
 
   same_given : (octets : List ℕ) (mid : Stand (side_of machine)) (given : Held machine.Here) → ((octets ≡ []) × (given ≡ mid.owner)) ⊎ Gives machine octets mid.owner given

@@ -1,12 +1,14 @@
 -- Deeds one after another.
-use Rattle.std.proofs.Common.{◌≡◌, ◌∙◌, List, [], ◌∷◌, ◌++◌, refl, sym, ap, subst, inl}
+use Rattle.std.proofs.Common.{◌≡◌, ◌∙◌, ◌≤◌, ◌+◌, ℕ, suc, List, [], ◌∷◌, ◌++◌, refl, sym, ap, subst, inl, arith}
 use Rattle.std.proofs.KnownBytes.{Appends-nil, Keeps-refl}
 use Rattle.std.specs.Io.KnownBytes.{Appends, Keeps}
 use Rattle.ftp_control.specs.Beginning.{AppendsFront}
 use Rattle.ftp_control.proofs.Fronts.{AppendsFront-none}
+use Rattle.ftp_control.specs.Cause.{IsSpent, most_turns}
 use Rattle.ftp_control.specs.Side.{Side}
-use Rattle.ftp_control.specs.Deeds.{Deed, Said, Other, Done, Led, OwesNothing, Stand, with_owner}
-use Rattle.ftp_control.specs.Driving.{Breaks, Fails, Leads, Quietly, Settles}
+use Rattle.ftp_control.specs.Deeds.{Deed, Said, Other, Done, Led, OwesNothing, Stand, step_by, steps_in, with_owner}
+use Rattle.ftp_control.specs.Driving.{Breaks, Fails, Leads, LeadsBy, Quietly, Settles}
+use Rattle.ftp_control.specs.declared.cause.Cause.{Cause}
 
 module _ {side : Side} where
   -- nothing was done
@@ -29,28 +31,77 @@ module _ {side : Side} where
   pub leads_then : (a b c : Stand side) → Leads a b → Leads b c → Leads a c
   leads_then a b c first second = record { deeds = second.deeds ++ first.deeds; led = led_append second.deeds first.deeds a b c first.led second.led }
 
-  pub fails_then : (a b c : Stand side) → Leads a b → Fails b c → Fails a c
-  fails_then a b c first fails = record { mid = fails.mid; leads = leads_then a b fails.mid first fails.leads; octets = fails.octets; breaks = fails.breaks }
+  -- how many deeds of a list a drive got on by: of two lists, one more, and two one after the other
+  steps_append : (later before : List (Deed side)) → steps_in (later ++ before) ≡ steps_in later + steps_in before
+  steps_append [] before = omega arith
+  steps_append (deed ∷ later) before = omega (arith, steps_append later before)
+
+  pub then_steps : (a b c : Stand side) (first : Leads a b) (second : Leads b c)
+      → steps_in (leads_then a b c first second).deeds ≡ steps_in second.deeds + steps_in first.deeds
+  unfolding leads_then
+  then_steps a b c first second = steps_append second.deeds first.deeds
+
+  pub on_steps : (deed : Deed side) (a b c : Stand side) (leads : Leads a b) (done : Done deed b c)
+      → steps_in (leads_on deed a b c leads done).deeds ≡ step_by deed + steps_in leads.deeds
+  unfolding leads_on
+  on_steps deed a b c leads done = refl
+
+  -- deeds, and then it broke off
+  pub fails_then : (cause : Cause) (a b c : Stand side) → Leads a b → Fails cause b c → Fails cause a c
+  fails_then cause a b c first fails = record {
+    mid = fails.mid;
+    leads = leads_then a b fails.mid first fails.leads;
+    octets = fails.octets;
+    breaks = fails.breaks;
+    spent = λ is. omega (arith, fails.spent is, then_steps a b fails.mid first fails.leads);
+  }
 
   -- it gives up where it stands
   pub gives_up : (a : Stand side) → Breaks [] a a
   gives_up a = record { given = a.owner; gives = inl (refl, refl); lets = side.lets_none a.owner; left = Keeps-refl a.left.octets; ended = refl; unheard = refl; wrote = AppendsFront-none a.written [] }
 
-  pub fails_here : (a b : Stand side) → Leads a b → Fails a b
-  fails_here a b leads = record { mid = b; leads = leads; octets = []; breaks = gives_up b }
+  pub fails_here : (cause : Cause) (a b : Stand side) → Leads a b → (IsSpent cause → ⊥) → Fails cause a b
+  fails_here cause a b leads unspent = record { mid = b; leads = leads; octets = []; breaks = gives_up b; spent = λ is. absurd (unspent is) }
 
   -- at once
-  pub fails_at : (a : Stand side) → Fails a a
-  fails_at a = fails_here a a (leads_nowhere a)
+  pub fails_at : (cause : Cause) (a : Stand side) → (IsSpent cause → ⊥) → Fails cause a a
+  fails_at cause a unspent = fails_here cause a a (leads_nowhere a) unspent
+
+  -- where no turn is left
+  pub fails_spent : (cause : Cause) (a b : Stand side) (left : ℕ) → LeadsBy left a b → left ≡ 0 → Fails cause a b
+  fails_spent cause a b left by none =
+      record { mid = b; leads = by.leads; octets = []; breaks = gives_up b; spent = λ is. omega (arith, by.made, none) }
+
+  -- a loop begins, and makes a turn by which it gets on
+  pub by_nowhere : (left : ℕ) (a : Stand side) → left ≡ most_turns → LeadsBy left a a
+  by_nowhere left a all = record { leads = leads_nowhere a; made = omega (arith, all) }
+
+  pub by_deed : (deed : Deed side) (before left : ℕ) (a b c : Stand side) → LeadsBy before a b → before ≡ suc left → 1 ≤ step_by deed → Done deed b c → LeadsBy left a c
+  by_deed deed before left a b c by one some done =
+      record { leads = leads_on deed a b c by.leads done; made = omega (arith, by.made, one, some, on_steps deed a b c by.leads done) }
+
+  pub by_then : (before left : ℕ) (a b c : Stand side) → LeadsBy before a b → before ≡ suc left → (second : Leads b c) → 1 ≤ steps_in second.deeds → LeadsBy left a c
+  by_then before left a b c by one second some = record {
+    leads = leads_then a b c by.leads second;
+    made = omega (arith, by.made, one, some, then_steps a b c by.leads second);
+  }
+
+  -- so many more follow
+  pub by_then_any : (left : ℕ) (a b c : Stand side) → LeadsBy left a b → Leads b c → LeadsBy left a c
+  by_then_any left a b c by second = record {
+    leads = leads_then a b c by.leads second;
+    made = omega (arith, by.made, then_steps a b c by.leads second);
+  }
 
   -- what was not told is let go, too
-  pub fails_lets : (a b c : Stand side) → Fails a b → side.LetsGo b.owner c.owner → c ≡ with_owner c.owner b → Fails a c
-  fails_lets a b c fails lets same =
+  pub fails_lets : (cause : Cause) (a b c : Stand side) → Fails cause a b → side.LetsGo b.owner c.owner → c ≡ with_owner c.owner b → Fails cause a c
+  fails_lets cause a b c fails lets same =
       let breaks = fails.breaks in
       record {
         mid = fails.mid;
         leads = fails.leads;
         octets = fails.octets;
+        spent = fails.spent;
         breaks = record {
           given = breaks.given;
           gives = breaks.gives;

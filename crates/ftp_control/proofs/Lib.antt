@@ -10,3 +10,4 @@ pub mod Idling
 pub mod Meeting
 pub mod Outcomes
 pub mod Getting
+pub mod Closing

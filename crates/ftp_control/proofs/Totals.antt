@@ -6,6 +6,7 @@ use Rattle.ftp_control.proofs.Fronts.{Appends-then-front}
 use Rattle.ftp_control.specs.Side.{Side}
 use Rattle.ftp_control.specs.Deeds.{Deed, Heard, Said, Read, Ended, Other, Done, Led, Stand, heard_by, heard_in, read_by, read_in, said_by, said_in}
 use Rattle.ftp_control.specs.Driving.{Cuts, Fails, Sums}
+use Rattle.ftp_control.specs.declared.cause.Cause.{Cause}
 
 module _ {side : Side} where
   -- what one deed comes to
@@ -61,8 +62,8 @@ module _ {side : Side} where
       }
 
   -- a drive that broke off
-  pub cuts : (start now : Stand side) → (fails : Fails start now) → Cuts fails.leads.deeds fails.octets start now
-  cuts start now fails =
+  pub cuts : (cause : Cause) (start now : Stand side) → (fails : Fails cause start now) → Cuts fails.leads.deeds fails.octets start now
+  cuts cause start now fails =
       let deeds = fails.leads.deeds in
       let all = sums deeds start fails.mid fails.leads.led in
       let breaks = fails.breaks in

@@ -34,6 +34,10 @@ abbrev pub IsFault : Cause → (failed : Bool) → Type 0
 IsFault Causes.Failed failed = failed ≡ true
 IsFault other failed = ⊥
 
+-- as many turns as each loop of a drive may make
+abbrev pub most_turns : ℕ
+most_turns = 1099511627776
+
 -- it is that all turns were made
 abbrev pub IsSpent : Cause → Type 0
 IsSpent (Causes.Spent spent) = ⊤

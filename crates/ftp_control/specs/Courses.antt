@@ -92,10 +92,10 @@ IsFair (Opens host asked at_first so_far rest) course = ⊤
 module _ {side : Side} (move_of : side.Call → Move) where
   abbrev pub move_in : Deed side → Move
   move_in (Other call) = move_of call
-  move_in (Heard octets) = Stays
+  move_in (Heard octets) = Notes
   move_in (Said octets) = Stays
   move_in (Read octets) = Stays
-  move_in Ended = Stays
+  move_in Ended = Notes
 
   -- behind deeds, the last one first
   abbrev pub course_of : List (Deed side) → Course

@@ -1,5 +1,5 @@
 -- What is done with an end beside its control connection, one deed after another (RFC 959, section 2.3).
-use Rattle.std.specs.Prelude.{◌≡◌, ℕ, true, List, [], ◌∷◌, ◌++◌, Option}
+use Rattle.std.specs.Prelude.{◌≡◌, ℕ, ◌+◌, true, List, [], ◌∷◌, ◌++◌, Option}
 use Rattle.std.specs.Io.KnownBytes.{Appends, Consumes, IsAtEnd}
 use Rattle.ftp_control.specs.Side.{Side}
 use Rattle.ftp_control.specs.Unheard.{Source}
@@ -19,6 +19,11 @@ pub data Deed (side : Side) : Type 0 where
   Read : (octets : List ℕ) → Deed side
   Ended : Deed side
   Other : (call : side.Call) → Deed side
+
+-- 1 where there are any
+abbrev pub some_of : List ℕ → ℕ
+some_of [] = 0
+some_of (octet ∷ octets) = 1
 
 module _ {side : Side} where
   -- the end alone is another
@@ -47,24 +52,24 @@ module _ {side : Side} where
   abbrev pub OwesNothing : (old new : Stand side) → Type 0
   OwesNothing old new = side.OwesNone old.owner new.owner × (new ≡ with_owner new.owner old)
 
-  -- where it owes nothing and all octets were heard, the next ones are read
+  -- where that is due and all octets were heard, the next ones are read
   pub record ReadsNext (octets : List ℕ) (old new : Stand side) : Type 0 where
-    pub owes : side.OwesNone old.owner new.owner
+    pub due : side.IsReadDue old.owner
+    pub owner : new.owner ≡ old.owner
     pub heard : old.unheard ≡ []
     pub read : Consumes old.left.octets new.left.octets octets
     pub ended : new.left.ended ≡ old.left.ended
     pub unheard : new.unheard ≡ octets
     pub written : new.written ≡ old.written
 
-  -- where it owes nothing and all octets were heard, a read finds none: it is told that the control connection ended
+  -- where a read is due and all octets were heard, it finds none: the end is told that the control connection ended
   pub record EndsHere (old new : Stand side) : Type 0 where
-    pub asked : side.End
-    pub owes : side.OwesNone old.owner asked
+    pub due : side.IsReadDue old.owner
     pub heard : old.unheard ≡ []
     pub read : Consumes old.left.octets new.left.octets []
     pub last : IsAtEnd new.left.octets
     pub ended : new.left.ended ≡ true
-    pub cut : side.IsCut asked new.owner
+    pub cut : side.IsCut old.owner new.owner
     pub unheard : new.unheard ≡ []
     pub written : new.written ≡ old.written
 
@@ -79,6 +84,19 @@ module _ {side : Side} where
   abbrev pub Led : List (Deed side) → (start now : Stand side) → Type 0
   Led [] start now = now ≡ start
   Led (deed ∷ before) start now = (mid : Stand side) × Led before start mid × Done deed mid now
+
+  -- by a deed a drive gets on: octets are heard, said or read, or something of its data connection is done; not that the end is asked what it owes
+  abbrev pub step_by : Deed side → ℕ
+  step_by (Heard octets) = some_of octets
+  step_by (Said octets) = some_of octets
+  step_by (Read octets) = 1
+  step_by Ended = 1
+  step_by (Other call) = side.step call
+
+  -- how many of them
+  abbrev pub steps_in : List (Deed side) → ℕ
+  steps_in [] = 0
+  steps_in (deed ∷ before) = step_by deed + steps_in before
 
   -- the control octets that were heard in a deed, said, and read
   abbrev pub heard_by : Deed side → List ℕ

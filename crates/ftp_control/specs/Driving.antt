@@ -1,10 +1,11 @@
 -- What a drive of an end beside its control connection did, whole or until a read or a write failed.
-use Rattle.std.specs.Prelude.{◌≡◌, ◌⊎◌, ℕ, List, [], ◌++◌, Option}
+use Rattle.std.specs.Prelude.{◌≡◌, ◌⊎◌, ◌≤◌, ◌+◌, ℕ, suc, List, [], ◌++◌, Option}
 use Rattle.std.specs.declared.result.Result.{Result}
 use Rattle.std.specs.declared.result.Result.TheVariants.{Ok, Err}
 use Rattle.std.specs.Io.KnownBytes.{Appends, Consumes, Keeps}
 use Rattle.ftp_control.specs.Beginning.{AppendsFront}
-use Rattle.ftp_control.specs.Deeds.{Deed, Led, OwesNothing, Stand, heard_in, read_in, said_in}
+use Rattle.ftp_control.specs.Cause.{IsSpent, most_turns}
+use Rattle.ftp_control.specs.Deeds.{Deed, Led, OwesNothing, Stand, heard_in, read_in, said_in, steps_in}
 use Rattle.ftp_control.specs.Side.{Side}
 use Rattle.ftp_control.specs.Unheard.{Source}
 use Rattle.ftp_control.specs.declared.cause.Cause.{Cause}
@@ -31,24 +32,30 @@ module _ {side : Side} where
     pub unheard : new.unheard ≡ old.unheard
     pub wrote : AppendsFront old.written new.written octets
 
-  -- deeds, and then it breaks off
-  pub record Fails (start now : Stand side) : Type 0 where
+  -- deeds, and then it breaks off, for a cause; where all turns of a loop were made, the drive got on by so many deeds, but for one
+  pub record Fails (cause : Cause) (start now : Stand side) : Type 0 where
     pub mid : Stand side
     pub leads : Leads start mid
     pub octets : List ℕ
     pub breaks : Breaks octets mid now
+    pub spent : IsSpent cause → most_turns ≤ suc (steps_in leads.deeds)
+
+  -- the turns that are left, and those deeds, are all that a loop may make
+  pub record LeadsBy (left : ℕ) (start now : Stand side) : Type 0 where
+    pub leads : Leads start now
+    pub made : most_turns ≤ left + steps_in leads.deeds
 
   -- ---- what the parts of a drive say
 
   -- a part of a drive leads on, or fails
   abbrev pub Goes : {T : Type 0} → (old new : Stand side) → Result T Cause → Type 0
   Goes old new (Ok value) = Leads old new
-  Goes old new (Err cause) = Fails old new
+  Goes old new (Err cause) = Fails cause old new
 
   -- all that is owed is written, or that fails
   abbrev pub Flushes : {T : Type 0} → (old new : Stand side) → Result T Cause → Type 0
   Flushes old new (Ok value) = Settles old new
-  Flushes old new (Err cause) = Fails old new
+  Flushes old new (Err cause) = Fails cause old new
 
   -- ---- what deeds come to
 

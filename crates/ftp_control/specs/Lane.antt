@@ -12,8 +12,8 @@ use Rattle.ftp_control.specs.declared.whole.Fate.TheVariants.{Sound, Failed, Bro
 use Rattle.ftp_control.specs.declared.whole.Rest.{Rest}
 use Rattle.ftp_control.specs.declared.whole.Rest.TheVariants.{Nothing, More}
 
--- whether one stands, and what became of it; whether this end had more to give for it when it gave last, or when it was opened; what is left to be
--- read of it and what was written to it, where its stream tells that; the octets that this end gave and that are not written yet; those that were
+-- whether one stands, and what became of it; whether this end had more to give for it when it gave last, when it was opened, or when it was heard or
+-- cut off since; what is left to be read of it and what was written to it, where its stream tells that; the octets that this end gave and that are not written yet; those that were
 -- read and that this end was not told; what was asked of whatever opens and closes it
 pub record Lane : Type 0 where
   pub stands : Bool
@@ -78,7 +78,7 @@ pub data Move : Type 0 where
   Writes : (octets : List ℕ) → Move
   -- this end gives these for it, and then has more or not
   Gives : (octets : List ℕ) → (rest : Rest) → Move
-  -- this end has more for it
+  -- it is seen whether this end has more for it
   Notes : Move
   -- this end is told of these, the first of those that were read and not told; or they are let go
   Takes : (octets : List ℕ) → Move
@@ -174,7 +174,7 @@ Moves (Waits lost) old new = IsWaited lost old new
 Moves (Reads octets) old new = IsRead octets old new
 Moves (Writes octets) old new = IsWritten octets old new
 Moves (Gives octets rest) old new = (new ≡ with_given octets rest old) × IsOpen old
-Moves Notes old new = new ≡ with_rest More old
+Moves Notes old new = new ≡ with_rest new.rest old
 Moves (Takes octets) old new = (old.untold ≡ octets ++ new.untold) × (new ≡ with_untold new.untold old)
 Moves Fails old new = (new ≡ with_fate Failed old) × IsOpen old
 Moves Ends old new = (new ≡ with_fate Over old) × IsOpen old × IsAtEnd old.left × (old.untold ≡ [])

@@ -12,3 +12,4 @@ pub mod Driving
 pub mod Courses
 pub mod Machine
 pub mod Outcome
+pub mod Closing

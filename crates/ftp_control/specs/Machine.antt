@@ -4,7 +4,7 @@ use Rattle.std.specs.Prelude.{◌≡◌, ◌≢◌, ◌⊎◌, ◌<◌, ⊤, ℕ
 use Rattle.ftp_control.specs.Asking.{Asked, Listened, Came, Connected, NotCame, NotConnected, Ended, Reset}
 use Rattle.ftp_control.specs.Deeds.{Deed, Done, Heard, Said, Read, Ended as ToldEnded, Other, Stand}
 use Rattle.ftp_control.specs.Driving.{Fails as BreaksOff, Leads, Quietly}
-use Rattle.ftp_control.specs.Lane.{IsOpen, Lane, Move, Moves, Stays, Waits, Reads, Writes, Gives as GivesOctets, Notes, Takes, Fails, Ends, Breaks, Stops, Asks, Opens, Leaves, with_untold}
+use Rattle.ftp_control.specs.Lane.{IsOpen, Lane, Move, Moves, Stays, Waits, Reads, Writes, Gives as GivesOctets, Takes, Fails, Ends, Breaks, Stops, Asks, Opens, Leaves, with_rest, with_untold}
 use Rattle.ftp_control.specs.Side.{Side}
 use Rattle.ftp_control.specs.Unheard.{Source, left_of, unheard_of, written_of}
 use Rattle.ftp_control.specs.Whole.{is_well}
@@ -27,6 +27,8 @@ pub record Machine : Type 1 where
   pub wants : Here → Wants
   pub owed : Here → List ℕ
   pub to_give : Here → List ℕ
+  -- whether it serves: lines may wait unheard, for a transfer's end and while it wants a port, an opening or a close
+  pub serves : Bool
   -- whether it may take an octet of the control connection, and of a data connection
   pub may_hear : Here → Bool
   pub may_receive : Here → Bool
@@ -60,8 +62,6 @@ pub data Call (Own : Type 0) : Type 0 where
   Received : (octets : List ℕ) → (count : ℕ) → Call Own
   Gave : (count : ℕ) → (octets : List ℕ) → (rest : Rest) → Call Own
   NoPort End Break Closed : Call Own
-  -- it is seen that it wants to send: it has more to give
-  Noted : Call Own
   -- it is waited at, or looked at the control connection, and that told that it ended, or not; octets are read, written, and let go; a read or a
   -- write of it failed, behind the octets that it moved; it is closed or reset
   Waited : (lost : Bool) → Call Own
@@ -77,7 +77,6 @@ move_of (Opened host asked at_first so_far rest) = Opens host asked at_first so_
 move_of (Refused asked) = Asks asked
 move_of (Received octets count) = Takes (take count octets)
 move_of (Gave count octets rest) = GivesOctets octets rest
-move_of Noted = Notes
 move_of NoPort = Asks (Listened None ∷ [])
 move_of End = Ends
 move_of Break = Breaks
@@ -129,6 +128,11 @@ awaits Want.Receive = true
 awaits Want.Send = true
 awaits other = false
 
+-- an end that wants this waits for octets: of the control connection, or at its data connection
+abbrev pub waits : Wants → Bool
+waits Want.Nothing = true
+waits other = awaits other
+
 -- one is left only where the end goes on without it or is done, or was told that it broke or ended; one that failed is told before, or it is done
 abbrev pub MayLeave : (done : Type 0) → Wants → Fate → Type 0
 MayLeave done want Fates.Sound = (leaves want ≡ true) ⊎ done
@@ -141,8 +145,17 @@ abbrev pub rest_by : Wants → Rest
 rest_by Want.Send = More
 rest_by other = Nothing
 
--- by an end only where none is unwritten, the end had no more to give when it gave last, or when this was opened, and nothing failed; by a reset only
--- where it failed, or octets are unwritten, or the end had more to give then. Where none stands the port alone is closed
+-- where it wants to send it has more to give than was seen so far
+abbrev pub rest_seen : Wants → (before : Rest) → Rest
+rest_seen Want.Send before = More
+rest_seen other before = before
+
+-- it is seen whether an end that wants this has more to give
+abbrev pub seen : Wants → Lane → Lane
+seen want lane = with_rest (rest_seen want lane.rest) lane
+
+-- by an end only where none is unwritten, the end had no more to give when it gave last, when this was opened, and when it heard since, and nothing
+-- failed; by a reset only where it failed, or octets are unwritten, or the end had more to give then. Where none stands the port alone is closed
 abbrev pub IsFairEnd : Lane → Asked → Type 0
 IsFairEnd lane (Ended left written) = (lane.unwritten ≡ []) × (lane.rest ≡ Nothing) × (is_well lane.fate ≡ true)
 IsFairEnd lane (Reset left written) = (is_well lane.fate ≡ false) ⊎ (0 < length lane.unwritten) ⊎ (lane.rest ≡ More)
@@ -172,7 +185,6 @@ module _ (machine : Machine) where
   Does (Refused asked) old new = machine.Refused old new
   Does (Received octets count) old new = machine.Received octets count old new
   Does (Gave count octets rest) old new = (octets ≡ take count (machine.to_give old)) × machine.Gave count old new × (rest ≡ rest_by (machine.wants new))
-  Does Noted old new = (new ≡ old) × (machine.wants old ≡ Want.Send)
   Does NoPort old new = machine.NoPort old new
   Does End old new = machine.End old new
   Does Break old new = machine.Break old new
@@ -206,16 +218,25 @@ module _ (machine : Machine) where
   IsDue End old = machine.wants old.end ≡ Want.Receive
   IsDue Break old = IsBroken (machine.wants old.end) old.lane.stands old.lane.fate
   IsDue (Left asked) old = MayLeave (machine.IsDone old.end) (machine.wants old.end) old.lane.fate × IsFairEnd old.lane asked × LeavesFlushed old.end asked
-  IsDue (Waited lost) old = (awaits (machine.wants old.end) ≡ true) ⊎ (old.lane.fate ≡ Fates.Failed)
+  IsDue (Waited lost) old = awaits (machine.wants old.end) ≡ true
   IsDue Closed old = machine.IsCloseDue old.end
   IsDue other old = ⊤
 
   abbrev pub Called : Call machine.Own → (old new : Held machine.Here) → Type 0
   Called call old new = Does call old.end new.end × Moves (move_of call) old.lane new.lane × IsDue call old
 
-  -- control octets are heard
+  -- one that serves hears, and is read for, only while it waits for octets: not while it wants a port, an opening or a close
+  abbrev pub IsListening : machine.Here → Type 0
+  IsListening here = machine.serves ≡ true → waits (machine.wants here) ≡ true
+
+  -- control octets are heard; it is seen before whether there is more to give
   abbrev pub HearsBeside : (octets unheard : List ℕ) → (old new : Held machine.Here) → Type 0
-  HearsBeside octets unheard old new = machine.Hears octets unheard old.end new.end × (new.lane ≡ old.lane)
+  HearsBeside octets unheard old new =
+      machine.Hears octets unheard old.end new.end × (new.lane ≡ seen (machine.wants old.end) old.lane) × IsListening old.end
+
+  -- octets are read only once all that it owed was written
+  abbrev pub IsReadDue : Held machine.Here → Type 0
+  IsReadDue old = IsFlushed old.end × IsListening old.end
 
   -- it gives octets of what it owes
   pub record Gives (octets : List ℕ) (old new : Held machine.Here) : Type 0 where
@@ -230,13 +251,18 @@ module _ (machine : Machine) where
     pub gave : machine.Gives 0 old.end new.end
     pub lane : new.lane ≡ old.lane
 
-  -- it is told that the control connection ended: what it owes is dropped
+  -- it is told that the control connection ended: what it owes is dropped; it is seen before whether there was more to give
   abbrev pub IsCut : (old new : Held machine.Here) → Type 0
-  IsCut old new = machine.IsCut old.end new.end × (new.lane ≡ old.lane)
+  IsCut old new = machine.IsCut old.end new.end × (new.lane ≡ seen (machine.wants old.end) old.lane)
 
   -- octets that were read and not told are let go
   abbrev pub LetsGo : (old new : Held machine.Here) → Type 0
   LetsGo old new = (new.end ≡ old.end) × (new.lane ≡ with_untold new.lane.untold old.lane)
+
+  -- a drive gets on by each of them, but not by asking whether it is over
+  abbrev pub step_of : Call machine.Own → ℕ
+  step_of (Aside own) = 0
+  step_of other = 1
 
   -- it and its data connection, as one of the two sides that are driven
   abbrev pub side_of : Side
@@ -244,9 +270,11 @@ module _ (machine : Machine) where
     End = Held machine.Here;
     Call = Call machine.Own;
     Called = Called;
+    step = step_of;
     Hears = λ octets unheard old new. HearsBeside octets unheard old new;
     Gives = Gives;
     OwesNone = OwesNone;
+    IsReadDue = IsReadDue;
     gives_none = λ old new owes. record { count = 0; owed = refl; gave = owes.gave; lane = owes.lane };
     IsCut = IsCut;
     LetsGo = LetsGo;
@@ -291,4 +319,4 @@ module _ (machine : Machine) where
   -- the drive got on, or it fails
   abbrev pub GetsOn : {T : Type 0} → (old new : Stand side_of) → Result T Cause → Type 0
   GetsOn old new (Ok value) = Stirs old new
-  GetsOn old new (Err cause) = BreaksOff old new
+  GetsOn old new (Err cause) = BreaksOff cause old new

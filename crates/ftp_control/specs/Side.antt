@@ -7,12 +7,16 @@ pub record Side : Type 1 where
   -- its calls that move no control octets, with their values, and what each of them does
   pub Call : Type 0
   pub Called : Call → (old new : End) → Type 0
+  -- whether a drive gets on by one: 1, and else 0
+  pub step : Call → ℕ
   -- of the control octets that were read and are not heard yet, it hears the first ones
   pub Hears : (octets unheard : List ℕ) → (old new : End) → Type 0
   -- it gives octets of what it owes
   pub Gives : (octets : List ℕ) → (old new : End) → Type 0
   -- it is asked what it owes, and that is nothing
   pub OwesNone : (old new : End) → Type 0
+  -- when octets of the control connection are read for it
+  pub IsReadDue : End → Type 0
   -- which is to give none
   pub gives_none : (old new : End) → OwesNone old new → Gives [] old new
   -- it is told that the control connection ended

@@ -48,11 +48,12 @@ module _ (machine : Machine) (start : Stand (side_of machine)) (unwritten : star
       → IfErr r (λ cause. IsCause cause failed off.owner.lane.asked off.unheard (machine.wants off.owner.end) (machine.may_hear off.owner.end) serves)
       → BreaksOff machine serves cause failed start off
   breaks_off last serves failed off r cause is ends why =
-      let fails : Fails start off = subst (λ r. Ends machine last start off r) is ends in
+      let fails : Fails cause start off = subst (λ r. Ends machine last start off r) is ends in
       record {
         deeds = fails.leads.deeds;
         last = fails.octets;
-        cuts = cuts start off fails;
+        cuts = cuts cause start off fails;
+        spent = fails.spent;
         stood = fails.mid.owner.lane;
         carries = carries move_of (carrier machine) fails.leads.deeds start fails.mid fails.leads.led unwritten untold;
         lets = stood_so machine fails.octets fails.mid off fails.breaks;

@@ -1,9 +1,9 @@
 -- What the parts of a drive say, put together.
-use Rattle.std.proofs.Common.{◌≡◌, ◌⊎◌, ℕ, [], inl, inr, refl, subst, sym, List, Option, Result, Ok, Err}
-use Rattle.std.specs.Prelude.{OnOk, Bool, IsErr, true, false}
+use Rattle.std.proofs.Common.{◌≡◌, ◌⊎◌, ◌<◌, ◌≤◌, ℕ, suc, length, [], ◌∷◌, inl, inr, refl, subst, sym, arith, List, Option, Result, Ok, Err}
+use Rattle.std.specs.Prelude.{OnOk, Bool, IsErrAnd, true, false}
 use Rattle.ftp_control.specs.Asking.{Adds, Asked, Came, Connected, Ended, Listened, Lost, NotCame, NotConnected, Reset, Shut, told_lost}
-use Rattle.ftp_control.specs.Deeds.{Stand, with_owner}
-use Rattle.ftp_control.specs.Driving.{Flushes, Fails, Goes, Leads}
+use Rattle.ftp_control.specs.Deeds.{Stand, some_of, with_owner}
+use Rattle.ftp_control.specs.Driving.{Flushes, Fails, Goes, Leads, LeadsBy}
 use Rattle.ftp_control.specs.Lane.{IsLeft, IsRead, Lane, lane_of, with_asked, with_fate, with_untold}
 use Rattle.ftp_control.specs.Machine.{IsFlushed, LeavesFlushed, GetsOn, Stirs, awaits, IsBroken, IsFairEnd, Machine, MayLeave, held, leaves as goes_without, side_of, stand_of}
 use Rattle.ftp_control.specs.Outcome.{IsDropped, IsReset}
@@ -19,15 +19,21 @@ use Rattle.ftp_control.specs.declared.whole.Fate.TheVariants as Fates
 use Rattle.ftp_control.proofs.Going.{goes_then}
 use Rattle.ftp_control.proofs.Idling.{asked_waits, breaks_told, came, came_none, leaves, waits}
 use Rattle.ftp_control.proofs.Lanes.{same_lane}
-use Rattle.ftp_control.proofs.Getting.{gets_goes, stirs_lead, then_gets, then_stirs}
+use Rattle.ftp_control.proofs.Getting.{gets_goes, stirs_lead, stirs_some, then_gets, then_stirs}
+use Rattle.ftp_control.proofs.Leading.{by_then, by_then_any, fails_spent, gives_up}
 use Rattle.ftp_ends.specs.declared.link.Wants.{Wants}
 use Rattle.ftp_ends.specs.declared.link.Wants.TheVariants as Want
-use Rattle.ftp_control_drive.specs.Calling.{Ends}
+use Rattle.ftp_control_drive.specs.Calling.{Ends, IsOpenEnd}
 use Rattle.ftp_control_drive.specs.Standing.{asked_before}
 
 -- an end beside a control connection, while these octets are in hand
 abbrev pub handing : (machine : Machine) → {R W : Type 0} → (R → Option (List ℕ)) → (W → Option (List ℕ)) → machine.Here → Control R W → Lane → (untold : List ℕ) → Stand (side_of machine)
 handing machine remaining contents here control lane untold = stand_of machine remaining contents (held here (with_untold untold lane)) control
+
+-- some octets are some
+pub said_some : (octets : List ℕ) → 0 < length octets → 1 ≤ some_of octets
+said_some [] some = some
+said_some (octet ∷ octets) some = omega arith
 
 -- a write that failed or not left it so
 pub sent_fate : {T : Type 0} (r : Result T Halt) (fate : Fate) → fate ≡ fate_by r Fates.Sound → (fate ≡ Fates.Sound) ⊎ (fate ≡ Fates.Failed)
@@ -98,7 +104,7 @@ module _ (machine : Machine) where
       (dropped_flushed here old.owner.lane.stands old.owner.lane.left old.owner.lane.written asked reset.dropped) same)
 
   -- it was told that the control connection ended, or not
-  pub asks : (lost : Bool) (old : Stand (side_of machine)) (h1 : Option (List Asked)) → (awaits (machine.wants old.owner.end) ≡ true) ⊎ (old.owner.lane.fate ≡ Fates.Failed)
+  pub asks : (lost : Bool) (old : Stand (side_of machine)) (h1 : Option (List Asked)) → awaits (machine.wants old.owner.end) ≡ true
       → Adds old.owner.lane.asked h1 (told_lost lost) → Leads old (asked_before h1 old)
   asks lost old h1 due told =
       let lane = old.owner.lane in
@@ -114,9 +120,9 @@ module _ (machine : Machine) where
   turned_on a b (inl stirs) = stirs_lead a b stirs
   turned_on a b (inr other) = other.0
 
-  pub turned_off : {U : Type 0} (a b : Stand (side_of machine)) → Fails a b ⊎ (Fails a b × U) → Fails a b
-  turned_off a b (inl fails) = fails
-  turned_off a b (inr other) = other.0
+  pub turned_off : {U : Type 0} (cause : Cause) (a b : Stand (side_of machine)) → Fails cause a b ⊎ (Fails cause a b × U) → Fails cause a b
+  turned_off cause a b (inl fails) = fails
+  turned_off cause a b (inr other) = other.0
 
   pub turned : {T U : Type 0} (a b : Stand (side_of machine)) (r : Result T Cause) → GetsOn machine a b r ⊎ (Goes a b r × U) → Goes a b r
   turned a b r (inl gets) = gets_goes a b r gets
@@ -128,7 +134,31 @@ module _ (machine : Machine) where
   then_turns a b c r first (inl gets) = inl (then_gets a b c r first gets)
   then_turns a b c r first (inr (goes, is)) = inr (goes_then a b c r first goes, is)
 
-  pub ends_err : {Over : Type 0} (last : Over → (old new : machine.Here) → Type 0) (a b : Stand (side_of machine)) (r : Result Over Cause) → IsErr r → Fails a b
-      → Ends machine last a b r
-  ends_err last a b (Ok over) failed fails = absurd (let e : false ≡ true = failed in cc)
-  ends_err last a b (Err e) failed fails = fails
+  -- turns so far, by each of which the drive got on, but for the last one where it is over
+  abbrev pub TurnsBy : (left : ℕ) → (a b : Stand (side_of machine)) → Type 0
+  TurnsBy left a b = LeadsBy left a b ⊎ (LeadsBy (suc left) a b × ((machine.serves ≡ true) × (machine.wants b.owner.end ≡ Want.CloseAll)))
+
+  pub turns_lead : (left : ℕ) (a b : Stand (side_of machine)) → TurnsBy left a b → Leads a b
+  turns_lead left a b (inl by) = by.leads
+  turns_lead left a b (inr over) = over.0.leads
+
+  -- none is left
+  pub turns_spent : (cause : Cause) (left : ℕ) (a b : Stand (side_of machine)) → TurnsBy left a b → left ≡ 0 → Fails cause a b
+  turns_spent cause left a b (inl by) none = fails_spent cause a b left by none
+  turns_spent cause left a b (inr over) none =
+      let leads = over.0.leads in
+      record { mid = b; leads = leads; octets = []; breaks = gives_up b; spent = λ is. omega (arith, over.0.made, none) }
+
+  -- one turn more, where it was not over
+  pub turns_on : (before left : ℕ) (a b c d : Stand (side_of machine)) → TurnsBy before a b → before ≡ suc left → IsOpenEnd machine b.owner.end → Leads b c
+      → Stirs machine c d ⊎ (Leads c d × ((machine.serves ≡ true) × (machine.wants d.owner.end ≡ Want.CloseAll))) → TurnsBy left a d
+  turns_on before left a b c d (inr over) one is_open aside turned = absurd (is_open over.1.0 over.1.1)
+  turns_on before left a b c d (inl by) one is_open aside (inl stirs) =
+      inl (by_then before left a c d (by_then_any before a b c by aside) one (stirs_lead c d stirs) (stirs_some c d stirs))
+  turns_on before left a b c d (inl by) one is_open aside (inr over) =
+      inr (subst (λ n. LeadsBy n a d) one (by_then_any before a c d (by_then_any before a b c by aside) over.0), over.1)
+
+  pub ends_err : {Over : Type 0} (last : Over → (old new : machine.Here) → Type 0) (cause : Cause) (a b : Stand (side_of machine)) (r : Result Over Cause)
+      → IsErrAnd r (λ e. e ≡ cause) → Fails cause a b → Ends machine last a b r
+  ends_err last cause a b (Ok over) failed fails = absurd failed
+  ends_err last cause a b (Err e) failed fails = subst (λ e. Fails e a b) (sym failed) fails

@@ -1,5 +1,5 @@
 -- How an end is asked whether its drive is over, and how that ends.
-use Rattle.std.specs.Prelude.{◌≡◌, Option, Some, None}
+use Rattle.std.specs.Prelude.{◌≡◌, ◌≢◌, true, Option, Some, None}
 use Rattle.std.specs.declared.result.Result.{Result}
 use Rattle.std.specs.declared.result.Result.TheVariants.{Ok, Err}
 use Rattle.ftp_control.specs.Deeds.{Stand, with_owner}
@@ -13,6 +13,10 @@ abbrev pub IsAsked : {Over : Type 0} → (machine : Machine) → (last : Over �
 IsAsked machine last goes_on (Some over) old new = last over old new
 IsAsked machine last goes_on None old new = machine.Owns goes_on old new
 
+-- one that serves does not want all to be closed
+abbrev pub IsOpenEnd : (machine : Machine) → machine.Here → Type 0
+IsOpenEnd machine here = machine.serves ≡ true → machine.wants here ≢ Want.CloseAll
+
 -- it may be told of a close where it wants one
 abbrev pub IsToldOfClose : (machine : Machine) → machine.Here → Type 0
 IsToldOfClose machine there = machine.wants there ≡ Want.CloseData → machine.IsCloseDue there
@@ -21,4 +25,4 @@ IsToldOfClose machine there = machine.wants there ≡ Want.CloseData → machine
 abbrev pub Ends : {Over : Type 0} → (machine : Machine) → (last : Over → (old new : machine.Here) → Type 0) → (start now : Stand (side_of machine)) → Result Over Cause → Type 0
 Ends machine last start now (Ok over) =
     (mid : Stand (side_of machine)) × Leads start mid × last over mid.owner.end now.owner.end × (now ≡ with_owner (held now.owner.end mid.owner.lane) mid)
-Ends machine last start now (Err cause) = Fails start now
+Ends machine last start now (Err cause) = Fails cause start now

@@ -61,9 +61,10 @@ module _ (machine : Machine) {K E R W P S : Type 0} (here : E → machine.Here) 
   abbrev pub Gets : {T : Type 0} → (old new : Drive K E R W P S) → Result T Cause → Type 0
   Gets old new result = GetsOn machine (standing old) (standing new) result
 
-  -- so does a turn; or it leads to where the end wants all to be closed
+  -- so does a turn; or it leads to where one that serves wants all to be closed
   abbrev pub TurnsOn : {T : Type 0} → (old new : Drive K E R W P S) → Result T Cause → Type 0
-  TurnsOn old new result = Gets old new result ⊎ (Goes (standing old) (standing new) result × (machine.wants (here new.end.now) ≡ Want.CloseAll))
+  TurnsOn old new result =
+      Gets old new result ⊎ (Goes (standing old) (standing new) result × ((machine.serves ≡ true) × (machine.wants (here new.end.now) ≡ Want.CloseAll)))
 
   -- it leads on, or fails
   abbrev pub Follows : {T : Type 0} → (old new : Drive K E R W P S) → Result T Cause → Type 0

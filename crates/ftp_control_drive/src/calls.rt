@@ -1,7 +1,7 @@
 // The calls of an end, as a drive makes them.
-ghost use Rattle.std.specs.Prelude.{◌≡◌, ◌<◌, ◌≤◌, Bool, IsTrue, length, take};
+ghost use Rattle.std.specs.Prelude.{◌≡◌, ◌<◌, ◌≤◌, IsTrue, length, take};
 ghost use Rattle.ftp_control.specs.Machine.{Machine};
-ghost use Rattle.ftp_control_drive.specs.Calling.{IsAsked, IsToldOfClose};
+ghost use Rattle.ftp_control_drive.specs.Calling.{IsAsked, IsOpenEnd, IsToldOfClose};
 
 use ftp_endpoint::Host;
 use ftp_ends::Wants;
@@ -22,12 +22,10 @@ pub trait EndCalls<E> {
     /// The call that asks whether its drive is over, where it is not.
     ghost goes_on: { machine.Own };
 
-    ghost serves: { Bool };
-
     /// Whether it serves: it hears octets one by one, while a transfer is under way too, and lines may wait for a transfer's end unheard. One that
     /// asks hears all that was read before anything else is done.
     fn serves() -> bool
-        ensures { result ≡ serves };
+        ensures { result ≡ machine.serves };
 
     /// Whether its drive is over, and with what.
     fn over(end: &mut E) -> Option<Self::Over>
@@ -97,6 +95,9 @@ pub trait EndCalls<E> {
     /// A close that it wanted is done.
     fn data_closed(end: &mut E)
         ensures { machine.Closed (here end.old) (here end.new) };
+
+    /// One that serves is over where it wants all to be closed.
+    ghost is_over: { (old new : machine.Here) → machine.Owns goes_on old new → IsOpenEnd machine old };
 
     /// It may be told of a close where it wants one.
     ghost close_due: { (there : machine.Here) → IsToldOfClose machine there };

@@ -4,7 +4,7 @@ ghost use Rattle.std.specs.Option.{is_some};
 ghost use Rattle.ftp_control.specs.Asking.{Adds, is_over, told_lost};
 ghost use Rattle.ftp_control.specs.Cause.{HasLost};
 ghost use Rattle.ftp_control.specs.Halting.{fate_by};
-ghost use Rattle.ftp_control.specs.Machine.{IsBroken, IsFlushed, MayLeave, awaits, moves_octets};
+ghost use Rattle.ftp_control.specs.Machine.{IsBroken, IsFlushed, IsListening, MayLeave, awaits, moves_octets, waits};
 ghost use Rattle.ftp_control.specs.Unheard.{unheard_of};
 ghost use Rattle.ftp_control_drive.specs.Standing.{Follows, Gets, HasEnded, IsKept, IsOpenAt, LeadsOn, StirsOn, Why};
 
@@ -30,9 +30,9 @@ where
         requires wants { K.machine.wants (K.here self.old.end.now) ≡ Wants.Send }
         requires sound { self.old.data.connection.fate ≢ Fate.Failed }
         requires flushed { IsFlushed K.machine (K.here self.old.end.now) }
-        requires none { K.serves ≡ false → IsOpenAt self.old.data → self.old.data.connection.at ≡ self.old.data.connection.end }
+        requires none { K.machine.serves ≡ false → IsOpenAt self.old.data → self.old.data.connection.at ≡ self.old.data.connection.end }
         ensures gets { Gets K.machine K.here R.remaining W.contents P.history S.remaining S.contents self.old self.new result }
-        ensures why { Why K.machine K.serves (K.here self.new.end.now) (P.history self.new.ports.now) self.new.control.now result }
+        ensures why { Why K.machine K.machine.serves (K.here self.new.end.now) (P.history self.new.ports.now) self.new.control.now result }
         ensures kept { IsKept self.old self.new }
     {
         if !self.data.is_open() {
@@ -58,7 +58,7 @@ where
         requires sound { self.old.data.connection.fate ≢ Fate.Failed }
         requires flushed { IsFlushed K.machine (K.here self.old.end.now) }
         ensures gets { Gets K.machine K.here R.remaining W.contents P.history S.remaining S.contents self.old self.new result }
-        ensures why { Why K.machine K.serves (K.here self.new.end.now) (P.history self.new.ports.now) self.new.control.now result }
+        ensures why { Why K.machine K.machine.serves (K.here self.new.end.now) (P.history self.new.ports.now) self.new.control.now result }
         ensures kept { IsKept self.old self.new }
     {
         if !self.data.is_open() {
@@ -103,13 +103,13 @@ where
     }
 
     /// The waiting failed: an end that serves gives up, one that asks may still receive what came before.
-    #[tactic(auto, using(ftp_control::proofs::Leading::fails_at))]
     fn lost(&mut self) -> Result<(), Cause>
+        requires flushed { IsFlushed K.machine (K.here self.old.end.now) }
         requires lost { HasLost (P.history self.old.ports.now) }
         requires ready { IsOpenAt self.old.data }
         requires wants { K.machine.wants (K.here self.old.end.now) ≡ Wants.Receive }
         ensures goes { Follows K.machine K.here R.remaining W.contents P.history S.remaining S.contents self.old self.new result }
-        ensures why { Why K.machine K.serves (K.here self.new.end.now) (P.history self.new.ports.now) self.new.control.now result }
+        ensures why { Why K.machine K.machine.serves (K.here self.new.end.now) (P.history self.new.ports.now) self.new.control.now result }
         ensures kept { IsKept self.old self.new }
     {
         if K::serves() {
@@ -120,10 +120,11 @@ where
 
     /// Takes what a data connection has: octets are handed on; or it ended or broke, and the end is told that.
     fn take(&mut self) -> Result<(), Cause>
+        requires flushed { IsFlushed K.machine (K.here self.old.end.now) }
         requires ready { IsOpenAt self.old.data }
         requires wants { K.machine.wants (K.here self.old.end.now) ≡ Wants.Receive }
         ensures goes { Follows K.machine K.here R.remaining W.contents P.history S.remaining S.contents self.old self.new result }
-        ensures why { Why K.machine K.serves (K.here self.new.end.now) (P.history self.new.ports.now) self.new.control.now result }
+        ensures why { Why K.machine K.machine.serves (K.here self.new.end.now) (P.history self.new.ports.now) self.new.control.now result }
         ensures kept { IsKept self.old self.new }
     {
         match self.data.come() {
@@ -152,10 +153,11 @@ where
     /// Writes octets that are on their way, as many as one write takes.
     #[tactic(auto, using(ftp_control::proofs::Getting::gets_then))]
     pub(crate) fn send(&mut self) -> Result<(), Cause>
+        requires flushed { IsFlushed K.machine (K.here self.old.end.now) }
         requires ready { IsOpenAt self.old.data }
         requires some { self.old.data.connection.at < self.old.data.connection.end }
         ensures gets { Gets K.machine K.here R.remaining W.contents P.history S.remaining S.contents self.old self.new result }
-        ensures why { Why K.machine K.serves (K.here self.new.end.now) (P.history self.new.ports.now) self.new.control.now result }
+        ensures why { Why K.machine K.machine.serves (K.here self.new.end.now) (P.history self.new.ports.now) self.new.control.now result }
         ensures kept { IsKept self.old self.new }
     {
         match self.write() {
@@ -179,6 +181,7 @@ where
     /// Writes octets that are not written yet.
     fn write(&mut self) -> Result<(), Halt>
         requires { IsOpenAt self.old.data }
+        ensures end { self.new.end.now ≡ self.old.end.now }
         ensures fate { self.new.data.connection.fate ≡ fate_by result Fate.Sound }
         ensures leads { LeadsOn K.machine K.here R.remaining W.contents P.history S.remaining S.contents self.old self.new }
         ensures stirs { self.old.data.connection.at < self.old.data.connection.end → StirsOn K.machine K.here R.remaining W.contents P.history S.remaining S.contents self.old self.new }
@@ -191,9 +194,10 @@ where
     /// where it broke, the end is told.
     #[tactic(auto, using(ftp_control::proofs::Getting::gets_goes, ftp_control::proofs::Getting::stirs_lead, ftp_control::proofs::Leading::leads_nowhere))]
     fn halted(&mut self, halt: Halt) -> Result<(), Cause>
-        requires { halt ≡ Halt.Broken → self.old.data.connection.fate ≡ Fate.Failed }
+        requires flushed { IsFlushed K.machine (K.here self.old.end.now) }
+        requires failed { halt ≡ Halt.Broken → self.old.data.connection.fate ≡ Fate.Failed }
         ensures goes { Follows K.machine K.here R.remaining W.contents P.history S.remaining S.contents self.old self.new result }
-        ensures why { Why K.machine K.serves (K.here self.new.end.now) (P.history self.new.ports.now) self.new.control.now result }
+        ensures why { Why K.machine K.machine.serves (K.here self.new.end.now) (P.history self.new.ports.now) self.new.control.now result }
         ensures kept { IsKept self.old self.new }
     {
         match halt {
@@ -214,11 +218,12 @@ where
 
     /// The data connection ended: that is told, unless the control connection goes first.
     fn ended(&mut self) -> Result<(), Cause>
+        requires flushed { IsFlushed K.machine (K.here self.old.end.now) }
         requires ready { IsOpenAt self.old.data }
         requires ended { HasEnded S.remaining self.old.data }
         requires wants { K.machine.wants (K.here self.old.end.now) ≡ Wants.Receive }
         ensures goes { Follows K.machine K.here R.remaining W.contents P.history S.remaining S.contents self.old self.new result }
-        ensures why { Why K.machine K.serves (K.here self.new.end.now) (P.history self.new.ports.now) self.new.control.now result }
+        ensures why { Why K.machine K.machine.serves (K.here self.new.end.now) (P.history self.new.ports.now) self.new.control.now result }
         ensures kept { IsKept self.old self.new }
     {
         let spoken = self.look();
@@ -231,9 +236,10 @@ where
     /// The data connection broke: that is told, unless the control connection goes first.
     #[tactic(auto, using(ftp_control::proofs::Getting::then_gets, ftp_control::proofs::Getting::then_stirs))]
     pub(crate) fn broke(&mut self) -> Result<(), Cause>
-        requires { self.old.data.connection.fate ≡ Fate.Failed }
+        requires flushed { IsFlushed K.machine (K.here self.old.end.now) }
+        requires failed { self.old.data.connection.fate ≡ Fate.Failed }
         ensures gets { Gets K.machine K.here R.remaining W.contents P.history S.remaining S.contents self.old self.new result }
-        ensures why { Why K.machine K.serves (K.here self.new.end.now) (P.history self.new.ports.now) self.new.control.now result }
+        ensures why { Why K.machine K.machine.serves (K.here self.new.end.now) (P.history self.new.ports.now) self.new.control.now result }
         ensures kept { IsKept self.old self.new }
     {
         let spoken = self.look();
@@ -247,6 +253,7 @@ where
     /// Whether what the control connection has goes before the end of a data connection: octets, where all before were heard, and its own end.
     fn goes_first(&self, spoken: Spoken) -> bool
         ensures behind { result ≡ false → spoken ≢ Spoken.Ended }
+        ensures some { IsTrue result → spoken ≢ Spoken.Nothing }
         ensures first { IsTrue result → 0 < length (unheard_of self.now.control.now) → spoken ≡ Spoken.Ended }
     {
         match spoken {
@@ -265,7 +272,7 @@ where
         requires ended { HasEnded S.remaining self.old.data }
         requires wants { K.machine.wants (K.here self.old.end.now) ≡ Wants.Receive }
         ensures goes { Follows K.machine K.here R.remaining W.contents P.history S.remaining S.contents self.old self.new result }
-        ensures why { Why K.machine K.serves (K.here self.new.end.now) (P.history self.new.ports.now) self.new.control.now result }
+        ensures why { Why K.machine K.machine.serves (K.here self.new.end.now) (P.history self.new.ports.now) self.new.control.now result }
         ensures kept { IsKept self.old self.new }
     {
         self.tell_end(spoken);
@@ -308,19 +315,32 @@ where
         self.data.reset(self.ports);
     }
 
-    /// What the control connection has, where an end that serves looks at it before its data connection is over; one that asks has looked already.
+    /// What the control connection has, where an end that serves and waits for octets looks at it before its data connection is over; one that asks has
+    /// looked already, and one that wants no more octets does not read.
     #[tactic(auto, using(ftp_control::proofs::Leading::leads_nowhere))]
     fn look(&mut self) -> Spoken
-        requires { (awaits (K.machine.wants (K.here self.old.end.now)) ≡ true) ⊎ (self.old.data.connection.fate ≡ Fate.Failed) }
         ensures leads { LeadsOn K.machine K.here R.remaining W.contents P.history S.remaining S.contents self.old self.new }
+        ensures listening { result ≢ Spoken.Nothing → IsListening K.machine (K.here self.new.end.now) }
         ensures asked { Adds (P.history self.old.ports.now) (P.history self.new.ports.now) (told_lost (is_over result)) }
         ensures data { self.new.data ≡ self.old.data }
         ensures end { self.new.end.now ≡ self.old.end.now }
         ensures kept { IsKept self.old self.new }
     {
-        if K::serves() {
+        if K::serves() && awaits(K::wants(self.end)) {
             return self.ports.spoken();
         }
         Spoken::Nothing
+    }
+}
+
+/// Whether an end that wants this waits at its data connection, or for one.
+fn awaits(wants: Wants) -> bool
+    ensures awaits { result ≡ awaits wants }
+    ensures waits { IsTrue result → waits wants ≡ true }
+{
+    match wants {
+        Wants::Accept | Wants::Receive | Wants::Send => true,
+        Wants::Nothing | Wants::Listen | Wants::Connect(_) | Wants::CloseData | Wants::CloseAll =>
+            false,
     }
 }

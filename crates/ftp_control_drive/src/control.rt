@@ -4,7 +4,7 @@ ghost use Rattle.ftp_control.specs.Asking.{Asked};
 ghost use Rattle.ftp_control.specs.Cause.{HasLost};
 ghost use Rattle.ftp_control.specs.Driving.{Flushes};
 ghost use Rattle.ftp_control.specs.Lane.{Lane};
-ghost use Rattle.ftp_control.specs.Machine.{IsFlushed, held, stand_of};
+ghost use Rattle.ftp_control.specs.Machine.{IsFlushed, IsListening, held, stand_of};
 ghost use Rattle.ftp_control.specs.Unheard.{unheard_of};
 ghost use Rattle.ftp_control_drive.specs.Standing.{Follows, Gets, IsKept, StirsOn, Why, standing};
 
@@ -22,7 +22,7 @@ where
     W: Write + Drop,
     ensures flushes { (lane : Lane) → Flushes (stand_of K.machine R.remaining W.contents (held (K.here end.old) lane) control.old) (stand_of K.machine R.remaining W.contents (held (K.here end.new) lane) control.new) result }
     ensures unheard { unheard_of control.new ≡ unheard_of control.old }
-    ensures why { (asked : Option (List Asked)) → Why K.machine K.serves (K.here end.new) asked control.new result }
+    ensures why { (asked : Option (List Asked)) → Why K.machine K.machine.serves (K.here end.new) asked control.new result }
 {
     let mut room = [0u8; 1024];
     let mut turns = Turns::new();
@@ -52,29 +52,32 @@ where
         ensures owes { OnOk result (IsFlushed K.machine (K.here self.new.end.now)) }
         ensures unheard { unheard_of self.new.control.now ≡ unheard_of self.old.control.now }
         ensures data { self.new.data ≡ self.old.data }
-        ensures why { Why K.machine K.serves (K.here self.new.end.now) (P.history self.new.ports.now) self.new.control.now result }
+        ensures why { Why K.machine K.machine.serves (K.here self.new.end.now) (P.history self.new.ports.now) self.new.control.now result }
         ensures kept { IsKept self.old self.new }
     {
         flush::<K, E, R, W>(self.end, self.control)
     }
 
-    /// Hears the first octets that were read.
+    /// Hears the first octets that were read. It is seen before whether the end has more to give: what it hears may end that.
     pub(crate) fn hear(&mut self)
         requires some { 0 < length (unheard_of self.old.control.now) }
         requires may { IsTrue (K.machine.may_hear (K.here self.old.end.now)) }
+        requires listening { IsListening K.machine (K.here self.old.end.now) }
         ensures stirs { StirsOn K.machine K.here R.remaining W.contents P.history S.remaining S.contents self.old self.new }
         ensures kept { IsKept self.old self.new }
     {
+        self.data.see::<K, E>(self.end);
         let taken = K::hear(self.end, self.control.unheard());
         self.control.heard(taken);
     }
 
     /// Serves the control connection, of which `Ports` told: reads it; where octets stand unheard its end was told, and the drive breaks off.
-    #[tactic(auto, using(ftp_control::proofs::Leading::fails_at))]
     pub(crate) fn heed(&mut self) -> Result<(), Cause>
-        requires { 0 < length (unheard_of self.old.control.now) → HasLost (P.history self.old.ports.now) }
+        requires flushed { IsFlushed K.machine (K.here self.old.end.now) }
+        requires listening { IsListening K.machine (K.here self.old.end.now) }
+        requires lost { 0 < length (unheard_of self.old.control.now) → HasLost (P.history self.old.ports.now) }
         ensures gets { Gets K.machine K.here R.remaining W.contents P.history S.remaining S.contents self.old self.new result }
-        ensures why { Why K.machine K.serves (K.here self.new.end.now) (P.history self.new.ports.now) self.new.control.now result }
+        ensures why { Why K.machine K.machine.serves (K.here self.new.end.now) (P.history self.new.ports.now) self.new.control.now result }
         ensures kept { IsKept self.old self.new }
     {
         if self.control.has_unheard() {
@@ -83,20 +86,21 @@ where
         self.read()
     }
 
-    /// Writes what the end owes and reads from the control connection, where all octets before were heard; tells the end where that ended.
+    /// Reads from the control connection, where all that was owed is written and all octets before were heard; tells the end where that ended.
     #[tactic(auto, using(ftp_control::proofs::Getting::gets_err, ftp_control::proofs::Causing::passes, ftp_control::proofs::Causing::is_fault))]
     pub(crate) fn read(&mut self) -> Result<(), Cause>
-        requires { unheard_of self.old.control.now ≡ [] }
+        requires flushed { IsFlushed K.machine (K.here self.old.end.now) }
+        requires listening { IsListening K.machine (K.here self.old.end.now) }
+        requires heard { unheard_of self.old.control.now ≡ [] }
         ensures gets { Gets K.machine K.here R.remaining W.contents P.history S.remaining S.contents self.old self.new result }
-        ensures why { Why K.machine K.serves (K.here self.new.end.now) (P.history self.new.ports.now) self.new.control.now result }
+        ensures why { Why K.machine K.machine.serves (K.here self.new.end.now) (P.history self.new.ports.now) self.new.control.now result }
         ensures kept { IsKept self.old self.new }
     {
-        self.flush()?;
         let count = self.control.read()?;
         if count != 0 {
             return Ok(());
         }
-        K::control_end(self.end);
+        self.data.cut::<K, E>(self.end);
         Ok(())
     }
 }

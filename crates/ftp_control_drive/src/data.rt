@@ -4,7 +4,7 @@ ghost use Rattle.ftp_control.specs.Asking.{Asked, is_lost};
 ghost use Rattle.ftp_control.specs.Driving.{Quietly};
 ghost use Rattle.ftp_control.specs.Halting.{fate_by};
 ghost use Rattle.ftp_control.specs.Lane.{IsRead, IsWaited, no_lane, with_fate};
-ghost use Rattle.ftp_control.specs.Machine.{Stirring, held, side_of};
+ghost use Rattle.ftp_control.specs.Machine.{IsCut, Stirring, held, seen, side_of};
 ghost use Rattle.ftp_control.specs.Outcome.{IsReset, IsSent, IsWrote, in_hand};
 ghost use Rattle.ftp_control_drive.specs.Standing.{HasEnded, IsOpenAt, Leaving, lane_at};
 
@@ -58,6 +58,24 @@ impl<S: Read + Write> Data<S> {
         self.connection.took(given.count, given.rest);
     }
 
+    /// Sees whether the end wants to send: then it has more octets for one that was opened before.
+    pub(crate) fn see<K: EndCalls<E>, E>(&mut self, end: &E)
+        ensures { (asked : Option (List Asked)) → lane_at S.remaining S.contents asked self.new [] ≡ seen (K.machine.wants (K.here end.now)) (lane_at S.remaining S.contents asked self.old []) }
+    {
+        match K::wants(end) {
+            Wants::Send => self.connection.more(),
+            _ => {}
+        }
+    }
+
+    /// The control connection ended: the end is told, and it is seen before whether it had more octets.
+    pub fn cut<K: EndCalls<E>, E>(&mut self, end: &mut E)
+        ensures { (asked : Option (List Asked)) → IsCut K.machine (held (K.here end.old) (lane_at S.remaining S.contents asked self.old [])) (held (K.here end.new) (lane_at S.remaining S.contents asked self.new [])) }
+    {
+        self.see::<K, E>(end);
+        K::control_end(end);
+    }
+
     /// How many octets are taken at once: of an end that serves by what went so far, of one that asks as many as there is room for.
     fn piece<K: EndCalls<E>, E>(&self) -> usize
         ensures { result ≤ 262144 }
@@ -74,7 +92,7 @@ impl<S: Read + Write> Data<S> {
         ensures written { (asked : Option (List Asked)) → IsSent (lane_at S.remaining S.contents asked self.old []) (lane_at S.remaining S.contents asked self.new []) }
         ensures some { self.old.connection.at < self.old.connection.end → (asked : Option (List Asked)) → IsWrote (lane_at S.remaining S.contents asked self.old []) (lane_at S.remaining S.contents asked self.new []) }
         ensures fate { self.new.connection.fate ≡ fate_by result Fate.Sound }
-        ensures all { OnOk result (K.serves ≡ true → self.new.connection.rest ≡ Rest.Nothing → self.new.connection.at ≡ self.new.connection.end) }
+        ensures all { OnOk result (K.machine.serves ≡ true → self.new.connection.rest ≡ Rest.Nothing → self.new.connection.at ≡ self.new.connection.end) }
     {
         if !self.connection.has_unwritten() {
             return Ok(());

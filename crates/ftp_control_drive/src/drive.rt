@@ -2,10 +2,10 @@
 ghost use Rattle.std.specs.Prelude.{◌≡◌, ◌≢◌, ◌<◌, IsTrue, [], false, length, true};
 ghost use Rattle.ftp_control.specs.Cause.{is_still};
 ghost use Rattle.ftp_control.specs.Lane.{no_lane};
-ghost use Rattle.ftp_control.specs.Machine.{IsFlushed, held, stand_of};
+ghost use Rattle.ftp_control.specs.Machine.{IsFlushed, IsListening, held, stand_of, waits};
 ghost use Rattle.ftp_control.specs.Unheard.{unheard_of};
 ghost use Rattle.ftp_control_drive.specs.Calling.{Ends};
-ghost use Rattle.ftp_control_drive.specs.Standing.{Follows, IsKept, IsOpenAt, LeadsOn, TurnsOn, Why, lane_at, standing};
+ghost use Rattle.ftp_control_drive.specs.Standing.{IsKept, IsOpenAt, TurnsOn, Why, lane_at, standing};
 
 use crate::calls::EndCalls;
 use crate::data::Data;
@@ -37,7 +37,7 @@ where
     W: Write + Drop,
     P: Ports,
     ensures ends { Ends K.machine K.last (stand_of K.machine R.remaining W.contents (held (K.here end.old) (no_lane (P.history ports.old))) control.old) (stand_of K.machine R.remaining W.contents (held (K.here end.new) (lane_at P.Stream.remaining P.Stream.contents (P.history ports.new) result.0 [])) control.new) result.1 }
-    ensures why { Why K.machine K.serves (K.here end.new) (P.history ports.new) control.new result.1 }
+    ensures why { Why K.machine K.machine.serves (K.here end.new) (P.history ports.new) control.new result.1 }
 {
     let mut drive = Drive {
         end,
@@ -71,7 +71,7 @@ where
     #[tactic(auto, using(ftp_control::proofs::Causing::passes, ftp_control::proofs::Causing::is_spent))]
     fn turns(&mut self) -> Result<K::Over, Cause>
         ensures ends { Ends K.machine K.last (standing K.machine K.here R.remaining W.contents P.history S.remaining S.contents self.old) (standing K.machine K.here R.remaining W.contents P.history S.remaining S.contents self.new) result }
-        ensures why { Why K.machine K.serves (K.here self.new.end.now) (P.history self.new.ports.now) self.new.control.now result }
+        ensures why { Why K.machine K.machine.serves (K.here self.new.end.now) (P.history self.new.ports.now) self.new.control.now result }
         ensures kept { IsKept self.old self.new }
     {
         let mut turns = Turns::new();
@@ -79,7 +79,7 @@ where
             turns.next()?;
             match K::over(self.end) {
                 Some(over) => return Ok(over),
-                None => self.noted_turn()?,
+                None => self.turn()?,
             }
         }
     }
@@ -89,7 +89,7 @@ where
     #[tactic(auto, using(ftp_control::proofs::Getting::gets_err, ftp_control::proofs::Getting::then_gets, ftp_control::proofs::Getting::then_stirs, ftp_control::proofs::Causing::passes))]
     fn turn(&mut self) -> Result<(), Cause>
         ensures gets { TurnsOn K.machine K.here R.remaining W.contents P.history S.remaining S.contents self.old self.new result }
-        ensures why { Why K.machine K.serves (K.here self.new.end.now) (P.history self.new.ports.now) self.new.control.now result }
+        ensures why { Why K.machine K.machine.serves (K.here self.new.end.now) (P.history self.new.ports.now) self.new.control.now result }
         ensures kept { IsKept self.old self.new }
     {
         self.flush()?;
@@ -106,32 +106,12 @@ where
         self.act()
     }
 
-    /// Notes whether the end wants to send, and makes one turn.
-    fn noted_turn(&mut self) -> Result<(), Cause>
-        ensures goes { Follows K.machine K.here R.remaining W.contents P.history S.remaining S.contents self.old self.new result }
-        ensures why { Why K.machine K.serves (K.here self.new.end.now) (P.history self.new.ports.now) self.new.control.now result }
-        ensures kept { IsKept self.old self.new }
-    {
-        self.note();
-        self.turn()
-    }
-
-    /// Notes that an end which wants to send has more octets for its data connection, which may have been opened before.
-    fn note(&mut self)
-        ensures leads { LeadsOn K.machine K.here R.remaining W.contents P.history S.remaining S.contents self.old self.new }
-        ensures control { self.new.control.now ≡ self.old.control.now }
-        ensures kept { IsKept self.old self.new }
-    {
-        if K::wants(self.end) == Wants::Send {
-            self.data.connection.more();
-        }
-    }
-
     /// Whether octets that were read are to be heard now: of one that asks before all else, of one that serves beside what it waits for.
     fn hears_now(&self) -> bool
         ensures some { IsTrue result → 0 < length (unheard_of self.now.control.now) }
         ensures may { IsTrue result → IsTrue (K.machine.may_hear (K.here self.now.end.now)) }
-        ensures none { result ≡ false → 0 < length (unheard_of self.now.control.now) → is_still K.serves (K.machine.wants (K.here self.now.end.now)) ≡ true → K.machine.may_hear (K.here self.now.end.now) ≡ false }
+        ensures listening { IsTrue result → IsListening K.machine (K.here self.now.end.now) }
+        ensures none { result ≡ false → 0 < length (unheard_of self.now.control.now) → is_still K.machine.serves (K.machine.wants (K.here self.now.end.now)) ≡ true → K.machine.may_hear (K.here self.now.end.now) ≡ false }
     {
         if !self.control.has_unheard() {
             return false;
@@ -146,7 +126,7 @@ where
     fn is_sending(&self) -> bool
         ensures ready { IsTrue result → IsOpenAt self.now.data }
         ensures some { IsTrue result → self.now.data.connection.at < self.now.data.connection.end }
-        ensures none { result ≡ false → K.serves ≡ false → IsOpenAt self.now.data → self.now.data.connection.at ≡ self.now.data.connection.end }
+        ensures none { result ≡ false → K.machine.serves ≡ false → IsOpenAt self.now.data → self.now.data.connection.at ≡ self.now.data.connection.end }
     {
         !K::serves() && self.data.is_open() && self.data.connection.has_unwritten()
     }
@@ -156,10 +136,10 @@ where
     fn act(&mut self) -> Result<(), Cause>
         requires sound { self.old.data.connection.fate ≢ Fate.Failed }
         requires flushed { IsFlushed K.machine (K.here self.old.end.now) }
-        requires none { K.serves ≡ false → IsOpenAt self.old.data → self.old.data.connection.at ≡ self.old.data.connection.end }
-        requires heard { 0 < length (unheard_of self.old.control.now) → is_still K.serves (K.machine.wants (K.here self.old.end.now)) ≡ true → K.machine.may_hear (K.here self.old.end.now) ≡ false }
+        requires none { K.machine.serves ≡ false → IsOpenAt self.old.data → self.old.data.connection.at ≡ self.old.data.connection.end }
+        requires heard { 0 < length (unheard_of self.old.control.now) → is_still K.machine.serves (K.machine.wants (K.here self.old.end.now)) ≡ true → K.machine.may_hear (K.here self.old.end.now) ≡ false }
         ensures gets { TurnsOn K.machine K.here R.remaining W.contents P.history S.remaining S.contents self.old self.new result }
-        ensures why { Why K.machine K.serves (K.here self.new.end.now) (P.history self.new.ports.now) self.new.control.now result }
+        ensures why { Why K.machine K.machine.serves (K.here self.new.end.now) (P.history self.new.ports.now) self.new.control.now result }
         ensures kept { IsKept self.old self.new }
     {
         let wants = K::wants(self.end);
@@ -184,9 +164,10 @@ where
     }
 }
 
-/// Whether an end that wants this hears octets meanwhile.
+/// Whether an end that wants this waits for octets.
 fn waits(wants: Wants) -> bool
-    ensures { result ≡ false → is_still true wants ≡ false }
+    ensures waits { result ≡ waits wants }
+    ensures none { result ≡ false → is_still true wants ≡ false }
 {
     match wants {
         Wants::Nothing | Wants::Accept | Wants::Receive | Wants::Send => true,
@@ -196,7 +177,7 @@ fn waits(wants: Wants) -> bool
 
 /// Whether an end that wants this goes on only once what stands unheard is heard.
 fn stands_still<K: EndCalls<E>, E>(wants: Wants) -> bool
-    ensures { result ≡ is_still K.serves wants }
+    ensures { result ≡ is_still K.machine.serves wants }
 {
     match wants {
         Wants::Nothing => true,

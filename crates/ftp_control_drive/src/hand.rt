@@ -75,7 +75,7 @@ where
     R: Read + Drop,
     W: Write + Drop,
     ensures goes { (lane : Lane) → IsOpen lane → Goes (stand_of K.machine R.remaining W.contents (held (K.here end.old) (with_untold octets.now lane)) control.old) (stand_of K.machine R.remaining W.contents (held (K.here end.new) (with_untold [] lane)) control.new) result }
-    ensures why { (asked : Option (List Asked)) → Why K.machine K.serves (K.here end.new) asked control.new result }
+    ensures why { (asked : Option (List Asked)) → Why K.machine K.machine.serves (K.here end.new) asked control.new result }
 {
     let mut rest = octets;
     let mut turns = Turns::new();

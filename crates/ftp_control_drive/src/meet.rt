@@ -29,7 +29,7 @@ where
         requires flushed { IsFlushed K.machine (K.here self.old.end.now) }
         requires sound { self.old.data.connection.fate ≢ Fate.Failed }
         ensures gets { Gets K.machine K.here R.remaining W.contents P.history S.remaining S.contents self.old self.new result }
-        ensures why { Why K.machine K.serves (K.here self.new.end.now) (P.history self.new.ports.now) self.new.control.now result }
+        ensures why { Why K.machine K.machine.serves (K.here self.new.end.now) (P.history self.new.ports.now) self.new.control.now result }
         ensures kept { IsKept self.old self.new }
     {
         if self.data.connection.stands() {

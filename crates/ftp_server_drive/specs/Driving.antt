@@ -6,11 +6,11 @@ use Rattle.ftp_ends.specs.declared.link.Wants.TheVariants.{CloseAll}
 use Rattle.ftp_control.specs.Asking.{Asked}
 use Rattle.ftp_control.specs.Deeds.{Other, Stand, with_owner}
 use Rattle.ftp_control.specs.Lane.{IsLeft}
-use Rattle.ftp_control.specs.Machine.{IsFairEnd, Left}
+use Rattle.ftp_control.specs.Machine.{Held, IsCut, IsFairEnd, Left}
 use Rattle.ftp_control.specs.declared.cause.Cause.{Cause}
 use Rattle.ftp_control_drive.specs.Driven.{BreaksOff, Did}
 use Rattle.ftp_server_model.specs.Calls.{wants}
-use Rattle.ftp_server_drive.specs.Side.{Timed, ended, server_machine, server_side}
+use Rattle.ftp_server_drive.specs.Side.{Timed, server_machine, server_side}
 
 -- the server is done with the control connection
 abbrev pub IsOver : Stand server_side → Type 0
@@ -29,15 +29,17 @@ pub record Drove (start now : Stand server_side) : Type 0 where
 
 -- the same where the drive broke off, for this cause, whether a read or a write failed or not: a beginning of what it said was written, and what
 -- of an upload it was not told is let go; it was told that the control connection ended, and its data connection was left, by an end only where
--- none was unwritten and it had no more when it gave last
+-- none was unwritten and it had no more to give
 pub record BrokeOff (cause : Cause) (failed : Bool) (start now : Stand server_side) : Type 0 where
   pub off : Stand server_side
   pub breaks : BreaksOff server_machine true cause failed start off
   pub stays : now ≡ with_owner now.owner off
-  pub cut : now.owner.end ≡ ended off.owner.end
+  pub cut : Held Timed
+  pub is_cut : IsCut server_machine off.owner cut
+  pub end : now.owner.end ≡ cut.end
   pub asked : Asked
-  pub left : IsLeft asked off.owner.lane now.owner.lane
-  pub fair : IsFairEnd off.owner.lane asked
+  pub left : IsLeft asked cut.lane now.owner.lane
+  pub fair : IsFairEnd cut.lane asked
 
 -- how a drive ends, where a read or a write of the control connection failed or not
 abbrev pub Drives : {T : Type 0} → (failed : Bool) → (start now : Stand server_side) → Result T Cause → Type 0

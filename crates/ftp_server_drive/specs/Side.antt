@@ -50,6 +50,7 @@ abbrev pub server_machine : Machine
 server_machine = record {
   Here = Timed;
   wants = λ at. wants at.server.view;
+  serves = true;
   owed = λ at. at.server.view.owed;
   to_give = λ at. to_give at.server.view;
   may_hear = λ at. may_hear at.server.view;

@@ -34,11 +34,15 @@ where
     ensures { Drives control.new.failed (beside R.remaining W.contents (held (timed F.server C.told clocked.old) (no_lane (P.history ports.old))) control.old) (beside R.remaining W.contents (held (timed F.server C.told clocked.new) (no_lane (P.history ports.new))) control.new) result }
 {
     let (data, ended) = drive_end::<Serves<A, T>, Clocked<F, C>, R, W, P>(clocked, control, ports);
-    data.finish(ports);
     match ended {
-        Ok(()) => Ok(()),
+        Ok(()) => {
+            data.finish(ports);
+            Ok(())
+        }
         Err(cause) => {
-            clocked.server.control_end();
+            let mut data = data;
+            data.cut::<Serves<A, T>, Clocked<F, C>>(clocked);
+            data.finish(ports);
             Err(cause)
         }
     }

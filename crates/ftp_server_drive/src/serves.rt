@@ -39,8 +39,6 @@ where
 
     ghost goes_on = { tt };
 
-    ghost serves = { true };
-
     fn serves() -> bool {
         true
     }
@@ -114,6 +112,8 @@ where
     fn data_closed(end: &mut Clocked<F, C>) {
         end.server.data_closed();
     }
+
+    ghost is_over = { λ old new asked serves. asked.1 };
 
     ghost close_due = { λ there wanted. wanted };
 }

@@ -1,12 +1,12 @@
 use Rattle.std.proofs.Common.{◌≡◌}
 use Rattle.ftp_control.specs.Unheard.{unheard_of}
-use Rattle.ftp_control_drive.proofs.Words.{Lane, Leads, held, stand_of}
+use Rattle.ftp_control_drive.proofs.Words.{Lane, LeadsBy, held, stand_of}
 use Rattle.ftp_control_drive.proofs.control.flush.Given as goal
 
 abbrev pub invariant-loop-end : goal.invariant-loop-end
 invariant-loop-end g l =
     let stand = stand_of g.K.EndCalls.machine g.R.Read.remaining g.W.Write.contents in
-    ((lane : Lane) → Leads (stand (held (g.K.EndCalls.here l.fn.end) lane) l.fn.control) (stand (held (g.K.EndCalls.here l.end) lane) l.control))
+    ((lane : Lane) → LeadsBy l.turns.left (stand (held (g.K.EndCalls.here l.fn.end) lane) l.fn.control) (stand (held (g.K.EndCalls.here l.end) lane) l.control))
     × (unheard_of l.control ≡ unheard_of l.fn.control)
 
 abbrev pub decreases-loop-end : goal.decreases-loop-end

@@ -46,15 +46,18 @@ returns-in-Ok g c =
 pub returns-in-Err : goal.returns-in-Err
 returns-in-Err g c =
     let ended = c.drive_end-data in
-    let lane = lane_at g.P.Stream.Read.remaining g.P.Stream.Write.contents (g.P.Ports.history ended.new.ports) ended.result.0 [] in
-    let off = beside g.R.Read.remaining g.W.Write.contents (held (timed g.F.Far.server g.C.Watch.told ended.new.end) lane) ended.new.control in
+    let history = g.P.Ports.history ended.new.ports in
+    let lane = lane_at g.P.Stream.Read.remaining g.P.Stream.Write.contents history in
+    let off = beside g.R.Read.remaining g.W.Write.contents (held (timed g.F.Far.server g.C.Watch.told ended.new.end) (lane ended.result.0 [])) ended.new.control in
     record {
       off = off;
       breaks = breaks_off server_machine _ refl refl (λ over old new. IsDone old new) true ended.new.control.failed off ended.result.1 c.in-Err.cause
           c.in-Err.is ended.ensures.ends ended.ensures.why;
       stays = refl;
-      cut = ap (λ server. record off.owner.end { server = server }) c.control_end.ensures;
-      asked = c.finish.ensures.0;
-      left = c.finish.ensures.1;
-      fair = c.finish.ensures.2;
+      cut = held (timed g.F.Far.server g.C.Watch.told c.cut.new.end) (lane c.cut.new.self []);
+      is_cut = c.cut.ensures history;
+      end = refl;
+      asked = c.finish-in-Err.ensures.0;
+      left = c.finish-in-Err.ensures.1;
+      fair = c.finish-in-Err.ensures.2;
     }

@@ -12,7 +12,7 @@ returns-in-Came-clause-gets g c =
 
 pub returns-in-Spoken-clause-gets : goal.returns-in-Spoken-clause-gets
 returns-in-Spoken-clause-gets g c =
-    then_gets _ _ _ c.heed.result (asks g.K.EndCalls.machine (not (not c.has_unheard-hears.result)) _ _ (inl (ap awaits c.requires.wants))
+    then_gets _ _ _ c.heed.result (asks g.K.EndCalls.machine (not (not c.has_unheard-hears.result)) _ _ (ap awaits c.requires.wants)
     (none_answered g.S.Read.remaining g.S.Write.contents _ _ _ c.accept.result c.in-Spoken.is c.accept.ensures)) c.heed.ensures.gets
 
 pub returns-in-Refused-clause-gets : goal.returns-in-Refused-clause-gets

@@ -3,4 +3,4 @@ use Rattle.ftp_control_drive.proofs.Words.{waits}
 use Rattle.ftp_control_drive.proofs.drive.Drive.wait.Goals as goal
 
 pub returns-clause-stirs : goal.returns-clause-stirs
-returns-clause-stirs g c = waits g.K.EndCalls.machine _ _ _ _ (inl c.requires) c.wait.ensures _ _ _
+returns-clause-stirs g c = waits g.K.EndCalls.machine _ _ _ _ c.requires c.wait.ensures _ _ _
