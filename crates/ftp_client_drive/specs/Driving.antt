@@ -11,11 +11,11 @@ use Rattle.ftp_operation.specs.Answer.{Said, Lost, said_of}
 use Rattle.ftp_operation.specs.declared.answer.Answer.{Answer}
 use Rattle.ftp_client_model.specs.Calls.{is_sound}
 use Rattle.ftp_client_model.specs.Failing.{Client}
-use Rattle.ftp_client_drive.specs.Side.{Report, client_machine, client_side, is_under_way}
+use Rattle.ftp_client_drive.specs.Side.{Report, Reporting, client_machine, client_side, is_under_way}
 
 -- the client is asked for its report, which is this answer
 abbrev pub Reports : {A : Type 0} → Answer A → (old new : Client) → Type 0
-Reports answer old new = client_machine.Owns (Some (said_of answer)) old new
+Reports answer old new = client_machine.Owns (Reporting (Some (said_of answer))) old new
 
 -- the client gave this answer, its data connection was left, and it was told that it is closed; before that all that it said was written, and it
 -- heard all that was read but for what is not heard yet

@@ -1,7 +1,7 @@
 // The calls of a client, as a drive makes them.
 ghost use Rattle.std.specs.Prelude.{◌≡◌, false, None, true};
 ghost use Rattle.ftp_client_drive.specs.Driving.{Reports};
-ghost use Rattle.ftp_client_drive.specs.Side.{client_machine};
+ghost use Rattle.ftp_client_drive.specs.Side.{Reporting, client_machine};
 
 use ftp_client_model::Near;
 use ftp_control_drive::EndCalls;
@@ -27,7 +27,7 @@ impl<A: Allocator + Copy, N: Near<A>> EndCalls<N> for Asks<A> {
     ghost last = { λ answer old new. Reports answer old new };
 
     /// It was asked for its report, and had none.
-    ghost goes_on = { None };
+    ghost goes_on = { Reporting None };
 
     fn serves() -> bool {
         false

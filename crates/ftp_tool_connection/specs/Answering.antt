@@ -5,9 +5,9 @@ use Rattle.ftp_control.specs.Deeds.{Stand, with_owner}
 use Rattle.ftp_control.specs.Machine.{held}
 use Rattle.ftp_control.specs.declared.cause.Cause.{Cause}
 use Rattle.ftp_client_drive.specs.Driving.{Drives}
-use Rattle.ftp_client_drive.specs.Side.{client_side}
-use Rattle.ftp_client_model.specs.Calls.{is_busy, starts, uploads}
-use Rattle.ftp_client_model.specs.Failing.{Client, Holds, HoldsIfRoom, starts_short, uploads_short}
+use Rattle.ftp_client_drive.specs.Side.{Starting, Uploading, client_machine, client_side}
+use Rattle.ftp_client_model.specs.Calls.{is_busy}
+use Rattle.ftp_client_model.specs.Failing.{Client, Holds}
 use Rattle.ftp_client_model.specs.Tries.{over_breaks}
 use Rattle.ftp_operation.specs.Answer.{Said, Lost}
 use Rattle.ftp_operation.specs.declared.op.How.{How}
@@ -15,17 +15,17 @@ use Rattle.ftp_operation.specs.declared.op.Op.{Op}
 use Rattle.ftp_tool_connection.specs.declared.request.Request.{Request}
 use Rattle.ftp_tool_connection.specs.declared.request.Request.TheVariants.{One, Upload, Download}
 
--- an operation is begun by a client that is not busy
+-- an operation is begun by a client that is not busy: that is the deed before those of its drive
 abbrev pub BeginsOne : Option (Op (List ℕ)) → (old new : Client) → Type 0
 BeginsOne None old new = Holds old new old.view
 BeginsOne (Some op) old new =
-    (is_busy old.view ≡ false → HoldsIfRoom old new (starts op old.view) (starts_short op old.view)) × (is_busy old.view ≡ true → Holds old new old.view)
+    (is_busy old.view ≡ false → client_machine.Owns (Starting op) old new) × (is_busy old.view ≡ true → Holds old new old.view)
 
 -- an upload over breaks, of a path and the octets of the file
 abbrev pub BeginsUpload : Option (List ℕ × List ℕ) → How → (old new : Client) → Type 0
 BeginsUpload None how old new = Holds old new old.view
 BeginsUpload (Some file) how old new =
-    (is_busy old.view ≡ false → HoldsIfRoom old new (uploads (over_breaks file.0 file.1 how) old.view) (uploads_short (over_breaks file.0 file.1 how) old.view))
+    (is_busy old.view ≡ false → client_machine.Owns (Uploading (over_breaks file.0 file.1 how)) old new)
     × (is_busy old.view ≡ true → Holds old new old.view)
 
 -- a client is begun with what is requested
