@@ -49,6 +49,10 @@ impl<A: Allocator + Copy, N: Near<A>> EndCalls<N> for Asks<A> {
         end.hear(unheard)
     }
 
+    fn owes(end: &N) -> bool {
+        end.owes()
+    }
+
     fn control_out(end: &mut N, room: &mut [u8]) -> usize {
         end.control_out(room)
     }

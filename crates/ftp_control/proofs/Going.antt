@@ -11,12 +11,7 @@ use Rattle.ftp_control.specs.declared.cause.Cause.TheVariants as Causes
 use Rattle.ftp_control.specs.Side.{Side}
 use Rattle.ftp_control.specs.Deeds.{Stand}
 use Rattle.ftp_control.specs.Driving.{Fails, Flushes, Goes, Leads, Settles}
-use Rattle.ftp_control.proofs.Leading.{fails_then, leads_nowhere, leads_then, settled_leads}
-
--- where none was given into room, none was owed
-pub none_owed : (n room : ℕ) (owed : List ℕ) → n ≡ 0 → 0 < room → (0 < room → 0 < length owed → 0 < n) → owed ≡ []
-none_owed n room [] none some gave = refl
-none_owed n room (octet ∷ octets) none some gave = absurd (let least = gave some (omega arith) in omega (arith, least, none))
+use Rattle.ftp_control.proofs.Leading.{fails_then, leads_nowhere, leads_then}
 
 -- a read or a write failed, so not all turns were made
 fault_unspent : (cause : Cause) (failed : Bool) → IsFault cause failed → IsSpent cause → ⊥
@@ -43,7 +38,7 @@ module _ {side : Side} where
 
   -- what is owed is written, or that fails
   pub flushed : {T : Type 0} (a b : Stand side) (r : Result T Cause) → Flushes a b r → Goes a b r
-  flushed a b (Ok value) settles = settled_leads a b settles
+  flushed a b (Ok value) settles = settles.leads
   flushed a b (Err e) fails = fails
 
   -- ---- reads

@@ -6,8 +6,8 @@ use Rattle.ftp_control.specs.Beginning.{AppendsFront}
 use Rattle.ftp_control.proofs.Fronts.{AppendsFront-none}
 use Rattle.ftp_control.specs.Cause.{IsSpent, most_turns}
 use Rattle.ftp_control.specs.Side.{Side}
-use Rattle.ftp_control.specs.Deeds.{Deed, Said, Other, Done, Led, OwesNothing, Stand, step_by, steps_in, with_owner}
-use Rattle.ftp_control.specs.Driving.{Breaks, Fails, Leads, LeadsBy, Quietly, Settles}
+use Rattle.ftp_control.specs.Deeds.{Deed, Other, Done, Led, Stand, step_by, steps_in, with_owner}
+use Rattle.ftp_control.specs.Driving.{Breaks, Fails, Leads, LeadsBy, Quietly}
 use Rattle.ftp_control.specs.declared.cause.Cause.{Cause}
 
 module _ {side : Side} where
@@ -112,22 +112,6 @@ module _ {side : Side} where
           wrote = subst (λ s. AppendsFront fails.mid.written s.written fails.octets) (sym same) breaks.wrote;
         };
       }
-
-  -- to be asked for nothing is a deed too
-  asked_nothing : (a b : Stand side) → OwesNothing a b → Done (Said []) a b
-  asked_nothing a b owes = record {
-    gives = side.gives_none a.owner b.owner owes.0;
-    wrote = subst (λ w. Appends a.written w []) (sym (ap (λ s. s.written) owes.1)) (Appends-nil a.written);
-    left = ap (λ s. s.left) owes.1;
-    unheard = ap (λ s. s.unheard) owes.1;
-  }
-
-  pub settled_leads : (a b : Stand side) → Settles a b → Leads a b
-  settled_leads a b settles = leads_on (Said []) a settles.mid b settles.leads (asked_nothing settles.mid b settles.owes)
-
-  -- it was asked what it owes, and that is nothing
-  pub settles_here : (start mid : Stand side) (owner : side.End) → Leads start mid → side.OwesNone mid.owner owner → Settles start (with_owner owner mid)
-  settles_here start mid owner leads owes = record { mid = mid; leads = leads; owes = (owes, refl) }
 
 pub quiet_nothing : (side : Side) (s : side.End) → Quietly side s s
 quiet_nothing side s left unheard written = leads_nowhere _

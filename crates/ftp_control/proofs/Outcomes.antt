@@ -8,7 +8,7 @@ use Rattle.ftp_control.specs.Asking.{Adds, Asked, Drops, Reset, Shut}
 use Rattle.ftp_control.specs.Carrying.{left_of, told_by}
 use Rattle.ftp_control.specs.Deeds.{Other}
 use Rattle.ftp_control.specs.Lane.{IsEnded, IsOpen, IsRead, Lane, lane_of, with_fate, with_given}
-use Rattle.ftp_control.specs.Machine.{Gave, Gives, Machine, OwesNone, Stirring, held, rest_by, side_of}
+use Rattle.ftp_control.specs.Machine.{Gave, Gives, Machine, Stirring, held, rest_by, side_of}
 use Rattle.ftp_control.specs.Outcome.{IsDropped, IsReset, in_hand}
 use Rattle.ftp_control.specs.Whole.{IsWhole}
 use Rattle.ftp_control.specs.declared.data.DataConnection.{DataConnection}
@@ -16,7 +16,6 @@ use Rattle.ftp_control.specs.declared.data.Halt.{Halt}
 use Rattle.ftp_control.specs.declared.whole.Fate.TheVariants.{Sound}
 use Rattle.ftp_control.specs.declared.whole.Rest.{Rest}
 use Rattle.ftp_ends.specs.declared.link.Wants.TheVariants as Want
-use Rattle.ftp_control.proofs.Going.{none_owed}
 use Rattle.ftp_control.proofs.Lanes.{keeps_consumes, reads, way_none}
 use Rattle.ftp_control.proofs.Getting.{stirs_by, stirs_then}
 use Rattle.ftp_control.proofs.Leading.{quiet_call}
@@ -92,12 +91,3 @@ module _ (machine : Machine) where
   pub gave_some : (old new : machine.Here) (lane : Lane) (count : ℕ) (octets : List ℕ) → octets ≡ take count (machine.owed old) → machine.Gives count old new
       → Gives machine octets (held old lane) (held new lane)
   gave_some old new lane count octets is gives = record { count = count; owed = is; gave = gives; lane = refl }
-
-  -- where it gave none, it owed none
-  pub gave_none : (old new : machine.Here) (lane : Lane) (count room : ℕ) → count ≡ 0 → 0 < room → (0 < room → 0 < length (machine.owed old) → 0 < count)
-      → machine.Gives count old new → OwesNone machine (held old lane) (held new lane)
-  gave_none old new lane count room none some gave gives = record {
-    owed = none_owed count room (machine.owed old) none some gave;
-    gave = subst (λ n. machine.Gives n old new) none gives;
-    lane = refl;
-  }

@@ -48,10 +48,6 @@ module _ {side : Side} where
     pub left : new.left ≡ old.left
     pub unheard : new.unheard ≡ old.unheard
 
-  -- it is asked what it owes, and that is nothing
-  abbrev pub OwesNothing : (old new : Stand side) → Type 0
-  OwesNothing old new = side.OwesNone old.owner new.owner × (new ≡ with_owner new.owner old)
-
   -- where that is due and all octets were heard, the next ones are read
   pub record ReadsNext (octets : List ℕ) (old new : Stand side) : Type 0 where
     pub due : side.IsReadDue old.owner

@@ -5,7 +5,7 @@ use Rattle.std.specs.declared.result.Result.TheVariants.{Ok, Err}
 use Rattle.std.specs.Io.KnownBytes.{Appends, Consumes, Keeps}
 use Rattle.ftp_control.specs.Beginning.{AppendsFront}
 use Rattle.ftp_control.specs.Cause.{IsSpent, most_turns}
-use Rattle.ftp_control.specs.Deeds.{Deed, Led, OwesNothing, Stand, heard_in, read_in, said_in, steps_in}
+use Rattle.ftp_control.specs.Deeds.{Deed, Led, Stand, heard_in, read_in, said_in, steps_in}
 use Rattle.ftp_control.specs.Side.{Side}
 use Rattle.ftp_control.specs.Unheard.{Source}
 use Rattle.ftp_control.specs.declared.cause.Cause.{Cause}
@@ -18,9 +18,8 @@ module _ {side : Side} where
 
   -- to where the end owes nothing
   pub record Settles (start now : Stand side) : Type 0 where
-    pub mid : Stand side
-    pub leads : Leads start mid
-    pub owes : OwesNothing mid now
+    pub leads : Leads start now
+    pub owes : side.OwesNone now.owner
 
   -- the drive breaks off: no more was read, and of these octets, which the end gave last, a beginning was written
   pub record Breaks (octets : List ℕ) (old new : Stand side) : Type 0 where

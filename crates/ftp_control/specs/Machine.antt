@@ -196,9 +196,9 @@ module _ (machine : Machine) where
   Does (LetGo octets) old new = (new ≡ old) × (machine.wants old ≢ Want.Receive)
   Does (Left asked) old new = new ≡ old
 
-  -- it was asked right before what it owes, and that was nothing
+  -- all that it owed is written
   abbrev pub IsFlushed : machine.Here → Type 0
-  IsFlushed here = (before : machine.Here) × (machine.owed before ≡ []) × machine.Gives 0 before here
+  IsFlushed here = machine.owed here ≡ []
 
   -- by an end only where it was asked so, or it is done
   abbrev pub LeavesFlushed : machine.Here → Asked → Type 0
@@ -245,12 +245,6 @@ module _ (machine : Machine) where
     pub gave : machine.Gives count old.end new.end
     pub lane : new.lane ≡ old.lane
 
-  -- it is asked what it owes, and that is nothing
-  pub record OwesNone (old new : Held machine.Here) : Type 0 where
-    pub owed : machine.owed old.end ≡ []
-    pub gave : machine.Gives 0 old.end new.end
-    pub lane : new.lane ≡ old.lane
-
   -- it is told that the control connection ended: what it owes is dropped; it is seen before whether there was more to give
   abbrev pub IsCut : (old new : Held machine.Here) → Type 0
   IsCut old new = machine.IsCut old.end new.end × (new.lane ≡ seen (machine.wants old.end) old.lane)
@@ -273,9 +267,8 @@ module _ (machine : Machine) where
     step = step_of;
     Hears = λ octets unheard old new. HearsBeside octets unheard old new;
     Gives = Gives;
-    OwesNone = OwesNone;
+    OwesNone = λ old. IsFlushed old.end;
     IsReadDue = IsReadDue;
-    gives_none = λ old new owes. record { count = 0; owed = refl; gave = owes.gave; lane = owes.lane };
     IsCut = IsCut;
     LetsGo = LetsGo;
     lets_none = λ end. (refl, refl);

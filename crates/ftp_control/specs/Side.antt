@@ -13,12 +13,10 @@ pub record Side : Type 1 where
   pub Hears : (octets unheard : List ℕ) → (old new : End) → Type 0
   -- it gives octets of what it owes
   pub Gives : (octets : List ℕ) → (old new : End) → Type 0
-  -- it is asked what it owes, and that is nothing
-  pub OwesNone : (old new : End) → Type 0
+  -- it owes nothing
+  pub OwesNone : End → Type 0
   -- when octets of the control connection are read for it
   pub IsReadDue : End → Type 0
-  -- which is to give none
-  pub gives_none : (old new : End) → OwesNone old new → Gives [] old new
   -- it is told that the control connection ended
   pub IsCut : (old new : End) → Type 0
   -- where a drive breaks off, what came for it and it was not told of is let go

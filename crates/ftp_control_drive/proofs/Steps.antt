@@ -21,6 +21,7 @@ use Rattle.ftp_control.proofs.Idling.{asked_waits, breaks_told, came, came_none,
 use Rattle.ftp_control.proofs.Lanes.{same_lane}
 use Rattle.ftp_control.proofs.Getting.{gets_goes, stirs_lead, stirs_some, then_gets, then_stirs}
 use Rattle.ftp_control.proofs.Leading.{by_then, by_then_any, fails_spent, gives_up}
+use Rattle.ftp_ends.specs.Octets.{has_octets}
 use Rattle.ftp_ends.specs.declared.link.Wants.{Wants}
 use Rattle.ftp_ends.specs.declared.link.Wants.TheVariants as Want
 use Rattle.ftp_control_drive.specs.Calling.{Ends, IsOpenEnd}
@@ -29,6 +30,15 @@ use Rattle.ftp_control_drive.specs.Standing.{asked_before}
 -- an end beside a control connection, while these octets are in hand
 abbrev pub handing : (machine : Machine) → {R W : Type 0} → (R → Option (List ℕ)) → (W → Option (List ℕ)) → machine.Here → Control R W → Lane → (untold : List ℕ) → Stand (side_of machine)
 handing machine remaining contents here control lane untold = stand_of machine remaining contents (held here (with_untold untold lane)) control
+
+-- where there are any octets, and where there are none
+pub owes_some : (octets : List ℕ) → has_octets octets ≡ true → 0 < length octets
+owes_some [] some = absurd (let e : false ≡ true = some in cc)
+owes_some (octet ∷ octets) some = omega arith
+
+pub owes_none : (octets : List ℕ) → has_octets octets ≡ false → octets ≡ []
+owes_none [] none = refl
+owes_none (octet ∷ octets) none = absurd (let e : true ≡ false = none in cc)
 
 -- some octets are some
 pub said_some : (octets : List ℕ) → 0 < length octets → 1 ≤ some_of octets
@@ -112,7 +122,7 @@ module _ (machine : Machine) where
 
   -- all that it owed is written
   pub flushed_so : {T : Type 0} (a b : Stand (side_of machine)) (r : Result T Cause) → Flushes a b r → OnOk r (IsFlushed machine b.owner.end)
-  flushed_so a b (Ok value) settles = (settles.mid.owner.end, (settles.owes.0).owed, (settles.owes.0).gave)
+  flushed_so a b (Ok value) settles = settles.owes
   flushed_so a b (Err e) fails = tt
 
   -- a turn leads on, or fails

@@ -1,6 +1,7 @@
 // The calls of an end, as a drive makes them.
 ghost use Rattle.std.specs.Prelude.{◌≡◌, ◌<◌, ◌≤◌, IsTrue, length, take};
 ghost use Rattle.ftp_control.specs.Machine.{Machine};
+ghost use Rattle.ftp_ends.specs.Octets.{has_octets};
 ghost use Rattle.ftp_control_drive.specs.Calling.{IsAsked, IsOpenEnd, IsToldOfClose};
 
 use ftp_endpoint::Host;
@@ -44,6 +45,10 @@ pub trait EndCalls<E> {
         ensures within { result ≤ length unheard.now }
         ensures took { machine.Hears (take result unheard.now) unheard.now (here end.old) (here end.new) }
         ensures some { IsTrue (machine.may_hear (here end.old)) → 0 < length unheard.now → 0 < result };
+
+    /// Whether it owes octets of the control connection.
+    fn owes(end: &E) -> bool
+        ensures { result ≡ has_octets (machine.owed (here end.now)) };
 
     /// Gives octets of the control connection, and says how many.
     fn control_out(end: &mut E, room: &mut [u8]) -> usize

@@ -26,15 +26,13 @@ where
 {
     let mut room = [0u8; 1024];
     let mut turns = Turns::new();
-    loop {
+    while K::owes(end) {
         turns.next()?;
         let count = K::control_out(end, &mut room);
-        if count == 0 {
-            return Ok(());
-        }
         let (octets, _) = room.split_at(count);
         control.write(octets)?;
     }
+    Ok(())
 }
 
 impl<'e, 'k, 'p, K, E, R, W, P, S> Drive<'e, 'k, 'p, K, E, R, W, P, S>

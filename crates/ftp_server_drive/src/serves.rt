@@ -67,6 +67,10 @@ where
         hear_one::<A, T, F>(&mut end.server, unheard)
     }
 
+    fn owes(end: &Clocked<F, C>) -> bool {
+        end.server.owes()
+    }
+
     fn control_out(end: &mut Clocked<F, C>, room: &mut [u8]) -> usize {
         end.server.control_out(room)
     }

@@ -3,11 +3,11 @@ use Rattle.ftp_control.specs.Unheard.{unheard_of}
 use Rattle.ftp_control_drive.proofs.Words.{Lane, LeadsBy, held, stand_of}
 use Rattle.ftp_control_drive.proofs.control.flush.Given as goal
 
-abbrev pub invariant-loop-end : goal.invariant-loop-end
-invariant-loop-end g l =
+abbrev pub invariant-loop-room : goal.invariant-loop-room
+invariant-loop-room g l =
     let stand = stand_of g.K.EndCalls.machine g.R.Read.remaining g.W.Write.contents in
     ((lane : Lane) → LeadsBy l.turns.left (stand (held (g.K.EndCalls.here l.fn.end) lane) l.fn.control) (stand (held (g.K.EndCalls.here l.end) lane) l.control))
     × (unheard_of l.control ≡ unheard_of l.fn.control)
 
-abbrev pub decreases-loop-end : goal.decreases-loop-end
-decreases-loop-end g l = l.turns.left
+abbrev pub decreases-loop-room : goal.decreases-loop-room
+decreases-loop-room g l = l.turns.left

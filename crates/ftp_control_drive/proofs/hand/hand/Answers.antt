@@ -1,6 +1,6 @@
 use Rattle.std.proofs.Common.{arith, drop, refl, rules}
 use Rattle.ftp_control.specs.Machine.{Received}
-use Rattle.ftp_control_drive.proofs.Words.{Other, by_deed, by_nowhere, by_then_any, fails_lets, fails_spent, fails_then, goes_err, leads_then, lets_go, nil_from_length, received, receives, settled_leads, with_untold}
+use Rattle.ftp_control_drive.proofs.Words.{Other, by_deed, by_nowhere, by_then_any, fails_lets, fails_spent, fails_then, goes_err, leads_then, lets_go, nil_from_length, received, receives, with_untold}
 use Rattle.ftp_control_drive.proofs.hand.hand.Goals as goal
 
 pub loop-rest-init : goal.loop-rest-init
@@ -25,7 +25,7 @@ loop-rest-preserved g c lane is_open =
     rw c.split_at.ensures.back (by_then_any _ _ _ _
     (by_deed (Other (Received c.loop-rest.rest.now heard.result)) _ _ _ _ _ (c.loop-rest.invariant lane is_open) c.in_ok-next.ensures.made (omega arith)
     (received g.K.EndCalls.machine _ _ lane heard.result c.loop-rest.rest.now is_open (search rules) heard.ensures.took, refl))
-    (settled_leads _ _ (c.in_ok-flush.ensures.flushes (with_untold (drop heard.result c.loop-rest.rest.now) lane))))
+    (c.in_ok-flush.ensures.flushes (with_untold (drop heard.result c.loop-rest.rest.now) lane)).leads)
 
 pub returns-then-ne-clause-goes : goal.returns-then-ne-clause-goes
 returns-then-ne-clause-goes g c lane is_open =
