@@ -53,6 +53,16 @@ class Rows:
         return done.returncode, done.stdout, done.stderr
 
 
+def stop(listener, accepting):
+    """Ends a listener, and the thread that waits at it: it would wait on behind a close alone, at a descriptor that the next listener may have."""
+    try:
+        listener.shutdown(socket.SHUT_RDWR)
+    except OSError:
+        pass
+    accepting.join()
+    listener.close()
+
+
 class FakeServer:
     """A server on a port of the loopback. `says` maps a verb to the reply to it, or to a function of the session and the argument."""
 
@@ -60,7 +70,8 @@ class FakeServer:
         self.says, self.commands = says, []
         self.listener = socket.create_server(("127.0.0.1", 0))
         self.port = self.listener.getsockname()[1]
-        threading.Thread(target=self.accept, daemon=True).start()
+        self.accepting = threading.Thread(target=self.accept, daemon=True)
+        self.accepting.start()
 
     def accept(self):
         while True:
@@ -71,7 +82,7 @@ class FakeServer:
             threading.Thread(target=Session(self, connection).serve, daemon=True).start()
 
     def close(self):
-        self.listener.close()
+        stop(self.listener, self.accepting)
 
 
 class Session:
@@ -150,10 +161,11 @@ class Relay:
         self.target, self.cuts, self.count = port, cuts, 0
         self.listener = socket.create_server(("127.0.0.1", 0))
         self.port = self.listener.getsockname()[1]
-        threading.Thread(target=self.accept, daemon=True).start()
+        self.accepting = threading.Thread(target=self.accept, daemon=True)
+        self.accepting.start()
 
     def close(self):
-        self.listener.close()
+        stop(self.listener, self.accepting)
 
     def accept(self):
         while True:

@@ -62,6 +62,7 @@ def honest(rows):
     changed(rows, served, local, place)
     excluded(rows, served, local, place)
     up(rows, served, local, place)
+    missing(rows, served, place)
     flushed(rows, served, place)
     killed(rows, served, place)
     server.close()
@@ -143,6 +144,14 @@ def up(rows, served, local, place):
     rows.row("up into a directory that does not stand", status == 1 or (served / "made/a b").read_bytes() == b"blank", told)
     status, _, told = rows.tool("mirror", "./local", place, "--delete")
     rows.row("a tree is removed with all below it", (status, tree_at(served)) == (0, tree_at(local)), told)
+
+
+def missing(rows, served, place):
+    """A source that is not there: nothing is made at the other end."""
+    status, _, told = rows.tool("mirror", place + "no/such/", "./neither")
+    rows.row("down from a path that is not there: no folder is made", (status, (rows.folder / "neither").exists()) == (1, False) and b"0 directories made" in told, (status, told))
+    status, _, told = rows.tool("mirror", "./neither", place + "neither/")
+    rows.row("up from a folder that is not there: no directory is made", (status, (served / "neither").exists()) == (1, False) and b"0 directories made" in told, (status, told))
 
 
 def killed(rows, served, place):

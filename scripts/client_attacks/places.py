@@ -82,6 +82,9 @@ def tells(rows):
         (["cat", "127.0.0.1:1"], [b"'127.0.0.1:1'", b"a path is wanted"]),
         (["cat", "127.0.0.1:1/a", "--timeout", "2"], [b"to 127.0.0.1 at port 1:"]),
         (["cat", "127.9.9.9/a", "--timeout", "2"], [b"to 127.9.9.9 at port 21:", b"HOST:2121/PATH"]),
+        (["cat", "127.0.0.1:1/a", "--timeout", "+5"], [b"'+5'", b"'--timeout <SECONDS>'", b"decimal digits alone"]),
+        (["cat", "127.0.0.1:1/a", "--limit", "+5"], [b"'+5'", b"'--limit <OCTETS>'", b"decimal digits alone"]),
+        (["mirror", "127.0.0.1:1/a", "./local", "--limit", "+5"], [b"'+5'", b"'--limit <OCTETS>'", b"decimal digits alone"]),
         (["put", "none", "127.0.0.1:1/a"], [b"none: it is not read: "]),
         (["cat", "127.0.0.1:1/a", "--user", "u", "--password-file", "none"], [b"by --password-file none: it is not there"]),
         (["serve", "--port", "0", "--dir", ".", "--accounts", "none"], [b"accounts: none: "]),
@@ -89,11 +92,14 @@ def tells(rows):
         told = asks(rows, words)[2]
         rows.row(f"{' '.join(words)}: what is refused, and what helps", all(it in told for it in parts), told)
     server = FakeServer({"PASV": "227 Entering Passive Mode (10,9,8,7,200,1)", "EPSV": "500 no"})
-    told = asks(rows, ["cat", f"127.0.0.1:{server.port}/a"])[2]
+    found = asks(rows, ["cat", f"127.0.0.1:{server.port}/a"])
     server.close()
-    rows.row("a 227 of another host: --extended is named", b"--extended" in told, told)
+    rows.row("a 227 of another host: --extended is named", b"--extended" in found[2], (found, server.commands))
     told = asks(rows, ["cat", "127.0.0.1:1/a"], around={"NETRC": "none"})[2]
-    rows.row("NETRC names no file", b"NETRC" in told, told)
+    rows.row("NETRC names no file", b"NETRC" in told and told.endswith(b" none\n"), told)
+    for text, mode in (("machine 127.0.0.1 login night password q\n", 0o644), ('machine 127.0.0.1 login "night\n', 0o600)):
+        told = asks(rows, ["cat", "127.0.0.1:1/a"], netrc=text, mode=mode)[2]
+        rows.row(f".netrc {text!r} of mode {mode:o}: its path is told", told.endswith(f" {rows.folder}/.netrc\n".encode()), told)
 
 
 def mirrored(rows):
@@ -123,6 +129,8 @@ def main():
         refused(rows, ["cat", url])
     refused(rows, ["cat", "127.0.0.1:P/a"], "machine 127.0.0.1 login night password q\n", 0o644)
     refused(rows, ["cat", "ftp://guest@127.0.0.1:P/a"], around={"FTP_PASSWORD": "p"})
+    refused(rows, ["cat", "127.0.0.1:P/a", "--limit", "+5"])
+    refused(rows, ["mirror", "127.0.0.1:P/a", "./local", "--limit", "+5"])
     os.mkfifo(rows.folder / "pipe", 0o600)
     refused(rows, ["cat", "127.0.0.1:P/a", "--user", "guest", "--password-file", "pipe"])
     refused(rows, ["cat", "127.0.0.1:P/a"], around={"NETRC": str(rows.folder / "pipe")})

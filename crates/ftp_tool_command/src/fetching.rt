@@ -174,7 +174,8 @@ pub fn asked_of<'a>(
 ) -> Result<Target<'a>, Refusal<'a>> {
     let location = asked_at(place, url)?;
     let timeout = timeout_in(words)?;
-    let (how, limit) = terms_in(words)?;
+    let how = how_in(words)?;
+    let limit = limit_in(words)?;
     Ok(Target {
         place: location,
         user: user_in(words, url),
@@ -193,11 +194,11 @@ fn asked_at<'a>(place: &'a str, url: Option<&'a UrlPlace>) -> Result<Location<'a
     }
 }
 
-/// How a transfer goes, and the most octets of its file; refused where a number has a sign.
-fn terms_in<'a>(words: &ArgMatches<'_>) -> Result<(How, u64), Refusal<'a>> {
-    match (representation_in(words), limit_in(words)) {
-        (Some(form), Some(limit)) => Ok((how_of(words, form), limit)),
-        _ => Err(Refusal::Number),
+/// How a transfer goes; `clap` lets no other letters through than these.
+fn how_in<'a>(words: &ArgMatches<'_>) -> Result<How, Refusal<'a>> {
+    match representation_in(words) {
+        Some(form) => Ok(how_of(words, form)),
+        None => Err(Refusal::Number),
     }
 }
 

@@ -134,7 +134,8 @@ fn mirrored<'a>(
     timeout: u32,
     way: Way,
 ) -> Result<Mirror<'a>, Refusal<'a>> {
-    let (Some(form), Some(limit)) = (representation_of("I", "F", "S"), limit_in(words)) else {
+    let limit = limit_in(words)?;
+    let Some(form) = representation_of("I", "F", "S") else {
         return Err(Refusal::Number);
     };
     Ok(Mirror {

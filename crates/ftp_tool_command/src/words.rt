@@ -1,4 +1,8 @@
 // Words of a command line, as tables, and what `clap` makes of them.
+ghost use Rattle.std.specs.Prelude.{◌<◌, ◌^◌};
+ghost use Rattle.std.specs.Option.{SomeIff};
+ghost use Rattle.std.specs.Str.Parse.{IsNumeral, digits_value};
+
 use crate::refusal::Refusal;
 use clap::builder::{ValueParser, ValueRange};
 use clap::{Arg, ArgAction, ArgMatches, Command};
@@ -255,9 +259,23 @@ pub fn how_of(matches: &ArgMatches<'_>, representation: Representation) -> How {
     }
 }
 
-/// The most octets that a file may have.
-pub fn limit_in(matches: &ArgMatches<'_>) -> Option<u64> {
-    matches.get_one("limit")
+/// The most octets that a file may have, as `--limit` says; refused where they are no number.
+pub fn limit_in<'a>(matches: &'a ArgMatches<'_>) -> Result<u64, Refusal<'a>> {
+    let limit = text_in(matches, "limit");
+    match octets_of(limit) {
+        Some(octets) => Ok(octets),
+        None => Err(Refusal::of("--limit <OCTETS>", limit, "decimal digits alone are wanted")),
+    }
+}
+
+/// A decimal number below 2^64, as it is written: digits alone, leading zeros read, no sign.
+fn octets_of(text: &str) -> Option<u64>
+    ensures { SomeIff result (IsNumeral 10 text.now × (digits_value 10 text.now < 2 ^ 64)) (digits_value 10 text.now) }
+{
+    if text.starts_with('+') {
+        return None;
+    }
+    text.parse::<u64>().ok()
 }
 
 /// Type, structure and mode, each by its letter.

@@ -376,12 +376,18 @@ impl<'a, R: Machine> Walk<'a, R> {
     fn enter<S: ClientSession>(&mut self, seat: &mut S, below: &str) -> Result<(), Trouble> {
         match self.target(seat, below) {
             Ok(target) => self.descend(seat, below, &target),
-            Err(trouble) if below.is_empty() && is_missing(trouble) => {
-                self.change(seat, Change::MakeDir, below)?;
-                self.descend_new(seat, below)
-            }
+            Err(trouble) if below.is_empty() && is_missing(trouble) => self.make_target(seat),
             Err(trouble) => Err(trouble),
         }
+    }
+
+    /// Makes the target itself, once the source is listed, and goes into it.
+    fn make_target<S: ClientSession>(&mut self, seat: &mut S) -> Result<(), Trouble> {
+        let rules = self.mirror.rules;
+        let source = self.listed_from(seat, "", rules.way)?;
+        self.change(seat, Change::MakeDir, "")?;
+        let nothing = Listing::Whole(Vec::new(self.alloc));
+        self.todo.plan(rules, "", &source, &nothing)
     }
 
     /// Goes into a directory of the target that is made just now, in which nothing stands.

@@ -52,12 +52,12 @@ fn play_again(turn: Turn<'_>, whole: &[u8], growths: u64, paper: &mut Paper) {
     if turn.side.is_client || said(turn.row, b"growths").is_some() {
         each_growth(turn, whole, paper);
     }
-    if said(turn.row, b"refusals").is_some() {
+    if said(turn.row, b"refusals").is_some() || said(turn.row, b"failures").is_some() {
         each_refusal(turn, growths, paper);
     }
 }
 
-/// What is written with each of so many growths of a list's memory refused.
+/// What is written with each of so many growths of a list's memory, or of a server's, refused.
 fn each_refusal(turn: Turn<'_>, growths: u64, paper: &mut Paper) {
     for growth in 1..=growths {
         let seen = refused(turn, growth);

@@ -48,6 +48,7 @@ const VERBS: &[(&'static [u8], Verb)] = &[
     (b"file", Verb::Heading),
     (b"full", Verb::Heading),
     (b"refusals", Verb::Heading),
+    (b"failures", Verb::Heading),
     (b"in", Verb::Heading),
     (b"growths", Verb::Heading),
     (b"also", Verb::Heading),

@@ -1,6 +1,6 @@
 // A handle whose standard input has a text, and at whose ports clients may wait already.
 use std::alloc::{Allocator, Global};
-use std::cell::Cell;
+use std::cell::RefCell;
 use std::fmt::Display;
 use std::fs::{Files, Metadata, OpenOptions, Permissions};
 use std::io;
@@ -19,7 +19,7 @@ pub(crate) struct Guests<'a> {
     /// What the next one says, which stays.
     pub(crate) stays: &'a [u8],
     /// The one that stays, once it came.
-    pub(crate) seat: Cell<Option<TcpStream>>,
+    pub(crate) seat: RefCell<Option<TcpStream>>,
 }
 
 impl<'a> Guests<'a> {
@@ -31,7 +31,7 @@ impl<'a> Guests<'a> {
         }
         let mut stays = rt.connect(port)?;
         stays.write_all(self.stays)?;
-        self.seat.set(Some(stays));
+        drop(self.seat.try_replace(Some(stays)));
         Ok(())
     }
 }

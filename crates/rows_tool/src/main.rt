@@ -5,6 +5,7 @@
 #![tactic(auto)]
 
 mod downloads;
+mod failing;
 mod handle;
 mod loopback;
 mod made;
@@ -96,11 +97,13 @@ fn served(rt: &HostRuntime) -> io::Result<()> {
     let served = loopback::row(rt);
     let shared = rights::row(rt);
     let inbox = soak::row(rt);
+    let failing = failing::rows(rt);
     fs::remove_dir_all(rt, PLACE)?;
     refused?;
     served?;
     shared?;
-    inbox
+    inbox?;
+    failing
 }
 
 /// The rows of places, and those of `run`, `get`, `put` and `ls`.

@@ -20,32 +20,49 @@ use std::alloc::{AllocError, Allocator};
 /// What is written where the server was not had.
 const NOT_BEGUN: &[u8] = b"= not begun";
 
+/// The memory of a run: that of the server and its tree, that of what calls of a list give, and that of all else.
+#[derive(Clone, Copy)]
+struct Heaps<A: Allocator + Copy> {
+    server: A,
+    gifts: A,
+    ample: A,
+}
+
 /// Plays a row with this growth refused, and says how many growths were asked for.
 pub fn run(turn: Turn<'_>, refused: u64, desk: &mut Desk) -> u64 {
     let ample = Refusing::new(turn.alloc, 0);
     let heap = Refusing::new(turn.alloc, refused);
-    let own = if lists_calls(turn) { &ample } else { &heap };
     match accounts(&ample, said(turn.row, b"root").unwrap_or(b"/")) {
-        Ok(accounts) => plant((own, &heap), accounts, turn, desk),
+        Ok(accounts) => plant(heaps_of(turn, &heap, &ample), accounts, turn, desk),
         Err(_) => desk.paper.line(NOT_BEGUN),
     }
     refused.wrapping_sub(heap.left())
 }
 
-/// Whether a row has calls that are made by a list, of whose own memory a growth is refused then.
+/// Whose growths are refused: where a row lists calls, of what these give, but with the word `failures`, and else of the server and its tree.
+fn heaps_of<A: Allocator + Copy>(turn: Turn<'_>, heap: A, ample: A) -> Heaps<A> {
+    let is_servers = !lists_calls(turn) || said(turn.row, b"failures").is_some();
+    Heaps {
+        server: if is_servers { heap } else { ample },
+        gifts: if is_servers { ample } else { heap },
+        ample,
+    }
+}
+
+/// Whether a row has calls that are made by a list.
 fn lists_calls(turn: Turn<'_>) -> bool {
     said(turn.row, b"call").is_some()
 }
 
 fn plant<A: Allocator + Copy>(
-    (heap, spare): (A, A),
+    heaps: Heaps<A>,
     accounts: Accounts<A>,
     turn: Turn<'_>,
     desk: &mut Desk,
 ) {
-    let mut tree = MemTree::new(heap);
-    if plants(turn, heap, &mut tree) {
-        serve::<A, TreeTransfer<A>>((heap, spare), tree, accounts, turn, desk);
+    let mut tree = MemTree::new(heaps.server);
+    if plants(turn, heaps.server, &mut tree) {
+        serve::<A, TreeTransfer<A>>(heaps, tree, accounts, turn, desk);
     } else {
         drop(tree);
         drop(accounts);
@@ -55,16 +72,22 @@ fn plant<A: Allocator + Copy>(
 
 /// Plays a row on a server with such transfers: who names a server does not name them.
 fn serve<A: Allocator + Copy, J: Counted<A, MemTree<A>>>(
-    (heap, spare): (A, A),
+    heaps: Heaps<A>,
     tree: MemTree<A>,
     accounts: Accounts<A>,
     turn: Turn<'_>,
     desk: &mut Desk,
 ) {
     let (here, peer) = turn.hosts();
-    let begun: Result<Server<A, MemTree<A>, J>, _> = Server::new(heap, tree, accounts, here, peer);
+    let begun: Result<Server<A, MemTree<A>, J>, _> = Server::new(
+        heaps.server,
+        tree,
+        accounts,
+        here,
+        peer,
+    );
     match begun {
-        Ok(server) => begin((heap, spare), server, turn, desk),
+        Ok(server) => begin(heaps, server, turn, desk),
         Err(_) => desk.paper.line(NOT_BEGUN),
     }
 }
@@ -83,12 +106,12 @@ impl<A: Allocator + Copy, T: Tree<A>, J: ServerTransfer<A, T>> Lists<A> for Serv
 
 /// Makes the calls that a row lists, and plays the lines behind them in the year 2000.
 fn begin<A: Allocator + Copy, S: Far<A, MemTree<A>> + Holds + Lists<A>>(
-    (heap, spare): (A, A),
+    heaps: Heaps<A>,
     mut server: S,
     turn: Turn<'_>,
     desk: &mut Desk,
 ) {
-    let row = call_listed((heap, spare), &mut server, turn, desk);
+    let row = call_listed(heaps, &mut server, turn, desk);
     server.clock(YEAR_2000);
     let mut end: Played<A, S> = Played::new(server);
     play(&mut end, desk, Turn { row, ..turn });
@@ -96,7 +119,7 @@ fn begin<A: Allocator + Copy, S: Far<A, MemTree<A>> + Holds + Lists<A>>(
 
 /// Makes the calls that a row lists, and gives the lines behind them.
 fn call_listed<'a, A: Allocator + Copy, S: Lists<A>>(
-    (heap, spare): (A, A),
+    heaps: Heaps<A>,
     server: &mut S,
     turn: Turn<'a>,
     desk: &mut Desk,
@@ -104,8 +127,8 @@ fn call_listed<'a, A: Allocator + Copy, S: Lists<A>>(
     if !lists_calls(turn) {
         return turn.row;
     }
-    match cues_of(heap, turn) {
-        Ok(cues) => tell(turn.row, &server.make(spare, cues.as_slice()), desk),
+    match cues_of(heaps.ample, turn) {
+        Ok(cues) => tell(turn.row, &server.make(heaps.gifts, cues.as_slice()), desk),
         Err(_) => {
             desk.paper.fill();
             turn.row
