@@ -1,0 +1,4 @@
+pub mod Taking
+pub mod Rounds
+pub mod Letters
+pub mod Sameness

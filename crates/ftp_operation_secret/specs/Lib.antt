@@ -1,0 +1,3 @@
+pub mod Crypt
+pub mod Hashing
+pub mod Secret
