@@ -61,9 +61,18 @@ letter_count Sha512 = 86
 abbrev pub most_rounds : ℕ
 most_rounds = 1000000
 
+-- what stands before a place and behind it
+abbrev pub cut_at : List ℕ → Option ℕ → Option (List ℕ × List ℕ)
+cut_at octets None = None
+cut_at octets (Some place) = Some (take place octets, drop (place + 1) octets)
+
+-- the place of the first `$`
+unfoldable pub first_dollar : List ℕ → Option ℕ
+first_dollar octets = position (λ octet. octet == dollar) octets
+
 -- what stands before the first `$` and behind it
 abbrev pub cut : List ℕ → Option (List ℕ × List ℕ)
-cut octets = elim (position (λ octet. octet == dollar) octets) [ Some place ↦ Some (take place octets, drop (place + 1) octets) | None ↦ None ]
+cut octets = cut_at octets (first_dollar octets)
 
 -- the number of digits behind a number, while it is within the limit
 abbrev pub number_behind : ℕ → List ℕ → Result ℕ SecretFault

@@ -1,7 +1,7 @@
 // A secret from the field of a file (crypt(5)).
-ghost use Rattle.std.specs.Prelude.{◌≡◌, ◌≤◌, ◌&&◌, ◌==◌, None, Some, MatchOption, length, nat_le};
+ghost use Rattle.std.specs.Prelude.{◌≡◌, ◌<◌, ◌≤◌, ◌&&◌, ◌==◌, None, Some, IfSome, MatchOption, length, nat_le};
 ghost use Rattle.std.specs.List.{list_all};
-ghost use Rattle.ftp_operation_secret.specs.Secret.{cut, ends_kind, has_kind, is_kind_octet, is_letter, letter_count, most_rounds, number_behind, read, rounds_said, with_letters, with_method, with_rounds, with_salt};
+ghost use Rattle.ftp_operation_secret.specs.Secret.{cut, ends_kind, first_dollar, has_kind, is_kind_octet, is_letter, letter_count, most_rounds, number_behind, read, rounds_said, with_letters, with_method, with_rounds, with_salt};
 
 use crate::fault::SecretFault;
 use crate::method::Method;
@@ -30,25 +30,40 @@ fn is_letter(octet: u8) -> bool
     matches!(octet, b'.'..=b'9' | b'A'..=b'Z' | b'a'..=b'z')
 }
 
+fn are_letters(octets: &[u8]) -> bool
+    ensures { result ≡ list_all is_letter octets.now }
+{
+    octets.iter().all(|octet| is_letter(*octet))
+}
+
 /// Whether a text is a salt: at most 16 letters.
 pub(crate) fn is_salt(salt: &[u8]) -> bool
     ensures { result ≡ (nat_le (length salt.now) 16 && list_all is_letter salt.now) }
 {
-    salt.len() <= SALT_LIMIT && salt.iter().all(|octet| is_letter(*octet))
+    salt.len() <= SALT_LIMIT && are_letters(salt)
 }
 
 /// Whether a text has as many letters as a digest.
 fn is_hash(method: Method, hash: &[u8]) -> bool
     ensures { result ≡ ((length hash.now == letter_count method) && list_all is_letter hash.now) }
 {
-    hash.len() == letter_count(method) && hash.iter().all(|octet| is_letter(*octet))
+    hash.len() == letter_count(method) && are_letters(hash)
+}
+
+/// The place of the first `$`.
+#[tactic(auto, unfolding(crate::specs::Secret::first_dollar))]
+fn first_dollar(octets: &[u8]) -> Option<usize>
+    ensures place { result ≡ first_dollar octets.now }
+    ensures within { IfSome result (λ place. place < length octets.now) }
+{
+    octets.iter().position(|octet| *octet == b'$')
 }
 
 /// What stands before the first `$` and behind it.
 fn cut(octets: &[u8]) -> Option<(&[u8], &[u8])>
     ensures { MatchOption result (cut octets.now ≡ None) (λ parts. cut octets.now ≡ Some (parts.0.now, parts.1.now)) }
 {
-    match octets.iter().position(|octet| *octet == b'$') {
+    match first_dollar(octets) {
         Some(place) => Some((&octets[..place], &octets[place + 1..])),
         None => None,
     }
