@@ -135,3 +135,13 @@ read field =
     else (if starts_with nat_eq field (sign Sha256) then with_method Sha256 (drop 3 field)
     else (if starts_with nat_eq field (sign Sha512) then with_method Sha512 (drop 3 field)
     else (if has_kind field then Err Faults.Kind else Ok (Plain record { items = field }))))
+
+-- ---- how a secret is made
+
+-- the SHA-crypt of a password, with this salt and so many rounds
+abbrev pub made : Method → Option ℕ → (salt password : List ℕ) → Result Secret SecretFault
+made method rounds salt password =
+    if not (nat_le (length salt) 16 && list_all is_letter salt) then Err Faults.Salt
+    else (if nat_lt (rounds_of rounds) 1000 then Err Faults.Rounds
+    else (if nat_lt most_rounds (rounds_of rounds) then Err Faults.TooManyRounds
+    else Ok (Crypt record { method = method; rounds = rounds; salt = record { items = salt }; hash = record { items = hash_text method (rounds_of rounds) salt password } })))

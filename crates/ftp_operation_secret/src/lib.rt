@@ -9,9 +9,11 @@ mod reading;
 mod same;
 mod secret;
 mod text;
+mod writing;
 
 pub use fault::SecretFault;
 pub use method::Method;
 pub use reading::ROUNDS_LIMIT;
 pub use secret::{Crypt, Secret};
 pub use text::Letters;
+pub use writing::Field;

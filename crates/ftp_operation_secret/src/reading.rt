@@ -108,7 +108,7 @@ fn rounds_said(digits: &[u8]) -> Result<u32, SecretFault>
 }
 
 /// A copy of octets.
-fn kept<const N: usize>(octets: &[u8]) -> ArrayVec<u8, N>
+pub(crate) fn kept<const N: usize>(octets: &[u8]) -> ArrayVec<u8, N>
     requires { length octets.now ≤ N }
     ensures { result.items ≡ octets.now }
 {

@@ -36,7 +36,7 @@ pub enum Secret {
 }
 
 /// How many rounds are made.
-fn rounds_of(said: Option<u32>) -> u32
+pub(crate) fn rounds_of(said: Option<u32>) -> u32
     ensures { result ≡ rounds_of said }
 {
     match said {
@@ -46,7 +46,7 @@ fn rounds_of(said: Option<u32>) -> u32
 }
 
 /// What SHA-crypt gives for a password, behind the salt.
-fn hash_text(method: Method, rounds: u32, salt: &[u8], password: &[u8]) -> Letters
+pub(crate) fn hash_text(method: Method, rounds: u32, salt: &[u8], password: &[u8]) -> Letters
     ensures { result.items ≡ hash_text method rounds salt.now password.now }
 {
     let digest = digest_c(method, rounds, salt, password);
