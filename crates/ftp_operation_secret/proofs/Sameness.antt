@@ -38,7 +38,7 @@ pub all_same : (right given : List ℕ) (count differs : ℕ) → length given �
     → (AreSameSoFar right given count → differs ≡ 0) → (differs == 0) ≡ bytes_eq right given
 all_same right given count differs end found kept =
     let whole : differs ≡ 0 → right ≡ given =
-        λ none. ext_get_or 0 right given (found none).0 (λ i below. (found none).1 i (omega (arith, (found none).0))) in
+    λ none. ext_get_or 0 right given (found none).0 (λ i below. (found none).1 i (omega (arith, (found none).0))) in
     let back : right ≡ given → differs ≡ 0 =
-        λ same. kept (ap length same, λ i below. ap (λ xs. get_or xs i 0) same) in
+    λ same. kept (ap length same, λ i below. ap (λ xs. get_or xs i 0) same) in
     same_from_decides (differs == 0) (bytes_eq right given) (Decides-like (differs == 0) whole back (Decides-eqb differs 0)) (bytes_eq-Decides right given)

@@ -43,7 +43,7 @@ most_digits b x (suc most) (suc other) zero below beside = refl
 most_digits b x (suc most) (suc other) (suc n) below beside =
     let some : (suc n == 0) ≡ false = grind arith in
     rw some (ap (λ rest. (if suc n % 2 == 1 then b else x) ++ rest)
-        (most_digits b x most other (suc n / 2) (omega arith) (omega arith)))
+    (most_digits b x most other (suc n / 2) (omega arith) (omega arith)))
 
 -- no digit of 0
 pub no_digit : (b x : List ℕ) (most n : ℕ) → n ≡ 0 → by_digits b x most n ≡ []
@@ -60,7 +60,7 @@ one_digit b x zero some = absurd (some refl)
 one_digit b x (suc n) some =
     let test : (suc n == 0) ≡ false = grind arith in
     rw test (ap (λ rest. (if suc n % 2 == 1 then b else x) ++ rest)
-        (most_digits b x n (suc n / 2) (suc n / 2) (omega arith) (omega arith)))
+    (most_digits b x n (suc n / 2) (suc n / 2) (omega arith) (omega arith)))
 
 pub takes_no_digit : (a : Hasher) (b x : List ℕ) (n : ℕ) → n ≡ 0 → Takes a (by_digits b x n n) a
 takes_no_digit a b x n none = rw (no_digit b x n n none) (takes_none a)

@@ -101,8 +101,9 @@ with_salt method rounds octets = elim (cut octets) [ Some parts ↦ with_letters
 -- rounds, `$`, and what stands behind
 abbrev pub with_rounds : Method → List ℕ → Result Secret SecretFault
 with_rounds method octets = elim (cut octets) [
-    Some parts ↦ elim (rounds_said parts.0) [ Ok rounds ↦ with_salt method (Some rounds) parts.1 | Err fault ↦ Err fault ]
-    | None ↦ Err Faults.Rounds ]
+  | Some parts ↦ elim (rounds_said parts.0) [ Ok rounds ↦ with_salt method (Some rounds) parts.1 | Err fault ↦ Err fault ]
+  | None ↦ Err Faults.Rounds
+]
 
 -- what stands behind `$5$` or `$6$`
 abbrev pub with_method : Method → List ℕ → Result Secret SecretFault

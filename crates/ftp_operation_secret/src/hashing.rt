@@ -5,8 +5,7 @@ ghost use Rattle.ftp_operation_secret.specs.Hashing.{Holds, Takes, octets_of};
 ghost use Rattle.ftp_operation_secret.specs.declared.method.Method.{Method};
 
 use crate::method::Method;
-use sha2::Digest as _;
-use sha2::{Sha256, Sha512};
+use sha2::{Digest as _, Sha256, Sha512};
 
 /// A digest of 32 or of 64 octets.
 #[derive(Clone, Copy)]

@@ -117,7 +117,12 @@ pub(crate) fn kept<const N: usize>(octets: &[u8]) -> ArrayVec<u8, N>
     kept
 }
 
-fn with_letters(method: Method, rounds: Option<u32>, salt: &[u8], hash: &[u8]) -> Result<Secret, SecretFault>
+fn with_letters(
+    method: Method,
+    rounds: Option<u32>,
+    salt: &[u8],
+    hash: &[u8],
+) -> Result<Secret, SecretFault>
     ensures { result ≡ with_letters method rounds salt.now hash.now }
 {
     if !is_salt(salt) {

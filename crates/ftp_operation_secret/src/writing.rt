@@ -82,7 +82,12 @@ impl Secret {
 
     /// The SHA-crypt of a password, with this salt of at most 16 octets of `./0-9A-Za-z`, and with so many rounds, 1,000 to 1,000,000, or 5,000 where none are
     /// said. Takes no memory; a fault is `Salt`, `Rounds` or `TooManyRounds`.
-    pub fn made(method: Method, rounds: Option<u32>, salt: &[u8], password: &[u8]) -> Result<Secret, SecretFault>
+    pub fn made(
+        method: Method,
+        rounds: Option<u32>,
+        salt: &[u8],
+        password: &[u8],
+    ) -> Result<Secret, SecretFault>
         ensures made { result ≡ made method rounds salt.now password.now }
         ensures opens { IfOk result (λ secret. IsTrue (opens secret password.now)) }
     {

@@ -6,5 +6,5 @@ use Rattle.ftp_operation_secret.proofs.text.groups_text.Given as goal
 abbrev pub invariant-groups : goal.invariant-groups
 invariant-groups l = record {
   letters : l.text.items ≡ groups_text l.method l.digest l.place;
-  len : array_vec_len l.text ≡ 4 * l.place
+  len : array_vec_len l.text ≡ 4 * l.place;
 }

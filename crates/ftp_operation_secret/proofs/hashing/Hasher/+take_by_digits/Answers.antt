@@ -8,4 +8,4 @@ returns-then-number-eq0 t c = takes_no_digit c.args.self.now c.args.b.now c.args
 pub returns : goal.returns
 returns t c =
     takes_digit c.args.self.now c.take.new.self c.take_by_digits.new.self c.args.b.now c.args.password.now c.chosen.result.now c.args.number
-        c.if-number-eq0.false c.chosen.ensures c.take.ensures c.take_by_digits.ensures
+    c.if-number-eq0.false c.chosen.ensures c.take.ensures c.take_by_digits.ensures
