@@ -1,5 +1,5 @@
 -- One group of letters after another.
-use Rattle.std.proofs.Common.{◌≡◌, ℕ, ◌+◌, List, [], ◌++◌, ◌∙◌, ap, refl, add-one}
+use Rattle.std.proofs.Common.{◌≡◌, ℕ, ◌+◌, List, [], ◌++◌, ◌∙◌, ap, add-one}
 use Rattle.ftp_operation_secret.specs.Crypt.{group_text, groups_text}
 use Rattle.ftp_operation_secret.specs.declared.method.Method.{Method}
 

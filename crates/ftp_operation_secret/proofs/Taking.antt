@@ -1,7 +1,7 @@
 -- How a hasher takes one piece after another.
-use Rattle.std.proofs.Common.{◌≡◌, ◌<◌, ◌≤◌, ◌≢◌, ℕ, zero, suc, ◌+◌, ◌/◌, ◌%◌, ◌==◌, List, [], ◌∷◌, ◌++◌, sym, ◌∙◌, ap, subst, arith, rules, refl, add-one, Bool, true, false, append_assoc, append-nil, if◌then◌else◌}
+use Rattle.std.proofs.Common.{◌≡◌, ◌≤◌, ◌≢◌, ℕ, zero, suc, ◌+◌, ◌/◌, ◌%◌, ◌==◌, List, [], ◌++◌, ap, arith, refl, add-one, true, false, append_assoc, append-nil, if◌then◌else◌}
 use Rattle.ftp_operation_secret.specs.Crypt.{by_digits, repeated}
-use Rattle.ftp_operation_secret.specs.Hashing.{Holds, Takes}
+use Rattle.ftp_operation_secret.specs.Hashing.{Takes}
 use Rattle.ftp_operation_secret.specs.declared.hashing.Hasher.{Hasher}
 
 -- nothing is taken where nothing is done

@@ -1,6 +1,8 @@
 -- What a hasher of either method has taken (FIPS 180-4), piece by piece.
 use Rattle.std.specs.Prelude.{ℕ, List, ◌++◌}
 use Rattle.sha2.specs.Hashers.{Holds256, Holds512}
+use Rattle.ftp_operation_secret.specs.Crypt.{cycled}
+use Rattle.ftp_operation_secret.specs.declared.crypt.Sequence.{Sequence}
 use Rattle.ftp_operation_secret.specs.declared.method.Method.{Method}
 use Rattle.ftp_operation_secret.specs.declared.method.Method.TheVariants.{Sha256, Sha512}
 use Rattle.ftp_operation_secret.specs.declared.hashing.Hasher.{Hasher}
@@ -23,3 +25,7 @@ Takes old octets new = (method : Method) (before : List ℕ) → Holds old metho
 abbrev pub octets_of : Digest → List ℕ
 octets_of (Is.Small octets) = octets
 octets_of (Is.Large octets) = octets
+
+-- the octets of a sequence
+abbrev pub sequence : Sequence → List ℕ
+sequence s = cycled (octets_of s.digest) s.count

@@ -1,8 +1,8 @@
 -- The password that an account needs, as the field of a file has it (crypt(5)), and which password opens it.
-use Rattle.std.specs.Prelude.{ℕ, ◌+◌, ◌-◌, ◌*◌, ◌&&◌, ◌||◌, ◌==◌, Bool, true, false, not, nat_lt, nat_le, nat_eq, List, [], ◌∷◌, ◌++◌, length, take, drop, position, codes, decimal, Option, Some, None, Result, Ok, Err, if◌then◌else◌}
+use Rattle.std.specs.Prelude.{ℕ, ◌+◌, ◌-◌, ◌*◌, ◌&&◌, ◌||◌, ◌==◌, Bool, true, false, not, nat_lt, nat_le, nat_eq, if◌then◌else◌}
+use Rattle.std.specs.Prelude.{List, [], ◌∷◌, ◌++◌, length, take, drop, position, decimal, Option, Some, None, Result, Ok, Err}
 use Rattle.std.specs.List.{list_all, starts_with}
 use Rattle.std.specs.Str.{bytes_eq}
-use Rattle.arrayvec.specs.ArrayVec.{ArrayVec}
 use Rattle.ftp_operation_secret.specs.Crypt.{hash_text}
 use Rattle.ftp_operation_secret.specs.declared.method.Method.{Method}
 use Rattle.ftp_operation_secret.specs.declared.method.Method.TheVariants.{Sha256, Sha512}
@@ -145,4 +145,5 @@ made method rounds salt password =
     if not (nat_le (length salt) 16 && list_all is_letter salt) then Err Faults.Salt
     else (if nat_lt (rounds_of rounds) 1000 then Err Faults.Rounds
     else (if nat_lt most_rounds (rounds_of rounds) then Err Faults.TooManyRounds
-    else Ok (Crypt record { method = method; rounds = rounds; salt = record { items = salt }; hash = record { items = hash_text method (rounds_of rounds) salt password } })))
+    else (let hash = hash_text method (rounds_of rounds) salt password in
+    Ok (Crypt record { method = method; rounds = rounds; salt = record { items = salt }; hash = record { items = hash } }))))

@@ -1,7 +1,7 @@
 // The digest that SHA-crypt gives a password (steps 1 to 21).
 ghost use Rattle.std.specs.Prelude.{◌≡◌, ◌+◌, ◌++◌, ◌==◌, ◌%◌, [], length, slice_index, if◌then◌else◌};
-ghost use Rattle.ftp_operation_secret.specs.Crypt.{after, by_digits, cycled, digest, digest_a, digest_b, digest_c, digest_p, digest_s, repeated, round};
-ghost use Rattle.ftp_operation_secret.specs.Hashing.{Takes, octets_of};
+ghost use Rattle.ftp_operation_secret.specs.Crypt.{after, digest, digest_a, digest_b, digest_c, digest_p, digest_s, repeated, round};
+ghost use Rattle.ftp_operation_secret.specs.Hashing.{Takes, octets_of, sequence};
 
 use crate::hashing::{Digest, Hasher};
 use crate::method::Method;
@@ -47,20 +47,20 @@ pub(crate) struct Sequence {
 }
 
 /// Takes a sequence where it is wanted.
-fn take_where(hasher: &mut Hasher, wanted: bool, sequence: &Sequence)
-    ensures { Takes hasher.old (if wanted then cycled (octets_of sequence.now.digest) sequence.now.count else []) hasher.new }
+fn take_where(hasher: &mut Hasher, wanted: bool, part: &Sequence)
+    ensures { Takes hasher.old (if wanted then sequence part.now else []) hasher.new }
 {
     if wanted {
-        hasher.take_cycled(&sequence.digest, sequence.count);
+        hasher.take_cycled(&part.digest, part.count);
     }
 }
 
 /// Takes a sequence where it is wanted, and else a digest.
-fn take_either(hasher: &mut Hasher, wanted: bool, sequence: &Sequence, last: &Digest)
-    ensures { Takes hasher.old (if wanted then cycled (octets_of sequence.now.digest) sequence.now.count else octets_of last.now) hasher.new }
+fn take_either(hasher: &mut Hasher, wanted: bool, part: &Sequence, last: &Digest)
+    ensures { Takes hasher.old (if wanted then sequence part.now else octets_of last.now) hasher.new }
 {
     if wanted {
-        hasher.take_cycled(&sequence.digest, sequence.count);
+        hasher.take_cycled(&part.digest, part.count);
     } else {
         hasher.take(last.octets());
     }
@@ -68,7 +68,7 @@ fn take_either(hasher: &mut Hasher, wanted: bool, sequence: &Sequence, last: &Di
 
 /// One round: the digest after it, from the one before.
 fn round(method: Method, p: &Sequence, s: &Sequence, number: u32, last: &Digest) -> Digest
-    ensures { octets_of result ≡ digest method (round (cycled (octets_of p.now.digest) p.now.count) (cycled (octets_of s.now.digest) s.now.count) number (octets_of last.now)) }
+    ensures { octets_of result ≡ digest method (round (sequence p.now) (sequence s.now) number (octets_of last.now)) }
 {
     let mut hasher = Hasher::new(method);
     take_either(&mut hasher, number % 2 == 1, p, last);
@@ -80,7 +80,7 @@ fn round(method: Method, p: &Sequence, s: &Sequence, number: u32, last: &Digest)
 
 /// The digest after so many rounds, from digest A.
 fn after(method: Method, p: &Sequence, s: &Sequence, a: Digest, rounds: u32) -> Digest
-    ensures { octets_of result ≡ after method (cycled (octets_of p.now.digest) p.now.count) (cycled (octets_of s.now.digest) s.now.count) (octets_of a) rounds }
+    ensures { octets_of result ≡ after method (sequence p.now) (sequence s.now) (octets_of a) rounds }
 {
     let mut last = a;
     'rounds: for number in 0..rounds {

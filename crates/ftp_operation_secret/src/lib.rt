@@ -4,6 +4,7 @@
 mod crypt;
 mod fault;
 mod hashing;
+pub mod laws;
 mod method;
 mod reading;
 mod same;

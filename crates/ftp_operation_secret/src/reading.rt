@@ -1,7 +1,8 @@
 // A secret from the field of a file (crypt(5)).
 ghost use Rattle.std.specs.Prelude.{◌≡◌, ◌<◌, ◌≤◌, ◌&&◌, ◌==◌, None, Some, IfSome, MatchOption, length, nat_le};
 ghost use Rattle.std.specs.List.{list_all};
-ghost use Rattle.ftp_operation_secret.specs.Secret.{cut, ends_kind, first_dollar, has_kind, is_kind_octet, is_letter, letter_count, most_rounds, number_behind, read, rounds_said, with_letters, with_method, with_rounds, with_salt};
+ghost use Rattle.ftp_operation_secret.specs.Secret.{cut, ends_kind, first_dollar, has_kind, is_kind_octet, is_letter, letter_count, most_rounds};
+ghost use Rattle.ftp_operation_secret.specs.Secret.{number_behind, read, rounds_said, with_letters, with_method, with_rounds, with_salt};
 
 use crate::fault::SecretFault;
 use crate::method::Method;

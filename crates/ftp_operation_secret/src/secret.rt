@@ -54,8 +54,8 @@ pub(crate) fn hash_text(method: Method, rounds: u32, salt: &[u8], password: &[u8
 }
 
 impl Secret {
-    /// Whether a password is the one that is needed. Takes no memory. How long it takes depends on the secret's kind, its rounds and the length of its salt, and
-    /// on the length of the password: on no octet of the right one.
+    /// Whether a password is the one that is needed. Takes no memory. How long it takes depends on the secret's method, its rounds and
+    /// the length of its salt, and on the length of the password: on no octet of the right one.
     pub fn opens(&self, password: &[u8]) -> bool
         ensures { result ≡ opens self.now password.now }
     {

@@ -10,6 +10,7 @@ groups-init c = record {
 
 pub groups-preserved : goal.groups-preserved
 groups-preserved c = record {
-  letters = groups_more c.args.method c.args.digest.now c.groups.text.items c.put_group.new.text.items c.groups.place c.put_group.ensures.letters c.groups.invariant.letters;
+  letters = groups_more c.args.method c.args.digest.now c.groups.text.items c.put_group.new.text.items
+      c.groups.place c.put_group.ensures.letters c.groups.invariant.letters;
   len = omega arith;
 }

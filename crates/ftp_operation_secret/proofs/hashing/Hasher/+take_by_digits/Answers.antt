@@ -1,4 +1,4 @@
-use Rattle.std.proofs.Common.{◌≡◌, ◌≢◌, arith}
+use Rattle.std.proofs.Common.{arith}
 use Rattle.ftp_operation_secret.proofs.Taking.{takes_digit, takes_no_digit}
 use Rattle.ftp_operation_secret.proofs.hashing.Hasher.+take_by_digits.Goals as goal
 
