@@ -1,4 +1,4 @@
-//! For tests alone: rows of control lines, of endpoints, commands and replies, of entries and moments, of scripts, and of files, items and wires.
+//! For tests alone: rows of control lines, of endpoints, commands and replies, of passwords, of entries and moments, of scripts, and of files, items and wires.
 #![tactic(auto)]
 
 mod calendar;
@@ -17,6 +17,7 @@ mod report;
 mod row;
 mod script;
 mod scripts;
+mod secrets;
 mod sizes;
 mod values;
 mod wires;

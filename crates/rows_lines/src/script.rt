@@ -2,7 +2,7 @@
 use crate::row::{Row, octets_in};
 use crate::word::{FactWord, FileWord, Word, word_of};
 use crate::{
-    calendar, ears, endpoints, entries, growing, items, moments, pieces, replies, sizes, wires,
+    calendar, ears, endpoints, entries, growing, items, moments, pieces, replies, secrets, sizes, wires,
 };
 use rows_base::{Paper, cut, split};
 use std::alloc::Global;
@@ -44,6 +44,8 @@ fn answer(alloc: Global, word: Word, row: &Row<'_>, paper: &mut Paper) {
         Word::Growing(asked) => growing::show(alloc, asked, row, paper),
         Word::Endpoint(asked) => endpoints::show(alloc, asked, row.octets, paper),
         Word::ReplyLimit => replies::show_limit(alloc, row.head, paper),
+        Word::Opens => secrets::show_opened(alloc, row, paper),
+        Word::Made => secrets::show_made(alloc, row, paper),
         Word::Fact(word) => answer_fact(alloc, word, row, paper),
         Word::File(word) => answer_file(alloc, word, row, paper),
     }

@@ -9,6 +9,10 @@ pub(crate) enum Word {
     Growing(growing::Asked),
     Endpoint(endpoints::Asked),
     ReplyLimit,
+    /// Whether a password opens a field.
+    Opens,
+    /// The field that is made of a password.
+    Made,
     Fact(FactWord),
     File(FileWord),
 }
@@ -41,6 +45,8 @@ pub(crate) enum FileWord {
 const WORDS: &[(&'static [u8], Option<Word>)] = &[
     (b"ear", Some(Word::Ear)),
     (b"reply-limit", Some(Word::ReplyLimit)),
+    (b"opens", Some(Word::Opens)),
+    (b"made", Some(Word::Made)),
     (b"line", Some(Word::Growing(growing::Asked::Line))),
     (b"command", Some(Word::Growing(growing::Asked::Command))),
     (

@@ -1,0 +1,5 @@
+pub mod Taking
+pub mod Rounds
+pub mod Letters
+pub mod Sameness
+pub mod WrittenBack

@@ -1,0 +1,4 @@
+pub mod Crypt
+pub mod Hashing
+pub mod Secret
+pub mod Places
