@@ -136,7 +136,7 @@ rights_stay state (Ops.List text how) moment = refl
 rights_stay state (Ops.Names text how) moment = refl
 
 -- the first of two refusals is none where both are
-first_is_none : (one other : Option Refusal) → or_refused one other ≡ None → one ≡ None
+pub first_is_none : (one other : Option Refusal) → or_refused one other ≡ None → one ≡ None
 first_is_none None other none = refl
 first_is_none (Some why) other none = absurd (cc)
 
@@ -150,15 +150,15 @@ known_is_none true why none = none
 known_is_none false why none = absurd (cc)
 
 -- a right that there is not is wanting
-wanting : (Holds : Type 0) (may : Bool) → may ≡ false → barred may ≡ None → Holds
+pub wanting : (Holds : Type 0) (may : Bool) → may ≡ false → barred may ≡ None → Holds
 wanting Holds true is none = absurd (cc)
 wanting Holds false is none = absurd (cc)
 
-no_put : (Holds : Type 0) (state : State) (path : Names) → state.rights ≡ no_rights → barred_put state path ≡ None → Holds
+pub no_put : (Holds : Type 0) (state : State) (path : Names) → state.rights ≡ no_rights → barred_put state path ≡ None → Holds
 no_put Holds state path is none = wanting Holds _ (ap (λ rights. may_put rights (fits path && is_file (node_at (part state) path))) is) none
 
 -- what is not refused changes nothing
-done_looks : (state : State) (op : Op (List ℕ)) (moment : ℕ) → state.rights ≡ no_rights → refusal state op ≡ None → (done state op moment).1.table ≡ state.table
+pub done_looks : (state : State) (op : Op (List ℕ)) (moment : ℕ) → state.rights ≡ no_rights → refusal state op ≡ None → (done state op moment).1.table ≡ state.table
 done_looks state Ops.Where moment is none = refl
 done_looks state (Ops.ChangeDir text) moment is none = refl
 done_looks state Ops.Up moment is none = refl
