@@ -9,7 +9,7 @@ use Rattle.ftp_operation.specs.declared.op.Op.TheVariants as Ops
 use Rattle.ftp_operation.specs.Answer.{Said, BadOperation, Refused}
 use Rattle.ftp_operation.specs.Operation.{can_be_sent}
 use Rattle.ftp_direct.specs.declared.refusal.Refusal.{Refusal}
-use Rattle.ftp_direct.specs.declared.refusal.Refusal.TheVariants.{LocalFault, NoRoom, BadArgument, BadParameter, NotLoggedIn, Unavailable, TooMuch, BadName}
+use Rattle.ftp_direct.specs.declared.refusal.Refusal.TheVariants.{LocalFault, NoRoom, BadArgument, BadParameter, NotLoggedIn, Unavailable, NotAllowed, TooMuch, BadName}
 use Rattle.ftp_direct.specs.Refusal.{code_of}
 use Rattle.ftp_direct.specs.Direct.{State, answer, barred, chosen, done, first_refusal, refusal, refused_there, refused_name, refused_room, refused_octets, refused_listing, or_refused}
 use Rattle.ftp_direct.specs.Run.{Ran, Turn, answer_of, failures_of, faults_told, is_local_fault, moved_on, run}
@@ -80,6 +80,10 @@ not_unavailable : is_fault (Some Unavailable) ≡ false
 unfolding is_fault
 not_unavailable = refl
 
+not_allowed : is_fault (Some NotAllowed) ≡ false
+unfolding is_fault
+not_allowed = refl
+
 none_no : is_fault None ≡ false
 unfolding is_fault
 none_no = refl
@@ -87,7 +91,7 @@ none_no = refl
 -- what an account may not do is no failure of the device
 barred_no : (may : Bool) → is_fault (barred may) ≡ false
 barred_no true = none_no
-barred_no false = not_unavailable
+barred_no false = not_allowed
 
 refusal_no : (state : State) (op : Op (List ℕ)) → is_fault (refusal state op) ≡ false
 refusal_no state Ops.Where = none_no
@@ -137,6 +141,7 @@ code_no BadArgument other = refl
 code_no BadParameter other = refl
 code_no NotLoggedIn other = refl
 code_no Unavailable other = refl
+code_no NotAllowed other = refl
 code_no TooMuch other = refl
 code_no BadName other = refl
 

@@ -21,7 +21,7 @@ use Rattle.ftp_operation.specs.declared.op.Op.{Op}
 use Rattle.ftp_operation.specs.declared.op.Op.TheVariants as Ops
 use Rattle.ftp_operation.specs.Operation.{can_be_sent, is_number}
 use Rattle.ftp_direct.specs.declared.refusal.Refusal.{Refusal}
-use Rattle.ftp_direct.specs.declared.refusal.Refusal.TheVariants.{BadParameter, NotLoggedIn, Unavailable, TooMuch, BadName}
+use Rattle.ftp_direct.specs.declared.refusal.Refusal.TheVariants.{BadParameter, NotLoggedIn, Unavailable, NotAllowed, TooMuch, BadName}
 use Rattle.ftp_direct.specs.Refusal.{code_of, name_refusal, listing_refusal}
 use Rattle.ftp_operation.specs.Answer.{Listed, Said, Done, Path, Octets, Number, Stamp, Entry, Entries, Names as NameList, Refused, BadOperation}
 
@@ -106,7 +106,7 @@ or_refused first second = option_or first second
 -- what the account may not do (own choice)
 abbrev pub barred : (may : Bool) → Option Refusal
 barred true = None
-barred false = Some Unavailable
+barred false = Some NotAllowed
 
 -- a file stands there
 abbrev pub is_file : Option Node → Bool

@@ -32,7 +32,7 @@ pub fn may_put_at<A: Allocator + Copy, T: Tree<A>>(
 fn barred(may: bool) -> Option<Refusal>
     ensures { result ≡ barred may }
 {
-    if may { None } else { Some(Refusal::Unavailable) }
+    if may { None } else { Some(Refusal::NotAllowed) }
 }
 
 /// Why an account may not put a file where a text leads.

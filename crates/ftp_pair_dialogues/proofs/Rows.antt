@@ -90,6 +90,7 @@ tells_code Refusals.BadArgument = refl
 tells_code Refusals.BadParameter = refl
 tells_code Refusals.NotLoggedIn = refl
 tells_code Refusals.Unavailable = refl
+tells_code Refusals.NotAllowed = refl
 tells_code Refusals.TooMuch = refl
 tells_code Refusals.BadName = refl
 
@@ -101,6 +102,7 @@ is_negative Refusals.BadArgument = refl
 is_negative Refusals.BadParameter = refl
 is_negative Refusals.NotLoggedIn = refl
 is_negative Refusals.Unavailable = refl
+is_negative Refusals.NotAllowed = refl
 is_negative Refusals.TooMuch = refl
 is_negative Refusals.BadName = refl
 

@@ -1,5 +1,5 @@
 -- The name that waits for its PASS is no longer than the one that a USER said.
-use Rattle.std.proofs.Common.{◌≡◌, ℕ, ◌≤◌, ◌+◌, Bool, true, false, List, [], ◌∷◌, Option, Some, None, refl, sym, subst, arith, length}
+use Rattle.std.proofs.Common.{◌≡◌, ℕ, ◌≤◌, ◌+◌, Bool, true, false, List, Option, Some, None, refl, sym, subst, arith, length}
 use Rattle.std.specs.Prelude.{if◌then◌else◌}
 use Rattle.std.proofs.Math.Logic.{∥∥₁_elim}
 use Rattle.std.proofs.Props.{props}
@@ -7,7 +7,7 @@ use Rattle.ftp_command.specs.declared.command.Command.{Command}
 use Rattle.ftp_command.specs.declared.command.Command.TheVariants as command
 use Rattle.ftp_command.specs.declared.command.Passive.{Passive}
 use Rattle.ftp_command.specs.declared.command.Passive.TheVariants.{Any, Ipv4, Ipv6, Only}
-use Rattle.ftp_direct.specs.Direct.{done, is_directory, limited, named_or_here, offset_refusal, refusal, refused_name}
+use Rattle.ftp_direct.specs.Direct.{done, is_directory, named_or_here, offset_refusal, refusal}
 use Rattle.ftp_direct.specs.declared.refusal.Refusal.{Refusal}
 use Rattle.ftp_endpoint.specs.declared.endpoint.Endpoint.{Endpoint}
 use Rattle.ftp_ends.specs.Link.{is_v6}
@@ -28,7 +28,7 @@ use Rattle.ftp_server_model.specs.Replies.{Turn, tells}
 use Rattle.ftp_server_model.specs.Setting.{choose, is_utf8_on}
 use Rattle.ftp_server_model.specs.Transfer.{begin, rests, transfer_starts}
 use Rattle.ftp_server_model.specs.View.{Accounts, Footing, Session, Transfer, as_direct, direct_of, how_in_force, seen, with_seen}
-use Rattle.ftp_tree.specs.Tree.{moved, node_at, rename_refusal}
+use Rattle.ftp_tree.specs.Tree.{moved, node_at}
 use Rattle.ftp_server_model.specs.Walk.{path_of, refused_source, refused_target, rnto, unless}
 use Rattle.ftp_server_model.specs.declared.heard.HeardLine.{HeardLine}
 use Rattle.ftp_server_model.specs.declared.heard.HeardLine.TheVariants.{TooLong, Bad, Asks}

@@ -33,7 +33,6 @@ use Rattle.ftp_server_model.specs.View.{Accounts, Footing, Session, Transfer, di
 use Rattle.ftp_server_model.specs.Walk.{unless, path_of, performs, refused_source, refused_target, rnto}
 use Rattle.ftp_server_model.specs.declared.heard.HeardLine.{HeardLine}
 use Rattle.ftp_server_model.specs.declared.heard.HeardLine.TheVariants.{TooLong, Bad, Asks}
-use Rattle.ftp_server_model.specs.declared.reply.FixedReply.{FixedReply}
 use Rattle.ftp_server_model.specs.declared.reply.FixedReply.TheVariants as Texts
 use Rattle.ftp_server_model.specs.declared.reply.ReplyKind.{ReplyKind}
 use Rattle.ftp_server_model.specs.declared.reply.ReplyKind.TheVariants as Replies

@@ -17,7 +17,7 @@ use Rattle.ftp_operation.specs.declared.op.Op.TheVariants as Ops
 use Rattle.ftp_operation.specs.Account.{Account, login_account}
 use Rattle.ftp_direct.specs.Direct.{refusal, barred_put, done, or_refused, is_directory}
 use Rattle.ftp_direct.specs.declared.refusal.Refusal.{Refusal}
-use Rattle.ftp_tree.specs.Tree.{moved, node_at, octets_or_none, rename_refusal}
+use Rattle.ftp_tree.specs.Tree.{moved, node_at, octets_or_none}
 use Rattle.ftp_server_model.specs.Act.{act, decided, forgets, is_allowed, is_transfer}
 use Rattle.ftp_server_model.specs.Ask.{size, has_size, or_empty}
 use Rattle.ftp_server_model.specs.Endpoint.{forgotten, disconnected, is_taken, takes, port, asks, pasv, epsv}

@@ -3,7 +3,6 @@ use Rattle.std.specs.Prelude.{◌≡◌, List}
 use Rattle.std.specs.List.{AllByRecursion}
 use Rattle.ftp_endpoint.specs.declared.host.Host.{Host}
 use Rattle.ftp_operation.specs.Rights.{no_rights}
-use Rattle.ftp_operation.specs.declared.rights.Rights.{Rights}
 use Rattle.ftp_tree.specs.Tree.{Table}
 use Rattle.ftp_server_model.specs.Calls.{start}
 use Rattle.ftp_server_model.specs.Machine.{Reading}

@@ -25,6 +25,7 @@ refusal_text Refusals.BadArgument = Texts.BadArgument
 refusal_text Refusals.BadParameter = Texts.BadParameter
 refusal_text Refusals.NotLoggedIn = Texts.NotLoggedIn
 refusal_text Refusals.Unavailable = Texts.Refused
+refusal_text Refusals.NotAllowed = Texts.NotAllowed
 refusal_text Refusals.TooMuch = Texts.TooMuch
 refusal_text Refusals.BadName = Texts.NameRefused
 

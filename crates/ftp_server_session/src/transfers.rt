@@ -68,7 +68,7 @@ impl<A: Allocator + Copy, T: Tree<A>, J: ServerTransfer<A, T>> Session<A, T, J> 
             return Ok(self.not_begun(text));
         };
         if !may_put_at(&self.tree, &self.root, &path, self.rights) {
-            return Ok(self.not_begun(FixedReply::Refused));
+            return Ok(self.not_begun(FixedReply::NotAllowed));
         }
         let Some(place) = self.place_of(pending, &path) else {
             return Ok(self.not_begun(FixedReply::NameRefused));
@@ -94,7 +94,7 @@ impl<A: Allocator + Copy, T: Tree<A>, J: ServerTransfer<A, T>> Session<A, T, J> 
             return Ok(self.not_begun(text));
         };
         if !may_put_at(&self.tree, &self.root, &path, self.rights) {
-            return Ok(self.not_begun(FixedReply::Refused));
+            return Ok(self.not_begun(FixedReply::NotAllowed));
         }
         let keep = len_at(&self.tree, &self.root, &path);
         let refusal = self.room_fault(&path);
@@ -207,12 +207,12 @@ impl<A: Allocator + Copy, T: Tree<A>, J: ServerTransfer<A, T>> Session<A, T, J> 
 
     /// The reply to an upload whose path is past the limits of paths.
     fn unfit_text(&self) -> FixedReply
-        ensures { result ≡ (if may_put self.now.rights false then FixedReply.NameRefused else FixedReply.Refused) }
+        ensures { result ≡ (if may_put self.now.rights false then FixedReply.NameRefused else FixedReply.NotAllowed) }
     {
         if self.rights.may_put(false) {
             FixedReply::NameRefused
         } else {
-            FixedReply::Refused
+            FixedReply::NotAllowed
         }
     }
 

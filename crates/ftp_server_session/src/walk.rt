@@ -49,7 +49,7 @@ impl<A: Allocator + Copy, T: Tree<A>, J: ServerTransfer<A, T>> Session<A, T, J> 
         ensures { Turns T.table T.failures J.view (mkd text.now) self.old self.new result }
     {
         if !self.rights.make_dir {
-            return Ok(ReplyKind::Fixed(FixedReply::Refused));
+            return Ok(ReplyKind::Fixed(FixedReply::NotAllowed));
         }
         let Ok(found) = self.find(text) else {
             return Err(Fault::Memory);
@@ -70,7 +70,7 @@ impl<A: Allocator + Copy, T: Tree<A>, J: ServerTransfer<A, T>> Session<A, T, J> 
         ensures { Turns T.table T.failures J.view (rmd text.now) self.old self.new result }
     {
         if !self.rights.remove_dir {
-            return Ok(ReplyKind::Fixed(FixedReply::Refused));
+            return Ok(ReplyKind::Fixed(FixedReply::NotAllowed));
         }
         let Ok(found) = self.find(text) else {
             return Err(Fault::Memory);
@@ -94,7 +94,7 @@ impl<A: Allocator + Copy, T: Tree<A>, J: ServerTransfer<A, T>> Session<A, T, J> 
         ensures { Turns T.table T.failures J.view (dele text.now) self.old self.new result }
     {
         if !self.rights.delete {
-            return Ok(ReplyKind::Fixed(FixedReply::Refused));
+            return Ok(ReplyKind::Fixed(FixedReply::NotAllowed));
         }
         let Ok(found) = self.find(text) else {
             return Err(Fault::Memory);
@@ -114,7 +114,7 @@ impl<A: Allocator + Copy, T: Tree<A>, J: ServerTransfer<A, T>> Session<A, T, J> 
         ensures { Turns T.table T.failures J.view (rnfr text.now) self.old self.new result }
     {
         if !self.rights.rename {
-            return Ok(ReplyKind::Fixed(FixedReply::Refused));
+            return Ok(ReplyKind::Fixed(FixedReply::NotAllowed));
         }
         let Ok(found) = self.find(text) else {
             return Err(Fault::Memory);
@@ -143,7 +143,7 @@ impl<A: Allocator + Copy, T: Tree<A>, J: ServerTransfer<A, T>> Session<A, T, J> 
             return Ok(ReplyKind::Fixed(FixedReply::BadSequence));
         };
         if !self.rights.rename {
-            return Ok(ReplyKind::Fixed(FixedReply::Refused));
+            return Ok(ReplyKind::Fixed(FixedReply::NotAllowed));
         }
         let Ok(found) = self.find(text) else {
             return Err(Fault::Memory);

@@ -4,7 +4,7 @@ use Rattle.std.specs.Prelude.{if◌then◌else◌}
 use Rattle.ftp_command.specs.declared.command.Command.{Command}
 use Rattle.ftp_command.specs.declared.command.Command.TheVariants as command
 use Rattle.ftp_command.specs.declared.command.Passive.TheVariants.{Any, Ipv4, Ipv6, Only}
-use Rattle.ftp_direct.specs.Direct.{done, is_directory, limited, named_or_here, offset_refusal, refusal, refused_name}
+use Rattle.ftp_direct.specs.Direct.{done, is_directory, named_or_here, offset_refusal, refusal}
 use Rattle.ftp_direct.specs.declared.refusal.Refusal.{Refusal}
 use Rattle.ftp_operation.specs.Account.{Account, login_account}
 use Rattle.ftp_path.specs.Path.{Names}
@@ -23,7 +23,7 @@ use Rattle.ftp_ends.specs.Link.{is_v6}
 use Rattle.ftp_facts.specs.Moment.{moment_digits}
 use Rattle.ftp_operation.specs.declared.op.Op.{Op}
 use Rattle.ftp_operation.specs.declared.op.Op.TheVariants as Ops
-use Rattle.ftp_tree.specs.Tree.{moved, node_at, rename_refusal}
+use Rattle.ftp_tree.specs.Tree.{moved, node_at}
 use Rattle.ftp_server_model.specs.Entries.{option_facts}
 use Rattle.ftp_server_model.specs.Setting.{choose, is_utf8_on}
 use Rattle.ftp_server_model.specs.Transfer.{begin, rests, transfer_starts}
