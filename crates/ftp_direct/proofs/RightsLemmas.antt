@@ -105,7 +105,7 @@ pub permitted_due : {A E : Type 0} (result : Result (Answer A) E) (before after 
     → None ≡ barring (standing table root cwd true rights) op
     → IfOk result (λ answer. IsAnswer before after (due (here table root cwd) op moment) (here table root cwd) (said_of answer) (here new root at))
     → IfOk result (λ answer. IsAnswer before after (due (standing table root cwd true rights) op moment) (standing table root cwd true rights) (said_of answer)
-        (standing new root at true rights))
+    (standing new root at true rights))
 permitted_due (Ok answer) before after table new root cwd at rights op moment may is =
     let state = standing table root cwd true rights in
     subst (λ due. IsAnswer before after due state (said_of answer) (standing new root at true rights)) (sym (due_alike state op moment (sym may)))

@@ -18,7 +18,10 @@ pub use direct_run::direct;
 pub use ftp_operation::{
     Account, Accounts, AccountsFault, Answer, How, Login, Op, RefusedAccounts, Rights,
 };
-pub use laws::{direct_in_memory, failures_are_told, lookers_change_nothing, offsets_lead, parts_are_apart, rights_come_first, steady_run};
+pub use laws::{
+    direct_in_memory, failures_are_told, lookers_change_nothing, offsets_lead, parts_are_apart,
+    rights_come_first, steady_run,
+};
 pub use nodes::{absent_fault, directory_fault, file_fault, is_dir, is_file, len_at};
 pub use offsets::{place_at, takes_offset};
 pub use places::{is_busy, is_held};

@@ -106,8 +106,13 @@ admits_as state account s table leads = by_directory (is_directory (node_at s.ta
           admitted = false;
           is = now ∙ ap (λ t. tells Texts.LoginRefused t) (sym (ap (λ t. t.0) now));
           sees = subst (Sees state) (sym (ap (λ t. t.0) now))
-              (record { table = table; known = sym known; root = λ k. absurd (let e : false ≡ true = sym known ∙ k in cc);
-              rights = λ k. absurd (let e : false ≡ true = sym known ∙ k in cc); cwd = sym (ap (λ s. s.cwd) leads) });
+              (record {
+                table = table;
+                known = sym known;
+                root = λ k. absurd (let e : false ≡ true = sym known ∙ k in cc);
+                rights = λ k. absurd (let e : false ≡ true = sym known ∙ k in cc);
+                cwd = sym (ap (λ s. s.cwd) leads);
+              });
         }
 
 -- ---- what is kept of both ends

@@ -42,8 +42,13 @@ record IsMove (old new : State) : Type 0 where
 -- a session with the outcome of the direct run sees the next state, if that is a move of the one it saw
 sees_direct : (state next : State) (f : Far) → Sees state f.session → IsMove state next → Sees next (as_direct next (cleared f))
 sees_direct state next f sees move =
-    record { table = refl; known = sees.known ∙ sym move.known; root = λ known. sees.root (sym move.known ∙ known) ∙ sym move.root;
-      rights = λ known. sees.rights (sym move.known ∙ known) ∙ sym move.rights; cwd = refl }
+    record {
+      table = refl;
+      known = sees.known ∙ sym move.known;
+      root = λ known. sees.root (sym move.known ∙ known) ∙ sym move.root;
+      rights = λ known. sees.rights (sym move.known ∙ known) ∙ sym move.rights;
+      cwd = refl;
+    }
 
 -- ---- those that change the map or the current directory
 

@@ -64,8 +64,11 @@ module _ (table : Table) where
       let s : Session = record v.session { pending = Pendings.Nothing } in
       let turn : Turn = decided v.footing heard v.session.pending s in
       completed_looks (turned turn v)
-      (record { accounts = k.accounts; session = decided_looks table v.footing heard v.session.pending s k.accounts
-          (record { same = k.session.same; rights = k.session.rights; connection = k.session.connection }) })
+      (record {
+        accounts = k.accounts;
+        session = decided_looks table v.footing heard v.session.pending s k.accounts
+            (record { same = k.session.same; rights = k.session.rights; connection = k.session.connection });
+      })
 
   waited_looks : (waiting : Option (HeardLine (List ℕ))) (v : View) → OnlyLooks table v → OnlyLooks table (waited waiting v)
   waited_looks None v k = k

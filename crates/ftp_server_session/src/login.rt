@@ -5,8 +5,8 @@ ghost use Rattle.ftp_server_model.specs.Login.{logged_out, logs_in, pass, quit, 
 
 use crate::session::{ALL_FACTS, DEFAULTS, Session};
 use ftp_command::Argument;
-use ftp_facts::Text;
 use ftp_direct::is_dir;
+use ftp_facts::Text;
 use ftp_operation::{Account, Accounts, Rights};
 use ftp_path::Path;
 use ftp_server_model::{Access, FixedReply, Life, ReplyKind};
@@ -39,10 +39,7 @@ impl<A: Allocator + Copy, T: Tree<A>, J: ServerTransfer<A, T>> Session<A, T, J> 
     }
 
     /// A login is done where a directory stands at the root of its account.
-    fn log_in(
-        &mut self,
-        account: &Account<Text<A>, Path<A>>,
-    ) -> Result<ReplyKind<Path<A>>, Fault>
+    fn log_in(&mut self, account: &Account<Text<A>, Path<A>>) -> Result<ReplyKind<Path<A>>, Fault>
         requires { has_transfer self.old.connection ≡ false }
         ensures { Turns T.table T.failures J.view (logs_in account.now) self.old self.new result }
     {
@@ -69,7 +66,11 @@ impl<A: Allocator + Copy, T: Tree<A>, J: ServerTransfer<A, T>> Session<A, T, J> 
         if let Some(account) = accounts.open_account(name.octets()) {
             return self.log_in(account);
         }
-        self.enter(Access::AwaitsPass(name), Path::root(self.alloc), Rights::none());
+        self.enter(
+            Access::AwaitsPass(name),
+            Path::root(self.alloc),
+            Rights::none(),
+        );
         Ok(ReplyKind::Fixed(FixedReply::PasswordNeeded))
     }
 
