@@ -225,7 +225,7 @@ module _ (table : Table) where
   act_looks footing (command.Opts text) pending s none k = opts_looks text s k
 
   pub forgets_looks : (c : Command (List ℕ)) (s : Session) → Looks table s → Looks table (forgets c s)
-  forgets_looks c s k = cond_both (is_transfer c) (forgotten s) s Looks table (λ is. forgotten_looks s k) (λ is. k)
+  forgets_looks c s k = cond_both (is_transfer c) (forgotten s) s (Looks table) (λ is. forgotten_looks s k) (λ is. k)
 
   pub decided_looks : (footing : Footing) (heard : HeardLine (List ℕ)) (pending : Pending Names) (s : Session) → MayOnlyLook footing.accounts → Looks table s → LooksTurn (decided footing heard pending s)
   decided_looks footing TooLong pending s none k = k
