@@ -87,15 +87,15 @@ same_target state text new none =
     ∙ ap (λ why. refused_name (limited (named state new) (or_else why (target_refusal (part state) (named state text) (named state new))))) (source_none state text none)
 
 -- the first of three reasons is the same however they are put together
-three : (one two three : Option Refusal) → or_refused one (or_refused two three) ≡ or_refused (or_refused one two) three
-three None two three = refl
-three (Some why) two three = refl
+as_one : (one other last : Option Refusal) → or_refused one (or_refused other last) ≡ or_refused (or_refused one other) last
+as_one None other last = refl
+as_one (Some why) other last = refl
 
 -- the direct run refuses a rename by the reason of the old name, or else by its own reason of the new name
 pub direct_by_source : (state : State) (text new : List ℕ) (why : Option Refusal) → source_why state text ≡ why
     → refusal state (Ops.Rename text new) ≡ or_refused why (direct_target_why state text new)
 direct_by_source state text new why is =
-    three (barred state.rights.rename) _ (direct_target_why state text new) ∙ ap (λ w. or_refused w (direct_target_why state text new)) is
+    as_one (barred state.rights.rename) _ (direct_target_why state text new) ∙ ap (λ w. or_refused w (direct_target_why state text new)) is
 
 -- ---- the dialogue
 
