@@ -9,9 +9,9 @@ use Rattle.ftp_operation.specs.declared.op.Op.TheVariants as Ops
 use Rattle.ftp_operation.specs.Answer.{Said, BadOperation, Refused}
 use Rattle.ftp_operation.specs.Operation.{can_be_sent}
 use Rattle.ftp_direct.specs.declared.refusal.Refusal.{Refusal}
-use Rattle.ftp_direct.specs.declared.refusal.Refusal.TheVariants.{LocalFault, NoRoom, BadArgument, BadParameter, NotLoggedIn, Unavailable, TooMuch, BadName}
+use Rattle.ftp_direct.specs.declared.refusal.Refusal.TheVariants.{LocalFault, NoRoom, BadArgument, BadParameter, NotLoggedIn, Unavailable, NotAllowed, TooMuch, BadName}
 use Rattle.ftp_direct.specs.Refusal.{code_of}
-use Rattle.ftp_direct.specs.Direct.{State, answer, chosen, done, first_refusal, refusal, refused_there, refused_name, refused_room, refused_octets, refused_listing, or_refused}
+use Rattle.ftp_direct.specs.Direct.{State, answer, barred, chosen, done, first_refusal, refusal, refused_there, refused_name, refused_room, refused_octets, refused_listing, or_refused}
 use Rattle.ftp_direct.specs.Run.{Ran, Turn, answer_of, failures_of, faults_told, is_local_fault, moved_on, run}
 
 is_fault : Option Refusal → Bool
@@ -80,21 +80,30 @@ not_unavailable : is_fault (Some Unavailable) ≡ false
 unfolding is_fault
 not_unavailable = refl
 
+not_allowed : is_fault (Some NotAllowed) ≡ false
+unfolding is_fault
+not_allowed = refl
+
 none_no : is_fault None ≡ false
 unfolding is_fault
 none_no = refl
+
+-- what an account may not do is no failure of the device
+barred_no : (may : Bool) → is_fault (barred may) ≡ false
+barred_no true = none_no
+barred_no false = not_allowed
 
 refusal_no : (state : State) (op : Op (List ℕ)) → is_fault (refusal state op) ≡ false
 refusal_no state Ops.Where = none_no
 refusal_no state (Ops.ChangeDir text) = there_no _
 refusal_no state Ops.Up = none_no
-refusal_no state (Ops.MakeDir text) = there_no _
-refusal_no state (Ops.RemoveDir text) = there_no _
-refusal_no state (Ops.Delete text) = there_no _
-refusal_no state (Ops.Rename text new) = or_no _ _ (there_no _) (named_no _)
-refusal_no state (Ops.Put text octets how) = or_no _ _ (room_no _) (octets_no _)
-refusal_no state (Ops.Append text octets how) = or_no _ _ (room_no _) (octets_no _)
-refusal_no state (Ops.PutFrom text offset octets how) = or_no _ _ (if_no _ BadParameter not_parameter) (or_no _ _ (named_no _) (or_no _ _ (room_no _) (octets_no _)))
+refusal_no state (Ops.MakeDir text) = or_no _ _ (barred_no _) (there_no _)
+refusal_no state (Ops.RemoveDir text) = or_no _ _ (barred_no _) (there_no _)
+refusal_no state (Ops.Delete text) = or_no _ _ (barred_no _) (there_no _)
+refusal_no state (Ops.Rename text new) = or_no _ _ (barred_no _) (or_no _ _ (there_no _) (named_no _))
+refusal_no state (Ops.Put text octets how) = or_no _ _ (barred_no _) (or_no _ _ (room_no _) (octets_no _))
+refusal_no state (Ops.Append text octets how) = or_no _ _ (barred_no _) (or_no _ _ (room_no _) (octets_no _))
+refusal_no state (Ops.PutFrom text offset octets how) = or_no _ _ (if_no _ BadParameter not_parameter) (or_no _ _ (barred_no _) (or_no _ _ (named_no _) (or_no _ _ (room_no _) (octets_no _))))
 refusal_no state (Ops.Get text how) = there_no _
 refusal_no state (Ops.GetFrom text offset how) = or_no _ _ (if_no _ BadParameter not_parameter) (or_no _ _ (there_no _) (there_no _))
 refusal_no state (Ops.Peek text count how) = there_no _
@@ -132,6 +141,7 @@ code_no BadArgument other = refl
 code_no BadParameter other = refl
 code_no NotLoggedIn other = refl
 code_no Unavailable other = refl
+code_no NotAllowed other = refl
 code_no TooMuch other = refl
 code_no BadName other = refl
 

@@ -8,5 +8,6 @@ pub mod PutLemmas
 pub mod RefusalLemmas
 pub mod RenameLemmas
 pub mod ResolveLemmas
+pub mod RightsLemmas
 pub mod RunLemmas
 pub mod SizeLemmas

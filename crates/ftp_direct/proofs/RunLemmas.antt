@@ -6,6 +6,9 @@ use Rattle.std.proofs.lemmas.Bool.Decides.{Decides-eqb, not_from_Decides}
 use Rattle.ftp_facts.specs.declared.moment.Moment.{Moment}
 use Rattle.ftp_path.specs.Path.{Names}
 use Rattle.ftp_tree.specs.Tree.{Table, node_at}
+use Rattle.ftp_operation.specs.Account.{Account}
+use Rattle.ftp_operation.specs.Rights.{no_rights}
+use Rattle.ftp_operation.specs.declared.rights.Rights.{Rights}
 use Rattle.ftp_operation.specs.declared.op.Op.{Op}
 use Rattle.ftp_operation.specs.declared.answer.Answer.{Answer}
 use Rattle.ftp_operation.specs.Answer.{Said, BadOperation, Refused, said_of}
@@ -33,21 +36,21 @@ bad_operation count state op moment unsent =
     let e = as_answer state op moment false unsent in
     still count _ state BadOperation (ap (λ p. p.0) (sym e), ap (λ p. p.1) (sym e))
 
-pub unknown_login : (count : ℕ) (table : Table) (root cwd : Names) (known : Bool) (op : Op (List ℕ)) (moment : ℕ) (said : Said) → said ≡ Refused (code_of NotLoggedIn) → can_be_sent op ≡ true → known ≡ false
-    → IsAnswer count count (answer (standing table root cwd known) op moment) (standing table root cwd known) said (standing table root cwd known)
-unknown_login count table root cwd known op moment said told sent unknown =
-    let state = standing table root cwd known in
+pub unknown_login : (count : ℕ) (table : Table) (root cwd : Names) (known : Bool) (rights : Rights) (op : Op (List ℕ)) (moment : ℕ) (said : Said) → said ≡ Refused (code_of NotLoggedIn) → can_be_sent op ≡ true → known ≡ false
+    → IsAnswer count count (answer (standing table root cwd known rights) op moment) (standing table root cwd known rights) said (standing table root cwd known rights)
+unknown_login count table root cwd known rights op moment said told sent unknown =
+    let state = standing table root cwd known rights in
     let e = as_answer state op moment true sent ∙ ap (λ b. chosen (if b then refusal state op else Some NotLoggedIn) state (done state op moment)) unknown in
     still count _ state said (told ∙ ap (λ p. p.0) (sym e), ap (λ p. p.1) (sym e))
 
-pub known_due : {A E : Type 0} (result : Result (Answer A) E) (before after : ℕ) (table new : Table) (root cwd at : Names) (known : Bool) (op : Op (List ℕ)) (moment : ℕ)
+pub known_due : {A E : Type 0} (result : Result (Answer A) E) (before after : ℕ) (table new : Table) (root cwd at : Names) (known : Bool) (rights : Rights) (op : Op (List ℕ)) (moment : ℕ)
     → can_be_sent op ≡ true → known ≡ true
-    → IfOk result (λ answer. IsAnswer before after (due (here table root cwd) op moment) (here table root cwd) (said_of answer) (here new root at))
-    → IfOk result (λ said. IsAnswer before after (answer (standing table root cwd known) op moment) (standing table root cwd known) (said_of said) (standing new root at known))
-known_due result before after table new root cwd at known op moment sent is so =
-    let P : Bool → Type 0 = λ known. IfOk result (λ said. IsAnswer before after (answer (standing table root cwd known) op moment) (standing table root cwd known) (said_of said) (standing new root at known)) in
-    let Q : Said × State → Type 0 = λ due. IfOk result (λ said. IsAnswer before after due (here table root cwd) (said_of said) (here new root at)) in
-    subst P (sym is) (subst Q (sym (as_answer (here table root cwd) op moment true sent)) so)
+    → IfOk result (λ answer. IsAnswer before after (due (standing table root cwd true rights) op moment) (standing table root cwd true rights) (said_of answer) (standing new root at true rights))
+    → IfOk result (λ said. IsAnswer before after (answer (standing table root cwd known rights) op moment) (standing table root cwd known rights) (said_of said) (standing new root at known rights))
+known_due result before after table new root cwd at known rights op moment sent is so =
+    let P : Bool → Type 0 = λ known. IfOk result (λ said. IsAnswer before after (answer (standing table root cwd known rights) op moment) (standing table root cwd known rights) (said_of said) (standing new root at known rights)) in
+    let Q : Said × State → Type 0 = λ due. IfOk result (λ said. IsAnswer before after due (standing table root cwd true rights) (said_of said) (standing new root at true rights)) in
+    subst P (sym is) (subst Q (sym (as_answer (standing table root cwd true rights) op moment true sent)) so)
 
 -- ---- operations one after another
 
@@ -231,16 +234,17 @@ whole before after old new list i said past so_far =
     ran before after after old new (orders_of list) said new.table (runs_as before after old new _ _ _ _ all refl so_far) refl refl
 
 -- the state at the start, by the login
-pub start_known : (table : Table) (root : Names) (found : Option Names) (known : Bool) → Some root ≡ found → known ≡ is_directory (node_at table root)
-    → standing table root [] known ≡ start table found
-start_known table root found known is dir = ap (standing table root []) dir ∙ ap (start table) is
+pub start_known : (table : Table) (account : Account) (found : Option Account) (known : Bool) → Some account ≡ found → known ≡ is_directory (node_at table account.root)
+    → standing table account.root [] known account.rights ≡ start table found
+start_known table account found known is dir = ap (λ known. standing table account.root [] known account.rights) dir ∙ ap (start table) is
 
-pub start_unknown : (table : Table) (root : Names) (found : Option Names) → root ≡ [] → None ≡ found → standing table root [] false ≡ start table found
-start_unknown table root found top none = ap (λ root. standing table root [] false) top ∙ ap (start table) none
+pub start_unknown : (table : Table) (root : Names) (rights : Rights) (found : Option Account) → root ≡ [] → rights ≡ no_rights → None ≡ found
+    → standing table root [] false rights ≡ start table found
+start_unknown table root rights found top nothing none = (λ i. standing table (top i) [] false (nothing i)) ∙ ap (start table) none
 
-pub start_table : (table : Table) (found : Option Names) → (start table found).table ≡ table
+pub start_table : (table : Table) (found : Option Account) → (start table found).table ≡ table
 start_table table None = refl
-start_table table (Some root) = refl
+start_table table (Some account) = refl
 
 -- ---- a tree whose device never fails
 

@@ -13,24 +13,29 @@ use Rattle.ftp_settings.specs.declared.representation.Kind.{Kind}
 use Rattle.ftp_settings.specs.declared.representation.Kind.TheVariants.{Ascii, Image}
 use Rattle.ftp_settings.specs.declared.representation.Structure.{Structure}
 use Rattle.ftp_settings.specs.declared.representation.Structure.TheVariants as Structures
+use Rattle.ftp_operation.specs.Account.{Account}
+use Rattle.ftp_operation.specs.Rights.{all_rights, no_rights, may_put}
+use Rattle.ftp_operation.specs.declared.rights.Rights.{Rights}
 use Rattle.ftp_operation.specs.declared.op.How.{How}
 use Rattle.ftp_operation.specs.declared.op.Op.{Op}
 use Rattle.ftp_operation.specs.declared.op.Op.TheVariants as Ops
 use Rattle.ftp_operation.specs.Operation.{can_be_sent, is_number}
 use Rattle.ftp_direct.specs.declared.refusal.Refusal.{Refusal}
-use Rattle.ftp_direct.specs.declared.refusal.Refusal.TheVariants.{BadParameter, NotLoggedIn, Unavailable, TooMuch, BadName}
+use Rattle.ftp_direct.specs.declared.refusal.Refusal.TheVariants.{BadParameter, NotLoggedIn, Unavailable, NotAllowed, TooMuch, BadName}
 use Rattle.ftp_direct.specs.Refusal.{code_of, name_refusal, listing_refusal}
 use Rattle.ftp_operation.specs.Answer.{Listed, Said, Done, Path, Octets, Number, Stamp, Entry, Entries, Names as NameList, Refused, BadOperation}
 
--- the state: the map, the root of the account, the current directory below that root, and whether the login is known
+-- the state: the map, the root of the account, the current directory below that root, whether the login is known, and what the account may
+-- change
 pub record State : Type 0 where
   pub table : Table
   pub root : Names
   pub cwd : Names
   pub known : Bool
+  pub rights : Rights
 
-abbrev pub standing : Table → Names → Names → Bool → State
-standing table root cwd known = record { table = table; root = root; cwd = cwd; known = known }
+abbrev pub standing : Table → Names → Names → Bool → Rights → State
+standing table root cwd known rights = record { table = table; root = root; cwd = cwd; known = known; rights = rights }
 
 -- what the account sees of the map: the part at and below its root, which is `/` in it
 abbrev pub part : State → Table
@@ -46,11 +51,11 @@ is_directory None = false
 is_directory (Some Dir) = true
 is_directory (Some (File octets moment)) = false
 
--- the state at the start, by the root of the account that the login names, if it names one: the current directory is that root,
--- and the login is known where a directory stands there
-abbrev pub start : Table → Option Names → State
-start table None = standing table [] [] false
-start table (Some root) = standing table root [] (is_directory (node_at table root))
+-- the state at the start, by the account that the login names, if it names one: the current directory is its root, and the login is
+-- known where a directory stands there
+abbrev pub start : Table → Option Account → State
+start table None = standing table [] [] false no_rights
+start table (Some account) = standing table account.root [] (is_directory (node_at table account.root)) account.rights
 
 -- ---- what a path text names
 
@@ -97,6 +102,21 @@ refused_listing refusal = option_map listing_refusal refusal
 -- the first of two
 abbrev pub or_refused : Option Refusal → Option Refusal → Option Refusal
 or_refused first second = option_or first second
+
+-- what the account may not do (own choice)
+abbrev pub barred : (may : Bool) → Option Refusal
+barred true = None
+barred false = Some NotAllowed
+
+-- a file stands there
+abbrev pub is_file : Option Node → Bool
+is_file None = false
+is_file (Some Dir) = false
+is_file (Some (File octets moment)) = true
+
+-- to put a file: the account may replace one that stands there, or put one where none does
+abbrev pub barred_put : State → Names → Option Refusal
+barred_put state path = barred (may_put state.rights (fits path && is_file (node_at (part state) path)))
 
 -- the current directory is at or below a path
 abbrev pub busy_refusal : State → Names → Option TreeFault
@@ -157,22 +177,27 @@ refused_from state text how offset = or_refused (refused_file state text) (refus
 abbrev pub refused_number : ℕ → Option Refusal
 refused_number number = if is_number number then None else Some Unavailable
 
--- the first reason by the map why an operation is refused, one row an operation
+-- the first reason by the account and the map why an operation is refused, one row an operation
 abbrev pub refusal : State → Op (List ℕ) → Option Refusal
 refusal state Ops.Where = None
 refusal state (Ops.ChangeDir text) = refused_there (limited (named state text) (directory_refusal (node_at (part state) (named state text))))
 refusal state Ops.Up = None
-refusal state (Ops.MakeDir text) = refused_there (limited (named state text) (make_refusal (part state) (named state text)))
-refusal state (Ops.RemoveDir text) = refused_there (limited (named state text) (or_else (remove_refusal (part state) (named state text)) (busy_refusal state (named state text))))
-refusal state (Ops.Delete text) = refused_there (limited (named state text) (delete_refusal (part state) (named state text)))
+refusal state (Ops.MakeDir text) = or_refused (barred state.rights.make_dir) (refused_there (limited (named state text) (make_refusal (part state) (named state text))))
+refusal state (Ops.RemoveDir text) =
+    or_refused (barred state.rights.remove_dir)
+    (refused_there (limited (named state text) (or_else (remove_refusal (part state) (named state text)) (busy_refusal state (named state text)))))
+refusal state (Ops.Delete text) = or_refused (barred state.rights.delete) (refused_there (limited (named state text) (delete_refusal (part state) (named state text))))
 refusal state (Ops.Rename text new) =
-    or_refused (refused_there (limited (named state text) (or_else (source_refusal (part state) (named state text)) (busy_refusal state (named state text)))))
-    (refused_name (limited (named state new) (target_refusal (part state) (named state text) (named state new))))
-refusal state (Ops.Put text octets how) = put_refusal state (named state text) (length octets)
-refusal state (Ops.Append text octets how) = put_refusal state (named state text) (length (file_of state text) + length octets)
+    or_refused (barred state.rights.rename)
+    (or_refused (refused_there (limited (named state text) (or_else (source_refusal (part state) (named state text)) (busy_refusal state (named state text)))))
+    (refused_name (limited (named state new) (target_refusal (part state) (named state text) (named state new)))))
+refusal state (Ops.Put text octets how) = or_refused (barred_put state (named state text)) (put_refusal state (named state text) (length octets))
+refusal state (Ops.Append text octets how) =
+    or_refused (barred_put state (named state text)) (put_refusal state (named state text) (length (file_of state text) + length octets))
 refusal state (Ops.PutFrom text offset octets how) =
     or_refused (offset_refusal offset how)
-    (or_refused (refused_name (place_refusal state (named state text) how offset)) (put_refusal state (named state text) (skipped state (named state text) how offset + length octets)))
+    (or_refused (barred_put state (named state text))
+    (or_refused (refused_name (place_refusal state (named state text) how offset)) (put_refusal state (named state text) (skipped state (named state text) how offset + length octets))))
 refusal state (Ops.Get text how) = refused_file state text
 refusal state (Ops.GetFrom text offset how) = or_refused (offset_refusal offset how) (refused_from state text how offset)
 refusal state (Ops.Peek text count how) = refused_file state text
@@ -219,12 +244,6 @@ entries_in table path = filter_map (entry_in table path) (children table path)
 abbrev pub behind : List ℕ → List ℕ → List ℕ
 behind text name = if (length text == 0) || ends_with nat_eq text (47 ∷ []) then text ++ name else text ++ 47 ∷ name
 
--- a file stands at a path
-abbrev pub is_file : Option Node → Bool
-is_file None = false
-is_file (Some Dir) = false
-is_file (Some (File octets moment)) = true
-
 -- the pathname of a file in a directory; nothing is said of a path past the limits of paths
 abbrev pub file_in : Table → Names → List ℕ → List ℕ → Option (List ℕ)
 file_in table path text name = if fits (child path name) && is_file (node_at table (child path name)) then Some (behind text name) else None
@@ -266,7 +285,7 @@ abbrev pub chosen : Option Refusal → State → Said × State → Said × State
 chosen (Some why) state done = (Refused (code_of why), state)
 chosen None state done = done
 
--- the first refusal: of a login that is not known, by the map
+-- the first refusal: of a login that is not known, by the account and the map
 abbrev pub first_refusal : State → Op (List ℕ) → Option Refusal
 first_refusal state op = if state.known then refusal state op else Some NotLoggedIn
 
@@ -284,9 +303,9 @@ answers state (order ∷ orders) =
 
 -- ---- what is due to a user whose login is known
 
--- the state of such a user
+-- the state of such a user who may change all
 abbrev pub here : Table → Names → Names → State
-here table root cwd = standing table root cwd true
+here table root cwd = standing table root cwd true all_rights
 
 -- the answer that is due to an operation that can be sent, and the state after it
 abbrev pub due : State → Op (List ℕ) → ℕ → Said × State

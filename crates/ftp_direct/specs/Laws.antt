@@ -5,6 +5,7 @@ use Rattle.ftp_tree.specs.Tree.{Table, under, with_part}
 use Rattle.ftp_repr.specs.Skipping.{IsPlace}
 use Rattle.ftp_settings.specs.declared.representation.Kind.{Kind}
 use Rattle.ftp_operation.specs.declared.op.Op.{Op}
+use Rattle.ftp_operation.specs.declared.rights.Rights.{Rights}
 use Rattle.ftp_operation.specs.Answer.{Said}
 use Rattle.ftp_direct.specs.Direct.{State, answers, place_in, standing}
 
@@ -20,5 +21,5 @@ pub record AreBelow (table : Table) (root cwd : Names) (done own : List Said × 
 
 abbrev pub PartsAreApart : Type 0
 PartsAreApart =
-    (table : Table) (root cwd : Names) (known : Bool) (orders : List (Op (List ℕ) × ℕ))
-    → AreBelow table root cwd (answers (standing table root cwd known) orders) (answers (standing (under table root) [] cwd known) orders)
+    (table : Table) (root cwd : Names) (known : Bool) (rights : Rights) (orders : List (Op (List ℕ) × ℕ))
+    → AreBelow table root cwd (answers (standing table root cwd known rights) orders) (answers (standing (under table root) [] cwd known rights) orders)

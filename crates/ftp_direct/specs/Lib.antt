@@ -1,4 +1,5 @@
 pub mod Direct
 pub mod Laws
 pub mod Refusal
+pub mod Rights
 pub mod Run

@@ -3,7 +3,7 @@ use Rattle.std.specs.Prelude.{ℕ}
 use Rattle.ftp_tree.specs.declared.fault.TreeFault.{TreeFault}
 use Rattle.ftp_tree.specs.declared.fault.TreeFault.TheVariants as Faults
 use Rattle.ftp_direct.specs.declared.refusal.Refusal.{Refusal}
-use Rattle.ftp_direct.specs.declared.refusal.Refusal.TheVariants.{LocalFault, NoRoom, BadArgument, BadParameter, NotLoggedIn, Unavailable, TooMuch, BadName}
+use Rattle.ftp_direct.specs.declared.refusal.Refusal.TheVariants.{LocalFault, NoRoom, BadArgument, BadParameter, NotLoggedIn, Unavailable, NotAllowed, TooMuch, BadName}
 
 abbrev pub code_of : Refusal → ℕ
 code_of LocalFault = 451
@@ -12,6 +12,7 @@ code_of BadArgument = 501
 code_of BadParameter = 504
 code_of NotLoggedIn = 530
 code_of Unavailable = 550
+code_of NotAllowed = 550
 code_of TooMuch = 552
 code_of BadName = 553
 

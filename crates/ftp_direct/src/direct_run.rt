@@ -1,6 +1,6 @@
 // Operations one after another.
-ghost use Rattle.std.specs.Prelude.{◌≡◌, ℕ, [], IsTrue, IfOk, IfErr, List, OnErr, map, take};
-ghost use Rattle.ftp_operation.specs.Account.{login_root};
+ghost use Rattle.std.specs.Prelude.{◌≡◌, ℕ, [], IsTrue, IfOk, IfErr, List, OnErr, map, take, true};
+ghost use Rattle.ftp_operation.specs.Account.{login_account};
 ghost use Rattle.ftp_operation.specs.Answer.{Said, said_of};
 ghost use Rattle.ftp_direct.specs.Direct.{answer, due, here, standing, start};
 ghost use Rattle.ftp_operation.specs.Operation.{can_be_sent};
@@ -12,9 +12,10 @@ use crate::nodes::is_dir;
 use crate::places::{change_dir, delete, go_up, make_dir, remove_dir, rename, say_where};
 use crate::reading::{get, get_from, modified, peek};
 use crate::refusal::{Refusal, tell};
+use crate::rights::barring;
 use crate::sizes::size;
 use ftp_facts::{Moment, Text};
-use ftp_operation::{Accounts, Answer, Login, Op, can_be_sent};
+use ftp_operation::{Accounts, Answer, Login, Op, Rights, can_be_sent};
 use ftp_tree::{Path, Tree};
 use std::alloc::{AllocError, Allocator};
 
@@ -30,54 +31,56 @@ pub fn direct<A: Allocator + Copy, T: Tree<A>>(
     login: &Login<A>,
     list: &[(Op<Text<A>>, Moment)],
 ) -> Result<Vec<Answer<A>, A>, AllocError>
-    ensures answers { IfOk result (λ answers. let root = login_root accounts.now login.now.user login.now.pass in
-        Ran (T.failures tree.old) (start (T.table tree.old) root) (orders_of list.now) (map said_of answers.items) (T.failures tree.new) (T.table tree.new)) }
-    ensures begun { IfErr result (λ _. let root = login_root accounts.now login.now.user login.now.pass in
-        (count : ℕ) × (said : List Said) × Ran (T.failures tree.old) (start (T.table tree.old) root) (take count (orders_of list.now)) said (T.failures tree.new) (T.table tree.new)) }
+    ensures answers { IfOk result (λ answers. let account = login_account accounts.now login.now.user login.now.pass in
+        Ran (T.failures tree.old) (start (T.table tree.old) account) (orders_of list.now) (map said_of answers.items) (T.failures tree.new) (T.table tree.new)) }
+    ensures begun { IfErr result (λ _. let account = login_account accounts.now login.now.user login.now.pass in
+        (count : ℕ) × (said : List Said) × Ran (T.failures tree.old) (start (T.table tree.old) account) (take count (orders_of list.now)) said (T.failures tree.new) (T.table tree.new)) }
 {
     let top = Path::root(*alloc);
-    match accounts.login_root(login) {
-        Some(root) => {
-            let known = is_dir(tree, &top, root);
-            run(alloc, tree, root, known, list)
+    match accounts.login_account(login) {
+        Some(account) => {
+            let known = is_dir(tree, &top, &account.root);
+            run(alloc, tree, &account.root, known, account.rights, list)
         }
-        None => run(alloc, tree, &top, false, list),
+        None => run(alloc, tree, &top, false, Rights::none(), list),
     }
 }
 
-/// Runs operations below a root, for a login that is known or not.
+/// Runs operations below a root, for a login that is known or not, and may change so much.
 fn run<A: Allocator + Copy, T: Tree<A>>(
     alloc: &A,
     tree: &mut T,
     root: &Path<A>,
     known: bool,
+    rights: Rights,
     list: &[(Op<Text<A>>, Moment)],
 ) -> Result<Vec<Answer<A>, A>, AllocError>
     ensures answers { IfOk result (λ answers.
-        Ran (T.failures tree.old) (standing (T.table tree.old) root.now [] known) (orders_of list.now) (map said_of answers.items) (T.failures tree.new) (T.table tree.new)) }
+        Ran (T.failures tree.old) (standing (T.table tree.old) root.now [] known rights) (orders_of list.now) (map said_of answers.items) (T.failures tree.new) (T.table tree.new)) }
     ensures begun { IfErr result (λ _.
-        (count : ℕ) × (said : List Said) × Ran (T.failures tree.old) (standing (T.table tree.old) root.now [] known) (take count (orders_of list.now)) said (T.failures tree.new) (T.table tree.new)) }
+        (count : ℕ) × (said : List Said) × Ran (T.failures tree.old) (standing (T.table tree.old) root.now [] known rights) (take count (orders_of list.now)) said (T.failures tree.new) (T.table tree.new)) }
 {
     let mut answers = Vec::new(*alloc);
     let mut cwd = Path::root(*alloc);
     for (op, moment) in list {
-        answers.push(answer(alloc, tree, root, &mut cwd, known, op, *moment)?)?;
+        answers.push(answer(alloc, tree, root, &mut cwd, known, rights, op, *moment)?)?;
     }
     Ok(answers)
 }
 
-/// Answers one operation, from a current directory and for a login that is known or not.
+/// Answers one operation, from a current directory, for a login that is known or not, and may change so much.
 fn answer<A: Allocator + Copy, T: Tree<A>>(
     alloc: &A,
     tree: &mut T,
     root: &Path<A>,
     cwd: &mut Path<A>,
     known: bool,
+    rights: Rights,
     op: &Op<Text<A>>,
     moment: Moment,
 ) -> Result<Answer<A>, AllocError>
-    ensures answer { IfOk result (λ said. let old = standing (T.table tree.old) root.now cwd.old known in
-        IsAnswer (T.failures tree.old) (T.failures tree.new) (answer old op.now moment.seconds) old (said_of said) (standing (T.table tree.new) root.now cwd.new known)) }
+    ensures answer { IfOk result (λ said. let old = standing (T.table tree.old) root.now cwd.old known rights in
+        IsAnswer (T.failures tree.old) (T.failures tree.new) (answer old op.now moment.seconds) old (said_of said) (standing (T.table tree.new) root.now cwd.new known rights)) }
     ensures kept { OnErr result ((T.table tree.new ≡ T.table tree.old) × (T.failures tree.new ≡ T.failures tree.old)) }
 {
     if !can_be_sent(op) {
@@ -86,10 +89,31 @@ fn answer<A: Allocator + Copy, T: Tree<A>>(
     if !known {
         return Ok(tell(Refusal::NotLoggedIn));
     }
+    permitted(alloc, tree, root, cwd, rights, op, moment)
+}
+
+/// Answers one operation that can be sent, for a login that is known and may change so much.
+fn permitted<A: Allocator + Copy, T: Tree<A>>(
+    alloc: &A,
+    tree: &mut T,
+    root: &Path<A>,
+    cwd: &mut Path<A>,
+    rights: Rights,
+    op: &Op<Text<A>>,
+    moment: Moment,
+) -> Result<Answer<A>, AllocError>
+    requires { IsTrue (can_be_sent op.now) }
+    ensures answer { IfOk result (λ answer. let old = standing (T.table tree.old) root.now cwd.old true rights in
+        IsAnswer (T.failures tree.old) (T.failures tree.new) (due old op.now moment.seconds) old (said_of answer) (standing (T.table tree.new) root.now cwd.new true rights)) }
+    ensures kept { OnErr result ((T.table tree.new ≡ T.table tree.old) × (T.failures tree.new ≡ T.failures tree.old)) }
+{
+    if let Some(why) = barring(alloc, tree, root, cwd, rights, op)? {
+        return Ok(tell(why));
+    }
     due(alloc, tree, root, cwd, op, moment)
 }
 
-/// Answers one operation that can be sent, for a login that is known.
+/// Answers one operation that can be sent, for a login that is known and may change all.
 fn due<A: Allocator + Copy, T: Tree<A>>(
     alloc: &A,
     tree: &mut T,

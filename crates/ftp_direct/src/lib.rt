@@ -11,15 +11,20 @@ mod offsets;
 mod places;
 mod reading;
 mod refusal;
+mod rights;
 mod sizes;
 
 pub use direct_run::direct;
 pub use ftp_operation::{
-    Account, Accounts, AccountsFault, Answer, How, Login, Op, RefusedAccounts,
+    Account, Accounts, AccountsFault, Answer, How, Login, Op, RefusedAccounts, Rights,
 };
-pub use laws::{direct_in_memory, failures_are_told, offsets_lead, parts_are_apart, steady_run};
+pub use laws::{
+    direct_in_memory, failures_are_told, lookers_change_nothing, offsets_lead, parts_are_apart,
+    rights_come_first, steady_run,
+};
 pub use nodes::{absent_fault, directory_fault, file_fault, is_dir, is_file, len_at};
 pub use offsets::{place_at, takes_offset};
 pub use places::{is_busy, is_held};
 pub use refusal::Refusal;
+pub use rights::may_put_at;
 pub use sizes::wire_len;

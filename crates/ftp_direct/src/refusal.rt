@@ -24,6 +24,8 @@ pub enum Refusal {
     NotLoggedIn,
     /// What is named does not stand there, or may not be taken.
     Unavailable,
+    /// The account may not do that.
+    NotAllowed,
     /// The octets are too many.
     TooMuch,
     /// The new name may not be had, or the file there is not as long as it has to be.
@@ -42,6 +44,7 @@ impl Refusal {
             Refusal::BadParameter => 504,
             Refusal::NotLoggedIn => 530,
             Refusal::Unavailable => 550,
+            Refusal::NotAllowed => 550,
             Refusal::TooMuch => 552,
             Refusal::BadName => 553,
         }

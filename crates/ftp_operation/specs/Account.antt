@@ -1,7 +1,6 @@
 -- Who may log in, and what an account sees of the tree (RFC 959, section 4.1.1; roots are an own choice).
 use Rattle.std.specs.Prelude.{ℕ, ◌&&◌, ◌||◌, ◌==◌, Bool, true, not, nat_le, nat_eq, List, [], ◌∷◌, length, Option, Some, None, is_none, if◌then◌else◌}
 use Rattle.std.specs.List.{find, list_all, list_any}
-use Rattle.std.specs.Option.{option_map}
 use Rattle.std.specs.Cmp.Lexicographic.{pointwise}
 pub use Rattle.ftp_path.specs.Login.{is_user, is_password}
 use Rattle.ftp_path.specs.Path.{Names, is_within}
@@ -9,7 +8,8 @@ use Rattle.ftp_operation.specs.declared.account.Account.{Account as Held}
 use Rattle.ftp_operation.specs.declared.account.AccountsFault.{AccountsFault}
 use Rattle.ftp_operation.specs.declared.account.AccountsFault.TheVariants.{SameUser, NestedRoots}
 
--- an account: a user name, the password that it needs, if it needs one, and its root: the path that is `/` to its user
+-- an account: a user name, the password that it needs, if it needs one, its root, which is the path that is `/` to its user, and what it may
+-- change there
 abbrev pub Account : Type 0
 Account = Held (List ℕ) Names
 
@@ -49,14 +49,14 @@ passes (Some right) pass = pointwise nat_eq right pass
 abbrev pub knows : List ℕ → List ℕ → Account → Bool
 knows user pass account = has_user user account && passes account.pass pass
 
--- the root of the account that a login names so; none where it names no account
-unfoldable pub login_root : List Account → List ℕ → List ℕ → Option Names
-login_root accounts user pass = option_map (λ account. account.root) (find (knows user pass) accounts)
+-- the account that a login names so, if it names one
+unfoldable pub login_account : List Account → List ℕ → List ℕ → Option Account
+login_account accounts user pass = find (knows user pass) accounts
 
 -- an account of this name that needs no password
 abbrev pub is_open : List ℕ → Account → Bool
 is_open user account = has_user user account && is_none account.pass
 
--- its root, if there is one
-abbrev pub open_root : List Account → List ℕ → Option Names
-open_root accounts user = option_map (λ account. account.root) (find (is_open user) accounts)
+-- it, if there is one
+abbrev pub open_account : List Account → List ℕ → Option Account
+open_account accounts user = find (is_open user) accounts

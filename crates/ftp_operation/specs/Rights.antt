@@ -1,13 +1,26 @@
--- What somebody may change of a folder (own choice).
-use Rattle.std.specs.Prelude.{Bool, true, false}
+-- What an account may change of what it sees of the map (own choice). Whoever is logged in may look and fetch.
+use Rattle.std.specs.Prelude.{Bool, true, false, not, ◌&&◌, ◌||◌, if◌then◌else◌}
 use Rattle.ftp_operation.specs.declared.rights.Rights.{Rights}
-use Rattle.ftp_operation.specs.declared.rights.Rights.TheVariants as May
 use Rattle.ftp_operation.specs.declared.rights.Deed.{Deed}
 use Rattle.ftp_operation.specs.declared.rights.Deed.TheVariants as Deeds
 
--- who may all may change all; who may put may make what does not stand; who may look may change nothing
+-- all of them
+abbrev pub all_rights : Rights
+all_rights = record { put = true; replace = true; delete = true; make_dir = true; remove_dir = true; rename = true }
+
+-- none: to look and to fetch alone
+abbrev pub no_rights : Rights
+no_rights = record { put = false; replace = false; delete = false; make_dir = false; remove_dir = false; rename = false }
+
+-- to put files and make directories where nothing stands
+abbrev pub adding_rights : Rights
+adding_rights = record { put = true; replace = false; delete = false; make_dir = true; remove_dir = false; rename = false }
+
+-- a file may be put where one stands, or where none does
+abbrev pub may_put : Rights → (stands : Bool) → Bool
+may_put rights stands = if rights.put then rights.replace || not stands else rights.replace && stands
+
+-- what a folder is told of them: whether it may make what does not stand, and change what does
 abbrev pub allows : Rights → Deed → Bool
-allows May.All deed = true
-allows May.Put Deeds.Make = true
-allows May.Put Deeds.Change = false
-allows May.Look deed = false
+allows rights Deeds.Make = rights.put
+allows rights Deeds.Change = rights.replace

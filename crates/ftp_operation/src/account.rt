@@ -2,8 +2,9 @@
 ghost use Rattle.std.specs.Prelude.{◌≡◌, ◌&&◌, ◌↔◌, None, Some, IfOk, IfErr, IfSome, IsSome, IsTrue, drop};
 ghost use Rattle.std.specs.List.{list_all, list_any};
 ghost use Rattle.std.specs.Option.{option_map};
-ghost use Rattle.ftp_operation.specs.Account.{accounts_refusal, are_apart, are_distinct, has_nested, has_user, is_below, is_open, is_password, is_user, knows, login_root, open_root, passes};
+ghost use Rattle.ftp_operation.specs.Account.{accounts_refusal, are_apart, are_distinct, has_nested, has_user, is_below, is_open, is_password, is_user, knows, login_account, open_account, passes};
 
+use crate::rights::Rights;
 use ftp_facts::Text;
 use ftp_path::key::is_within;
 use ftp_path::{Path, is_password, is_user};
@@ -12,12 +13,14 @@ use std::error::Error;
 use std::fmt;
 use std::marker::Model;
 
-/// A user name, the password that it needs, if it needs one, and the path that is `/` to its user; `P` is how a text is held, `R` how a path is.
+/// A user name, the password that it needs, if it needs one, the path that is `/` to its user, and what he may change there; `P` is how a text
+/// is held, `R` how a path is.
 #[derive(Drop)]
 pub struct Account<P, R> {
     pub user: P,
     pub pass: Option<P>,
     pub root: R,
+    pub rights: Rights,
 }
 
 /// A user name of 1 to 255 octets and a password of at most 255, without CR, LF and NUL.
@@ -128,32 +131,26 @@ impl<A: Allocator + Copy> Accounts<A> {
         Ok(Accounts { list })
     }
 
-    /// The root of the account that a login names, where that needs no password or the one given. Takes no memory.
-    pub fn login_root(&self, login: &Login<A>) -> Option<&Path<A>>
-        ensures { option_map (λ root. root.now) result ≡ login_root self.now login.now.user login.now.pass }
+    /// The account that a login names, where that needs no password or the one given. Takes no memory.
+    pub fn login_account(&self, login: &Login<A>) -> Option<&Account<Text<A>, Path<A>>>
+        ensures { option_map (λ account. account.now) result ≡ login_account self.now login.now.user login.now.pass }
     {
-        self.root_of(login.user(), login.pass())
+        self.account_of(login.user(), login.pass())
     }
 
     /// The same of a user name and a password, whatever octets they have.
-    #[tactic(auto, unfolding(crate::specs::Account::login_root))]
-    pub fn root_of(&self, user: &[u8], pass: &[u8]) -> Option<&Path<A>>
-        ensures { option_map (λ root. root.now) result ≡ login_root self.now user.now pass.now }
+    #[tactic(auto, unfolding(crate::specs::Account::login_account))]
+    pub fn account_of(&self, user: &[u8], pass: &[u8]) -> Option<&Account<Text<A>, Path<A>>>
+        ensures { option_map (λ account. account.now) result ≡ login_account self.now user.now pass.now }
     {
-        self.list
-            .iter()
-            .find(|account| knows(account, user, pass))
-            .map(|account| &account.root)
+        self.list.iter().find(|account| knows(account, user, pass))
     }
 
-    /// The root of the account of this name that needs no password. Takes no memory.
-    pub fn open_root(&self, user: &[u8]) -> Option<&Path<A>>
-        ensures { option_map (λ root. root.now) result ≡ open_root self.now user.now }
+    /// The account of this name that needs no password. Takes no memory.
+    pub fn open_account(&self, user: &[u8]) -> Option<&Account<Text<A>, Path<A>>>
+        ensures { option_map (λ account. account.now) result ≡ open_account self.now user.now }
     {
-        self.list
-            .iter()
-            .find(|account| is_open(account, user))
-            .map(|account| &account.root)
+        self.list.iter().find(|account| is_open(account, user))
     }
 }
 

@@ -5,7 +5,6 @@ use Rattle.std.proofs.lemmas.List.Folds.{list_all-append}
 use Rattle.std.specs.FinMap as fin
 use Rattle.std.specs.FinMap.Entries.{find as find_entry}
 use Rattle.std.specs.List.{find, list_all, list_any, sum_by}
-use Rattle.std.specs.Option.{option_map}
 use Rattle.std.specs.Ordering.{eq_by_cmp}
 use Rattle.std.proofs.lemmas.Bool.{and_parts, leb-true}
 use Rattle.std.proofs.lemmas.List.Sums.{sum_by-cons}
@@ -16,7 +15,7 @@ use Rattle.ftp_endpoint.specs.declared.host.Host.TheVariants.{V4, V6}
 use Rattle.ftp_ends.specs.Link.{is_v6}
 use Rattle.ftp_ends.specs.Reply.{reply_octets}
 use Rattle.ftp_path.specs.Login.{is_login_octet}
-use Rattle.ftp_operation.specs.Account.{Account, has_user, are_distinct, are_apart, accounts_refusal, passes, knows, login_root, is_user, is_password}
+use Rattle.ftp_operation.specs.Account.{Account, has_user, are_distinct, are_apart, accounts_refusal, passes, knows, login_account, is_user, is_password}
 use Rattle.ftp_operation.specs.declared.account.AccountsFault.TheVariants.{SameUser, NestedRoots}
 use Rattle.ftp_path.specs.Path.{Names, fits, is_name, path_cmp, text_of}
 use Rattle.ftp_tree.specs.Sound.{is_sound_entry, is_sound_node, last_second}
@@ -24,7 +23,7 @@ use Rattle.ftp_tree.specs.Tree.{Node, Dir, File, Table, IsTree, node_at, octets_
 use Rattle.ftp_tree.proofs.LawLemmas.{get-node, same, under-stands}
 use Rattle.ftp_tree.proofs.PartLemmas.{parts-trees}
 use Rattle.ftp_direct.specs.Direct.{start as direct_start, is_directory, part}
-use Rattle.ftp_server_model.specs.Login.{is_open, open_root}
+use Rattle.ftp_server_model.specs.Login.{is_open, open_account}
 use Rattle.ftp_server_model.specs.Machine.{Reading}
 use Rattle.ftp_server_model.specs.Replies.{fixed_reply}
 use Rattle.ftp_server_model.specs.View.{Accounts, first_session}
@@ -85,16 +84,11 @@ distinct_of : (accounts : Accounts) → accounts_refusal accounts ≡ None → a
 distinct_of accounts none = by_bool (are_distinct accounts) (λ e. e) (λ e.
     absurd (let f : Some SameUser ≡ None = sym (ap (λ b. if not b then Some SameUser else (if not (are_apart accounts) then Some NestedRoots else None)) e) ∙ none in cc))
 
--- if the accounts are not refused, the root that USER alone opens is the root of a login with any password
-opens_as : (accounts : Accounts) (name pass : List ℕ) (root : Names) → accounts_refusal accounts ≡ None → open_root accounts name ≡ Some root → login_root accounts name pass ≡ Some root
-unfolding login_root
-opens_as accounts name pass root none is = by_found (find (is_open name) accounts) refl
-  where
-    by_found : (found : Option Account) → find (is_open name) accounts ≡ found → option_map (λ account. account.root) (find (knows name pass) accounts) ≡ Some root
-    by_found None missing = absurd (let f : None ≡ Some root = sym (ap (option_map (λ account. account.root)) missing) ∙ is in cc)
-    by_found (Some account) found =
-        ap (option_map (λ account. account.root)) (same_account name pass accounts account (distinct_of accounts none) found)
-        ∙ sym (ap (option_map (λ account. account.root)) found) ∙ is
+-- if the accounts are not refused, the account that USER alone opens is that of a login with any password
+opens_as : (accounts : Accounts) (name pass : List ℕ) (account : Account) → accounts_refusal accounts ≡ None → open_account accounts name ≡ Some account
+    → login_account accounts name pass ≡ Some account
+unfolding login_account
+opens_as accounts name pass account none is = same_account name pass accounts account (distinct_of accounts none) is
 
 -- ---- names and passwords
 
@@ -113,10 +107,10 @@ a_password pass is =
 
 -- ---- the state at the start
 
--- the direct run starts with the table it is given, with or without a root
-start_table : (table : Table) (root : Option Names) → (direct_start table root).table ≡ table
+-- the direct run starts with the table it is given, with or without an account
+start_table : (table : Table) (found : Option Account) → (direct_start table found).table ≡ table
 start_table table None = refl
-start_table table (Some root) = refl
+start_table table (Some account) = refl
 
 -- a file among sound entries has a moment no later than the last second
 early_entry : (path : Names) (rows : List (Names × Node)) (octets : List ℕ) (moment : ℕ) → list_all is_sound_entry rows ≡ true → find_entry path_cmp path rows ≡ Some (File octets moment)
@@ -174,8 +168,8 @@ unfolding fits text_of
 root_is_path = refl
 
 -- the direct run starts in a sound state from a tree of sound entries whose visible octets are within the limit
-sound_start : (table : Table) (root : Option Names) → IsTree table → list_all is_sound_entry (fin.entries table) ≡ true → octets_in (part (direct_start table root)) ≤ total_limit
-    → IsSound (direct_start table root)
+sound_start : (table : Table) (found : Option Account) → IsTree table → list_all is_sound_entry (fin.entries table) ≡ true → octets_in (part (direct_start table found)) ≤ total_limit
+    → IsSound (direct_start table found)
 sound_start table None tree all few = record {
   cwd = root_is_path;
   tree = λ known. absurd (cc);
@@ -186,16 +180,16 @@ sound_start table None tree all few = record {
     short_file (part (direct_start table None)) path octets moment few is,
   );
 }
-sound_start table (Some root) tree all few = record {
+sound_start table (Some account) tree all few = record {
   cwd = root_is_path;
-  tree = λ known. parts-trees.taking table root tree (a_directory (node_at table root) known);
-  here = λ known. (parts-trees.taking table root tree (a_directory (node_at table root) known)).root;
+  tree = λ known. parts-trees.taking table account.root tree (a_directory (node_at table account.root) known);
+  here = λ known. (parts-trees.taking table account.root tree (a_directory (node_at table account.root) known)).root;
   names = λ path some.
-      let whole = named_entry (root ++ path) (fin.entries table) all (ap is_some (get-node table (root ++ path) ∙ sym (under-stands table root path)) ∙ some) in
-      (and_parts (list_all is_name root) (list_all is_name path) (sym (list_all-append is_name root path) ∙ whole)).1;
+      let whole = named_entry (account.root ++ path) (fin.entries table) all (ap is_some (get-node table (account.root ++ path) ∙ sym (under-stands table account.root path)) ∙ some) in
+      (and_parts (list_all is_name account.root) (list_all is_name path) (sym (list_all-append is_name account.root path) ∙ whole)).1;
   files = λ path octets moment is. (
-    early_entry (root ++ path) (fin.entries table) octets moment all (get-node table (root ++ path) ∙ sym (under-stands table root path) ∙ is),
-    short_file (part (direct_start table (Some root))) path octets moment few is,
+    early_entry (account.root ++ path) (fin.entries table) octets moment all (get-node table (account.root ++ path) ∙ sym (under-stands table account.root path) ∙ is),
+    short_file (part (direct_start table (Some account))) path octets moment few is,
   );
 }
   where
@@ -224,7 +218,7 @@ begins_follow read b fair = record {
     record { control = refl; cutoff = refl },
     inl (record {
       now = state_of b;
-      sound = sound_start b.table (login_root b.accounts b.user b.pass) fair.tree fair.entries fair.octets;
+      sound = sound_start b.table (login_account b.accounts b.user b.pass) fair.tree fair.entries fair.octets;
       told = record { items = []; all = refl; hold = tt; now_is = refl };
       stands = record {
         base = world_of b;
@@ -242,7 +236,7 @@ begins_follow read b fair = record {
     written = (replies_are_written (first_session b.table) (Replies.Fixed Texts.Ready) (fixed_reply Texts.Ready) tt refl, tt)
 
     table_is : (state_of b).table ≡ b.table
-    table_is = start_table b.table (login_root b.accounts b.user b.pass)
+    table_is = start_table b.table (login_account b.accounts b.user b.pass)
 
     logging : Logging (state_of b) (Answering (fixed_reply Texts.Ready ∷ [])) (world_of b).near (world_of b).far
     logging = record {
@@ -261,7 +255,7 @@ begins_follow read b fair = record {
         table = sym table_is;
         access = refl;
         meets = record { peer = refl; here = refl; typed = fair.far_typed; own = fair.near_typed; family = one_family b.near_host b.far_host fair.hosts; all_ways = refl };
-        leads_to = ap (λ table. direct_start table (login_root b.accounts b.user b.pass)) (sym table_is);
-        opens = λ root found. opens_as b.accounts b.user b.pass root fair.accounts found;
+        leads_to = ap (λ table. direct_start table (login_account b.accounts b.user b.pass)) (sym table_is);
+        opens = λ account found. opens_as b.accounts b.user b.pass account fair.accounts found;
       };
     }

@@ -92,7 +92,7 @@ pub steady_stands : (now : State) (n : Near) (f : Far) → IsSteady now (kept n 
 steady_stands now n f steady aside connection pending session = record {
   meets = record { peer = steady.peer; here = steady.here; typed = steady.typed; own = steady.own; family = steady.family; all_ways = steady.all_ways };
   far = record { aside = aside; closing = ap (λ s. s.closing) session; life = ap (λ s. s.life) session };
-  sees = record { table = steady.table; known = steady.access; root = steady.root; cwd = steady.cwd };
+  sees = record { table = steady.table; known = steady.access; root = steady.root; rights = steady.rights; cwd = steady.cwd };
   settings = steady.settings;
   facts = steady.facts;
 }

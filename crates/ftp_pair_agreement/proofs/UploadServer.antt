@@ -115,6 +115,7 @@ module _ (state : State) (rise : Rise) (n : Near) (f : Far) (steady : IsSteady s
     table = refl;
     access = steady.access;
     root = steady.root;
+    rights = steady.rights;
     cwd = steady.cwd;
     settings = steady.settings;
     facts = steady.facts;

@@ -80,6 +80,7 @@ steady_at state n f stands = record {
   table = stands.sees.table;
   access = stands.sees.known;
   root = stands.sees.root;
+  rights = stands.sees.rights;
   cwd = stands.sees.cwd;
   settings = stands.settings;
   facts = stands.facts;
@@ -445,7 +446,7 @@ given_all true v = refl
 
 -- what the direct run sees of a steady session
 pub same_direct : (state : State) (n : Near) (f : Far) → IsSteady state (kept n f) → state.known ≡ true → direct_of (cleared f) ≡ state
-same_direct state n f steady known = λ i. record { table = steady.table i; root = steady.root known i; cwd = steady.cwd i; known = sym known i }
+same_direct state n f steady known = λ i. record { table = steady.table i; root = steady.root known i; cwd = steady.cwd i; known = sym known i; rights = steady.rights known i }
 
 module _ (read : Reading) (reads : IsReading read) (state : State) (ask : Ask) (row : HasRow ask) (n : Near) (f : Far) (steady : IsSteady state (kept n f))
     (set : n.settings ≡ ask.settings) (known : state.known ≡ true) (idle : is_connection_busy f.session.connection ≡ false) where

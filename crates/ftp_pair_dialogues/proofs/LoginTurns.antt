@@ -9,9 +9,8 @@ use Rattle.ftp_command.specs.declared.command.Command.TheVariants as Commands
 use Rattle.ftp_endpoint.specs.Written.{IsTypedHost}
 use Rattle.ftp_ends.specs.Link.{is_v6}
 use Rattle.ftp_ends.specs.Reply.{Reply}
-use Rattle.ftp_operation.specs.Account.{login_root}
+use Rattle.ftp_operation.specs.Account.{Account, login_account}
 use Rattle.ftp_operation.specs.declared.op.Op.{Op}
-use Rattle.ftp_path.specs.Path.{Names}
 use Rattle.ftp_tree.specs.Tree.{node_at}
 use Rattle.ftp_direct.specs.Direct.{State, is_directory, start as direct_start}
 use Rattle.ftp_client_model.specs.Dialogue.{answered, begins, enters_with, stand_answered}
@@ -19,7 +18,7 @@ use Rattle.ftp_client_model.specs.Replies.{Completion, Intermediate, Negative}
 use Rattle.ftp_client_model.specs.View.{View as Near, Job, Idle, Waiting}
 use Rattle.ftp_client_model.specs.declared.client.ClientLink.TheVariants as NearData
 use Rattle.ftp_client_model.specs.declared.client.Standing.TheVariants as Standings
-use Rattle.ftp_server_model.specs.Login.{open_root, user_named, checked, pass as pass_turn, logs_in, logged_out, admits}
+use Rattle.ftp_server_model.specs.Login.{open_account, user_named, checked, pass as pass_turn, logs_in, logged_out, admits}
 use Rattle.ftp_server_model.specs.Machine.{Reading, IsReading}
 use Rattle.ftp_server_model.specs.Replies.{fixed_reply, tells}
 use Rattle.ftp_server_model.specs.View.{Session, View as Far}
@@ -78,36 +77,42 @@ reply_of_way {reply} e = ap (first_in reply) e
 rest_of : {reply other : Reply} {more : List Reply} → Answering (reply ∷ more) ≡ Answering (other ∷ []) → more ≡ []
 rest_of e = ap more_in e
 
--- ---- the server: the root of a login is a directory, or it is refused
+-- ---- the server: the root of an account is a directory, or it is refused
 
 -- what a login leads to, as the server and as the direct run see it
-record Admits (state : State) (root : Names) (s : Session) : Type 0 where
+record Admits (state : State) (account : Account) (s : Session) : Type 0 where
   admitted : Bool
-  is : logs_in root s ≡ tells (last_text admitted) (logs_in root s).0
-  sees : Sees state (logs_in root s).0
+  is : logs_in account s ≡ tells (last_text admitted) (logs_in account s).0
+  sees : Sees state (logs_in account s).0
 
--- a login to a root that the state starts with ends as the direct run sees it, admitted or refused
-admits_as : (state : State) (root : Names) (s : Session) → s.table ≡ state.table → state ≡ direct_start state.table (Some root) → Admits state root s
-admits_as state root s table leads = by_directory (is_directory (node_at s.table root)) refl
+-- a login to an account that the state starts with ends as the direct run sees it, admitted or refused
+admits_as : (state : State) (account : Account) (s : Session) → s.table ≡ state.table → state ≡ direct_start state.table (Some account) → Admits state account s
+admits_as state account s table leads = by_directory (is_directory (node_at s.table account.root)) refl
   where
-    by_directory : (b : Bool) → is_directory (node_at s.table root) ≡ b → Admits state root s
+    by_directory : (b : Bool) → is_directory (node_at s.table account.root) ≡ b → Admits state account s
     by_directory true is =
-        let now : logs_in root s ≡ tells Texts.LoggedIn (record s { access = Accesses.Known; root = root; cwd = [] }) = ap (λ b. admits b root s) is in
-        let known : state.known ≡ true = ap (λ s. s.known) leads ∙ ap (λ t. is_directory (node_at t root)) (sym table) ∙ is in
+        let now : logs_in account s ≡ tells Texts.LoggedIn (record s { access = Accesses.Known; root = account.root; rights = account.rights; cwd = [] }) = ap (λ b. admits b account s) is in
+        let known : state.known ≡ true = ap (λ s. s.known) leads ∙ ap (λ t. is_directory (node_at t account.root)) (sym table) ∙ is in
         record {
           admitted = true;
           is = now ∙ ap (λ t. tells Texts.LoggedIn t) (sym (ap (λ t. t.0) now));
           sees = subst (Sees state) (sym (ap (λ t. t.0) now))
-              (record { table = table; known = sym known; root = λ k. sym (ap (λ s. s.root) leads); cwd = sym (ap (λ s. s.cwd) leads) });
+              (record { table = table; known = sym known; root = λ k. sym (ap (λ s. s.root) leads); rights = λ k. sym (ap (λ s. s.rights) leads); cwd = sym (ap (λ s. s.cwd) leads) });
         }
     by_directory false is =
-        let now : logs_in root s ≡ tells Texts.LoginRefused (logged_out s) = ap (λ b. admits b root s) is in
-        let known : state.known ≡ false = ap (λ s. s.known) leads ∙ ap (λ t. is_directory (node_at t root)) (sym table) ∙ is in
+        let now : logs_in account s ≡ tells Texts.LoginRefused (logged_out s) = ap (λ b. admits b account s) is in
+        let known : state.known ≡ false = ap (λ s. s.known) leads ∙ ap (λ t. is_directory (node_at t account.root)) (sym table) ∙ is in
         record {
           admitted = false;
           is = now ∙ ap (λ t. tells Texts.LoginRefused t) (sym (ap (λ t. t.0) now));
           sees = subst (Sees state) (sym (ap (λ t. t.0) now))
-              (record { table = table; known = sym known; root = λ k. absurd (let e : false ≡ true = sym known ∙ k in cc); cwd = sym (ap (λ s. s.cwd) leads) });
+              (record {
+                table = table;
+                known = sym known;
+                root = λ k. absurd (let e : false ≡ true = sym known ∙ k in cc);
+                rights = λ k. absurd (let e : false ≡ true = sym known ∙ k in cc);
+                cwd = sym (ap (λ s. s.cwd) leads);
+              });
         }
 
 -- ---- what is kept of both ends
@@ -122,11 +127,11 @@ record IsLoginStep (old new : Session) : Type 0 where
   table : new.table ≡ old.table
   all_ways : new.only_extended ≡ old.only_extended
 
--- a login to a root changes nothing of a session but who is logged in
-same_admits : (root : Names) (s : Session) → IsLoginStep s (logs_in root s).0
-same_admits root s = by_directory (is_directory (node_at s.table root)) refl
+-- a login to an account changes nothing of a session but who is logged in
+same_admits : (account : Account) (s : Session) → IsLoginStep s (logs_in account s).0
+same_admits account s = by_directory (is_directory (node_at s.table account.root)) refl
   where
-    by_directory : (b : Bool) → is_directory (node_at s.table root) ≡ b → IsLoginStep s (admits b root s).0
+    by_directory : (b : Bool) → is_directory (node_at s.table account.root) ≡ b → IsLoginStep s (admits b account s).0
     by_directory true is = record { connection = refl; closing = refl; life = refl; settings = refl; facts = refl; table = refl; all_ways = refl }
     by_directory false is = record { connection = refl; closing = refl; life = refl; settings = refl; facts = refl; table = refl; all_ways = refl }
 
@@ -161,8 +166,8 @@ logs_at state before after n next f new logs is same access = record {
     family = ap (λ v. is_v6 v.here) is ∙ logs.meets.family ∙ sym (ap (λ v. is_v6 v.peer) is);
     all_ways = same.all_ways ∙ logs.meets.all_ways;
   };
-  leads_to = logs.leads_to ∙ ap (λ v. direct_start state.table (login_root f.footing.accounts v.user v.pass)) (sym is);
-  opens = λ root found. ap (λ v. login_root f.footing.accounts v.user v.pass) is ∙ logs.opens root (ap (λ v. open_root f.footing.accounts v.user) (sym is) ∙ found);
+  leads_to = logs.leads_to ∙ ap (λ v. direct_start state.table (login_account f.footing.accounts v.user v.pass)) (sym is);
+  opens = λ account found. ap (λ v. login_account f.footing.accounts v.user v.pass) is ∙ logs.opens account (ap (λ v. open_account f.footing.accounts v.user) (sym is) ∙ found);
 }
 
 -- ---- the turns of the server
@@ -190,51 +195,52 @@ login_turn read state before after command text n f new reads sent logs way plac
 -- an account that needs no password, or a password is asked for
 user_turn : (read : Reading) (state : State) (n : Near) (f : Far) → IsReading read → LogsIn state AsksUser n f
     → (t : FarTurn read f (line_of (Commands.User n.user))) × Logging state (Answering t.replies) n t.far
-user_turn read state n f reads logs = by_open (open_root f.footing.accounts n.user) refl
+user_turn read state n f reads logs = by_open (open_account f.footing.accounts n.user) refl
   where
     sent : IsSent read (Commands.User n.user)
     sent = record { reads = reads; typed = tt; stated = logs.user; other = refl }
 
-    by_open : (root : Option Names) → open_root f.footing.accounts n.user ≡ root
+    by_open : (found : Option Account) → open_account f.footing.accounts n.user ≡ found
         → (t : FarTurn read f (line_of (Commands.User n.user))) × Logging state (Answering t.replies) n t.far
     by_open None none =
         login_turn read state AsksUser WantsPass (Commands.User n.user) Texts.PasswordNeeded n f (record (logged_out (cleared f)) { access = Accesses.AwaitsPass n.user })
-        reads sent logs refl refl (decides_free (Commands.User n.user) f refl ∙ ap (λ root. user_named root n.user (cleared f)) none)
+        reads sent logs refl refl (decides_free (Commands.User n.user) f refl ∙ ap (λ found. user_named found n.user (cleared f)) none)
         (record { connection = refl; closing = refl; life = refl; settings = refl; facts = refl; table = refl; all_ways = refl }) refl
-    by_open (Some root) is =
-        let a = admits_as state root (cleared f) logs.table (logs.leads_to ∙ ap (direct_start state.table) (logs.opens root is)) in
-        login_turn read state AsksUser (Answers a.admitted false) (Commands.User n.user) (last_text a.admitted) n f (logs_in root (cleared f)).0
-        reads sent logs refl refl (decides_free (Commands.User n.user) f refl ∙ ap (λ root. user_named root n.user (cleared f)) is ∙ a.is) (same_admits root (cleared f)) a.sees
+    by_open (Some account) is =
+        let a = admits_as state account (cleared f) logs.table (logs.leads_to ∙ ap (direct_start state.table) (logs.opens account is)) in
+        login_turn read state AsksUser (Answers a.admitted false) (Commands.User n.user) (last_text a.admitted) n f (logs_in account (cleared f)).0
+        reads sent logs refl refl (decides_free (Commands.User n.user) f refl ∙ ap (λ found. user_named found n.user (cleared f)) is ∙ a.is) (same_admits account (cleared f)) a.sees
 
 -- the password is that of the account, or it is not
 pass_turn_is : (read : Reading) (state : State) (n : Near) (f : Far) → IsReading read → LogsIn state AsksPass n f
     → (t : FarTurn read f (line_of (Commands.Pass n.pass))) × Logging state (Answering t.replies) n t.far
-pass_turn_is read state n f reads logs = by_root (login_root f.footing.accounts n.user n.pass) refl
+pass_turn_is read state n f reads logs = by_account (login_account f.footing.accounts n.user n.pass) refl
   where
     sent : IsSent read (Commands.Pass n.pass)
     sent = record { reads = reads; typed = tt; stated = logs.pass; other = refl }
 
-    awaited : decides (Commands.Pass n.pass) f ≡ checked (login_root f.footing.accounts n.user n.pass) (cleared f)
+    awaited : decides (Commands.Pass n.pass) f ≡ checked (login_account f.footing.accounts n.user n.pass) (cleared f)
     awaited =
         decides_free (Commands.Pass n.pass) f refl ∙ ap (λ access. pass_turn access f.footing.accounts n.pass (cleared f)) logs.access
 
-    by_root : (root : Option Names) → login_root f.footing.accounts n.user n.pass ≡ root
+    by_account : (found : Option Account) → login_account f.footing.accounts n.user n.pass ≡ found
         → (t : FarTurn read f (line_of (Commands.Pass n.pass))) × Logging state (Answering t.replies) n t.far
-    by_root None none =
+    by_account None none =
         let starts : state ≡ direct_start state.table None = logs.leads_to ∙ ap (direct_start state.table) none in
         login_turn read state AsksPass (Answers false true) (Commands.Pass n.pass) Texts.LoginRefused n f (logged_out (cleared f))
-        reads sent logs refl refl (awaited ∙ ap (λ root. checked root (cleared f)) none)
+        reads sent logs refl refl (awaited ∙ ap (λ found. checked found (cleared f)) none)
         (record { connection = refl; closing = refl; life = refl; settings = refl; facts = refl; table = refl; all_ways = refl })
         (record {
           table = logs.table;
           known = sym (ap (λ s. s.known) starts);
           root = λ k. absurd (let e : false ≡ true = sym (ap (λ s. s.known) starts) ∙ k in cc);
+          rights = λ k. absurd (let e : false ≡ true = sym (ap (λ s. s.known) starts) ∙ k in cc);
           cwd = sym (ap (λ s. s.cwd) starts);
         })
-    by_root (Some root) is =
-        let a = admits_as state root (cleared f) logs.table (logs.leads_to ∙ ap (direct_start state.table) is) in
-        login_turn read state AsksPass (Answers a.admitted true) (Commands.Pass n.pass) (last_text a.admitted) n f (logs_in root (cleared f)).0
-        reads sent logs refl refl (awaited ∙ ap (λ root. checked root (cleared f)) is ∙ a.is) (same_admits root (cleared f)) a.sees
+    by_account (Some account) is =
+        let a = admits_as state account (cleared f) logs.table (logs.leads_to ∙ ap (direct_start state.table) is) in
+        login_turn read state AsksPass (Answers a.admitted true) (Commands.Pass n.pass) (last_text a.admitted) n f (logs_in account (cleared f)).0
+        reads sent logs refl refl (awaited ∙ ap (λ found. checked found (cleared f)) is ∙ a.is) (same_admits account (cleared f)) a.sees
 
 -- ---- the turns of the client
 

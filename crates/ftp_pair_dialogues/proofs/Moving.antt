@@ -22,7 +22,7 @@ use Rattle.ftp_command.proofs.CarriedLemmas.{carried}
 use Rattle.ftp_pair_dialogues.specs.Dialogue.{Sees, Stands}
 use Rattle.ftp_pair_dialogues.proofs.ServerTurns.{cleared}
 use Rattle.ftp_pair_dialogues.proofs.Exchanges.{near_told_is}
-use Rattle.ftp_pair_dialogues.proofs.Rows.{Keeps, keeps_cleared, sees_cleared, direct_is}
+use Rattle.ftp_pair_dialogues.proofs.Rows.{Keeps, keeps_cleared, sees_cleared, direct_is, may_none}
 use Rattle.ftp_pair_dialogues.proofs.Single.{Accepts, IsSingle}
 use Rattle.ftp_server_model.proofs.PathTexts.{is_path-text, is_path-led}
 use Rattle.ftp_pair_dialogues.proofs.Paths.{quoted-reads}
@@ -37,11 +37,18 @@ keeps_direct f state = record { connection = refl; closing = refl; life = refl; 
 record IsMove (old new : State) : Type 0 where
   known : new.known ≡ old.known
   root : new.root ≡ old.root
+  rights : new.rights ≡ old.rights
 
 -- a session with the outcome of the direct run sees the next state, if that is a move of the one it saw
 sees_direct : (state next : State) (f : Far) → Sees state f.session → IsMove state next → Sees next (as_direct next (cleared f))
 sees_direct state next f sees move =
-    record { table = refl; known = sees.known ∙ sym move.known; root = λ known. sees.root (sym move.known ∙ known) ∙ sym move.root; cwd = refl }
+    record {
+      table = refl;
+      known = sees.known ∙ sym move.known;
+      root = λ known. sees.root (sym move.known ∙ known) ∙ sym move.root;
+      rights = λ known. sees.rights (sym move.known ∙ known) ∙ sym move.rights;
+      cwd = refl;
+    }
 
 -- ---- those that change the map or the current directory
 
@@ -79,7 +86,7 @@ change_dir read text reads is = record {
   guarded = refl;
   no_transfer = refl;
   accepts = λ state moment n f sound stands known none.
-      moves_accepts (Ops.ChangeDir text) state (done state (Ops.ChangeDir text) 0).1 n f stands known refl (record { known = refl; root = refl }) refl;
+      moves_accepts (Ops.ChangeDir text) state (done state (Ops.ChangeDir text) 0).1 n f stands known refl (record { known = refl; root = refl; rights = refl }) refl;
 }
 
 -- a change to the parent directory is one command that moves the state
@@ -92,7 +99,7 @@ up read reads = record {
   guarded = refl;
   no_transfer = refl;
   accepts = λ state moment n f sound stands known none.
-      moves_accepts Ops.Up state (done state Ops.Up 0).1 n f stands known refl (record { known = refl; root = refl }) refl;
+      moves_accepts Ops.Up state (done state Ops.Up 0).1 n f stands known refl (record { known = refl; root = refl; rights = refl }) refl;
 }
 
 -- the removal of a directory is one command that moves the state
@@ -105,7 +112,7 @@ remove_dir read text reads is = record {
   guarded = refl;
   no_transfer = refl;
   accepts = λ state moment n f sound stands known none.
-      moves_accepts (Ops.RemoveDir text) state (done state (Ops.RemoveDir text) 0).1 n f stands known refl (record { known = refl; root = refl }) refl;
+      moves_accepts (Ops.RemoveDir text) state (done state (Ops.RemoveDir text) 0).1 n f stands known refl (record { known = refl; root = refl; rights = refl }) refl;
 }
 
 -- the removal of a file is one command that moves the state
@@ -118,7 +125,7 @@ delete read text reads is = record {
   guarded = refl;
   no_transfer = refl;
   accepts = λ state moment n f sound stands known none.
-      moves_accepts (Ops.Delete text) state (done state (Ops.Delete text) 0).1 n f stands known refl (record { known = refl; root = refl }) refl;
+      moves_accepts (Ops.Delete text) state (done state (Ops.Delete text) 0).1 n f stands known refl (record { known = refl; root = refl; rights = refl }) refl;
 }
 
 -- ---- those that are answered by a path
@@ -167,7 +174,7 @@ make_accepts text state n f stands known told =
     λ i. (as_direct (done (same i) (Ops.MakeDir text) 0).1 (cleared f), Replies.Made (path i)) in
     subst (Accepts (Ops.MakeDir text) (done state (Ops.MakeDir text) 0) n f) (sym after) (record {
       keeps = keeps_direct f next;
-      sees = sees_direct state next f stands.sees (record { known = refl; root = refl });
+      sees = sees_direct state next f stands.sees (record { known = refl; root = refl; rights = refl });
       reply = reply_of 257 (made_text (named state text));
       within = told;
       said = refl;
@@ -186,5 +193,5 @@ make_dir read text reads is = record {
   no_transfer = refl;
   accepts = λ state moment n f sound stands known none.
       make_accepts text state n f stands known
-      (is_path-text (named state text) (is_path-led state.cwd text sound.cwd is (within-limits (named state text) _ none)));
+      (is_path-text (named state text) (is_path-led state.cwd text sound.cwd is (within-limits (named state text) _ (may_none state.rights.make_dir _ none))));
 }

@@ -64,6 +64,9 @@ module _ (op : Op (List ℕ)) where
     offer_denied Refusals.Unavailable connection texts =
         let s = as_it_stood (Refused (code_of Refusals.Unavailable)) (stands connection) in
         by_flow (Denied Refusals.Unavailable connection texts) (λ d mark. s) (λ mark. s) (λ octet left mark. s) flow
+    offer_denied Refusals.NotAllowed connection texts =
+        let s = as_it_stood (Refused (code_of Refusals.NotAllowed)) (stands connection) in
+        by_flow (Denied Refusals.NotAllowed connection texts) (λ d mark. s) (λ mark. s) (λ octet left mark. s) flow
     offer_denied Refusals.TooMuch connection texts =
         let s = as_it_stood (Refused (code_of Refusals.TooMuch)) (stands connection) in
         by_flow (Denied Refusals.TooMuch connection texts) (λ d mark. s) (λ mark. s) (λ octet left mark. s) flow

@@ -8,7 +8,7 @@ use Rattle.ftp_operation.specs.Answer.{Said, Done, Refused}
 use Rattle.ftp_operation.specs.Operation.{can_be_sent}
 use Rattle.ftp_operation.specs.declared.op.Op.TheVariants as Ops
 use Rattle.ftp_path.specs.Path.{Names, IsPathText, fits, resolved}
-use Rattle.ftp_direct.specs.Direct.{State, answer, changed, done, named, part, refusal, limited, refused_there, refused_name, busy_refusal, or_refused}
+use Rattle.ftp_direct.specs.Direct.{State, answer, barred, changed, done, named, part, refusal, limited, refused_there, refused_name, busy_refusal, or_refused}
 use Rattle.ftp_direct.specs.Refusal.{code_of}
 use Rattle.ftp_direct.specs.declared.refusal.Refusal.{Refusal}
 use Rattle.ftp_direct.specs.declared.refusal.Refusal.TheVariants as Refusals
@@ -31,17 +31,20 @@ use Rattle.ftp_pair_dialogues.specs.Dialogue.{FarWaits, Sees, Passes, Stands, En
 use Rattle.ftp_pair_dialogues.specs.Operations.{LeadsTo}
 use Rattle.ftp_pair_dialogues.proofs.ServerTurns.{cleared, decides, decides_known, decides_unknown}
 use Rattle.ftp_pair_dialogues.proofs.Exchanges.{IsSent, with_session, Exchange, exchange, near_told_is}
-use Rattle.ftp_pair_dialogues.proofs.Rows.{Keeps, keeps_cleared, waits_on, sees_cleared, direct_is, last_exchange, refused_exchange, answer_known, answer_unknown}
+use Rattle.ftp_pair_dialogues.proofs.Rows.{Keeps, keeps_cleared, waits_on, sees_cleared, direct_is, last_exchange, refused_exchange, may_is, may_none, answer_known, answer_unknown}
 
 -- ---- the two reasons of the direct run are those of the two commands
 
 -- why RNFR is refused
 abbrev pub source_why : State → List ℕ → Option Refusal
-source_why state text = refused_there (limited (named state text) (or_else (source_refusal (part state) (named state text)) (busy_refusal state (named state text))))
+source_why state text =
+    or_refused (barred state.rights.rename)
+    (refused_there (limited (named state text) (or_else (source_refusal (part state) (named state text)) (busy_refusal state (named state text)))))
 
 -- why RNTO is refused
 abbrev pub target_why : State → List ℕ → List ℕ → Option Refusal
-target_why state text new = refused_name (limited (named state new) (rename_refusal (part state) (named state text) (named state new)))
+target_why state text new =
+    or_refused (barred state.rights.rename) (refused_name (limited (named state new) (rename_refusal (part state) (named state text) (named state new))))
 
 -- the reason of the direct run for the new name
 abbrev pub direct_target_why : State → List ℕ → List ℕ → Option Refusal
@@ -73,18 +76,26 @@ first_none (Some fault) other none = absurd (cc)
 -- if RNFR is not refused, the tree has nothing against the old name
 pub source_none : (state : State) (text : List ℕ) → source_why state text ≡ None → source_refusal (part state) (named state text) ≡ None
 source_none state text none =
-    first_none _ (busy_refusal state (named state text)) (none_limited (named state text) _ (none_there _ none))
+    first_none _ (busy_refusal state (named state text)) (none_limited (named state text) _ (none_there _ (may_none state.rights.rename _ none)))
 
 -- so behind an RNFR that was taken the second reasons are one
 pub same_target : (state : State) (text new : List ℕ) → source_why state text ≡ None → target_why state text new ≡ direct_target_why state text new
 unfolding rename_refusal
 same_target state text new none =
-    ap (λ why. refused_name (limited (named state new) (or_else why (target_refusal (part state) (named state text) (named state new))))) (source_none state text none)
+    ap (λ why. or_refused why (refused_name (limited (named state new) (rename_refusal (part state) (named state text) (named state new)))))
+    (may_is state.rights.rename _ none)
+    ∙ ap (λ why. refused_name (limited (named state new) (or_else why (target_refusal (part state) (named state text) (named state new))))) (source_none state text none)
+
+-- the first of three reasons is the same however they are put together
+as_one : (one other last : Option Refusal) → or_refused one (or_refused other last) ≡ or_refused (or_refused one other) last
+as_one None other last = refl
+as_one (Some why) other last = refl
 
 -- the direct run refuses a rename by the reason of the old name, or else by its own reason of the new name
 pub direct_by_source : (state : State) (text new : List ℕ) (why : Option Refusal) → source_why state text ≡ why
     → refusal state (Ops.Rename text new) ≡ or_refused why (direct_target_why state text new)
-direct_by_source state text new why is = ap (λ w. or_refused w (direct_target_why state text new)) is
+direct_by_source state text new why is =
+    as_one (barred state.rights.rename) _ (direct_target_why state text new) ∙ ap (λ w. or_refused w (direct_target_why state text new)) is
 
 -- ---- the dialogue
 
@@ -142,9 +153,10 @@ module _ (read : Reading) (text new : List ℕ) (reads : IsReading read) (first 
       → decides (Commands.Rnfr text) f ≡ unless why (cleared f) (noted, Replies.Fixed Texts.NewName)
   source_decided known why is =
       decides_known (Commands.Rnfr text) f (stands.sees.known ∙ known)
-      ∙ ap (λ s. unless (refused_there (limited (path_of (cleared f) text) (or_else (source_refusal (part s) (path_of (cleared f) text)) (busy_refusal s (path_of (cleared f) text)))))
+      ∙ ap (λ s. unless (or_refused (barred s.rights.rename)
+      (refused_there (limited (path_of (cleared f) text) (or_else (source_refusal (part s) (path_of (cleared f) text)) (busy_refusal s (path_of (cleared f) text))))))
       (cleared f) (noted, Replies.Fixed Texts.NewName)) (same_direct known)
-      ∙ ap (λ path. unless (refused_there (limited path (or_else (source_refusal (part state) path) (busy_refusal state path))))
+      ∙ ap (λ path. unless (or_refused (barred state.rights.rename) (refused_there (limited path (or_else (source_refusal (part state) path) (busy_refusal state path)))))
       (cleared f) (noted, Replies.Fixed Texts.NewName)) (same_path text)
       ∙ ap (λ w. unless w (cleared f) (noted, Replies.Fixed Texts.NewName)) is
 
@@ -157,9 +169,10 @@ module _ (read : Reading) (text new : List ℕ) (reads : IsReading read) (first 
       → decides (Commands.Rnto new) (with_session noted f) ≡ unless why (cleared f) (renamed, Replies.Fixed Texts.Done)
   target_decided known why is =
       decides_known (Commands.Rnto new) (with_session noted f) (stands.sees.known ∙ known)
-      ∙ ap (λ s. unless (refused_name (limited (path_of (cleared f) new) (rename_refusal (part s) (path_of (cleared f) text) (path_of (cleared f) new))))
+      ∙ ap (λ s. unless (or_refused (barred s.rights.rename)
+      (refused_name (limited (path_of (cleared f) new) (rename_refusal (part s) (path_of (cleared f) text) (path_of (cleared f) new)))))
       (cleared f) (record (cleared f) { table = (changed s (moved (part s) (path_of (cleared f) text) (path_of (cleared f) new))).table }, Replies.Fixed Texts.Done)) (same_direct known)
-      ∙ (λ i. unless (refused_name (limited (same_path new i) (rename_refusal (part state) (same_path text i) (same_path new i))))
+      ∙ (λ i. unless (or_refused (barred state.rights.rename) (refused_name (limited (same_path new i) (rename_refusal (part state) (same_path text i) (same_path new i)))))
       (cleared f) (record (cleared f) { table = (changed state (moved (part state) (same_path text i) (same_path new i))).table; cwd = stands.sees.cwd i }, Replies.Fixed Texts.Done))
       ∙ ap (λ w. unless w (cleared f) (renamed, Replies.Fixed Texts.Done)) is
 
@@ -204,7 +217,7 @@ module _ (read : Reading) (text new : List ℕ) (reads : IsReading read) (first 
   target_done : state.known ≡ true → source_why state text ≡ None → target_why state text new ≡ None → To (done state (Ops.Rename text new) 0)
   target_done known none is =
       by_target (done state (Ops.Rename text new) 0) renamed known none (record { connection = refl; closing = refl; life = refl; settings = refl; facts = refl; all_ways = refl })
-      (record { table = refl; known = stands.sees.known; root = stands.sees.root; cwd = refl })
+      (record { table = refl; known = stands.sees.known; root = stands.sees.root; rights = stands.sees.rights; cwd = refl })
       (record {
         kind = Replies.Fixed Texts.Done;
         reply = fixed_reply Texts.Done;

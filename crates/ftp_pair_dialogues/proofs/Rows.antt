@@ -6,7 +6,7 @@ use Rattle.ftp_command.specs.declared.command.Command.{Command}
 use Rattle.ftp_operation.specs.Answer.{Said, Refused, BadOperation}
 use Rattle.ftp_operation.specs.Operation.{can_be_sent}
 use Rattle.ftp_operation.specs.declared.op.Op.{Op}
-use Rattle.ftp_direct.specs.Direct.{State, answer, chosen, done, refusal}
+use Rattle.ftp_direct.specs.Direct.{State, answer, barred, chosen, done, or_refused, refusal}
 use Rattle.ftp_direct.specs.Refusal.{code_of}
 use Rattle.ftp_direct.specs.declared.refusal.Refusal.{Refusal}
 use Rattle.ftp_direct.specs.declared.refusal.Refusal.TheVariants as Refusals
@@ -50,11 +50,11 @@ keeps_cleared f = record { connection = refl; closing = refl; life = refl; setti
 
 -- a session with its pending command cleared still sees the state
 pub sees_cleared : (state : State) (f : Far) → Sees state f.session → Sees state (cleared f)
-sees_cleared state f s = record { table = s.table; known = s.known; root = s.root; cwd = s.cwd }
+sees_cleared state f s = record { table = s.table; known = s.known; root = s.root; rights = s.rights; cwd = s.cwd }
 
 -- what the direct run sees of the session
 pub direct_is : (state : State) (s : Session) → Sees state s → state.known ≡ true → direct_of s ≡ state
-direct_is state s sees known = λ i. record { table = sees.table i; root = sees.root known i; cwd = sees.cwd i; known = sym known i }
+direct_is state s sees known = λ i. record { table = sees.table i; root = sees.root known i; cwd = sees.cwd i; known = sym known i; rights = sees.rights known i }
 
 -- ---- the last exchange of an operation
 
@@ -90,6 +90,7 @@ tells_code Refusals.BadArgument = refl
 tells_code Refusals.BadParameter = refl
 tells_code Refusals.NotLoggedIn = refl
 tells_code Refusals.Unavailable = refl
+tells_code Refusals.NotAllowed = refl
 tells_code Refusals.TooMuch = refl
 tells_code Refusals.BadName = refl
 
@@ -101,6 +102,7 @@ is_negative Refusals.BadArgument = refl
 is_negative Refusals.BadParameter = refl
 is_negative Refusals.NotLoggedIn = refl
 is_negative Refusals.Unavailable = refl
+is_negative Refusals.NotAllowed = refl
 is_negative Refusals.TooMuch = refl
 is_negative Refusals.BadName = refl
 
@@ -116,6 +118,18 @@ refused_exchange op step command why n f awaits decided = record {
   heard = near_refused_is op step n (reply_code (refusal_text why)) (fixed_reply (refusal_text why)).lines (is_negative why) awaits
       ∙ ap (λ code. record (calm (told (Refused code) n)) { owed = [] }) (tells_code why);
 }
+
+-- ---- rights
+
+-- what is not refused is not barred
+pub may_is : (may : Bool) (why : Option Refusal) → or_refused (barred may) why ≡ None → barred may ≡ None
+may_is true why none = refl
+may_is false why none = absurd (cc)
+
+-- nor is it refused for another reason
+pub may_none : (may : Bool) (why : Option Refusal) → or_refused (barred may) why ≡ None → why ≡ None
+may_none true why none = none
+may_none false why none = absurd (cc)
 
 -- ---- the answer of the direct run
 

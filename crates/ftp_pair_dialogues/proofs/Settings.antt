@@ -61,7 +61,7 @@ stands_set : (state : State) (settings : Representation) (n : Near) (f : Far) â†
 stands_set state settings n f stands = record {
   meets = record { peer = stands.meets.peer; here = stands.meets.here; typed = stands.meets.typed; own = stands.meets.own; family = stands.meets.family; all_ways = stands.meets.all_ways };
   far = record { aside = stands.far.aside; closing = stands.far.closing; life = stands.far.life };
-  sees = record { table = stands.sees.table; known = stands.sees.known; root = stands.sees.root; cwd = stands.sees.cwd };
+  sees = record { table = stands.sees.table; known = stands.sees.known; root = stands.sees.root; rights = stands.sees.rights; cwd = stands.sees.cwd };
   settings = refl;
   facts = stands.facts;
 }

@@ -26,6 +26,7 @@ use Rattle.ftp_server_model.specs.Told.{is_path}
 use Rattle.ftp_pair_dialogues.specs.Dialogue.{IsFine, IsSound, HasNoTransfer}
 use Rattle.ftp_pair_dialogues.specs.Operations.{EachStaysSound}
 use Rattle.ftp_pair_dialogues.proofs.Moving.{within-limits}
+use Rattle.ftp_pair_dialogues.proofs.Rows.{may_none}
 use Rattle.ftp_pair_dialogues.proofs.Renaming.{none_there, none_limited, none_name, first_none, source_why, target_why, same_target, direct_by_source}
 
 -- ---- files of a map
@@ -203,16 +204,16 @@ module _ (state : State) (moment : ℕ) (sound : IsSound state) (known : state.k
   -- a sound state where a directory is made is sound
   make-sound : (text : List ℕ) → IsPathText text → Stays (Ops.MakeDir text)
   make-sound text is none =
-      let can : make_refusal (part state) (named state text) ≡ None = none_limited (named state text) _ (none_there _ none) in
+      let can : make_refusal (part state) (named state text) ≡ None = none_limited (named state text) _ (none_there _ (may_none state.rights.make_dir _ none)) in
       change-sound state (made (part state) (named state text)) sound (changes-keep.making (part state) (named state text) (sound.tree known) can)
       (files-made (part state) (named state text) sound.files)
-      (names-made (part state) (named state text) (named-names text is (within-limits (named state text) _ none)) sound.names)
+      (names-made (part state) (named state text) (named-names text is (within-limits (named state text) _ (may_none state.rights.make_dir _ none))) sound.names)
       (here-made (part state) (named state text) state.cwd (sound.here known))
 
   -- a sound state where a directory is removed is sound
   remove-sound : (text : List ℕ) → Stays (Ops.RemoveDir text)
   remove-sound text none =
-      let both = none_limited (named state text) _ (none_there _ none) in
+      let both = none_limited (named state text) _ (none_there _ (may_none state.rights.remove_dir _ none)) in
       let can : remove_refusal (part state) (named state text) ≡ None = first_none _ _ both in
       let beside : is_within (named state text) state.cwd ≡ false = not-busy state (named state text) (second-none (remove_refusal (part state) (named state text)) _ both) in
       change-sound state (removed (part state) (named state text)) sound (changes-keep.removing (part state) (named state text) (sound.tree known) can)
@@ -222,7 +223,7 @@ module _ (state : State) (moment : ℕ) (sound : IsSound state) (known : state.k
   -- a sound state where a file is deleted is sound
   delete-sound : (text : List ℕ) → Stays (Ops.Delete text)
   delete-sound text none =
-      let can : delete_refusal (part state) (named state text) ≡ None = none_limited (named state text) _ (none_there _ none) in
+      let can : delete_refusal (part state) (named state text) ≡ None = none_limited (named state text) _ (none_there _ (may_none state.rights.delete _ none)) in
       change-sound state (removed (part state) (named state text)) sound (changes-keep.deleting (part state) (named state text) (sound.tree known) can)
       (files-removed (part state) (named state text) sound.files) (names-removed (part state) (named state text) sound.names)
       (here-removed (part state) (named state text) state.cwd (sound.here known) (no-file (named state text) can))
@@ -238,10 +239,10 @@ module _ (state : State) (moment : ℕ) (sound : IsSound state) (known : state.k
       by_source None source =
           let from : Names = named state text in
           let to : Names = named state new in
-          let can : rename_refusal (part state) from to ≡ None = none_limited to _ (none_name _ (target source)) in
-          let within : IsTrue (fits to) = within-name to _ (target source) in
+          let can : rename_refusal (part state) from to ≡ None = none_limited to _ (none_name _ (may_none state.rights.rename _ (target source))) in
+          let within : IsTrue (fits to) = within-name to _ (may_none state.rights.rename _ (target source)) in
           let beside : is_within from state.cwd ≡ false =
-          not-busy state from (second-none (source_refusal (part state) from) _ (none_limited from _ (none_there _ source))) in
+          not-busy state from (second-none (source_refusal (part state) from) _ (none_limited from _ (none_there _ (may_none state.rights.rename _ source)))) in
           let free : is_within to state.cwd ≡ false =
           free-to (part state) to (sound.tree known) (target-parts (part state) from to can).0 state.cwd (ap is_some (sound.here known)) in
           change-sound state (moved (part state) (named state text) (named state new)) sound

@@ -19,7 +19,7 @@ use Rattle.ftp_tree.specs.declared.fault.TreeFault.TheVariants as Faults
 use Rattle.ftp_tree.proofs.KeepLaws.{at-insert, changes-keep}
 use Rattle.ftp_tree.proofs.LawLemmas.{same}
 use Rattle.ftp_direct.specs.declared.refusal.Refusal.{Refusal}
-use Rattle.ftp_direct.specs.Direct.{State, changed, done, file_of, limited, named, offset_refusal, or_refused, part, place_at, put_refusal, refusal, refused_name, refused_octets, refused_room}
+use Rattle.ftp_direct.specs.Direct.{State, barred_put, changed, done, file_of, limited, named, offset_refusal, or_refused, part, place_at, put_refusal, refusal, refused_name, refused_octets, refused_room}
 use Rattle.ftp_direct.proofs.PlaceLemmas.{led}
 use Rattle.ftp_client_model.specs.Octets.{upload_text}
 use Rattle.ftp_client_model.specs.Plan.{count_of}
@@ -139,7 +139,7 @@ module _ (place : Place) (text octets : List ℕ) (how : How) (moment : ℕ) whe
         stated = path;
         other = refl;
         few = few;
-        acts = λ footing s set facts. λ i. transfer_starts (room_why (direct_of s) text) (Transfers.Upload (named (direct_of s) text) (length (file_of (direct_of s) text)) (no_octets (set i))) s;
+        acts = λ footing s set facts. λ i. transfer_starts (store_why (direct_of s) Behind text how) (Transfers.Upload (named (direct_of s) text) (length (file_of (direct_of s) text)) (no_octets (set i))) s;
       }
       by_place (From offset) few = record {
         typed = tt;
@@ -148,7 +148,8 @@ module _ (place : Place) (text octets : List ℕ) (how : How) (moment : ℕ) whe
         few = few;
         acts = λ footing s set facts. λ i.
             let at : Option ℕ = place_at (direct_of s) (named (direct_of s) text) (how_in_force (set i)) offset in
-            transfer_starts (or_refused (refused_name (misplaced at)) (room_why (direct_of s) text)) (Transfers.Upload (named (direct_of s) text) (unwrap_or at 0) (no_octets (set i))) s;
+            transfer_starts (or_refused (barred_put (direct_of s) (named (direct_of s) text)) (or_refused (refused_name (misplaced at)) (room_why (direct_of s) text)))
+            (Transfers.Upload (named (direct_of s) text) (unwrap_or at 0) (no_octets (set i))) s;
       }
 
   -- ---- the direct run
@@ -161,12 +162,16 @@ module _ (place : Place) (text octets : List ℕ) (how : How) (moment : ℕ) whe
       by_place : (place : Place) → IsPlacedAt how.representation (store_offset place)
           → refusal state (store place text octets how)
           ≡ or_refused (store_why state place text how) (refused_octets (over (store_rise place text octets how moment) state (length octets)))
-      by_place Anew placed = ap (λ n. put_refusal state (named state text) n) (let e : length octets ≡ 0 + length octets = omega arith in e)
-      by_place Behind placed = refl
+      by_place Anew placed =
+          ap (λ n. or_refused (barred_put state (named state text)) (put_refusal state (named state text) n)) (let e : length octets ≡ 0 + length octets = omega arith in e)
+          ∙ or_assoc (barred_put state (named state text)) (room_why state text) _
+      by_place Behind placed = or_assoc (barred_put state (named state text)) (room_why state text) _
       by_place (From offset) placed =
-          ap (λ o. or_refused o (or_refused (refused_name (misplaced (place_at state (named state text) how offset)))
-          (put_refusal state (named state text) (unwrap_or (place_at state (named state text) how offset) 0 + length octets)))) placed
-          ∙ or_assoc (refused_name (misplaced (place_at state (named state text) how offset))) (room_why state text) _
+          let misplaced_at = refused_name (misplaced (place_at state (named state text) how offset)) in
+          ap (λ o. or_refused o (or_refused (barred_put state (named state text)) (or_refused misplaced_at
+          (put_refusal state (named state text) (unwrap_or (place_at state (named state text) how offset) 0 + length octets))))) placed
+          ∙ ap (or_refused (barred_put state (named state text))) (or_assoc misplaced_at (room_why state text) _)
+          ∙ or_assoc (barred_put state (named state text)) (or_refused misplaced_at (room_why state text)) _
 
   -- what the direct run does
   done_is : (state : State) → done state op moment ≡ (Done, stored (store_rise place text octets how moment) state octets)
@@ -214,7 +219,9 @@ module _ (place : Place) (text octets : List ℕ) (how : How) (moment : ℕ) whe
       → over (store_rise place text octets how moment) state (length content) ≡ None → IsSound (stored (store_rise place text octets how moment) state content)
   stays_sound path dated state content sound known none few =
       let rise = store_rise place text octets how moment in
-      let limited_none = none_room _ (both_none (refused_name (misplaced (store_place state place text how))) (room_why state text) none).1 in
+      let misplaced_at = refused_name (misplaced (store_place state place text how)) in
+      let taken = (both_none (barred_put state (named state text)) (or_refused misplaced_at (room_why state text)) none).1 in
+      let limited_none = none_room _ (both_none misplaced_at (room_why state text) taken).1 in
       let room : room_refusal (part state) (named state text) ≡ None = none_limited (named state text) _ limited_none in
       let within : IsTrue (fits (named state text)) = fits_limited (named state text) _ limited_none in
       let whole : List ℕ = kept_of rise state ++ content in
@@ -269,8 +276,8 @@ module _ (place : Place) (text octets : List ℕ) (how : How) (moment : ℕ) whe
       by_place Behind is = absurd (cc)
       by_place (From offset) is =
           let one : at ≡ offset = cc in
-          ap (λ o. or_refused o (or_refused (refused_name (misplaced (place_at state (named state text) how offset)))
-          (put_refusal state (named state text) (unwrap_or (place_at state (named state text) how offset) 0 + length octets))))
+          ap (λ o. or_refused o (or_refused (barred_put state (named state text)) (or_refused (refused_name (misplaced (place_at state (named state text) how offset)))
+          (put_refusal state (named state text) (unwrap_or (place_at state (named state text) how offset) 0 + length octets)))))
           (subst (λ n. offset_refusal n (how_in_force how.representation) ≡ Some why) one some)
 
   -- all that is so of an upload

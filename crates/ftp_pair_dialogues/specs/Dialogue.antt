@@ -49,6 +49,7 @@ pub record Sees (state : State) (s : Session) : Type 0 where
   pub table : s.table ≡ state.table
   pub known : is_in s.access ≡ state.known
   pub root : state.known ≡ true → s.root ≡ state.root
+  pub rights : state.known ≡ true → s.rights ≡ state.rights
   pub cwd : s.cwd ≡ state.cwd
 
 -- ---- along the way, and at its end

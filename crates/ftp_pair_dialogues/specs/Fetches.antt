@@ -17,6 +17,7 @@ use Rattle.ftp_operation.specs.Answer.{Said, Done, Octets, Refused, Entries, Nam
 use Rattle.ftp_operation.specs.Operation.{can_be_sent}
 use Rattle.ftp_operation.specs.declared.op.How.{How}
 use Rattle.ftp_operation.specs.declared.op.Op.{Op}
+use Rattle.ftp_operation.specs.declared.rights.Rights.{Rights}
 use Rattle.ftp_operation.specs.declared.op.Op.TheVariants as Ops
 use Rattle.ftp_path.specs.Path.{Names}
 use Rattle.ftp_settings.specs.Representation.{form_of, has_markers}
@@ -192,6 +193,7 @@ pub record Kept : Type 0 where
   pub table : Table
   pub access : Access (List ℕ)
   pub root : Names
+  pub rights : Rights
   pub cwd : Names
   pub far_settings : Representation
   pub facts : Facts
@@ -208,6 +210,7 @@ kept n f = record {
   table = f.session.table;
   access = f.session.access;
   root = f.session.root;
+  rights = f.session.rights;
   cwd = f.session.cwd;
   far_settings = f.session.settings;
   facts = f.session.facts;
@@ -226,6 +229,7 @@ pub record IsSteady (state : State) (k : Kept) : Type 0 where
   pub table : k.table ≡ state.table
   pub access : is_in k.access ≡ state.known
   pub root : state.known ≡ true → k.root ≡ state.root
+  pub rights : state.known ≡ true → k.rights ≡ state.rights
   pub cwd : k.cwd ≡ state.cwd
   pub settings : k.far_settings ≡ k.near_settings
   pub facts : k.facts ≡ all_facts

@@ -4,16 +4,15 @@ use Rattle.std.specs.Prelude.{◌≡◌, ◌⊎◌, ℕ, Bool, true, false, List
 use Rattle.ftp_command.specs.Argument.{IsName, IsPassword}
 use Rattle.ftp_command.specs.Line.{line_of}
 use Rattle.ftp_command.specs.declared.command.Command.TheVariants as Commands
-use Rattle.ftp_operation.specs.Account.{login_root}
+use Rattle.ftp_operation.specs.Account.{Account, login_account}
 use Rattle.ftp_operation.specs.Answer.{Said}
 use Rattle.ftp_operation.specs.declared.op.Op.{Op}
-use Rattle.ftp_path.specs.Path.{Names}
 use Rattle.ftp_direct.specs.Direct.{State, start as direct_start}
 use Rattle.ftp_client_model.specs.View.{View as Near, Idle, Waiting}
 use Rattle.ftp_client_model.specs.declared.client.ClientLink.TheVariants as NearData
 use Rattle.ftp_client_model.specs.declared.client.Standing.{Standing}
 use Rattle.ftp_client_model.specs.declared.client.Standing.TheVariants as Standings
-use Rattle.ftp_server_model.specs.Login.{open_root}
+use Rattle.ftp_server_model.specs.Login.{open_account}
 use Rattle.ftp_server_model.specs.Machine.{Reading}
 use Rattle.ftp_server_model.specs.Replies.{fixed_reply}
 use Rattle.ftp_server_model.specs.View.{View as Far, all_facts}
@@ -75,8 +74,8 @@ pub record LogsIn (state : State) (place : Place) (n : Near) (f : Far) : Type 0 
   pub table : f.session.table ≡ state.table
   pub access : IsAccessOf place state n f
   pub meets : Meets n f
-  pub leads_to : state ≡ direct_start state.table (login_root f.footing.accounts n.user n.pass)
-  pub opens : (root : Names) → open_root f.footing.accounts n.user ≡ Some root → login_root f.footing.accounts n.user n.pass ≡ Some root
+  pub leads_to : state ≡ direct_start state.table (login_account f.footing.accounts n.user n.pass)
+  pub opens : (account : Account) → open_account f.footing.accounts n.user ≡ Some account → login_account f.footing.accounts n.user n.pass ≡ Some account
 
 -- some place of the login
 pub record Logging (state : State) (way : Way) (n : Near) (f : Far) : Type 0 where

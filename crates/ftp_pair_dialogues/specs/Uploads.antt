@@ -12,7 +12,7 @@ use Rattle.ftp_operation.specs.declared.op.Op.TheVariants as Ops
 use Rattle.ftp_reply.specs.Values.{is_marker}
 use Rattle.ftp_tree.specs.Tree.{room_refusal}
 use Rattle.ftp_direct.specs.declared.refusal.Refusal.{Refusal}
-use Rattle.ftp_direct.specs.Direct.{State, file_of, limited, named, or_refused, part, place_at, refused_name, refused_room}
+use Rattle.ftp_direct.specs.Direct.{State, barred_put, file_of, limited, named, or_refused, part, place_at, refused_name, refused_room}
 use Rattle.ftp_client_model.specs.Octets.{upload_text}
 use Rattle.ftp_server_model.specs.Replies.{mark_reply}
 use Rattle.ftp_server_model.specs.Transfer.{misplaced}
@@ -57,7 +57,8 @@ room_why state text = refused_room (limited (named state text) (room_refusal (pa
 
 -- why its command is refused
 abbrev pub store_why : State → Place → List ℕ → How → Option Refusal
-store_why state place text how = or_refused (refused_name (misplaced (store_place state place text how))) (room_why state text)
+store_why state place text how =
+    or_refused (barred_put state (named state text)) (or_refused (refused_name (misplaced (store_place state place text how))) (room_why state text))
 
 -- its octets
 abbrev pub store_rise : Place → List ℕ → List ℕ → How → ℕ → Rise

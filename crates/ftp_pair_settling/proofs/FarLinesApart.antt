@@ -9,7 +9,7 @@ use Rattle.ftp_direct.specs.Direct.{done, is_directory, refusal}
 use Rattle.ftp_direct.specs.declared.refusal.Refusal.{Refusal}
 use Rattle.ftp_endpoint.specs.declared.endpoint.Endpoint.{Endpoint}
 use Rattle.ftp_ends.specs.Link.{is_v6}
-use Rattle.ftp_operation.specs.Account.{login_root, open_root}
+use Rattle.ftp_operation.specs.Account.{Account, login_account, open_account}
 use Rattle.ftp_operation.specs.declared.op.Op.{Op}
 use Rattle.ftp_operation.specs.declared.op.Op.TheVariants as Ops
 use Rattle.ftp_path.specs.Path.{Names}
@@ -62,23 +62,23 @@ performs_apart : (op : Op (List ℕ)) (kind : ReplyKind Names) (s : Session) →
 performs_apart op kind s a = unless_apart (refusal (direct_of s) op) s (as_direct (done (direct_of s) op 0).1 s, kind) a a
 
 -- a root that is entered, if it is a directory
-admits_apart : (is : Bool) (root : Names) (s : Session) → Apart s → Kept (admits is root s)
-admits_apart true root s a = a
-admits_apart false root s a = a
+admits_apart : (is : Bool) (account : Account) (s : Session) → Apart s → Kept (admits is account s)
+admits_apart true account s a = a
+admits_apart false account s a = a
 
 -- USER
-user_apart : (root : Option Names) (name : List ℕ) (s : Session) → Apart s → Kept (user_named root name s)
-user_apart (Some root) name s a = admits_apart (is_directory (node_at s.table root)) root s a
+user_apart : (found : Option Account) (name : List ℕ) (s : Session) → Apart s → Kept (user_named found name s)
+user_apart (Some account) name s a = admits_apart (is_directory (node_at s.table account.root)) account s a
 user_apart None name s a = a
 
 -- a password that was looked up
-checked_apart : (root : Option Names) (s : Session) → Apart s → Kept (checked root s)
-checked_apart (Some root) s a = admits_apart (is_directory (node_at s.table root)) root s a
+checked_apart : (found : Option Account) (s : Session) → Apart s → Kept (checked found s)
+checked_apart (Some account) s a = admits_apart (is_directory (node_at s.table account.root)) account s a
 checked_apart None s a = a
 
 -- PASS
 pass_apart : (access : Access (List ℕ)) (accounts : Accounts) (word : List ℕ) (s : Session) → Apart s → Kept (pass access accounts word s)
-pass_apart (AwaitsPass name) accounts word s a = checked_apart (login_root accounts name word) s a
+pass_apart (AwaitsPass name) accounts word s a = checked_apart (login_account accounts name word) s a
 pass_apart access accounts word s a = a
 
 -- an endpoint that is taken, if it is allowed
@@ -131,7 +131,7 @@ rnto_apart pending text s a = a
 
 -- each command
 act_apart : (footing : Footing) (c : Command (List ℕ)) (pending : Pending Names) (s : Session) → Apart s → Kept (act footing c pending s)
-act_apart footing (command.User name) pending s a = user_apart (open_root footing.accounts name) name s a
+act_apart footing (command.User name) pending s a = user_apart (open_account footing.accounts name) name s a
 act_apart footing (command.Pass word) pending s a = pass_apart s.access footing.accounts word s a
 act_apart footing (command.Cwd text) pending s a = unless_apart _ s _ a a
 act_apart footing command.Cdup pending s a = performs_apart Ops.Up (Replies.Fixed Texts.Done) s a

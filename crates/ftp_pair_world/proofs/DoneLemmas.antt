@@ -35,7 +35,7 @@ use Rattle.ftp_tree.proofs.LeafLemmas.{itself}
 use Rattle.ftp_tree.proofs.PartLemmas.{as-part, part-comes, part-stays, part-taken, same-nodes}
 use Rattle.ftp_direct.specs.declared.refusal.Refusal.{Refusal}
 use Rattle.ftp_direct.specs.declared.refusal.Refusal.TheVariants as Refusals
-use Rattle.ftp_direct.specs.Direct.{State, answer, changed, chosen, done as does, file_of, first_refusal, limited, named, offset_refusal, or_refused, part, place_at, place_in, place_refusal, put_refusal, refusal, refused_name, refused_octets, refused_room, size_in, skipped}
+use Rattle.ftp_direct.specs.Direct.{State, answer, barred_put, changed, chosen, done as does, file_of, first_refusal, limited, named, offset_refusal, or_refused, part, place_at, place_in, place_refusal, put_refusal, refusal, refused_name, refused_octets, refused_room, size_in, skipped}
 use Rattle.ftp_direct.specs.Refusal.{code_of}
 use Rattle.ftp_direct.proofs.PlaceLemmas.{leads, led}
 use Rattle.ftp_direct.proofs.SizeLemmas.{size_piece}
@@ -305,8 +305,10 @@ module _ (state : State) (u : OverBreaks) (moment : ℕ) (image : u.how.represen
       let path : Names = named now u.path in
       let why = known_refusal now.known (refusal now (rest_put u count)) none in
       let offset = both_none (offset_refusal count u.how)
-      (or_refused (refused_name (place_refusal now path u.how count)) (put_refusal now path (skipped now path u.how count + length (drop count u.octets)))) why in
-      let place = both_none (refused_name (place_refusal now path u.how count)) (put_refusal now path (skipped now path u.how count + length (drop count u.octets))) offset.1 in
+      (or_refused (barred_put now path) (or_refused (refused_name (place_refusal now path u.how count)) (put_refusal now path (skipped now path u.how count + length (drop count u.octets))))) why in
+      let may = both_none (barred_put now path)
+      (or_refused (refused_name (place_refusal now path u.how count)) (put_refusal now path (skipped now path u.how count + length (drop count u.octets)))) offset.1 in
+      let place = both_none (refused_name (place_refusal now path u.how count)) (put_refusal now path (skipped now path u.how count + length (drop count u.octets))) may.1 in
       let leads_on = not_held (is_some (place_at now path u.how count)) Faults.BadOffset (none_mapped (λ fault. Refusals.BadName) (place_refusal now path u.how count) place.0) in
       let skip : skipped now path u.how count ≡ count = skips_found now count (place_at now path u.how count) refl leads_on in
       let short = short_put now path (skipped now path u.how count + length (drop count u.octets)) place.1 in

@@ -3,7 +3,7 @@ use Rattle.std.proofs.Common.{◌≡◌, ℕ, List, [], ◌∷◌, length, take,
 use Rattle.std.specs.Prelude.{codes}
 use Rattle.ftp_ends.specs.RowWords.{written_line}
 use Rattle.ftp_server_model.proofs.CommandsInFlight.{line_is_heard}
-use Rattle.ftp_operation.specs.Account.{login_root}
+use Rattle.ftp_operation.specs.Account.{login_account}
 use Rattle.ftp_repr.specs.Ascii.{settled}
 use Rattle.ftp_client_model.specs.Dialogue.{answered}
 use Rattle.ftp_reply.specs.Reader.{line_heard}
@@ -11,7 +11,7 @@ use Rattle.ftp_client_model.specs.Calls.{wants, data_end, data_fault}
 use Rattle.ftp_server_model.specs.Machine.{obeyed, heard_line, hears, hears_octet}
 use Rattle.ftp_server_model.specs.Calls.{gives_control, gives_data, data_closed, data_fault as far_fault}
 use Rattle.ftp_direct.specs.Direct.{is_directory}
-use Rattle.ftp_server_model.proofs.ServerRows.{entering}
+use Rattle.ftp_server_model.proofs.ServerRows.{entering, guest}
 use Rattle.ftp_pair_world.specs.Events.{ControlToClient, ControlToServer, due, pulled, pushed}
 use Rattle.ftp_pair_world.specs.Serving.{after_event}
 use Rattle.ftp_tree.specs.Tree.{Table, node_at}
@@ -33,17 +33,17 @@ asked table = pulled ControlToServer (needed table) (count table)
 
 -- the server has heard it, by whether the root of the account is a directory
 abbrev passed : Table → Bool → World
-passed table is_there = record (asked table) { far = entering is_there [] (asked table).far; control_to_server = [] }
+passed table is_there = record (asked table) { far = entering is_there (guest []) (asked table).far; control_to_server = [] }
 
 -- the line of PASS
 abbrev pass_line : List ℕ
 pass_line = codes "PASS secret"
 
-pass_is_done : (table : Table) → heard_line (reading pass_line) (asked table).far ≡ entering (is_directory (node_at table [])) [] (asked table).far
-unfolding answered line_heard wants obeyed hears_octet gives_control login_root
+pass_is_done : (table : Table) → heard_line (reading pass_line) (asked table).far ≡ entering (is_directory (node_at table [])) (guest []) (asked table).far
+unfolding answered line_heard wants obeyed hears_octet gives_control login_account
 pass_is_done table = refl
 
-pass_is_heard : (table : Table) → hears reading (asked table).far (written_line pass_line) ≡ entering (is_directory (node_at table [])) [] (asked table).far
+pass_is_heard : (table : Table) → hears reading (asked table).far (written_line pass_line) ≡ entering (is_directory (node_at table [])) (guest []) (asked table).far
 unfolding answered line_heard wants obeyed hears_octet gives_control
 pass_is_heard table = (line_is_heard reading pass_line (asked table).far (refl, omega arith) refl).whole ∙ pass_is_done table
 
@@ -66,18 +66,18 @@ abbrev ended : World → Standing
 ended w = (acted (moves ControlToClient ∷ []) (after_event w)).near.standing
 
 ends : (table : Table) → ended (passed table true) ≡ Stands.Entered
-unfolding answered line_heard wants obeyed hears_octet gives_control login_root
+unfolding answered line_heard wants obeyed hears_octet gives_control login_account
 ends table = refl
 
 pub login : SessionLogsIn
 login table root = ap ended (hears_pass table) ∙ ap (λ is_there. ended (passed table is_there)) (ap is_directory root) ∙ ends table
 
 pub broken_download : DownloadBreaks
-unfolding answered line_heard wants data_fault obeyed gives_control gives_data far_fault login_root
+unfolding answered line_heard wants data_fault obeyed gives_control gives_data far_fault login_account
 broken_download table = (refl, refl, refl)
 
 pub whole_download : WholeDownload
-unfolding answered line_heard wants data_end obeyed gives_control gives_data data_closed login_root
+unfolding answered line_heard wants data_end obeyed gives_control gives_data data_closed login_account
 whole_download table = refl
 
 pub cut_upload : CutUpload
@@ -85,5 +85,5 @@ unfolding settled
 cut_upload state = refl
 
 pub peek : PeekReports
-unfolding answered line_heard wants data_end data_fault obeyed hears_octet gives_control gives_data data_closed far_fault login_root
+unfolding answered line_heard wants data_end data_fault obeyed hears_octet gives_control gives_data data_closed far_fault login_account
 peek table = (refl, refl, refl, refl)

@@ -7,7 +7,7 @@ use Rattle.std.specs.Prelude.{◌≡◌, ◌⊎◌, ℕ, ◌<◌, ◌≤◌, tru
 use Rattle.ftp_endpoint.specs.declared.host.Host.{Host}
 use Rattle.ftp_endpoint.specs.declared.host.Host.TheVariants.{V4, V6}
 use Rattle.ftp_endpoint.specs.Written.{IsTypedHost}
-use Rattle.ftp_operation.specs.Account.{accounts_refusal, login_root, is_user, is_password}
+use Rattle.ftp_operation.specs.Account.{accounts_refusal, login_account, is_user, is_password}
 use Rattle.ftp_operation.specs.Answer.{Said, Done, Unopened, Lost}
 use Rattle.ftp_direct.specs.Direct.{State, start as direct_start, answer, answers, changed, file_of, named, part}
 use Rattle.std.specs.List.{list_all}
@@ -50,7 +50,7 @@ AreRelated one other = ⊥
 
 -- where the direct run begins
 abbrev pub state_of : Beginning → State
-state_of b = direct_start b.table (login_root b.accounts b.user b.pass)
+state_of b = direct_start b.table (login_account b.accounts b.user b.pass)
 
 -- a login of the type; accounts of which no two have one user name and no root is below another; a map of names and moments,
 -- within the limits where the login sees it; hosts of one family

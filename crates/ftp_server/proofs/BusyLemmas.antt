@@ -4,13 +4,13 @@ use Rattle.std.specs.Prelude.{if◌then◌else◌}
 use Rattle.ftp_command.specs.declared.command.Command.{Command}
 use Rattle.ftp_command.specs.declared.command.Command.TheVariants as command
 use Rattle.ftp_command.specs.declared.command.Passive.TheVariants.{Any, Ipv4, Ipv6, Only}
-use Rattle.ftp_direct.specs.Direct.{done, is_directory, limited, named_or_here, offset_refusal, refusal, refused_name}
+use Rattle.ftp_direct.specs.Direct.{done, is_directory, named_or_here, offset_refusal, refusal}
 use Rattle.ftp_direct.specs.declared.refusal.Refusal.{Refusal}
-use Rattle.ftp_operation.specs.Account.{login_root}
+use Rattle.ftp_operation.specs.Account.{Account, login_account}
 use Rattle.ftp_path.specs.Path.{Names}
 use Rattle.ftp_server_model.specs.Act.{act, decided, is_allowed, forgets}
 use Rattle.ftp_server_model.specs.Endpoint.{asks, epsv, forgotten, is_taken, pasv, takes}
-use Rattle.ftp_server_model.specs.Login.{admits, checked, open_root, pass, user_named}
+use Rattle.ftp_server_model.specs.Login.{admits, checked, open_account, pass, user_named}
 use Rattle.ftp_server_model.specs.Machine.{has_room, is_connection_busy, is_idle}
 use Rattle.ftp_server_model.specs.declared.session.Facts.{Facts}
 use Rattle.ftp_server_model.specs.declared.session.PassiveVerb.TheVariants as Asking
@@ -25,12 +25,12 @@ use Rattle.ftp_ends.specs.Link.{is_v6}
 use Rattle.ftp_facts.specs.Moment.{moment_digits}
 use Rattle.ftp_operation.specs.declared.op.Op.{Op}
 use Rattle.ftp_operation.specs.declared.op.Op.TheVariants as Ops
-use Rattle.ftp_tree.specs.Tree.{moved, node_at, rename_refusal}
+use Rattle.ftp_tree.specs.Tree.{moved, node_at}
 use Rattle.ftp_server_model.specs.Entries.{option_facts}
 use Rattle.ftp_server_model.specs.Setting.{choose, is_utf8_on}
 use Rattle.ftp_server_model.specs.Transfer.{begin, rests, transfer_starts}
 use Rattle.ftp_server_model.specs.View.{Accounts, Footing, Session, Transfer, as_direct, direct_of, how_in_force, seen, with_seen, View}
-use Rattle.ftp_server_model.specs.Walk.{path_of, performs, refused_source, rnto, unless}
+use Rattle.ftp_server_model.specs.Walk.{path_of, performs, refused_source, refused_target, rnto, unless}
 use Rattle.ftp_server_model.specs.declared.heard.HeardLine.{HeardLine}
 use Rattle.ftp_server_model.specs.declared.heard.HeardLine.TheVariants.{TooLong, Bad, Asks}
 use Rattle.ftp_server_model.specs.declared.reply.ReplyKind.{ReplyKind}
@@ -74,20 +74,20 @@ short_starts : (why : Option Refusal) (transfer : Transfer) (s : Session) → Sh
 short_starts None transfer s = short_begin s.connection transfer s
 short_starts (Some why) transfer s = λ busy. refl
 
-short_admits : (b : Bool) (root : Names) (s : Session) → Short (admits b root s)
-short_admits true root s = λ busy. refl
-short_admits false root s = λ busy. refl
+short_admits : (b : Bool) (account : Account) (s : Session) → Short (admits b account s)
+short_admits true account s = λ busy. refl
+short_admits false account s = λ busy. refl
 
-short_named : (root : Option Names) (name : List ℕ) (s : Session) → Short (user_named root name s)
-short_named (Some root) name s = short_admits (is_directory (node_at s.table root)) root s
+short_named : (found : Option Account) (name : List ℕ) (s : Session) → Short (user_named found name s)
+short_named (Some account) name s = short_admits (is_directory (node_at s.table account.root)) account s
 short_named None name s = λ busy. refl
 
-short_checked : (root : Option Names) (s : Session) → Short (checked root s)
-short_checked (Some root) s = short_admits (is_directory (node_at s.table root)) root s
+short_checked : (found : Option Account) (s : Session) → Short (checked found s)
+short_checked (Some account) s = short_admits (is_directory (node_at s.table account.root)) account s
 short_checked None s = λ busy. refl
 
 short_pass : (access : Access (List ℕ)) (accounts : Accounts) (word : List ℕ) (s : Session) → Short (pass access accounts word s)
-short_pass (AwaitsPass name) accounts word s = short_checked (login_root accounts name word) s
+short_pass (AwaitsPass name) accounts word s = short_checked (login_account accounts name word) s
 short_pass Nobody accounts word s = λ busy. refl
 short_pass Known accounts word s = λ busy. refl
 
@@ -121,13 +121,13 @@ short_performs op kind s is =
 
 short_rnto : (pending : Pending Names) (text : List ℕ) (s : Session) → Short (rnto pending text s)
 short_rnto (Pendings.Rename from) text s =
-    short_unless (refused_name (limited (path_of s text) (rename_refusal (seen s) from (path_of s text)))) s
+    short_unless (refused_target s from (path_of s text)) s
     (tells Texts.Done (with_seen (moved (seen s) from (path_of s text)) s)) (λ busy. refl)
 short_rnto Pendings.Nothing text s = λ busy. refl
 short_rnto (Pendings.Restart place) text s = λ busy. refl
 
 short_acted : (footing : Footing) (command : Command (List ℕ)) (pending : Pending Names) (s : Session) → Calm s → Short (act footing command pending s)
-short_acted footing (command.User name) pending s is = short_named (open_root footing.accounts name) name s
+short_acted footing (command.User name) pending s is = short_named (open_account footing.accounts name) name s
 short_acted footing (command.Pass word) pending s is = short_pass s.access footing.accounts word s
 short_acted footing (command.Acct text) pending s is = λ busy. refl
 short_acted footing (command.Cwd text) pending s is = short_performs (Ops.ChangeDir text) (Replies.Fixed Texts.Done) s is

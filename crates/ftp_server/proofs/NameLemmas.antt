@@ -1,5 +1,5 @@
 -- The name that waits for its PASS is no longer than the one that a USER said.
-use Rattle.std.proofs.Common.{◌≡◌, ℕ, ◌≤◌, ◌+◌, Bool, true, false, List, [], ◌∷◌, Option, Some, None, refl, sym, subst, arith, length}
+use Rattle.std.proofs.Common.{◌≡◌, ℕ, ◌≤◌, ◌+◌, Bool, true, false, List, Option, Some, None, refl, sym, subst, arith, length}
 use Rattle.std.specs.Prelude.{if◌then◌else◌}
 use Rattle.std.proofs.Math.Logic.{∥∥₁_elim}
 use Rattle.std.proofs.Props.{props}
@@ -7,13 +7,13 @@ use Rattle.ftp_command.specs.declared.command.Command.{Command}
 use Rattle.ftp_command.specs.declared.command.Command.TheVariants as command
 use Rattle.ftp_command.specs.declared.command.Passive.{Passive}
 use Rattle.ftp_command.specs.declared.command.Passive.TheVariants.{Any, Ipv4, Ipv6, Only}
-use Rattle.ftp_direct.specs.Direct.{done, is_directory, limited, named_or_here, offset_refusal, refusal, refused_name}
+use Rattle.ftp_direct.specs.Direct.{done, is_directory, named_or_here, offset_refusal, refusal}
 use Rattle.ftp_direct.specs.declared.refusal.Refusal.{Refusal}
 use Rattle.ftp_endpoint.specs.declared.endpoint.Endpoint.{Endpoint}
 use Rattle.ftp_ends.specs.Link.{is_v6}
 use Rattle.ftp_ends.specs.Limits.{held_limit}
 use Rattle.ftp_facts.specs.Moment.{moment_digits}
-use Rattle.ftp_operation.specs.Account.{login_root}
+use Rattle.ftp_operation.specs.Account.{Account, login_account}
 use Rattle.ftp_operation.specs.declared.op.Op.{Op}
 use Rattle.ftp_operation.specs.declared.op.Op.TheVariants as Ops
 use Rattle.ftp_path.specs.Login.{login_limit}
@@ -23,13 +23,13 @@ use Rattle.ftp_server_model.specs.Ask.{has_size, or_empty, size_of, stamp_of}
 use Rattle.ftp_server_model.specs.Endpoint.{asks, epsv, forgotten, is_taken, pasv, takes}
 use Rattle.ftp_server_model.specs.Entries.{option_facts}
 use Rattle.ftp_server_model.specs.Held.{access_len, waiting_len}
-use Rattle.ftp_server_model.specs.Login.{admits, checked, open_root, pass, user_named}
+use Rattle.ftp_server_model.specs.Login.{admits, checked, open_account, pass, user_named}
 use Rattle.ftp_server_model.specs.Replies.{Turn, tells}
 use Rattle.ftp_server_model.specs.Setting.{choose, is_utf8_on}
 use Rattle.ftp_server_model.specs.Transfer.{begin, rests, transfer_starts}
 use Rattle.ftp_server_model.specs.View.{Accounts, Footing, Session, Transfer, as_direct, direct_of, how_in_force, seen, with_seen}
-use Rattle.ftp_tree.specs.Tree.{moved, node_at, rename_refusal}
-use Rattle.ftp_server_model.specs.Walk.{path_of, refused_source, rnto, unless}
+use Rattle.ftp_tree.specs.Tree.{moved, node_at}
+use Rattle.ftp_server_model.specs.Walk.{path_of, refused_source, refused_target, rnto, unless}
 use Rattle.ftp_server_model.specs.declared.heard.HeardLine.{HeardLine}
 use Rattle.ftp_server_model.specs.declared.heard.HeardLine.TheVariants.{TooLong, Bad, Asks}
 use Rattle.ftp_server_model.specs.declared.reply.ReplyKind.{ReplyKind}
@@ -76,20 +76,20 @@ within_starts : (most : ℕ) (why : Option Refusal) (transfer : Transfer) (s : S
 within_starts most None transfer s k = within_begin most s.connection transfer s k
 within_starts most (Some why) transfer s k = k
 
-within_admits : (most : ℕ) (b : Bool) (root : Names) (s : Session) → Within most (admits b root s)
-within_admits most true root s = omega arith
-within_admits most false root s = omega arith
+within_admits : (most : ℕ) (b : Bool) (account : Account) (s : Session) → Within most (admits b account s)
+within_admits most true account s = omega arith
+within_admits most false account s = omega arith
 
-within_named : (most : ℕ) (root : Option Names) (name : List ℕ) (s : Session) → length name ≤ most → Within most (user_named root name s)
-within_named most (Some root) name s short = within_admits most (is_directory (node_at s.table root)) root s
+within_named : (most : ℕ) (found : Option Account) (name : List ℕ) (s : Session) → length name ≤ most → Within most (user_named found name s)
+within_named most (Some account) name s short = within_admits most (is_directory (node_at s.table account.root)) account s
 within_named most None name s short = short
 
-within_checked : (most : ℕ) (root : Option Names) (s : Session) → Within most (checked root s)
-within_checked most (Some root) s = within_admits most (is_directory (node_at s.table root)) root s
+within_checked : (most : ℕ) (found : Option Account) (s : Session) → Within most (checked found s)
+within_checked most (Some account) s = within_admits most (is_directory (node_at s.table account.root)) account s
 within_checked most None s = omega arith
 
 within_pass : (most : ℕ) (access : Access (List ℕ)) (accounts : Accounts) (word : List ℕ) (s : Session) → Named most s → Within most (pass access accounts word s)
-within_pass most (AwaitsPass name) accounts word s k = within_checked most (login_root accounts name word) s
+within_pass most (AwaitsPass name) accounts word s k = within_checked most (login_account accounts name word) s
 within_pass most Nobody accounts word s k = k
 within_pass most Known accounts word s k = k
 
@@ -123,14 +123,14 @@ within_performs most op kind s k = within_unless most (refusal (direct_of s) op)
 
 within_rnto : (most : ℕ) (pending : Pending Names) (text : List ℕ) (s : Session) → Named most s → Within most (rnto pending text s)
 within_rnto most (Pendings.Rename from) text s k =
-    within_unless most (refused_name (limited (path_of s text) (rename_refusal (seen s) from (path_of s text)))) s
+    within_unless most (refused_target s from (path_of s text)) s
     (tells Texts.Done (with_seen (moved (seen s) from (path_of s text)) s)) k k
 within_rnto most Pendings.Nothing text s k = k
 within_rnto most (Pendings.Restart place) text s k = k
 
 within_acted : (most : ℕ) (footing : Footing) (command : Command (List ℕ)) (pending : Pending Names) (s : Session) → Named most s → name_len command ≤ most
     → Within most (act footing command pending s)
-within_acted most footing (command.User name) pending s k short = within_named most (open_root footing.accounts name) name s short
+within_acted most footing (command.User name) pending s k short = within_named most (open_account footing.accounts name) name s short
 within_acted most footing (command.Pass word) pending s k short = within_pass most s.access footing.accounts word s k
 within_acted most footing (command.Acct text) pending s k short = k
 within_acted most footing (command.Cwd text) pending s k short = within_performs most (Ops.ChangeDir text) (Replies.Fixed Texts.Done) s k

@@ -11,3 +11,5 @@ pub mod PartLemmas
 pub mod HeardLemmas
 pub mod RootTheorems
 pub mod CopyLemmas
+pub mod LookTurns
+pub mod LookLemmas

@@ -14,21 +14,21 @@ use Rattle.ftp_ends.specs.Link.{is_v6}
 use Rattle.ftp_path.specs.Path.{Names}
 use Rattle.ftp_operation.specs.declared.op.Op.{Op}
 use Rattle.ftp_operation.specs.declared.op.Op.TheVariants as Ops
-use Rattle.ftp_operation.specs.Account.{login_root}
-use Rattle.ftp_direct.specs.Direct.{refusal, done, limited, refused_name, is_directory}
+use Rattle.ftp_operation.specs.Account.{Account, login_account}
+use Rattle.ftp_direct.specs.Direct.{refusal, barred_put, done, or_refused, is_directory}
 use Rattle.ftp_direct.specs.declared.refusal.Refusal.{Refusal}
-use Rattle.ftp_tree.specs.Tree.{moved, node_at, octets_or_none, rename_refusal}
+use Rattle.ftp_tree.specs.Tree.{moved, node_at, octets_or_none}
 use Rattle.ftp_server_model.specs.Act.{act, decided, forgets, is_allowed, is_transfer}
 use Rattle.ftp_server_model.specs.Ask.{size, has_size, or_empty}
 use Rattle.ftp_server_model.specs.Endpoint.{forgotten, disconnected, is_taken, takes, port, asks, pasv, epsv}
 use Rattle.ftp_server_model.specs.Entries.{option_facts}
-use Rattle.ftp_server_model.specs.Login.{admits, open_root, user_named, checked, pass}
+use Rattle.ftp_server_model.specs.Login.{admits, open_account, user_named, checked, pass}
 use Rattle.ftp_server_model.specs.Machine.{Ending, is_over, put_in, installs, at_break, at_end}
 use Rattle.ftp_server_model.specs.Replies.{Turn, tells}
 use Rattle.ftp_server_model.specs.Setting.{choose, is_utf8_on, opts}
 use Rattle.ftp_server_model.specs.Transfer.{rests, begin, transfer_starts, place_of, stor_at, appe_at, refused_to_hold}
 use Rattle.ftp_server_model.specs.View.{Accounts, Footing, Session, Transfer, direct_of, as_direct, how_in_force, seen, with_seen}
-use Rattle.ftp_server_model.specs.Walk.{unless, path_of, performs, refused_source, rnto}
+use Rattle.ftp_server_model.specs.Walk.{unless, path_of, performs, refused_source, refused_target, rnto}
 use Rattle.ftp_server_model.specs.declared.heard.HeardLine.{HeardLine}
 use Rattle.ftp_server_model.specs.declared.heard.HeardLine.TheVariants.{TooLong, Bad, Asks}
 use Rattle.ftp_server_model.specs.declared.reply.FixedReply.{FixedReply}
@@ -71,20 +71,20 @@ unless_short (Some why) s turn k short = k
 performs_short : (op : Op (List ℕ)) (kind : ReplyKind Names) (s : Session) → IsShortSession s → IsShortSession (as_direct (done (direct_of s) op 0).1 s) → IsShortTurn (performs op kind s)
 performs_short op kind s k short = unless_short (refusal (direct_of s) op) s (as_direct (done (direct_of s) op 0).1 s, kind) k short
 
-admits_short : (is : Bool) (root : Names) (s : Session) → IsShortSession s → IsShortTurn (admits is root s)
-admits_short true root s k = record { files = k.files; connection = k.connection }
-admits_short false root s k = record { files = k.files; connection = k.connection }
+admits_short : (is : Bool) (account : Account) (s : Session) → IsShortSession s → IsShortTurn (admits is account s)
+admits_short true account s k = record { files = k.files; connection = k.connection }
+admits_short false account s k = record { files = k.files; connection = k.connection }
 
-user_short : (root : Option Names) (name : List ℕ) (s : Session) → IsShortSession s → IsShortTurn (user_named root name s)
-user_short (Some root) name s k = admits_short (is_directory (node_at s.table root)) root s k
+user_short : (found : Option Account) (name : List ℕ) (s : Session) → IsShortSession s → IsShortTurn (user_named found name s)
+user_short (Some account) name s k = admits_short (is_directory (node_at s.table account.root)) account s k
 user_short None name s k = record { files = k.files; connection = k.connection }
 
-checked_short : (root : Option Names) (s : Session) → IsShortSession s → IsShortTurn (checked root s)
-checked_short (Some root) s k = admits_short (is_directory (node_at s.table root)) root s k
+checked_short : (found : Option Account) (s : Session) → IsShortSession s → IsShortTurn (checked found s)
+checked_short (Some account) s k = admits_short (is_directory (node_at s.table account.root)) account s k
 checked_short None s k = record { files = k.files; connection = k.connection }
 
 pass_short : (access : Access (List ℕ)) (accounts : Accounts) (word : List ℕ) (s : Session) → IsShortSession s → IsShortTurn (pass access accounts word s)
-pass_short (AwaitsPass name) accounts word s k = checked_short (login_root accounts name word) s k
+pass_short (AwaitsPass name) accounts word s k = checked_short (login_account accounts name word) s k
 pass_short Nobody accounts word s k = k
 pass_short Known accounts word s k = k
 
@@ -143,7 +143,7 @@ stor_short place path s few k = starts_short _ (Transfers.Upload path (unwrap_or
 
 appe_short : (path : Names) (s : Session) → IsShortSession s → IsShortTurn (appe_at path s)
 appe_short path s k =
-    starts_short (refused_to_hold s path) (Transfers.Upload path (length (octets_or_none (seen s) path)) (no_octets s.settings)) s (omega (arith, seen_short s.table s.root path k.files)) k
+    starts_short (or_refused (barred_put (direct_of s) path) (refused_to_hold s path)) (Transfers.Upload path (length (octets_or_none (seen s) path)) (no_octets s.settings)) s (omega (arith, seen_short s.table s.root path k.files)) k
 
 rests_short : (why : Option Refusal) (place : ℕ) (s : Session) → IsShortSession s → IsShortTurn (rests why place s)
 rests_short None place s k = record { files = k.files; connection = k.connection }
@@ -152,7 +152,7 @@ rests_short (Some why) place s k = k
 rnto_short : (pending : Pending Names) (text : List ℕ) (s : Session) → IsShortSession s → IsShortTurn (rnto pending text s)
 rnto_short (Pendings.Rename from) text s k =
     let to : Names = path_of s text in
-    unless_short (refused_name (limited to (rename_refusal (seen s) from to))) s (tells Texts.Done (with_seen (moved (seen s) from to) s)) k
+    unless_short (refused_target s from to) s (tells Texts.Done (with_seen (moved (seen s) from to) s)) k
     (record { files = renamed_short s.table s.root from to k.files; connection = k.connection })
 rnto_short Pendings.Nothing text s k = k
 rnto_short (Pendings.Restart place) text s k = k
@@ -165,7 +165,7 @@ size_short text s k =
 -- ---- all commands
 
 act_short : (footing : Footing) (c : Command (List ℕ)) (pending : Pending Names) (s : Session) → IsShortSession s → IsShortTurn (act footing c pending s)
-act_short footing (command.User name) pending s k = user_short (open_root footing.accounts name) name s k
+act_short footing (command.User name) pending s k = user_short (open_account footing.accounts name) name s k
 act_short footing (command.Pass word) pending s k = pass_short s.access footing.accounts word s k
 act_short footing (command.Acct text) pending s k = k
 act_short footing (command.Cwd text) pending s k = performs_short (Ops.ChangeDir text) (Replies.Fixed Texts.Done) s k (record { files = k.files; connection = k.connection })

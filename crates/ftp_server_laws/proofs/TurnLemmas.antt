@@ -9,10 +9,10 @@ use Rattle.ftp_command.specs.declared.command.Passive.TheVariants.{Any, Ipv4, Ip
 use Rattle.ftp_endpoint.specs.declared.endpoint.Endpoint.{Endpoint}
 use Rattle.ftp_ends.specs.Link.{is_v6}
 use Rattle.ftp_path.specs.Path.{Names, is_within}
-use Rattle.ftp_operation.specs.Account.{login_root}
+use Rattle.ftp_operation.specs.Account.{Account, login_account}
 use Rattle.ftp_operation.specs.declared.op.Op.{Op}
 use Rattle.ftp_operation.specs.declared.op.Op.TheVariants as Ops
-use Rattle.ftp_direct.specs.Direct.{refusal, done, limited, refused_name, is_directory}
+use Rattle.ftp_direct.specs.Direct.{refusal, barred, done, limited, or_refused, refused_name, is_directory}
 use Rattle.ftp_direct.specs.declared.refusal.Refusal.{Refusal}
 use Rattle.ftp_tree.proofs.PartLemmas.{part-stays, part-taken}
 use Rattle.ftp_tree.specs.Tree.{Table, made, removed, moved, node_at, rename_refusal, under}
@@ -20,14 +20,14 @@ use Rattle.ftp_server_model.specs.Act.{act, decided, forgets, is_allowed, is_in,
 use Rattle.ftp_server_model.specs.Ask.{size, mdtm, mlst, has_size, or_empty, size_of}
 use Rattle.ftp_server_model.specs.Endpoint.{forgotten, is_taken, takes, port, asks, pasv, epsv}
 use Rattle.ftp_server_model.specs.Entries.{option_facts}
-use Rattle.ftp_server_model.specs.Login.{logged_out, logs_in, admits, open_root, user_named, checked, pass}
+use Rattle.ftp_server_model.specs.Login.{logged_out, logs_in, admits, open_account, user_named, checked, pass}
 use Rattle.ftp_server_model.specs.Machine.{is_transferring}
 use Rattle.ftp_server_model.specs.Play.{only_at}
 use Rattle.ftp_server_model.specs.Replies.{Turn, said_octets, tells}
 use Rattle.ftp_server_model.specs.Setting.{choose, is_utf8_on, opts}
 use Rattle.ftp_server_model.specs.Transfer.{rests, begin, transfer_starts, place_of, retr, retr_at, stor, stor_at, appe, appe_at, list, nlst, mlsd}
 use Rattle.ftp_server_model.specs.View.{Accounts, Footing, Session, Transfer, direct_of, as_direct, how_in_force, seen, with_seen}
-use Rattle.ftp_server_model.specs.Walk.{unless, path_of, performs, refused_source, rnfr, renames, rnto}
+use Rattle.ftp_server_model.specs.Walk.{unless, path_of, performs, refused_source, refused_target, rnfr, renames, rnto}
 use Rattle.ftp_server_model.specs.declared.heard.HeardLine.{HeardLine}
 use Rattle.ftp_server_model.specs.declared.heard.HeardLine.TheVariants.{TooLong, Bad, Asks}
 use Rattle.ftp_server_model.specs.declared.reply.FixedReply.{FixedReply}
@@ -204,8 +204,8 @@ rnfr_own text s =
 
 renames_own : (from to : Names) (s : Session) → OwnTurn s (renames from to s) (renames from to (at s.root s))
 renames_own from to s =
-    unless_own (refused_name (limited to (rename_refusal (seen s) from to))) (refused_name (limited to (rename_refusal (seen (at s.root s)) from to))) s _ _
-    (ap (λ part. refused_name (limited to (rename_refusal part from to))) (seen_at s))
+    unless_own (refused_target s from to) (refused_target (at s.root s) from to) s _ _
+    (ap (λ part. or_refused (barred s.rights.rename) (refused_name (limited to (rename_refusal part from to)))) (seen_at s))
     (changes s (moved (seen s) from to) (moved (seen (at s.root s)) from to) _ (ap (λ part. moved part from to) (seen_at s)) tt)
 
 rnto_own : (pending : Pending Names) (text : List ℕ) (s : Session) → OwnTurn s (rnto pending text s) (rnto pending text (at s.root s))
@@ -244,38 +244,38 @@ free : (root : Names) (s new : Session) (kind : ReplyKind Names) → new.table �
 free root s new kind same other calm = told root s new kind same other (λ is. absurd (true≢false (sym is ∙ calm)))
 
 -- a login to another root than this is refused where nothing else stands
-logs_at : (top root : Names) (s : Session) → is_transferring s.connection ≡ false → IsIn root (logs_in top s).0 → TurnAt root s (logs_in top s) (logs_in top (at root s))
-logs_at top root s calm is_in = by_node (is_directory (node_at s.table top)) refl is_in
+logs_at : (account : Account) (root : Names) (s : Session) → is_transferring s.connection ≡ false → IsIn root (logs_in account s).0 → TurnAt root s (logs_in account s) (logs_in account (at root s))
+logs_at account root s calm is_in = by_node (is_directory (node_at s.table account.root)) refl is_in
   where
-    admitted : (b : Bool) → TurnAt root s (admits b top s) (admits b top (at root s))
-    admitted true = free root s (record s { access = Known; root = top; cwd = [] }) _ refl tt calm
+    admitted : (b : Bool) → TurnAt root s (admits b account s) (admits b account (at root s))
+    admitted true = free root s (record s { access = Known; root = account.root; rights = account.rights; cwd = [] }) _ refl tt calm
     admitted false = free root s (logged_out s) _ refl tt calm
 
-    there : (b : Bool) → is_within root top ≡ b → is_directory (node_at s.table top) ≡ false → is_directory (node_at (only_at root s.table) top) ≡ false
-    there true inside is = ap is_directory (inside_at s.table root top inside) ∙ is
-    there false out is = ap is_directory (outside_at s.table root top out)
+    there : (b : Bool) → is_within root account.root ≡ b → is_directory (node_at s.table account.root) ≡ false → is_directory (node_at (only_at root s.table) account.root) ≡ false
+    there true inside is = ap is_directory (inside_at s.table root account.root inside) ∙ is
+    there false out is = ap is_directory (outside_at s.table root account.root out)
 
-    by_node : (b : Bool) → is_directory (node_at s.table top) ≡ b → IsIn root (admits b top s).0 → TurnAt root s (admits b top s) (admits (is_directory (node_at (only_at root s.table) top)) top (at root s))
+    by_node : (b : Bool) → is_directory (node_at s.table account.root) ≡ b → IsIn root (admits b account s).0 → TurnAt root s (admits b account s) (admits (is_directory (node_at (only_at root s.table) account.root)) account (at root s))
     by_node true is known =
-        let same : top ≡ root = known refl in
-        let inside : is_within root top ≡ true = ap (is_within root) same ∙ within_itself root in
-        let found : is_directory (node_at (only_at root s.table) top) ≡ true = ap is_directory (inside_at s.table root top inside) ∙ is in
-        subst (λ b. TurnAt root s (admits true top s) (admits b top (at root s))) (sym found) (admitted true)
+        let same : account.root ≡ root = known refl in
+        let inside : is_within root account.root ≡ true = ap (is_within root) same ∙ within_itself root in
+        let found : is_directory (node_at (only_at root s.table) account.root) ≡ true = ap is_directory (inside_at s.table root account.root inside) ∙ is in
+        subst (λ b. TurnAt root s (admits true account s) (admits b account (at root s))) (sym found) (admitted true)
     by_node false is known =
-        subst (λ b. TurnAt root s (admits false top s) (admits b top (at root s))) (sym (there (is_within root top) refl is)) (admitted false)
+        subst (λ b. TurnAt root s (admits false account s) (admits b account (at root s))) (sym (there (is_within root account.root) refl is)) (admitted false)
 
-user_at : (found : Option Names) (name : List ℕ) (root : Names) (s : Session) → is_transferring s.connection ≡ false → IsIn root (user_named found name s).0
+user_at : (found : Option Account) (name : List ℕ) (root : Names) (s : Session) → is_transferring s.connection ≡ false → IsIn root (user_named found name s).0
     → TurnAt root s (user_named found name s) (user_named found name (at root s))
-user_at (Some top) name root s calm is_in = logs_at top root s calm is_in
+user_at (Some account) name root s calm is_in = logs_at account root s calm is_in
 user_at None name root s calm is_in = free root s (record (logged_out s) { access = AwaitsPass name }) _ refl tt calm
 
-checked_at : (found : Option Names) (root : Names) (s : Session) → is_transferring s.connection ≡ false → IsIn root (checked found s).0 → TurnAt root s (checked found s) (checked found (at root s))
-checked_at (Some top) root s calm is_in = logs_at top root s calm is_in
+checked_at : (found : Option Account) (root : Names) (s : Session) → is_transferring s.connection ≡ false → IsIn root (checked found s).0 → TurnAt root s (checked found s) (checked found (at root s))
+checked_at (Some account) root s calm is_in = logs_at account root s calm is_in
 checked_at None root s calm is_in = free root s (logged_out s) _ refl tt calm
 
 pass_at : (access : Access (List ℕ)) (accounts : Accounts) (word : List ℕ) (root : Names) (s : Session) → is_transferring s.connection ≡ false
     → IsIn root (pass access accounts word s).0 → TurnAt root s (pass access accounts word s) (pass access accounts word (at root s))
-pass_at (AwaitsPass name) accounts word root s calm is_in = checked_at (login_root accounts name word) root s calm is_in
+pass_at (AwaitsPass name) accounts word root s calm is_in = checked_at (login_account accounts name word) root s calm is_in
 pass_at Nobody accounts word root s calm is_in = free root s s _ refl tt calm
 pass_at Known accounts word root s calm is_in = free root s s _ refl tt calm
 
@@ -298,7 +298,7 @@ ActsAt footing pending root s c =
     → TurnAt root s (act footing c pending s) (act footing c pending (at root s))
 
 act_at : (footing : Footing) (pending : Pending Names) (root : Names) (s : Session) (c : Command (List ℕ)) → ActsAt footing pending root s c
-act_at footing pending root s (command.User name) here calm may known = user_at (open_root footing.accounts name) name root s calm known
+act_at footing pending root s (command.User name) here calm may known = user_at (open_account footing.accounts name) name root s calm known
 act_at footing pending root s (command.Pass word) here calm may known = pass_at s.access footing.accounts word root s calm known
 act_at footing pending root s (command.Acct text) here calm may known = at_own root s _ (λ r. tells Texts.NotNeeded (at r s)) (here may) (tells_own Texts.NotNeeded s)
 act_at footing pending root s (command.Cwd text) here calm may known =
@@ -428,24 +428,24 @@ rests_begins (Some why) place s = inl (refl, refl)
 
 rnto_begins : (pending : Pending Names) (text : List ℕ) (s : Session) → Begins s (rnto pending text s).0
 rnto_begins (Pendings.Rename from) text s =
-    unless_begins (refused_name (limited (path_of s text) (rename_refusal (seen s) from (path_of s text)))) s (tells Texts.Done (with_seen (moved (seen s) from (path_of s text)) s)) (inl (refl, refl))
+    unless_begins (refused_target s from (path_of s text)) s (tells Texts.Done (with_seen (moved (seen s) from (path_of s text)) s)) (inl (refl, refl))
 rnto_begins Pendings.Nothing text s = inl (refl, refl)
 rnto_begins (Pendings.Restart place) text s = inl (refl, refl)
 
-admits_begins : (is : Bool) (root : Names) (s : Session) → is_transferring s.connection ≡ false → Begins s (admits is root s).0
-admits_begins true root s calm = inr calm
-admits_begins false root s calm = inr calm
+admits_begins : (is : Bool) (account : Account) (s : Session) → is_transferring s.connection ≡ false → Begins s (admits is account s).0
+admits_begins true account s calm = inr calm
+admits_begins false account s calm = inr calm
 
-user_begins : (found : Option Names) (name : List ℕ) (s : Session) → is_transferring s.connection ≡ false → Begins s (user_named found name s).0
-user_begins (Some root) name s calm = admits_begins (is_directory (node_at s.table root)) root s calm
+user_begins : (found : Option Account) (name : List ℕ) (s : Session) → is_transferring s.connection ≡ false → Begins s (user_named found name s).0
+user_begins (Some account) name s calm = admits_begins (is_directory (node_at s.table account.root)) account s calm
 user_begins None name s calm = inr calm
 
-checked_begins : (found : Option Names) (s : Session) → is_transferring s.connection ≡ false → Begins s (checked found s).0
-checked_begins (Some root) s calm = admits_begins (is_directory (node_at s.table root)) root s calm
+checked_begins : (found : Option Account) (s : Session) → is_transferring s.connection ≡ false → Begins s (checked found s).0
+checked_begins (Some account) s calm = admits_begins (is_directory (node_at s.table account.root)) account s calm
 checked_begins None s calm = inr calm
 
 pass_begins : (access : Access (List ℕ)) (accounts : Accounts) (word : List ℕ) (s : Session) → is_transferring s.connection ≡ false → Begins s (pass access accounts word s).0
-pass_begins (AwaitsPass name) accounts word s calm = checked_begins (login_root accounts name word) s calm
+pass_begins (AwaitsPass name) accounts word s calm = checked_begins (login_account accounts name word) s calm
 pass_begins Nobody accounts word s calm = inl (refl, refl)
 pass_begins Known accounts word s calm = inl (refl, refl)
 
@@ -454,7 +454,7 @@ choose_begins (Some facts) s = inl (refl, refl)
 choose_begins None s = inl (refl, refl)
 
 act_begins : (footing : Footing) (c : Command (List ℕ)) (pending : Pending Names) (s : Session) → is_transferring s.connection ≡ false → Begins s (act footing c pending s).0
-act_begins footing (command.User name) pending s calm = user_begins (open_root footing.accounts name) name s calm
+act_begins footing (command.User name) pending s calm = user_begins (open_account footing.accounts name) name s calm
 act_begins footing (command.Pass word) pending s calm = pass_begins s.access footing.accounts word s calm
 act_begins footing (command.Acct text) pending s calm = inl (refl, refl)
 act_begins footing (command.Cwd text) pending s calm = performs_begins (Ops.ChangeDir text) (Replies.Fixed Texts.Done) s

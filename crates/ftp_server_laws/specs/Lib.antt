@@ -3,3 +3,4 @@ pub mod Small
 pub mod Laws
 pub mod Losses
 pub mod Apart
+pub mod Lookers

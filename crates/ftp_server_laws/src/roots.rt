@@ -1,6 +1,7 @@
-//! What an account's root keeps apart: functions that do nothing, whose contracts are laws.
+//! What an account's root keeps apart, and what an account without rights leaves as it is: functions that do nothing, whose contracts are laws.
 ghost use Rattle.ftp_server_model.specs.Play.{RootsAreApart};
 ghost use Rattle.ftp_server_laws.specs.Apart.{CallsStayApart, CopiesLookAlike, StartsAreCopies};
+ghost use Rattle.ftp_server_laws.specs.Lookers.{CallsOnlyLook, LookersLeaveTheMap};
 
 /// Whatever is called, hostile octets too: where each login that succeeds is to one root, nothing outside of it changes, and what the calls
 /// give is what they give of the part of the map at and below it.
@@ -14,4 +15,10 @@ pub fn calls_stay_apart()
     ensures start { StartsAreCopies }
     ensures calls { CallsStayApart }
     ensures alike { CopiesLookAlike }
+{}
+
+/// Where no account has a right to change, the map stays as it is, whatever is called, hostile octets too.
+pub fn lookers_leave_the_map()
+    ensures calls { CallsOnlyLook }
+    ensures always { LookersLeaveTheMap }
 {}

@@ -64,6 +64,7 @@ text_short Texts.NotNeeded = omega arith
 text_short Texts.Done = omega arith
 text_short Texts.NewName = omega arith
 text_short Texts.Refused = omega arith
+text_short Texts.NotAllowed = omega arith
 text_short Texts.NameRefused = omega arith
 text_short Texts.NoRoom = omega arith
 text_short Texts.TooMuch = omega arith

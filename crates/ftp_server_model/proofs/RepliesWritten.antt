@@ -133,6 +133,7 @@ fixed_written Texts.NotNeeded = fixed 202 (codes "Not needed") (omega arith) (om
 fixed_written Texts.Done = fixed 250 (codes "Done") (omega arith) (omega arith) refl (omega arith)
 fixed_written Texts.NewName = fixed 350 (codes "Ready for the new name") (omega arith) (omega arith) refl (omega arith)
 fixed_written Texts.Refused = fixed 550 (codes "Refused") (omega arith) (omega arith) refl (omega arith)
+fixed_written Texts.NotAllowed = fixed 550 (codes "The account may not do that") (omega arith) (omega arith) refl (omega arith)
 fixed_written Texts.NameRefused = fixed 553 (codes "Name refused") (omega arith) (omega arith) refl (omega arith)
 fixed_written Texts.NoRoom = fixed 452 (codes "No room") (omega arith) (omega arith) refl (omega arith)
 fixed_written Texts.TooMuch = fixed 552 (codes "Too much") (omega arith) (omega arith) refl (omega arith)

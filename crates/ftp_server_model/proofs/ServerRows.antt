@@ -6,7 +6,8 @@ use Rattle.ftp_settings.specs.declared.representation.Kind.TheVariants as Kinds
 use Rattle.ftp_settings.specs.declared.representation.Structure.TheVariants as Structures
 use Rattle.ftp_settings.specs.Representation.{defaults}
 use Rattle.ftp_command.specs.declared.command.Passive.TheVariants as Families
-use Rattle.ftp_operation.specs.Account.{login_root}
+use Rattle.ftp_operation.specs.Account.{Account, login_account}
+use Rattle.ftp_operation.specs.Rights.{all_rights}
 use Rattle.ftp_direct.specs.declared.refusal.Refusal.{Refusal}
 use Rattle.ftp_direct.specs.Direct.{entries_in, entry_at, listed as listed_entry, is_directory, names_for, refusal, refused_file, file_of, place_in, or_refused, refused_there}
 use Rattle.ftp_operation.specs.declared.op.Op.TheVariants as Ops
@@ -32,29 +33,36 @@ use Rattle.ftp_server_model.specs.declared.session.Transfer.TheVariants as Trans
 use Rattle.ftp_server_model.proofs.RowNumbers.{of_0, of_1, of_2, of_3, of_5, of_1930, six_is}
 
 pub login : LoginAnswered
-unfolding obeyed login_root
+unfolding obeyed login_account
 login table root dir = rw dir refl
 
 pub open_login : OpenLogin
 unfolding obeyed
 open_login table root dir = rw dir refl
 
--- a login to an account with this root, by whether that is a directory
-abbrev pub entering : Bool → Names → View → View
-entering is_there root v = completed (turned (admits is_there root v.session) v)
+-- a login to an account, by whether its root is a directory
+abbrev pub entering : Bool → Account → View → View
+entering is_there account v = completed (turned (admits is_there account v.session) v)
+
+-- the two accounts of the rows
+abbrev pub guest : Names → Account
+guest root = record { user = codes "guest"; pass = Some (codes "secret"); root = root; rights = all_rights }
+
+abbrev pub anonymous : Names → Account
+anonymous root = record { user = codes "anonymous"; pass = None; root = root; rights = all_rights }
 
 pub missing_root : RootMissing
-unfolding obeyed login_root
+unfolding obeyed login_account
 missing_root table root none =
     let absent : is_directory (node_at table root) ≡ false = ap is_directory none in
     let v : View = server table root [] in
     let rest : List RowEvent = asks (command.Pass (codes "secret")) ∷ asks command.Pwd ∷ [] in
-    let w : View = after_events (asks (command.User (codes "guest")) ∷ []) (entering false root v) in
-    ap (λ b. (after_events (asks (command.User (codes "guest")) ∷ rest) (entering b root v)).owed) absent
-    ∙ ap (λ b. (after_events (asks command.Pwd ∷ []) (entering b root w)).owed) absent
+    let w : View = after_events (asks (command.User (codes "guest")) ∷ []) (entering false (anonymous root) v) in
+    ap (λ b. (after_events (asks (command.User (codes "guest")) ∷ rest) (entering b (anonymous root) v)).owed) absent
+    ∙ ap (λ b. (after_events (asks command.Pwd ∷ []) (entering b (guest root) w)).owed) absent
 
 pub wrong_password : WrongPassword
-unfolding obeyed login_root
+unfolding obeyed login_account
 wrong_password table root = refl
 
 pub order : OrderOfDecisions

@@ -5,6 +5,7 @@ use Rattle.ftp_command.specs.declared.command.Command.TheVariants as command
 use Rattle.ftp_settings.specs.declared.representation.Kind.TheVariants as Kinds
 use Rattle.ftp_settings.specs.declared.representation.Mode.TheVariants as Modes
 use Rattle.ftp_direct.specs.declared.refusal.Refusal.{Refusal}
+use Rattle.ftp_operation.specs.Rights.{all_rights}
 use Rattle.ftp_direct.specs.Direct.{or_refused, place_in, refused_name}
 use Rattle.ftp_path.specs.Path.{resolved, fits, text_of, Names}
 use Rattle.ftp_tree.specs.Tree.{Table, File, node_at, octets_at, octets_or_none, room_refusal, room_at, installed, under}
@@ -57,6 +58,7 @@ uploads place settings connection closing = record {
   table = place.0;
   access = Accesses.Known;
   root = place.1;
+  rights = all_rights;
   cwd = [];
   pending = Pendings.Nothing;
   settings = settings;

@@ -1,7 +1,7 @@
 -- What each line keeps within limits: a lemma for each definition that makes a turn, and one for each verb.
 use Rattle.std.proofs.Common.{◌≡◌, ℕ, ◌<◌, ◌^◌, inl, inr, List, [], ◌∷◌, Bool, true, false, Option, Some, None, refl, sym, ap, subst, ◌∙◌, length}
 use Rattle.std.specs.Prelude.{if◌then◌else◌, ◌==◌}
-use Rattle.std.specs.Option.{option_map, unwrap_or}
+use Rattle.std.specs.Option.{unwrap_or}
 use Rattle.std.specs.List.{find, list_all}
 use Rattle.std.proofs.lemmas.Bool.{and_parts, cond_both, ltb-true}
 use Rattle.ftp_command.specs.Argument.{IsName, SaysPathOrNone}
@@ -16,28 +16,28 @@ use Rattle.ftp_command.specs.declared.command.Passive.TheVariants.{Any, Ipv4, Ip
 use Rattle.ftp_endpoint.specs.declared.endpoint.Endpoint.{Endpoint}
 use Rattle.ftp_ends.specs.Link.{is_v6}
 use Rattle.ftp_path.specs.Path.{IsPathText, Names, fits, resolved, text_of as path_text}
-use Rattle.ftp_operation.specs.Account.{Account, login_root}
+use Rattle.ftp_operation.specs.Account.{Account, login_account}
 use Rattle.ftp_operation.specs.declared.op.Op.{Op}
 use Rattle.ftp_operation.specs.declared.op.Op.TheVariants as Ops
 use Rattle.ftp_operation.specs.Operation.{is_number}
-use Rattle.ftp_direct.specs.Direct.{State, refusal, done, limited, refused_there, refused_room, refused_name, refused_number, or_refused, place, named_or_here, is_directory}
+use Rattle.ftp_direct.specs.Direct.{State, refusal, done, barred, limited, refused_there, refused_room, refused_number, or_refused, place, named_or_here, is_directory}
 use Rattle.ftp_direct.specs.declared.refusal.Refusal.{Refusal}
 use Rattle.ftp_direct.specs.declared.refusal.Refusal.TheVariants as Refusals
-use Rattle.ftp_tree.specs.Tree.{moved, node_at, rename_refusal}
+use Rattle.ftp_tree.specs.Tree.{moved, node_at}
 use Rattle.ftp_tree.specs.declared.fault.TreeFault.{TreeFault}
 use Rattle.ftp_tree.specs.declared.fault.TreeFault.TheVariants as Faults
 use Rattle.ftp_server_model.specs.Act.{act, forgets, is_allowed, is_transfer, fault_text}
 use Rattle.ftp_server_model.specs.Ask.{size, mlst, has_size, size_of, stamp_of, or_empty}
 use Rattle.ftp_server_model.specs.Endpoint.{forgotten, is_taken, takes, port, asks, pasv, epsv}
 use Rattle.ftp_server_model.specs.Entries.{option_facts}
-use Rattle.ftp_server_model.specs.Login.{logged_out, admits, is_open, open_root, user_named, checked, pass, rein, quit}
+use Rattle.ftp_server_model.specs.Login.{logged_out, admits, is_open, open_account, user_named, checked, pass, rein, quit}
 use Rattle.ftp_server_model.specs.Machine.{is_connection_busy}
 use Rattle.ftp_server_model.specs.Replies.{Turn, IsTold, tells}
 use Rattle.ftp_server_model.specs.Setting.{choose, is_utf8_on, opts}
 use Rattle.ftp_server_model.specs.Told.{is_path, CanBeSaid, ReadCanBeHeard, PendingKeeps, TransferKeeps, ConnectionKeeps, Keeps, AreWithinLimits, TurnKeeps, LineKeeps}
 use Rattle.ftp_server_model.specs.Transfer.{rests, begin, transfer_starts, stor_at, appe_at, refused_to_hold, place_of}
 use Rattle.ftp_server_model.specs.View.{Accounts, Footing, Session, Transfer, direct_of, as_direct, how_in_force, seen, with_seen}
-use Rattle.ftp_server_model.specs.Walk.{unless, path_of, performs, refused_source, rnto}
+use Rattle.ftp_server_model.specs.Walk.{unless, path_of, performs, refused_source, refused_target, rnto}
 use Rattle.ftp_server_model.specs.declared.heard.HeardLine.TheVariants.{TooLong, Bad, Asks}
 use Rattle.ftp_server_model.specs.declared.reply.FixedReply.{FixedReply}
 use Rattle.ftp_server_model.specs.declared.reply.FixedReply.TheVariants as Texts
@@ -91,9 +91,10 @@ logged_out_keeps : (s : Session) → Keeps s → Keeps (logged_out s)
 unfolding fits path_text
 logged_out_keeps s k = record { access = tt; root = refl; cwd = refl; pending = k.pending; connection = k.connection }
 
-enters_keeps : (root : Names) (s : Session) → fits root ≡ true → Keeps s → Keeps (record s { access = Known; root = root; cwd = [] })
+enters_keeps : (account : Account) (s : Session) → fits account.root ≡ true → Keeps s
+    → Keeps (record s { access = Known; root = account.root; rights = account.rights; cwd = [] })
 unfolding fits path_text
-enters_keeps root s within k = record { access = tt; root = within; cwd = refl; pending = k.pending; connection = k.connection }
+enters_keeps account s within k = record { access = tt; root = within; cwd = refl; pending = k.pending; connection = k.connection }
 
 moved_keeps : (state : State) (s : Session) → is_path state.cwd ≡ true → Keeps s → Keeps (as_direct state s)
 moved_keeps state s led k = record { access = k.access; root = k.root; cwd = led; pending = k.pending; connection = k.connection }
@@ -132,38 +133,40 @@ led s text k is within = is_path-led s.cwd text k.cwd is within
 
 -- ---- who is logged in
 
-admits_keeps : (is : Bool) (root : Names) (s : Session) → fits root ≡ true → Keeps s → TurnKeeps (admits is root s)
-admits_keeps true root s within k = tells_keeps Texts.LoggedIn _ (enters_keeps root s within k)
-admits_keeps false root s within k = tells_keeps Texts.LoginRefused _ (logged_out_keeps s k)
+admits_keeps : (is : Bool) (account : Account) (s : Session) → fits account.root ≡ true → Keeps s → TurnKeeps (admits is account s)
+admits_keeps true account s within k = tells_keeps Texts.LoggedIn _ (enters_keeps account s within k)
+admits_keeps false account s within k = tells_keeps Texts.LoginRefused _ (logged_out_keeps s k)
 
 -- the root of an account that is found is within the limits
-found_fits : (test : Account → Bool) (accounts : Accounts) (root : Names) → AreWithinLimits accounts → option_map (λ account. account.root) (find test accounts) ≡ Some root → fits root ≡ true
-found_fits test [] root within is = none_is_some (sym is)
-found_fits test (account ∷ accounts) root within is =
+found_fits : (test : Account → Bool) (accounts : Accounts) (found : Account) → AreWithinLimits accounts → find test accounts ≡ Some found → fits found.root ≡ true
+found_fits test [] found within is = none_is_some (sym is)
+found_fits test (account ∷ accounts) found within is =
     let both = and_parts (fits account.root) (list_all (λ account. fits account.root) accounts) within in
-    by_test (test account) both.0 (λ is. found_fits test accounts root both.1 is) is
+    by_test (test account) both.0 (λ is. found_fits test accounts found both.1 is) is
   where
-    by_test : (b : Bool) → fits account.root ≡ true → (option_map (λ account. account.root) (find test accounts) ≡ Some root → fits root ≡ true)
-        → option_map (λ account. account.root) (if b then Some account else find test accounts) ≡ Some root → fits root ≡ true
-    by_test true here below is = let same : account.root ≡ root = cc in ap fits (sym same) ∙ here
+    by_test : (b : Bool) → fits account.root ≡ true → (find test accounts ≡ Some found → fits found.root ≡ true)
+        → (if b then Some account else find test accounts) ≡ Some found → fits found.root ≡ true
+    by_test true here below is = let same : account ≡ found = cc in ap (λ (a : Account). fits a.root) (sym same) ∙ here
     by_test false here below is = below is
 
-user_by : (root : Option Names) (name : List ℕ) (s : Session) → ((path : Names) → root ≡ Some path → fits path ≡ true) → IsName name → Keeps s → TurnKeeps (user_named root name s)
-user_by (Some root) name s within is k = admits_keeps (is_directory (node_at s.table root)) root s (within root refl) k
+user_by : (found : Option Account) (name : List ℕ) (s : Session) → ((account : Account) → found ≡ Some account → fits account.root ≡ true) → IsName name → Keeps s
+    → TurnKeeps (user_named found name s)
+user_by (Some account) name s within is k = admits_keeps (is_directory (node_at s.table account.root)) account s (within account refl) k
 user_by None name s within is k =
     let out = logged_out_keeps s k in
     tells_keeps Texts.PasswordNeeded _ (record { access = is; root = out.root; cwd = out.cwd; pending = out.pending; connection = out.connection })
 
-checked_by : (root : Option Names) (s : Session) → ((path : Names) → root ≡ Some path → fits path ≡ true) → Keeps s → TurnKeeps (checked root s)
-checked_by (Some root) s within k = admits_keeps (is_directory (node_at s.table root)) root s (within root refl) k
+checked_by : (found : Option Account) (s : Session) → ((account : Account) → found ≡ Some account → fits account.root ≡ true) → Keeps s → TurnKeeps (checked found s)
+checked_by (Some account) s within k = admits_keeps (is_directory (node_at s.table account.root)) account s (within account refl) k
 checked_by None s within k = tells_keeps Texts.LoginRefused _ (logged_out_keeps s k)
 
-login_fits : (accounts : Accounts) (name word : List ℕ) (root : Names) → AreWithinLimits accounts → login_root accounts name word ≡ Some root → fits root ≡ true
-unfolding login_root
-login_fits accounts name word root within is = found_fits _ accounts root within is
+login_fits : (accounts : Accounts) (name word : List ℕ) (account : Account) → AreWithinLimits accounts → login_account accounts name word ≡ Some account
+    → fits account.root ≡ true
+unfolding login_account
+login_fits accounts name word account within is = found_fits _ accounts account within is
 
 pass_keeps : (access : Access (List ℕ)) (accounts : Accounts) (word : List ℕ) (s : Session) → AreWithinLimits accounts → Keeps s → TurnKeeps (pass access accounts word s)
-pass_keeps (AwaitsPass name) accounts word s within k = checked_by (login_root accounts name word) s (λ root is. login_fits accounts name word root within is) k
+pass_keeps (AwaitsPass name) accounts word s within k = checked_by (login_account accounts name word) s (λ account is. login_fits accounts name word account within is) k
 pass_keeps Nobody accounts word s within k = tells_keeps Texts.BadSequence s k
 pass_keeps Known accounts word s within k = tells_keeps Texts.BadSequence s k
 
@@ -227,10 +230,10 @@ starts_keeps (Some why) transfer s kept k = tells_keeps _ _ (forgotten_keeps s k
 
 stor_keeps : (place : Option ℕ) (path : Names) (s : Session) → Keeps s → TurnKeeps (stor_at place path s)
 stor_keeps place path s k =
-    starts_keeps _ (Transfers.Upload path (unwrap_or place 0) _) s (λ is. room_fits path _ (second_none _ (refused_to_hold s path) is)) k
+    starts_keeps _ (Transfers.Upload path (unwrap_or place 0) _) s (λ is. room_fits path _ (second_none _ (refused_to_hold s path) (second_none _ _ is))) k
 
 appe_keeps : (path : Names) (s : Session) → Keeps s → TurnKeeps (appe_at path s)
-appe_keeps path s k = starts_keeps (refused_to_hold s path) (Transfers.Upload path _ _) s (λ is. room_fits path _ is) k
+appe_keeps path s k = starts_keeps _ (Transfers.Upload path _ _) s (λ is. room_fits path _ (second_none _ (refused_to_hold s path) is)) k
 
 rests_keeps : (why : Option Refusal) (place : ℕ) (s : Session) → IsShort place → Keeps s → is_connection_busy s.connection ≡ false → TurnKeeps (rests why place s)
 rests_keeps None place s short k idle = says_keeps _ (Replies.Restarting place) (pending_keeps (Pendings.Restart place) s short k) idle short
@@ -242,7 +245,7 @@ rnto_keeps : (pending : Pending Names) (text : List ℕ) (s : Session) → Keeps
 rnto_keeps (Pendings.Rename from) text s k =
     let to : Names = path_of s text in
     let renamed : Session = with_seen (moved (seen s) from to) s in
-    unless_keeps (refused_name (limited to (rename_refusal (seen s) from to))) s (tells Texts.Done renamed) k
+    unless_keeps (refused_target s from to) s (tells Texts.Done renamed) k
     (λ is. tells_keeps Texts.Done renamed (record { access = k.access; root = k.root; cwd = k.cwd; pending = k.pending; connection = k.connection }))
 rnto_keeps Pendings.Nothing text s k = tells_keeps Texts.BadSequence s k
 rnto_keeps (Pendings.Restart place) text s k = tells_keeps Texts.BadSequence s k
@@ -278,7 +281,7 @@ mlst_keeps text s given k idle =
 act_keeps : (footing : Footing) (c : Command (List ℕ)) (pending : Pending Names) (s : Session) → AreWithinLimits footing.accounts → CanBeSaid c → PendingKeeps pending → Keeps s
     → is_connection_busy s.connection ≡ false → TurnKeeps (act footing c pending s)
 act_keeps footing (command.User name) pending s within said kept k idle =
-    user_by (open_root footing.accounts name) name s (λ root is. found_fits (is_open name) footing.accounts root within is) said k
+    user_by (open_account footing.accounts name) name s (λ account is. found_fits (is_open name) footing.accounts account within is) said k
 act_keeps footing (command.Pass word) pending s within said kept k idle = pass_keeps s.access footing.accounts word s within k
 act_keeps footing (command.Acct text) pending s within said kept k idle = tells_keeps Texts.NotNeeded s k
 act_keeps footing (command.Cwd text) pending s within said kept k idle =
@@ -304,7 +307,7 @@ act_keeps footing (command.Allo octets longest) pending s within said kept k idl
 act_keeps footing (command.Rest place) pending s within said kept k idle = rests_keeps _ place s said k idle
 act_keeps footing (command.Rnfr text) pending s within said kept k idle =
     unless_keeps (refused_source s (path_of s text)) s _ k
-    (λ is. tells_keeps Texts.NewName _ (pending_keeps (Pendings.Rename (path_of s text)) s (there_fits (path_of s text) _ is) k))
+    (λ is. tells_keeps Texts.NewName _ (pending_keeps (Pendings.Rename (path_of s text)) s (there_fits (path_of s text) _ (second_none (barred s.rights.rename) _ is)) k))
 act_keeps footing (command.Rnto text) pending s within said kept k idle = rnto_keeps pending text s k
 act_keeps footing command.Abor pending s within said kept k idle = tells_keeps Texts.AbortDone s k
 act_keeps footing (command.Dele text) pending s within said kept k idle =
@@ -313,7 +316,7 @@ act_keeps footing (command.Rmd text) pending s within said kept k idle =
     performs_keeps (Ops.RemoveDir text) (Replies.Fixed Texts.Done) s k idle (λ is. k.cwd) (λ is. tt)
 act_keeps footing (command.Mkd text) pending s within said kept k idle =
     performs_keeps (Ops.MakeDir text) (Replies.Made (path_of s text)) s k idle (λ is. k.cwd)
-    (λ is. is_path-text (path_of s text) (led s text k said (there_fits (path_of s text) _ is)))
+    (λ is. is_path-text (path_of s text) (led s text k said (there_fits (path_of s text) _ (second_none (barred s.rights.make_dir) _ is))))
 act_keeps footing command.Pwd pending s within said kept k idle = says_keeps s Replies.Here k idle (is_path-text s.cwd k.cwd)
 act_keeps footing (command.List text) pending s within said kept k idle = starts_keeps _ (Transfers.Listing _) s (λ is. tt) k
 act_keeps footing (command.Nlst text) pending s within said kept k idle = starts_keeps _ (Transfers.Listing _) s (λ is. tt) k

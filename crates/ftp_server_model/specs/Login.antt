@@ -1,7 +1,7 @@
 -- Who is logged in: USER, PASS, REIN, QUIT (RFC 959, sections 4.1.1 and 5.4).
 use Rattle.std.specs.Prelude.{ℕ, Bool, true, false, List, [], Option, Some, None}
-pub use Rattle.ftp_operation.specs.Account.{is_open, login_root, open_root}
-use Rattle.ftp_path.specs.Path.{Names}
+pub use Rattle.ftp_operation.specs.Account.{Account, is_open, login_account, open_account}
+use Rattle.ftp_operation.specs.Rights.{no_rights}
 use Rattle.ftp_tree.specs.Tree.{node_at}
 use Rattle.ftp_direct.specs.Direct.{is_directory}
 use Rattle.ftp_settings.specs.Representation.{defaults}
@@ -15,34 +15,34 @@ use Rattle.ftp_server_model.specs.declared.session.Life.TheVariants as Lives
 
 -- nobody is logged in
 abbrev pub logged_out : Session → Session
-logged_out s = record s { access = Nobody; root = []; cwd = [] }
+logged_out s = record s { access = Nobody; root = []; rights = no_rights; cwd = [] }
 
 -- a login is 230, and the root of its account is the current directory
-abbrev pub admits : Bool → Names → Session → Turn
-admits true root s = tells Texts.LoggedIn (record s { access = Known; root = root; cwd = [] })
-admits false root s = tells Texts.LoginRefused (logged_out s)
+abbrev pub admits : Bool → Account → Session → Turn
+admits true account s = tells Texts.LoggedIn (record s { access = Known; root = account.root; rights = account.rights; cwd = [] })
+admits false account s = tells Texts.LoginRefused (logged_out s)
 
 -- it is 530 where the root of its account is no directory (own choice)
-abbrev pub logs_in : Names → Session → Turn
-logs_in root s = admits (is_directory (node_at s.table root)) root s
+abbrev pub logs_in : Account → Session → Turn
+logs_in account s = admits (is_directory (node_at s.table account.root)) account s
 
 -- any name that needs a password, or that no account has, is asked for one (own choice)
-abbrev pub user_named : Option Names → List ℕ → Session → Turn
-user_named (Some root) name s = logs_in root s
+abbrev pub user_named : Option Account → List ℕ → Session → Turn
+user_named (Some account) name s = logs_in account s
 user_named None name s = tells Texts.PasswordNeeded (record (logged_out s) { access = AwaitsPass name })
 
 -- USER ends the login in force
 abbrev pub user : Accounts → List ℕ → Session → Turn
-user accounts name s = user_named (open_root accounts name) name s
+user accounts name s = user_named (open_account accounts name) name s
 
 -- 230 or 530; either way the USER that waited is used up
-abbrev pub checked : Option Names → Session → Turn
-checked (Some root) s = logs_in root s
+abbrev pub checked : Option Account → Session → Turn
+checked (Some account) s = logs_in account s
 checked None s = tells Texts.LoginRefused (logged_out s)
 
 -- PASS counts where a USER waits for it, and only once
 abbrev pub pass : Access (List ℕ) → Accounts → List ℕ → Session → Turn
-pass (AwaitsPass name) accounts word s = checked (login_root accounts name word) s
+pass (AwaitsPass name) accounts word s = checked (login_account accounts name word) s
 pass Nobody accounts word s = tells Texts.BadSequence s
 pass Known accounts word s = tells Texts.BadSequence s
 

@@ -11,6 +11,7 @@ use Rattle.ftp_command.specs.declared.command.Passive.TheVariants as Families
 use Rattle.ftp_endpoint.specs.declared.endpoint.Endpoint.{Endpoint}
 use Rattle.ftp_command.specs.declared.fault.CommandFault.TheVariants as Faults
 use Rattle.ftp_endpoint.specs.declared.host.Host.{Host}
+use Rattle.ftp_operation.specs.Rights.{all_rights}
 use Rattle.ftp_path.specs.Path.{Names}
 use Rattle.ftp_tree.specs.Tree.{Dir, File, Table, node_at, children, installed, made, moved, make_refusal, moves_fit, room_at, under, with_part}
 use Rattle.ftp_ends.specs.RowWords.{here, elsewhere, lines}
@@ -61,7 +62,9 @@ at host = record { host = host; port = 1930 }
 
 -- `guest` with a password and `anonymous` without one, both with this root
 abbrev pub accounts : Names → Accounts
-accounts root = record { user = codes "guest"; pass = Some (codes "secret"); root = root } ∷ record { user = codes "anonymous"; pass = None; root = root } ∷ []
+accounts root =
+    record { user = codes "guest"; pass = Some (codes "secret"); root = root; rights = all_rights }
+    ∷ record { user = codes "anonymous"; pass = None; root = root; rights = all_rights } ∷ []
 
 -- a server of a map, whatever it holds, after events
 abbrev pub server : Table → Names → List RowEvent → View
@@ -75,7 +78,7 @@ said_to_member texts = lines (codes "220 Ready" ∷ codes "230 Logged in" ∷ te
 abbrev pub logged_in : Table → Names → View
 logged_in table root =
     let v = start table (accounts root) here here in
-    record v { session = record v.session { access = Known; root = root }; owed = said_to_member [] }
+    record v { session = record v.session { access = Known; root = root; rights = all_rights }; owed = said_to_member [] }
 
 -- the same after events
 abbrev pub member : Table → Names → List RowEvent → View

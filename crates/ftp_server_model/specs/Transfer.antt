@@ -6,7 +6,7 @@ use Rattle.ftp_tree.specs.Tree.{octets_or_none, room_refusal, whenever}
 use Rattle.ftp_tree.specs.declared.fault.TreeFault.{TreeFault}
 use Rattle.ftp_tree.specs.declared.fault.TreeFault.TheVariants as Faults
 use Rattle.ftp_direct.specs.declared.refusal.Refusal.{Refusal}
-use Rattle.ftp_direct.specs.Direct.{refusal, refused_room, refused_name, refused_there, refused_file, limited, or_refused, offset_refusal, place_at, file_of, named_or_here}
+use Rattle.ftp_direct.specs.Direct.{refusal, barred_put, refused_room, refused_name, refused_there, refused_file, limited, or_refused, offset_refusal, place_at, file_of, named_or_here}
 use Rattle.ftp_operation.specs.declared.op.Op.TheVariants as Ops
 use Rattle.ftp_mode.specs.Block.{marked_text}
 use Rattle.ftp_mode.specs.Wire.{wire}
@@ -118,7 +118,7 @@ refused_to_hold s path = refused_room (limited path (room_refusal (seen s) path)
 -- STOR, after the octets before a place
 abbrev pub stor_at : Option ℕ → Names → Session → Turn
 stor_at place path s =
-    transfer_starts (or_refused (refused_name (misplaced place)) (refused_to_hold s path))
+    transfer_starts (or_refused (barred_put (direct_of s) path) (or_refused (refused_name (misplaced place)) (refused_to_hold s path)))
     (Transfers.Upload path (unwrap_or place 0) (no_octets s.settings)) s
 
 -- STOR, where REST put it
@@ -127,7 +127,9 @@ stor pending text s = stor_at (place_of pending (path_of s text) s) (path_of s t
 
 -- APPE: after all octets of the file there
 abbrev pub appe_at : Names → Session → Turn
-appe_at path s = transfer_starts (refused_to_hold s path) (Transfers.Upload path (length (octets_or_none (seen s) path)) (no_octets s.settings)) s
+appe_at path s =
+    transfer_starts (or_refused (barred_put (direct_of s) path) (refused_to_hold s path))
+    (Transfers.Upload path (length (octets_or_none (seen s) path)) (no_octets s.settings)) s
 
 -- APPE: a REST before it is of no matter
 abbrev pub appe : List ℕ → Session → Turn

@@ -7,7 +7,9 @@ pub use Rattle.ftp_command.specs.Line.{line_limit}
 use Rattle.ftp_tree.specs.Tree.{Table}
 use Rattle.ftp_direct.specs.Direct.{State, part, changed}
 use Rattle.ftp_operation.specs.Account.{Account}
+use Rattle.ftp_operation.specs.Rights.{no_rights}
 use Rattle.ftp_operation.specs.declared.op.How.{How}
+use Rattle.ftp_operation.specs.declared.rights.Rights.{Rights}
 use Rattle.ftp_settings.specs.Representation.{defaults}
 use Rattle.ftp_ends.specs.Ear.{Ear}
 use Rattle.ftp_wire.specs.Decoder.{Decoder}
@@ -24,7 +26,8 @@ use Rattle.ftp_server_model.specs.declared.session.ServerLink.{ServerLink}
 use Rattle.ftp_server_model.specs.declared.session.ServerLink.TheVariants as Data
 use Rattle.ftp_server_model.specs.declared.session.Transfer.{Transfer as TransferOf}
 
--- who may log in, each with the root of what he sees of the map (RFC 959, section 4.1.1; roots are an own choice)
+-- who may log in, each with the root of what he sees of the map and what he may change there (RFC 959, section 4.1.1; roots and rights are
+-- an own choice)
 abbrev pub Accounts : Type 0
 Accounts = List Account
 
@@ -39,12 +42,13 @@ pub record Footing : Type 0 where
 abbrev pub Transfer : Type 0
 Transfer = TransferOf Names Decoder (List ℕ) (List ℕ)
 
--- what commands and the data connection change: the whole map; who is logged in, the root of his account, and the current directory
--- below that root; what is pending for the next line; the settings; the data connection
+-- what commands and the data connection change: the whole map; who is logged in, the root of his account, what he may change, and the
+-- current directory below that root; what is pending for the next line; the settings; the data connection
 pub record Session : Type 0 where
   pub table : Table
   pub access : Access (List ℕ)
   pub root : Names
+  pub rights : Rights
   pub cwd : Names
   pub pending : Pending Names
   pub settings : Representation
@@ -72,6 +76,7 @@ first_session table = record {
   table = table;
   access = Accesses.Nobody;
   root = [];
+  rights = no_rights;
   cwd = [];
   pending = Pendings.Nothing;
   settings = defaults;
@@ -87,9 +92,9 @@ abbrev pub how_in_force : Representation → How
 how_in_force settings =
     record { representation = settings; marks = false; active = false; extended = false }
 
--- how the direct run sees the session of somebody who is logged in: the same map, root and current directory
+-- how the direct run sees the session of somebody who is logged in: the same map, root, current directory and rights
 abbrev pub direct_of : Session → State
-direct_of s = record { table = s.table; root = s.root; cwd = s.cwd; known = true }
+direct_of s = record { table = s.table; root = s.root; cwd = s.cwd; known = true; rights = s.rights }
 
 -- the session with the map and the current directory that the direct run leaves
 abbrev pub as_direct : State → Session → Session

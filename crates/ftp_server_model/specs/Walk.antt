@@ -5,7 +5,7 @@ use Rattle.ftp_path.specs.Path.{resolved, Names}
 use Rattle.ftp_tree.specs.Tree.{or_else, moved, source_refusal, rename_refusal}
 use Rattle.ftp_direct.specs.declared.refusal.Refusal.{Refusal}
 use Rattle.ftp_direct.specs.declared.refusal.Refusal.TheVariants as Refusals
-use Rattle.ftp_direct.specs.Direct.{refusal, done, refused_there, refused_name, limited, busy_refusal}
+use Rattle.ftp_direct.specs.Direct.{refusal, done, barred, or_refused, refused_there, refused_name, limited, busy_refusal}
 use Rattle.ftp_operation.specs.declared.op.Op.{Op}
 use Rattle.ftp_operation.specs.declared.op.Op.TheVariants as Ops
 use Rattle.ftp_server_model.specs.View.{Session, direct_of, as_direct, seen, with_seen}
@@ -25,6 +25,7 @@ refusal_text Refusals.BadArgument = Texts.BadArgument
 refusal_text Refusals.BadParameter = Texts.BadParameter
 refusal_text Refusals.NotLoggedIn = Texts.NotLoggedIn
 refusal_text Refusals.Unavailable = Texts.Refused
+refusal_text Refusals.NotAllowed = Texts.NotAllowed
 refusal_text Refusals.TooMuch = Texts.TooMuch
 refusal_text Refusals.BadName = Texts.NameRefused
 
@@ -62,18 +63,21 @@ rmd text s = performs (Ops.RemoveDir text) (Replies.Fixed Texts.Done) s
 abbrev pub dele : List ℕ → Session → Turn
 dele text s = performs (Ops.Delete text) (Replies.Fixed Texts.Done) s
 
--- RNFR, the first half of a rename: what it names stands, and the current directory is not at or below it
+-- RNFR, the first half of a rename: the account may rename, what it names stands, and the current directory is not at or below it
 abbrev pub refused_source : Session → Names → Option Refusal
-refused_source s from = refused_there (limited from (or_else (source_refusal (seen s) from) (busy_refusal (direct_of s) from)))
+refused_source s from =
+    or_refused (barred s.rights.rename) (refused_there (limited from (or_else (source_refusal (seen s) from) (busy_refusal (direct_of s) from))))
 
 -- RNFR: what it names is pending for the next line only
 abbrev pub rnfr : List ℕ → Session → Turn
 rnfr text s = unless (refused_source s (path_of s text)) s (tells Texts.NewName (record s { pending = Pendings.Rename (path_of s text) }))
 
--- RNTO, the second half, right after it
+-- RNTO, the second half, right after it, of an account that may rename
+abbrev pub refused_target : Session → Names → Names → Option Refusal
+refused_target s from to = or_refused (barred s.rights.rename) (refused_name (limited to (rename_refusal (seen s) from to)))
+
 abbrev pub renames : Names → Names → Session → Turn
-renames from to s =
-    unless (refused_name (limited to (rename_refusal (seen s) from to))) s (tells Texts.Done (with_seen (moved (seen s) from to) s))
+renames from to s = unless (refused_target s from to) s (tells Texts.Done (with_seen (moved (seen s) from to) s))
 
 -- RNTO: 503 where no RNFR stood right before it
 abbrev pub rnto : Pending Names → List ℕ → Session → Turn

@@ -22,6 +22,7 @@ pub enum FixedReply {
     Done,
     NewName,
     Refused,
+    NotAllowed,
     NameRefused,
     NoRoom,
     TooMuch,

@@ -32,6 +32,7 @@ pub fn fixed_line(text: FixedReply) -> &'static [u8]
         FixedReply::Done => b"250 Done\r\n",
         FixedReply::NewName => b"350 Ready for the new name\r\n",
         FixedReply::Refused => b"550 Refused\r\n",
+        FixedReply::NotAllowed => b"550 The account may not do that\r\n",
         FixedReply::NameRefused => b"553 Name refused\r\n",
         FixedReply::NoRoom => b"452 No room\r\n",
         FixedReply::TooMuch => b"552 Too much\r\n",

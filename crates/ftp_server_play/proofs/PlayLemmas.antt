@@ -10,14 +10,16 @@ use Rattle.ftp_server_model.specs.declared.counts.Counts.{Counts as Told}
 use Rattle.ftp_server_model.specs.Machine.{IsReading, Reading}
 use Rattle.ftp_server_model.specs.Play.{Cue, Gift, IsApart, LogsInAt, call, left_by, played}
 use Rattle.ftp_server_model.specs.View.{View}
+use Rattle.ftp_server_laws.proofs.LookLemmas.{lookers_leave_the_map}
 use Rattle.ftp_server_laws.proofs.RootTheorems.{roots_are_apart}
+use Rattle.ftp_server_model.proofs.LinesDecided.{reading_exists}
 use Rattle.ftp_server_play.proofs.CallLemmas.{makes_gives}
 use Rattle.ftp_server_play.proofs.CountLemmas.{calm_all}
 use Rattle.ftp_server_play.specs.Cues.{cue_of, cues_of, gift_of, gifts_of}
 use Rattle.ftp_server_play.specs.declared.cue.Cue.{Cue as Held}
 use Rattle.ftp_server_play.specs.declared.cue.Gift.{Gift as Given}
 use Rattle.ftp_server_play.specs.Making.{AreMade, ArePlayed, Makes, MakesNext}
-use Rattle.ftp_server_play.specs.Playing.{KeepsApart, PlaysAs, PlaysSome}
+use Rattle.ftp_server_play.specs.Playing.{KeepsApart, KeepsTheMap, PlaysAs, PlaysSome}
 
 -- ---- one more call
 
@@ -212,3 +214,12 @@ keeps_apart calm cues gifts old new plays = λ read table accounts here peer roo
           ap (λ (w : View). node_at w.session.table path) (plays.left read is all)
           ∙ ap (λ l. node_at (left_by read l old.view).session.table path) (sym (take_all calm cues (omega (arith, all)))) ∙ apart.outside path out,
     )
+
+-- ---- where nobody may change anything
+
+pub keeps_the_map : (calm : ℕ) (cues : List Cue) (gifts : List Gift) (old new : Server) → PlaysAs calm cues gifts old new → KeepsTheMap calm cues old new
+keeps_the_map calm cues gifts old new plays = λ table accounts here peer starts none all.
+    let read : Reading = reading_exists.0 in
+    ap (λ (v : View). v.session.table) (plays.left read reading_exists.1 all)
+    ∙ ap (λ (v : View). (left_by read cues v).session.table) starts
+    ∙ lookers_leave_the_map read table accounts here peer cues none

@@ -2,7 +2,7 @@
 ghost use Rattle.std.specs.Prelude.{◌≡◌, ◌≢◌, ◌<◌, ◌+◌, ◌^◌, ◌++◌, [], ◌∷◌, IfOk, OnErr, false, true, vec_capacity, vec_len};
 ghost use Rattle.ftp_server_play.specs.Cues.{cue_of, cues_of, gifts_of};
 ghost use Rattle.ftp_server_play.specs.Making.{ArePlayed, MakesNext};
-ghost use Rattle.ftp_server_play.specs.Playing.{KeepsApart, PlaysAs, PlaysSome};
+ghost use Rattle.ftp_server_play.specs.Playing.{KeepsApart, KeepsTheMap, PlaysAs, PlaysSome};
 
 use crate::calling::call;
 use crate::cue::{Cue, Gift, Played};
@@ -23,6 +23,9 @@ pub trait Plays<A: Allocator + Copy, T: Tree<A>>: Far<A, T> {
 
         // Where each login that succeeds is to one root, they keep the rest of the map apart.
         ensures apart { IfOk result (λ played. KeepsApart played.calm (cues_of cues.now) (gifts_of played.gifts.items) (Self.server self.old) (Self.server self.new)) }
+
+        // Where no account has a right to change, they leave the map as it was.
+        ensures looks { IfOk result (λ played. KeepsTheMap played.calm (cues_of cues.now) (Self.server self.old) (Self.server self.new)) }
         ensures begun { OnErr result (PlaysSome (cues_of cues.now) (Self.server self.old) (Self.server self.new)) };
 }
 

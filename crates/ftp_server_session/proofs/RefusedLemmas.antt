@@ -5,7 +5,8 @@ use Rattle.ftp_tree.specs.Change.{IsRefused}
 use Rattle.ftp_tree.specs.Tree.{Table, moved, rename_refusal, under}
 use Rattle.ftp_tree.specs.declared.fault.TreeFault.{TreeFault}
 use Rattle.ftp_tree.specs.declared.fault.TreeFault.TheVariants as Faults
-use Rattle.ftp_direct.specs.Direct.{limited, refused_name, refused_there}
+use Rattle.ftp_direct.specs.Direct.{barred, limited, or_refused, refused_name, refused_there}
+use Rattle.ftp_direct.specs.declared.refusal.Refusal.{Refusal}
 use Rattle.ftp_direct.specs.declared.refusal.Refusal.TheVariants as Refusals
 use Rattle.ftp_direct.proofs.RefusalLemmas.{NoDevice, there_some}
 use Rattle.ftp_server_model.specs.Replies.{Turn, tells}
@@ -45,6 +46,10 @@ tree_refused table failures view row old tree (Some why) fault text (Err Device)
 
 -- ---- the reply that is due
 
+-- of an account that may do it
+pub may_due : (s : Session) (turn row : Turn) (may : Bool) (why : Option Refusal) → may ≡ true → unless why s turn ≡ row → unless (or_refused (barred may) why) s turn ≡ row
+may_due s turn row may why is due = ap (λ b. unless (or_refused (barred b) why) s turn) is ∙ due
+
 -- by what stands there
 pub there_due : (s : Session) (turn : Turn) (named path : Names) (refusal : Names → Option TreeFault) (why : TreeFault) → path ≡ named → fits path ≡ true → refusal path ≡ Some why
     → unless (refused_there (limited named (refusal named))) s turn ≡ (s, Replies.Fixed Texts.Refused)
@@ -63,6 +68,7 @@ name_due s turn named path refusal why is fit e =
     ap (λ r. unless r s turn) (name_some (fits named) (refusal named) (ap fits (sym is) ∙ fit) (ap (λ p. is_some (refusal p)) (sym is) ∙ ap is_some e))
 
 pub rename_due : (s : Session) (from to : Names) (text : List ℕ) (why : TreeFault) → to ≡ resolved s.cwd text → fits to ≡ true → rename_refusal (seen s) from to ≡ Some why
-    → renames from (path_of s text) s ≡ (s, Replies.Fixed Texts.NameRefused)
-rename_due s from to text why is fit e =
-    name_due s (tells Texts.Done (with_seen (moved (seen s) from (path_of s text)) s)) (path_of s text) to (rename_refusal (seen s) from) why is fit e
+    → s.rights.rename ≡ true → renames from (path_of s text) s ≡ (s, Replies.Fixed Texts.NameRefused)
+rename_due s from to text why is fit e may =
+    may_due s _ _ s.rights.rename _ may
+    (name_due s (tells Texts.Done (with_seen (moved (seen s) from (path_of s text)) s)) (path_of s text) to (rename_refusal (seen s) from) why is fit e)

@@ -1,5 +1,6 @@
 -- A session without a transfer is seen alike by all views of transfers.
 use Rattle.std.proofs.Common.{◌≡◌, ℕ, List, false, refl, ap}
+use Rattle.ftp_operation.specs.declared.rights.Rights.{Rights}
 use Rattle.ftp_path.specs.Path.{Names}
 use Rattle.ftp_tree.specs.Tree.{Table, under}
 use Rattle.ftp_server_model.specs.View.{Transfer}
@@ -20,8 +21,8 @@ same_connection f g (Data.Opening transfer way) none = absurd (cc)
 same_connection f g (Data.Transferring transfer) none = absurd (cc)
 
 -- so who is logged in and where may change
-pub logged : {A T J : Type 0} (table : T → Table) (view : Table → J → Transfer) (s : Held A T J) (access : Access (List ℕ)) (root cwd : Names) → has_transfer s.connection ≡ false
-    → session_of table view (record s { access = access; root = root; cwd = cwd }) ≡ record (session_of table view s) { access = access; root = root; cwd = cwd }
-logged table view s access root cwd none =
-    ap (λ c. record (session_of table view s) { access = access; root = root; cwd = cwd; connection = c })
+pub logged : {A T J : Type 0} (table : T → Table) (view : Table → J → Transfer) (s : Held A T J) (access : Access (List ℕ)) (root cwd : Names) (rights : Rights) → has_transfer s.connection ≡ false
+    → session_of table view (record s { access = access; root = root; rights = rights; cwd = cwd }) ≡ record (session_of table view s) { access = access; root = root; rights = rights; cwd = cwd }
+logged table view s access root cwd rights none =
+    ap (λ c. record (session_of table view s) { access = access; root = root; rights = rights; cwd = cwd; connection = c })
     (same_connection (view (under (table s.tree) root)) (view (under (table s.tree) s.root)) s.connection none)

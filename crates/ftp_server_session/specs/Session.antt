@@ -43,6 +43,7 @@ session_of table view s = record {
   table = table s.tree;
   access = s.access;
   root = s.root;
+  rights = s.rights;
   cwd = s.cwd;
   pending = s.pending;
   settings = s.settings;

@@ -1,11 +1,13 @@
 // USER, PASS, REIN and QUIT (RFC 959, sections 4.1.1 and 5.4).
 ghost use Rattle.std.specs.Prelude.{◌≡◌, [], false};
+ghost use Rattle.ftp_operation.specs.Rights.{no_rights};
 ghost use Rattle.ftp_server_model.specs.Login.{logged_out, logs_in, pass, quit, rein, user};
 
 use crate::session::{ALL_FACTS, DEFAULTS, Session};
 use ftp_command::Argument;
 use ftp_direct::is_dir;
-use ftp_operation::Accounts;
+use ftp_facts::Text;
+use ftp_operation::{Account, Accounts, Rights};
 use ftp_path::Path;
 use ftp_server_model::{Access, FixedReply, Life, ReplyKind};
 use ftp_server_parts::{Fault, ServerTransfer};
@@ -15,14 +17,15 @@ use std::alloc::Allocator;
 impl<A: Allocator + Copy, T: Tree<A>, J: ServerTransfer<A, T>> Session<A, T, J> {
     ghost use Rattle.ftp_server_session.specs.Session.{Turns, has_transfer, session_of};
 
-    /// Who is logged in, and the root of his account, from now on; that root is the current directory.
-    fn enter(&mut self, access: Access<Argument<A>>, root: Path<A>)
+    /// Who is logged in, the root of his account and what he may change, from now on; that root is the current directory.
+    fn enter(&mut self, access: Access<Argument<A>>, root: Path<A>, rights: Rights)
         requires { has_transfer self.old.connection ≡ false }
-        ensures view { session_of T.table J.view self.new ≡ record (session_of T.table J.view self.old) { access = access; root = root; cwd = [] } }
+        ensures view { session_of T.table J.view self.new ≡ record (session_of T.table J.view self.old) { access = access; root = root; rights = rights; cwd = [] } }
         ensures tree { self.new.tree ≡ self.old.tree }
     {
         self.access = access;
         self.root = root;
+        self.rights = rights;
         self.cwd = Path::root(self.alloc);
     }
 
@@ -32,22 +35,22 @@ impl<A: Allocator + Copy, T: Tree<A>, J: ServerTransfer<A, T>> Session<A, T, J> 
         ensures view { session_of T.table J.view self.new ≡ logged_out (session_of T.table J.view self.old) }
         ensures tree { self.new.tree ≡ self.old.tree }
     {
-        self.enter(Access::Nobody, Path::root(self.alloc));
+        self.enter(Access::Nobody, Path::root(self.alloc), Rights::none());
     }
 
     /// A login is done where a directory stands at the root of its account.
-    fn log_in(&mut self, root: &Path<A>) -> Result<ReplyKind<Path<A>>, Fault>
+    fn log_in(&mut self, account: &Account<Text<A>, Path<A>>) -> Result<ReplyKind<Path<A>>, Fault>
         requires { has_transfer self.old.connection ≡ false }
-        ensures { Turns T.table T.failures J.view (logs_in root.now) self.old self.new result }
+        ensures { Turns T.table T.failures J.view (logs_in account.now) self.old self.new result }
     {
-        if !is_dir(&self.tree, &Path::root(self.alloc), root) {
+        if !is_dir(&self.tree, &Path::root(self.alloc), &account.root) {
             self.log_out();
             return Ok(ReplyKind::Fixed(FixedReply::LoginRefused));
         }
-        let Ok(root) = root.copy(self.alloc) else {
+        let Ok(root) = account.root.copy(self.alloc) else {
             return Err(Fault::Memory);
         };
-        self.enter(Access::Known, root);
+        self.enter(Access::Known, root, account.rights);
         Ok(ReplyKind::Fixed(FixedReply::LoggedIn))
     }
 
@@ -60,10 +63,14 @@ impl<A: Allocator + Copy, T: Tree<A>, J: ServerTransfer<A, T>> Session<A, T, J> 
         requires { has_transfer self.old.connection ≡ false }
         ensures { Turns T.table T.failures J.view (user accounts.now name) self.old self.new result }
     {
-        if let Some(root) = accounts.open_root(name.octets()) {
-            return self.log_in(root);
+        if let Some(account) = accounts.open_account(name.octets()) {
+            return self.log_in(account);
         }
-        self.enter(Access::AwaitsPass(name), Path::root(self.alloc));
+        self.enter(
+            Access::AwaitsPass(name),
+            Path::root(self.alloc),
+            Rights::none(),
+        );
         Ok(ReplyKind::Fixed(FixedReply::PasswordNeeded))
     }
 
@@ -76,12 +83,12 @@ impl<A: Allocator + Copy, T: Tree<A>, J: ServerTransfer<A, T>> Session<A, T, J> 
         requires { has_transfer self.old.connection ≡ false }
         ensures { Turns T.table T.failures J.view (λ s. pass s.access accounts.now word.now s) self.old self.new result }
     {
-        let root = match &self.access {
-            Access::AwaitsPass(name) => accounts.root_of(name.octets(), word),
+        let account = match &self.access {
+            Access::AwaitsPass(name) => accounts.account_of(name.octets(), word),
             Access::Nobody | Access::Known => return Ok(ReplyKind::Fixed(FixedReply::BadSequence)),
         };
-        if let Some(root) = root {
-            return self.log_in(root);
+        if let Some(account) = account {
+            return self.log_in(account);
         }
         self.log_out();
         Ok(ReplyKind::Fixed(FixedReply::LoginRefused))

@@ -6,6 +6,7 @@ ghost use Rattle.ftp_server_model.specs.View.{first_session};
 ghost use Rattle.ftp_tree.specs.Tree.{under};
 
 use ftp_command::Argument;
+use ftp_operation::Rights;
 use ftp_path::{Path, PathFault};
 use ftp_server_model::{Access, Facts, Life, Pending, ServerLink};
 use ftp_server_parts::ServerTransfer;
@@ -21,6 +22,8 @@ pub struct Session<A: Allocator + Copy, T: Drop, J: Drop> {
     pub access: Access<Argument<A>>,
     /// The root of the account, which is `/` to its user.
     pub root: Path<A>,
+    /// What the account may change.
+    pub rights: Rights,
     /// The current directory, below that root.
     pub cwd: Path<A>,
     pub pending: Pending<Path<A>>,
@@ -63,6 +66,7 @@ impl<A: Allocator + Copy, T: Tree<A>, J: ServerTransfer<A, T>> Session<A, T, J> 
             tree,
             access: Access::Nobody,
             root: Path::root(alloc),
+            rights: Rights::none(),
             cwd: Path::root(alloc),
             pending: Pending::Nothing,
             settings: DEFAULTS,

@@ -1,5 +1,6 @@
 // RETR, STOR, APPE, LIST, NLST and MLSD (RFC 959, section 4.1.3; RFC 3659, section 7).
-ghost use Rattle.std.specs.Prelude.{◌≡◌, ◌<◌, ◌≤◌, ◌^◌, false, length, true};
+ghost use Rattle.std.specs.Prelude.{◌≡◌, ◌<◌, ◌≤◌, ◌^◌, false, if◌then◌else◌, length, true};
+ghost use Rattle.ftp_operation.specs.Rights.{may_put};
 ghost use Rattle.ftp_command.specs.Line.{IfGiven};
 ghost use Rattle.ftp_direct.specs.Direct.{refused_room};
 ghost use Rattle.ftp_direct.specs.Refusal.{listing_refusal, name_refusal};
@@ -14,7 +15,7 @@ ghost use Rattle.ftp_tree.specs.Tree.{octets_or_none, room_refusal, under};
 
 use crate::session::Session;
 use ftp_command::Argument;
-use ftp_direct::{absent_fault, directory_fault, len_at, place_at};
+use ftp_direct::{absent_fault, directory_fault, len_at, may_put_at, place_at};
 use ftp_path::Path;
 use ftp_server_model::{FixedReply, Pending, ReplyKind, ServerLink, Way};
 use ftp_server_parts::{Fault, ServerTransfer};
@@ -63,8 +64,12 @@ impl<A: Allocator + Copy, T: Tree<A>, J: ServerTransfer<A, T>> Session<A, T, J> 
             return Err(Fault::Memory);
         };
         let Some(mut path) = found else {
-            return Ok(self.not_begun(FixedReply::NameRefused));
+            let text = self.unfit_text();
+            return Ok(self.not_begun(text));
         };
+        if !may_put_at(&self.tree, &self.root, &path, self.rights) {
+            return Ok(self.not_begun(FixedReply::NotAllowed));
+        }
         let Some(place) = self.place_of(pending, &path) else {
             return Ok(self.not_begun(FixedReply::NameRefused));
         };
@@ -85,8 +90,12 @@ impl<A: Allocator + Copy, T: Tree<A>, J: ServerTransfer<A, T>> Session<A, T, J> 
             return Err(Fault::Memory);
         };
         let Some(mut path) = found else {
-            return Ok(self.not_begun(FixedReply::NameRefused));
+            let text = self.unfit_text();
+            return Ok(self.not_begun(text));
         };
+        if !may_put_at(&self.tree, &self.root, &path, self.rights) {
+            return Ok(self.not_begun(FixedReply::NotAllowed));
+        }
         let keep = len_at(&self.tree, &self.root, &path);
         let refusal = self.room_fault(&path);
         let Ok(upload) = J::upload(self.alloc, &mut path, keep, self.settings) else {
@@ -193,6 +202,17 @@ impl<A: Allocator + Copy, T: Tree<A>, J: ServerTransfer<A, T>> Session<A, T, J> 
                 *offset,
             ),
             Pending::Nothing | Pending::Rename(_) => Some(0),
+        }
+    }
+
+    /// The reply to an upload whose path is past the limits of paths.
+    fn unfit_text(&self) -> FixedReply
+        ensures { result ≡ (if may_put self.now.rights false then FixedReply.NameRefused else FixedReply.NotAllowed) }
+    {
+        if self.rights.may_put(false) {
+            FixedReply::NameRefused
+        } else {
+            FixedReply::NotAllowed
         }
     }
 

@@ -48,6 +48,9 @@ impl<A: Allocator + Copy, T: Tree<A>, J: ServerTransfer<A, T>> Session<A, T, J> 
         requires path { IsPathText text.now }
         ensures { Turns T.table T.failures J.view (mkd text.now) self.old self.new result }
     {
+        if !self.rights.make_dir {
+            return Ok(ReplyKind::Fixed(FixedReply::NotAllowed));
+        }
         let Ok(found) = self.find(text) else {
             return Err(Fault::Memory);
         };
@@ -66,6 +69,9 @@ impl<A: Allocator + Copy, T: Tree<A>, J: ServerTransfer<A, T>> Session<A, T, J> 
         requires path { IsPathText text.now }
         ensures { Turns T.table T.failures J.view (rmd text.now) self.old self.new result }
     {
+        if !self.rights.remove_dir {
+            return Ok(ReplyKind::Fixed(FixedReply::NotAllowed));
+        }
         let Ok(found) = self.find(text) else {
             return Err(Fault::Memory);
         };
@@ -87,6 +93,9 @@ impl<A: Allocator + Copy, T: Tree<A>, J: ServerTransfer<A, T>> Session<A, T, J> 
         requires path { IsPathText text.now }
         ensures { Turns T.table T.failures J.view (dele text.now) self.old self.new result }
     {
+        if !self.rights.delete {
+            return Ok(ReplyKind::Fixed(FixedReply::NotAllowed));
+        }
         let Ok(found) = self.find(text) else {
             return Err(Fault::Memory);
         };
@@ -104,6 +113,9 @@ impl<A: Allocator + Copy, T: Tree<A>, J: ServerTransfer<A, T>> Session<A, T, J> 
         requires { IsPathText text.now }
         ensures { Turns T.table T.failures J.view (rnfr text.now) self.old self.new result }
     {
+        if !self.rights.rename {
+            return Ok(ReplyKind::Fixed(FixedReply::NotAllowed));
+        }
         let Ok(found) = self.find(text) else {
             return Err(Fault::Memory);
         };
@@ -130,6 +142,9 @@ impl<A: Allocator + Copy, T: Tree<A>, J: ServerTransfer<A, T>> Session<A, T, J> 
         let Pending::Rename(from) = pending else {
             return Ok(ReplyKind::Fixed(FixedReply::BadSequence));
         };
+        if !self.rights.rename {
+            return Ok(ReplyKind::Fixed(FixedReply::NotAllowed));
+        }
         let Ok(found) = self.find(text) else {
             return Err(Fault::Memory);
         };

@@ -7,7 +7,7 @@ use Rattle.ftp_operation.specs.Account.{Account, is_password, is_user}
 use Rattle.ftp_operation.specs.declared.account.AccountsFault.{AccountsFault}
 use Rattle.ftp_operation.specs.declared.account.AccountsFault.TheVariants as AccountsFaults
 use Rattle.ftp_operation.specs.declared.rights.Rights.{Rights}
-use Rattle.ftp_operation.specs.declared.rights.Rights.TheVariants as May
+use Rattle.ftp_operation.specs.Rights.{adding_rights, all_rights, no_rights}
 use Rattle.ftp_tool_accounts.specs.declared.fault.LineFault.{LineFault}
 use Rattle.ftp_tool_accounts.specs.declared.fault.LineFault.TheVariants as Faults
 
@@ -60,8 +60,8 @@ is_digest (octet ∷ octets) = (octet == 36) && names_kind octets
 
 -- the rights that are said: all where no field stands, `r` to look alone, `w` also to put what does not stand; an empty field says none
 abbrev pub rights_said : Option (List ℕ) → Option Rights
-rights_said None = Some May.All
-rights_said (Some (octet ∷ [])) = if octet == 114 then Some May.Look else (if octet == 119 then Some May.Put else None)
+rights_said None = Some all_rights
+rights_said (Some (octet ∷ [])) = if octet == 114 then Some no_rights else (if octet == 119 then Some adding_rights else None)
 rights_said (Some []) = None
 rights_said (Some (octet ∷ next ∷ octets)) = None
 
@@ -108,6 +108,7 @@ pub record Says (line : List ℕ) (entry : Entry) : Type 0 where
   pub clear : is_digest pass ≡ false
   pub path : IsTrue (is_root root) × (entry.0.root ≡ resolved [] root)
   pub right : rights_said rights ≡ Some entry.1
+  pub held : entry.0.rights ≡ entry.1
 
 -- a line has less than two colons
 pub record HasOneColon (line : List ℕ) : Type 0 where

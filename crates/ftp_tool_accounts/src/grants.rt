@@ -45,7 +45,7 @@ impl<A: Allocator + Copy> Grants<A> {
             .iter()
             .find(|grant| is_of(grant, user))
             .map(|grant| grant.rights)
-            .unwrap_or(Rights::Look)
+            .unwrap_or(Rights::none())
     }
 }
 

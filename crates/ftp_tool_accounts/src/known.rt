@@ -1,5 +1,6 @@
 // Who may log in where no file of accounts is given (RFC 959, section 4.1.1).
 ghost use Rattle.std.specs.Prelude.{◌≡◌, IfOk};
+ghost use Rattle.ftp_operation.specs.Rights.{all_rights};
 ghost use Rattle.ftp_tool_accounts.specs.Known.{anonymous, guest, two_accounts, two_grants};
 
 use crate::grants::{Grant, Grants};
@@ -37,12 +38,12 @@ pub fn two_users<A: Allocator + Copy>(alloc: A) -> Result<Users<A>, AllocError>
 
 /// A user who may change all.
 fn may_all<A: Allocator + Copy>(alloc: A, user: &[u8]) -> Result<Grant<Text<A>>, AllocError>
-    ensures { IfOk result (λ grant. grant ≡ record { user = user.now; rights = Rights.All }) }
+    ensures { IfOk result (λ grant. grant ≡ record { user = user.now; rights = all_rights }) }
 {
     let user = Text::copy_of(alloc, user)?;
     Ok(Grant {
         user,
-        rights: Rights::All,
+        rights: Rights::all(),
     })
 }
 
@@ -53,7 +54,12 @@ fn guest<A: Allocator + Copy>(alloc: A) -> Result<Account<Text<A>, Path<A>>, All
     let user = Text::copy_of(alloc, b"guest")?;
     let pass = Some(Text::copy_of(alloc, b"secret")?);
     let root = Path::root(alloc);
-    Ok(Account { user, pass, root })
+    Ok(Account {
+        user,
+        pass,
+        root,
+        rights: Rights::all(),
+    })
 }
 
 /// The account without one.
@@ -63,5 +69,10 @@ fn anonymous<A: Allocator + Copy>(alloc: A) -> Result<Account<Text<A>, Path<A>>,
     let user = Text::copy_of(alloc, b"anonymous")?;
     let pass = None;
     let root = Path::root(alloc);
-    Ok(Account { user, pass, root })
+    Ok(Account {
+        user,
+        pass,
+        root,
+        rights: Rights::all(),
+    })
 }

@@ -67,7 +67,7 @@ pub(crate) fn entry_of<A: Allocator + Copy>(alloc: A, line: &[u8]) -> Result<Ent
     let Some(rights) = rights_of(fields.rights) else {
         return Err(LineFault::Rights);
     };
-    match account(alloc, fields.user, fields.pass, root) {
+    match account(alloc, fields.user, fields.pass, root, rights) {
         Ok(account) => Ok(Entry { account, rights }),
         Err(AllocError) => Err(LineFault::Memory),
     }
@@ -190,27 +190,34 @@ fn rights_of(field: Option<&[u8]>) -> Option<Rights>
     ensures { result ≡ rights_said (option_map (λ octets. octets.now) field.entry) }
 {
     match field {
-        None => Some(Rights::All),
-        Some([b'r']) => Some(Rights::Look),
-        Some([b'w']) => Some(Rights::Put),
+        None => Some(Rights::all()),
+        Some([b'r']) => Some(Rights::none()),
+        Some([b'w']) => Some(Rights::adding()),
         Some(_) => None,
     }
 }
 
-/// The account of a user, a password and a root.
+/// The account of a user, a password, a root and rights.
 fn account<A: Allocator + Copy>(
     alloc: A,
     user: &[u8],
     pass: &[u8],
     root: Path<A>,
+    rights: Rights,
 ) -> Result<Account<Text<A>, Path<A>>, AllocError>
     ensures user { IfOk result (λ account. account.user ≡ user.now) }
     ensures pass { IfOk result (λ account. account.pass ≡ needed pass.now) }
     ensures root { IfOk result (λ account. account.root ≡ root) }
+    ensures rights { IfOk result (λ account. account.rights ≡ rights) }
 {
     let user = Text::copy_of(alloc, user)?;
     let pass = needed(alloc, pass)?;
-    Ok(Account { user, pass, root })
+    Ok(Account {
+        user,
+        pass,
+        root,
+        rights,
+    })
 }
 
 /// The password that an account needs, if one.

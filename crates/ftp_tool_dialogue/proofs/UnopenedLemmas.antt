@@ -4,13 +4,13 @@ use Rattle.std.specs.Prelude.{if◌then◌else◌}
 use Rattle.ftp_command.specs.declared.command.Command.{Command}
 use Rattle.ftp_command.specs.declared.command.Command.TheVariants as command
 use Rattle.ftp_command.specs.declared.command.Passive.TheVariants.{Any, Ipv4, Ipv6, Only}
-use Rattle.ftp_direct.specs.Direct.{done, is_directory, limited, named_or_here, offset_refusal, refusal, refused_name}
+use Rattle.ftp_direct.specs.Direct.{done, is_directory, named_or_here, offset_refusal, refusal}
 use Rattle.ftp_direct.specs.declared.refusal.Refusal.{Refusal}
-use Rattle.ftp_operation.specs.Account.{login_root}
+use Rattle.ftp_operation.specs.Account.{Account, login_account}
 use Rattle.ftp_path.specs.Path.{Names}
 use Rattle.ftp_server_model.specs.Act.{act, decided, is_allowed, is_transfer, forgets}
 use Rattle.ftp_server_model.specs.Endpoint.{asks, epsv, forgotten, is_taken, pasv, port, takes}
-use Rattle.ftp_server_model.specs.Login.{admits, checked, open_root, pass, user_named}
+use Rattle.ftp_server_model.specs.Login.{admits, checked, open_account, pass, user_named}
 use Rattle.ftp_server_model.specs.declared.session.Facts.{Facts}
 use Rattle.ftp_server_model.specs.declared.session.PassiveVerb.TheVariants as Asking
 use Rattle.ftp_server_model.specs.declared.reply.FixedReply.TheVariants as Texts
@@ -23,12 +23,12 @@ use Rattle.ftp_ends.specs.Link.{is_v6}
 use Rattle.ftp_facts.specs.Moment.{moment_digits}
 use Rattle.ftp_operation.specs.declared.op.Op.{Op}
 use Rattle.ftp_operation.specs.declared.op.Op.TheVariants as Ops
-use Rattle.ftp_tree.specs.Tree.{moved, node_at, rename_refusal}
+use Rattle.ftp_tree.specs.Tree.{moved, node_at}
 use Rattle.ftp_server_model.specs.Entries.{option_facts}
 use Rattle.ftp_server_model.specs.Setting.{choose, is_utf8_on}
 use Rattle.ftp_server_model.specs.Transfer.{begin, rests, transfer_starts}
 use Rattle.ftp_server_model.specs.View.{Accounts, Footing, Session, Transfer, as_direct, direct_of, how_in_force, seen, with_seen}
-use Rattle.ftp_server_model.specs.Walk.{path_of, performs, refused_source, rnto, unless}
+use Rattle.ftp_server_model.specs.Walk.{path_of, performs, refused_source, refused_target, rnto, unless}
 use Rattle.ftp_server_model.specs.declared.heard.HeardLine.{HeardLine}
 use Rattle.ftp_server_model.specs.declared.heard.HeardLine.TheVariants.{TooLong, Bad, Asks}
 use Rattle.ftp_server_model.specs.declared.reply.ReplyKind.{ReplyKind}
@@ -101,20 +101,20 @@ leads_starts : (why : Option Refusal) (transfer : Transfer) (s : Session) → Re
 leads_starts None transfer s is = leads_begin s.connection transfer s is is
 leads_starts (Some why) transfer s is = tt
 
-leads_admits : (b : Bool) (root : Names) (s : Session) → Rests s → Leads (admits b root s)
-leads_admits true root s is = calm s is
-leads_admits false root s is = calm s is
+leads_admits : (b : Bool) (account : Account) (s : Session) → Rests s → Leads (admits b account s)
+leads_admits true account s is = calm s is
+leads_admits false account s is = calm s is
 
-leads_named : (root : Option Names) (name : List ℕ) (s : Session) → Rests s → Leads (user_named root name s)
-leads_named (Some root) name s is = leads_admits (is_directory (node_at s.table root)) root s is
+leads_named : (found : Option Account) (name : List ℕ) (s : Session) → Rests s → Leads (user_named found name s)
+leads_named (Some account) name s is = leads_admits (is_directory (node_at s.table account.root)) account s is
 leads_named None name s is = calm s is
 
-leads_checked : (root : Option Names) (s : Session) → Rests s → Leads (checked root s)
-leads_checked (Some root) s is = leads_admits (is_directory (node_at s.table root)) root s is
+leads_checked : (found : Option Account) (s : Session) → Rests s → Leads (checked found s)
+leads_checked (Some account) s is = leads_admits (is_directory (node_at s.table account.root)) account s is
 leads_checked None s is = calm s is
 
 leads_pass : (access : Access (List ℕ)) (accounts : Accounts) (word : List ℕ) (s : Session) → Rests s → Leads (pass access accounts word s)
-leads_pass (AwaitsPass name) accounts word s is = leads_checked (login_root accounts name word) s is
+leads_pass (AwaitsPass name) accounts word s is = leads_checked (login_account accounts name word) s is
 leads_pass Nobody accounts word s is = calm s is
 leads_pass Known accounts word s is = calm s is
 
@@ -152,7 +152,7 @@ leads_performs op kind s is = leads_unless (refusal (direct_of s) op) s (as_dire
 
 leads_rnto : (pending : Pending Names) (text : List ℕ) (s : Session) → Rests s → Leads (rnto pending text s)
 leads_rnto (Pendings.Rename from) text s is =
-    leads_unless (refused_name (limited (path_of s text) (rename_refusal (seen s) from (path_of s text)))) s
+    leads_unless (refused_target s from (path_of s text)) s
     (tells Texts.Done (with_seen (moved (seen s) from (path_of s text)) s)) is (calm s is)
 leads_rnto Pendings.Nothing text s is = calm s is
 leads_rnto (Pendings.Restart place) text s is = calm s is
@@ -165,7 +165,7 @@ leads_forgets command s is = by (is_transfer command)
     by false = calm s is
 
 leads_acted : (footing : Footing) (command : Command (List ℕ)) (pending : Pending Names) (s : Session) → Rests s → Leads (act footing command pending s)
-leads_acted footing (command.User name) pending s is = leads_named (open_root footing.accounts name) name s is
+leads_acted footing (command.User name) pending s is = leads_named (open_account footing.accounts name) name s is
 leads_acted footing (command.Pass word) pending s is = leads_pass s.access footing.accounts word s is
 leads_acted footing (command.Acct text) pending s is = calm s is
 leads_acted footing (command.Cwd text) pending s is = leads_performs (Ops.ChangeDir text) (Replies.Fixed Texts.Done) s is

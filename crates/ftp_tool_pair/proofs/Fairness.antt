@@ -6,7 +6,7 @@ use Rattle.std.proofs.lemmas.Bool.{leb-true, le-leb, false≢true}
 use Rattle.ftp_direct.specs.Direct.{part, start}
 use Rattle.ftp_endpoint.specs.Written.{IsTypedHost}
 use Rattle.ftp_endpoint.specs.declared.host.Host.{Host}
-use Rattle.ftp_operation.specs.Account.{Account, accounts_refusal, login_root, is_user, is_password}
+use Rattle.ftp_operation.specs.Account.{Account, accounts_refusal, login_account, is_user, is_password}
 use Rattle.ftp_operation.specs.declared.account.AccountsFault.{AccountsFault}
 use Rattle.ftp_path.specs.Path.{Names}
 use Rattle.ftp_server_model.specs.Told.{is_path}
@@ -17,17 +17,17 @@ use Rattle.ftp_tool_pair.specs.Begun.{begun}
 
 -- ---- the part that a login sees
 
-pub part_some : (table : Table) (seen : Option Names) (root : Names) → seen ≡ Some root → part (start table seen) ≡ under table root
-part_some table seen root is = ap (λ s. part (start table s)) is
+pub part_some : (table : Table) (seen : Option Account) (account : Account) → seen ≡ Some account → part (start table seen) ≡ under table account.root
+part_some table seen account is = ap (λ s. part (start table s)) is
 
-pub part_none : (table : Table) (seen : Option Names) (root : Names) → seen ≡ None → root ≡ [] → part (start table seen) ≡ under table root
+pub part_none : (table : Table) (seen : Option Account) (root : Names) → seen ≡ None → root ≡ [] → part (start table seen) ≡ under table root
 part_none table seen root is none = ap (λ s. part (start table s)) is ∙ ap (under table) (sym none)
 
 -- ---- fair
 
 -- whether the map is within its limit where the login sees it
 abbrev is_within : (user pass : List ℕ) → List Account → Table → Bool
-is_within user pass accounts table = nat_le (octets_in (part (start table (login_root accounts user pass)))) total_limit
+is_within user pass accounts table = nat_le (octets_in (part (start table (login_account accounts user pass)))) total_limit
 
 pub is_fair : (user pass : List ℕ) (accounts list : List Account) (table : Table) (near_host far_host : Host) → IsTrue (is_user user) → IsTrue (is_password pass) → accounts ≡ list
     → accounts_refusal list ≡ None → IsTrue (list_all (λ account. is_path account.root) list) → IsSoundTree table → is_within user pass accounts table ≡ true
@@ -38,7 +38,7 @@ is_fair user pass accounts list table near_host far_host named worded same apart
   accounts = ap accounts_refusal same ∙ apart;
   roots = subst (λ l. IsTrue (list_all (λ account. is_path account.root) l)) (sym same) roots;
   tree = sound.tree;
-  octets = leb-true (octets_in (part (start table (login_root accounts user pass)))) total_limit within;
+  octets = leb-true (octets_in (part (start table (login_account accounts user pass)))) total_limit within;
   entries = sound.entries;
   near_typed = near;
   far_typed = far;
@@ -57,5 +57,5 @@ not_accounts user pass list table near_host far_host fault refused fair = absurd
 pub not_full : (user pass : List ℕ) (accounts list : List Account) (table : Table) (near_host far_host : Host) → accounts ≡ list → is_within user pass accounts table ≡ false
     → ¬ IsFair (begun user pass list table near_host far_host)
 not_full user pass accounts list table near_host far_host same over fair =
-    let all : is_within user pass list table ≡ true = le-leb (octets_in (part (start table (login_root list user pass)))) total_limit fair.octets in
+    let all : is_within user pass list table ≡ true = le-leb (octets_in (part (start table (login_account list user pass)))) total_limit fair.octets in
     absurd (false≢true (sym over ∙ ap (λ l. is_within user pass l table) same ∙ all))

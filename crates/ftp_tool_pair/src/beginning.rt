@@ -1,7 +1,7 @@
 // What a session can begin with.
 ghost use Rattle.std.specs.Prelude.{◌≡◌, true, false, IfErr, IfOk, nat_le};
 ghost use Rattle.ftp_direct.specs.Direct.{part, start};
-ghost use Rattle.ftp_operation.specs.Account.{login_root};
+ghost use Rattle.ftp_operation.specs.Account.{login_account};
 ghost use Rattle.ftp_tree.specs.Sound.{IsSoundTree};
 ghost use Rattle.ftp_tree.specs.Tree.{octets_in, total_limit};
 ghost use Rattle.ftp_pair_world.specs.Claims.{AreRelated, IsFair};
@@ -96,11 +96,11 @@ fn fits<A: Allocator + Copy, T: Tree<A>>(
     accounts: &Accounts<A>,
     tree: &T,
 ) -> bool
-    ensures octets { result ≡ nat_le (octets_in (part (start (T.table tree.now) (login_root accounts.now login.now.user login.now.pass)))) total_limit }
+    ensures octets { result ≡ nat_le (octets_in (part (start (T.table tree.now) (login_account accounts.now login.now.user login.now.pass)))) total_limit }
     ensures sound { IsSoundTree (T.table tree.now) }
 {
-    match accounts.login_root(login) {
-        Some(root) => tree.fits(root),
+    match accounts.login_account(login) {
+        Some(account) => tree.fits(&account.root),
         None => tree.fits(&Path::root(alloc)),
     }
 }

@@ -8,7 +8,7 @@ ghost use Rattle.ftp_tool_pair.specs.Making.{own_accounts, own_beginning, own_ho
 use crate::beginning::Beginning;
 use ftp_endpoint::Host;
 use ftp_facts::Text;
-use ftp_operation::{Account, Login};
+use ftp_operation::{Account, Login, Rights};
 use ftp_path::{Path, is_path_text};
 use ftp_tree::{MemTree, Tree};
 use std::alloc::{AllocError, Allocator};
@@ -102,11 +102,13 @@ fn list_of<A: Allocator + Copy>(
         user: Text::copy_of(alloc, b"guest")?,
         pass: Some(Text::copy_of(alloc, b"secret")?),
         root: guest,
+        rights: Rights::all(),
     })?;
     list.push(Account {
         user: Text::copy_of(alloc, b"anonymous")?,
         pass: None,
         root: anonymous,
+        rights: Rights::all(),
     })?;
     Ok(list)
 }

@@ -58,7 +58,7 @@ impl<'a, R: Tells> Journal<'a, R> {
         peer: SocketAddr,
         service: Service<'a>,
     ) -> Result<Journal<'a, R>, AllocError> {
-        service.reasons.allow(Rights::Look);
+        service.reasons.allow(Rights::none());
         let _content = service.reasons.take_barred(Touches::Content);
         let _names = service.reasons.take_barred(Touches::Names);
         let known = Known {
@@ -131,10 +131,10 @@ impl<'a, R: Tells> Journal<'a, R> {
 
     fn rights(&self) -> Rights {
         let Ok(known) = self.known.try_borrow_mut() else {
-            return Rights::Look;
+            return Rights::none();
         };
         if !known.talk.is_whole() {
-            return Rights::Look;
+            return Rights::none();
         }
         self.service.grants.rights_of(known.guest.user())
     }

@@ -116,7 +116,7 @@ impl<'a, R: Disk> DiskFolder<'a, R> {
 
     /// Fails where the rights do not allow to write a file at a place: where something stands there, that is a change of it.
     fn check_writing(&self, place: &str) -> io::Result<()> {
-        if self.reasons.rights() == Rights::All {
+        if self.reasons.rights() == Rights::all() {
             return Ok(());
         }
         match check_free(self.files, place) {

@@ -28,7 +28,7 @@ impl Reasons {
     /// All may be changed, and nothing failed so far.
     pub fn new() -> Reasons {
         Reasons {
-            rights: Cell::new(Rights::All),
+            rights: Cell::new(Rights::all()),
             content_barred: Cell::new(false),
             names_barred: Cell::new(false),
             last: RefCell::new(None),

@@ -3,7 +3,7 @@ use crate::paths::place;
 use crate::step::{Line, Step};
 use crate::words::split;
 use ftp_facts::Text;
-use ftp_operation::{Account, Accounts, AccountsFault, Login};
+use ftp_operation::{Account, Accounts, AccountsFault, Login, Rights};
 use ftp_path::Path;
 use rows_base::Paper;
 use std::alloc::{Allocator, Global};
@@ -38,6 +38,7 @@ fn account<A: Allocator + Copy>(
                 Some(text(alloc, pass))
             },
             root,
+            rights: Rights::all(),
         }),
         Err(_) => None,
     }
@@ -84,7 +85,7 @@ fn is_known(alloc: Global, user: &[u8], pass: &[u8]) -> bool {
         return false;
     };
     match &Accounts::new(list_of(alloc, WHOLE)) {
-        Ok(accounts) => accounts.login_root(&login).is_some(),
+        Ok(accounts) => accounts.login_account(&login).is_some(),
         Err(_) => false,
     }
 }

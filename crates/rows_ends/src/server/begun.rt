@@ -2,7 +2,7 @@
 use crate::event::YEAR_2000;
 use crate::turn::Turn;
 use ftp_facts::Text;
-use ftp_operation::{Account, Accounts};
+use ftp_operation::{Account, Accounts, Rights};
 use ftp_path::Path;
 use ftp_tree::{Content, MemTree, Tree};
 use rows_base::{cut, found, number, octets_of, split};
@@ -42,7 +42,12 @@ fn account<A: Allocator + Copy>(
         Some(pass) => Some(Text::copy_of(heap, pass)?),
         None => None,
     };
-    Ok(Account { user, pass, root })
+    Ok(Account {
+        user,
+        pass,
+        root,
+        rights: Rights::all(),
+    })
 }
 
 /// Puts what a row says into the tree; whether memory was not refused.

@@ -1,7 +1,6 @@
 use Rattle.std.proofs.Common.{refl, subst, [], take, IfOk, IfErr, List, ℕ}
 use Rattle.std.specs.Prelude.{map}
 use Rattle.ftp_operation.specs.Answer.{Said, said_of}
-use Rattle.ftp_operation.specs.Account.{login_root}
 use Rattle.ftp_direct.specs.Direct.{State, start}
 use Rattle.ftp_direct.specs.Run.{Ran, orders_of}
 use Rattle.ftp_direct.proofs.RunLemmas.{begun, runs_none, start_known, start_table, start_unknown}
@@ -20,9 +19,9 @@ returns-in-Some-clause-begun g c =
 pub returns-clause-answers : goal.returns-clause-answers
 returns-clause-answers g c =
     let P : State → Type 0 = λ state. IfOk c.run-in-None.result (λ answers. Ran (g.T.Tree.failures c.args.tree.now) state (orders_of c.args.list.now) (map said_of answers.items) (g.T.Tree.failures c.run-in-None.new.tree) (g.T.Tree.table c.run-in-None.new.tree)) in
-    subst P (start_unknown _ _ _ c.root-top.ensures c.in-None.ensures) c.run-in-None.ensures.answers
+    subst P (start_unknown _ _ _ _ c.root-top.ensures c.none.ensures c.in-None.ensures) c.run-in-None.ensures.answers
 
 pub returns-clause-begun : goal.returns-clause-begun
 returns-clause-begun g c =
     let P : State → Type 0 = λ state. IfErr c.run-in-None.result (λ _. (count : ℕ) × (said : List Said) × Ran (g.T.Tree.failures c.args.tree.now) state (take count (orders_of c.args.list.now)) said (g.T.Tree.failures c.run-in-None.new.tree) (g.T.Tree.table c.run-in-None.new.tree)) in
-    subst P (start_unknown _ _ _ c.root-top.ensures c.in-None.ensures) c.run-in-None.ensures.begun
+    subst P (start_unknown _ _ _ _ c.root-top.ensures c.none.ensures c.in-None.ensures) c.run-in-None.ensures.begun

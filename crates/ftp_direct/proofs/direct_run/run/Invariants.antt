@@ -8,5 +8,5 @@ use Rattle.ftp_direct.proofs.direct_run.run.Given as goal
 
 abbrev pub invariant-loop-op : goal.invariant-loop-op
 invariant-loop-op g l =
-    RunsTo (g.T.Tree.failures l.fn.tree) (standing (g.T.Tree.table l.fn.tree) l.root [] l.known) (take l.op-index (orders_of l.list)) (map said_of l.answers.items)
-    (g.T.Tree.failures l.tree) (standing (g.T.Tree.table l.tree) l.root l.cwd l.known)
+    RunsTo (g.T.Tree.failures l.fn.tree) (standing (g.T.Tree.table l.fn.tree) l.root [] l.known l.rights) (take l.op-index (orders_of l.list)) (map said_of l.answers.items)
+    (g.T.Tree.failures l.tree) (standing (g.T.Tree.table l.tree) l.root l.cwd l.known l.rights)

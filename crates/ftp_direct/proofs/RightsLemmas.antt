@@ -1,0 +1,202 @@
+-- What an account has no right to do is refused first, and all else is done as of an account that may do all.
+use Rattle.std.proofs.Common.{◌≡◌, ℕ, Bool, true, false, List, [], ◌∷◌, Option, Some, None, Result, Ok, Err, IfOk, refl, ap, sym, subst, ◌∙◌, ◌&&◌}
+use Rattle.std.specs.Prelude.{if◌then◌else◌, is_none}
+use Rattle.ftp_path.specs.Path.{Names, fits}
+use Rattle.ftp_tree.specs.Tree.{Table, node_at}
+use Rattle.ftp_operation.specs.Answer.{Said, BadOperation, Refused, said_of}
+use Rattle.ftp_operation.specs.Operation.{can_be_sent}
+use Rattle.ftp_operation.specs.Rights.{may_put, no_rights}
+use Rattle.ftp_operation.specs.declared.answer.Answer.{Answer}
+use Rattle.ftp_operation.specs.declared.rights.Rights.{Rights}
+use Rattle.ftp_operation.specs.declared.op.Op.{Op}
+use Rattle.ftp_operation.specs.declared.op.Op.TheVariants as Ops
+use Rattle.ftp_direct.specs.declared.refusal.Refusal.{Refusal}
+use Rattle.ftp_direct.specs.declared.refusal.Refusal.TheVariants.{NotLoggedIn}
+use Rattle.ftp_direct.specs.Direct.{State, answer, answers, barred, barred_put, chosen, done, due, first_refusal, here, is_file, offset_refusal, or_refused, part, refusal, standing}
+use Rattle.ftp_direct.specs.Refusal.{code_of}
+use Rattle.ftp_direct.specs.Rights.{LookersChangeNothing, RightsComeFirst, barring, free}
+use Rattle.ftp_direct.specs.Run.{Gives, IsAnswer}
+use Rattle.ftp_direct.proofs.RefusalLemmas.{as_told, gives_refused, still}
+
+-- an offset without a meaning is told before a right that is wanting
+offset_first : (offset barred rest : Option Refusal)
+    → or_refused offset (or_refused barred rest) ≡ or_refused (if is_none offset then barred else None) (or_refused offset rest)
+offset_first None barred rest = refl
+offset_first (Some why) barred rest = refl
+
+-- an operation is refused for want of a right, or as of an account that may do all
+pub rights_come_first : RightsComeFirst
+rights_come_first state Ops.Where = refl
+rights_come_first state (Ops.ChangeDir text) = refl
+rights_come_first state Ops.Up = refl
+rights_come_first state (Ops.MakeDir text) = refl
+rights_come_first state (Ops.RemoveDir text) = refl
+rights_come_first state (Ops.Delete text) = refl
+rights_come_first state (Ops.Rename text new) = refl
+rights_come_first state (Ops.Put text octets how) = refl
+rights_come_first state (Ops.Append text octets how) = refl
+rights_come_first state (Ops.PutFrom text offset octets how) = offset_first (offset_refusal offset how) _ _
+rights_come_first state (Ops.Get text how) = refl
+rights_come_first state (Ops.GetFrom text offset how) = refl
+rights_come_first state (Ops.Peek text count how) = refl
+rights_come_first state (Ops.Size text how) = refl
+rights_come_first state (Ops.Modified text) = refl
+rights_come_first state (Ops.Facts text) = refl
+rights_come_first state (Ops.List text how) = refl
+rights_come_first state (Ops.Names text how) = refl
+
+-- the same is done, and the account keeps its rights
+done_alike : (state : State) (op : Op (List ℕ)) (moment : ℕ)
+    → done state op moment ≡ ((done (free state) op moment).0, record (done (free state) op moment).1 { rights = state.rights })
+done_alike state Ops.Where moment = refl
+done_alike state (Ops.ChangeDir text) moment = refl
+done_alike state Ops.Up moment = refl
+done_alike state (Ops.MakeDir text) moment = refl
+done_alike state (Ops.RemoveDir text) moment = refl
+done_alike state (Ops.Delete text) moment = refl
+done_alike state (Ops.Rename text new) moment = refl
+done_alike state (Ops.Put text octets how) moment = refl
+done_alike state (Ops.Append text octets how) moment = refl
+done_alike state (Ops.PutFrom text offset octets how) moment = refl
+done_alike state (Ops.Get text how) moment = refl
+done_alike state (Ops.GetFrom text offset how) moment = refl
+done_alike state (Ops.Peek text count how) moment = refl
+done_alike state (Ops.Size text how) moment = refl
+done_alike state (Ops.Modified text) moment = refl
+done_alike state (Ops.Facts text) moment = refl
+done_alike state (Ops.List text how) moment = refl
+done_alike state (Ops.Names text how) moment = refl
+
+chosen_alike : (why : Option Refusal) (state : State) (op : Op (List ℕ)) (moment : ℕ)
+    → chosen why state (done state op moment)
+    ≡ ((chosen why (free state) (done (free state) op moment)).0, record (chosen why (free state) (done (free state) op moment)).1 { rights = state.rights })
+chosen_alike None state op moment = done_alike state op moment
+chosen_alike (Some why) state op moment = refl
+
+-- so the same is due where no right is wanting
+due_alike : (state : State) (op : Op (List ℕ)) (moment : ℕ) → barring state op ≡ None
+    → due state op moment ≡ ((due (free state) op moment).0, record (due (free state) op moment).1 { rights = state.rights })
+due_alike state op moment may =
+    ap (λ why. chosen why state (done state op moment)) (rights_come_first state op ∙ ap (λ why. or_refused why (refusal (free state) op)) may)
+    ∙ chosen_alike (refusal (free state) op) state op moment
+
+-- ---- one operation
+
+-- a right that is wanting is told
+pub permitted_not : (count : ℕ) (table : Table) (root cwd : Names) (rights : Rights) (op : Op (List ℕ)) (moment : ℕ) (why : Refusal) (said : Said)
+    → said ≡ Refused (code_of why) → Some why ≡ barring (standing table root cwd true rights) op
+    → IsAnswer count count (due (standing table root cwd true rights) op moment) (standing table root cwd true rights) said (standing table root cwd true rights)
+permitted_not count table root cwd rights op moment why said told is =
+    let state = standing table root cwd true rights in
+    still count _ state said
+    (as_told _ said (Refused (code_of why)) state told
+    (gives_refused state op moment why (rights_come_first state op ∙ ap (λ why. or_refused why (refusal (free state) op)) (sym is))))
+
+-- an answer of an account that may do all is one of an account with these rights
+answer_alike : (before after : ℕ) (rights : Rights) (due : Said × State) (old new : State) (said : Said) → IsAnswer before after due old said new
+    → IsAnswer before after (due.0, record due.1 { rights = rights }) (record old { rights = rights }) said (record new { rights = rights })
+answer_alike before after rights due old new said is = record {
+  steady = λ same. ((is.steady same).0, ap (λ (state : State). record state { rights = rights }) (is.steady same).1);
+  failed = λ other. ((is.failed other).0, ((is.failed other).1.0, ap (λ (state : State). record state { rights = rights }) (is.failed other).1.1));
+}
+
+-- where no right is wanting, what is answered to an account that may do all is answered
+pub permitted_due : {A E : Type 0} (result : Result (Answer A) E) (before after : ℕ) (table new : Table) (root cwd at : Names) (rights : Rights) (op : Op (List ℕ)) (moment : ℕ)
+    → None ≡ barring (standing table root cwd true rights) op
+    → IfOk result (λ answer. IsAnswer before after (due (here table root cwd) op moment) (here table root cwd) (said_of answer) (here new root at))
+    → IfOk result (λ answer. IsAnswer before after (due (standing table root cwd true rights) op moment) (standing table root cwd true rights) (said_of answer)
+    (standing new root at true rights))
+permitted_due (Ok answer) before after table new root cwd at rights op moment may is =
+    let state = standing table root cwd true rights in
+    subst (λ due. IsAnswer before after due state (said_of answer) (standing new root at true rights)) (sym (due_alike state op moment (sym may)))
+    (answer_alike before after rights (due (here table root cwd) op moment) (here table root cwd) (here new root at) (said_of answer) is)
+permitted_due (Err fault) before after table new root cwd at rights op moment may is = tt
+
+-- ---- an account without a right to change
+
+-- no operation changes the rights
+rights_stay : (state : State) (op : Op (List ℕ)) (moment : ℕ) → (done state op moment).1.rights ≡ state.rights
+rights_stay state Ops.Where moment = refl
+rights_stay state (Ops.ChangeDir text) moment = refl
+rights_stay state Ops.Up moment = refl
+rights_stay state (Ops.MakeDir text) moment = refl
+rights_stay state (Ops.RemoveDir text) moment = refl
+rights_stay state (Ops.Delete text) moment = refl
+rights_stay state (Ops.Rename text new) moment = refl
+rights_stay state (Ops.Put text octets how) moment = refl
+rights_stay state (Ops.Append text octets how) moment = refl
+rights_stay state (Ops.PutFrom text offset octets how) moment = refl
+rights_stay state (Ops.Get text how) moment = refl
+rights_stay state (Ops.GetFrom text offset how) moment = refl
+rights_stay state (Ops.Peek text count how) moment = refl
+rights_stay state (Ops.Size text how) moment = refl
+rights_stay state (Ops.Modified text) moment = refl
+rights_stay state (Ops.Facts text) moment = refl
+rights_stay state (Ops.List text how) moment = refl
+rights_stay state (Ops.Names text how) moment = refl
+
+-- the first of two refusals is none where both are
+pub first_is_none : (one other : Option Refusal) → or_refused one other ≡ None → one ≡ None
+first_is_none None other none = refl
+first_is_none (Some why) other none = absurd (cc)
+
+second_is_none : (one other : Option Refusal) → or_refused one other ≡ None → other ≡ None
+second_is_none None other none = none
+second_is_none (Some why) other none = absurd (cc)
+
+-- who is not refused is known
+known_is_none : (known : Bool) (why : Option Refusal) → (if known then why else Some NotLoggedIn) ≡ None → why ≡ None
+known_is_none true why none = none
+known_is_none false why none = absurd (cc)
+
+-- a right that there is not is wanting
+pub wanting : (Holds : Type 0) (may : Bool) → may ≡ false → barred may ≡ None → Holds
+wanting Holds true is none = absurd (cc)
+wanting Holds false is none = absurd (cc)
+
+pub no_put : (Holds : Type 0) (state : State) (path : Names) → state.rights ≡ no_rights → barred_put state path ≡ None → Holds
+no_put Holds state path is none = wanting Holds _ (ap (λ rights. may_put rights (fits path && is_file (node_at (part state) path))) is) none
+
+-- what is not refused changes nothing
+pub done_looks : (state : State) (op : Op (List ℕ)) (moment : ℕ) → state.rights ≡ no_rights → refusal state op ≡ None → (done state op moment).1.table ≡ state.table
+done_looks state Ops.Where moment is none = refl
+done_looks state (Ops.ChangeDir text) moment is none = refl
+done_looks state Ops.Up moment is none = refl
+done_looks state (Ops.MakeDir text) moment is none = wanting _ state.rights.make_dir (ap (λ rights. rights.make_dir) is) (first_is_none _ _ none)
+done_looks state (Ops.RemoveDir text) moment is none = wanting _ state.rights.remove_dir (ap (λ rights. rights.remove_dir) is) (first_is_none _ _ none)
+done_looks state (Ops.Delete text) moment is none = wanting _ state.rights.delete (ap (λ rights. rights.delete) is) (first_is_none _ _ none)
+done_looks state (Ops.Rename text new) moment is none = wanting _ state.rights.rename (ap (λ rights. rights.rename) is) (first_is_none _ _ none)
+done_looks state (Ops.Put text octets how) moment is none = no_put _ state _ is (first_is_none _ _ none)
+done_looks state (Ops.Append text octets how) moment is none = no_put _ state _ is (first_is_none _ _ none)
+done_looks state (Ops.PutFrom text offset octets how) moment is none = no_put _ state _ is (first_is_none _ _ (second_is_none (offset_refusal offset how) _ none))
+done_looks state (Ops.Get text how) moment is none = refl
+done_looks state (Ops.GetFrom text offset how) moment is none = refl
+done_looks state (Ops.Peek text count how) moment is none = refl
+done_looks state (Ops.Size text how) moment is none = refl
+done_looks state (Ops.Modified text) moment is none = refl
+done_looks state (Ops.Facts text) moment is none = refl
+done_looks state (Ops.List text how) moment is none = refl
+done_looks state (Ops.Names text how) moment is none = refl
+
+-- a map and rights that stay
+abbrev Looks : State → State → Type 0
+Looks old new = (new.table ≡ old.table) × (new.rights ≡ old.rights)
+
+chosen_looks : (sent : Bool) (why : Option Refusal) (state : State) (done : Said × State) → (why ≡ None → Looks state done.1)
+    → Looks state (if sent then chosen why state done else (BadOperation, state)).1
+chosen_looks false why state done looks = (refl, refl)
+chosen_looks true None state done looks = looks refl
+chosen_looks true (Some why) state done looks = (refl, refl)
+
+answer_looks : (state : State) (op : Op (List ℕ)) (moment : ℕ) → state.rights ≡ no_rights → Looks state (answer state op moment).1
+unfolding answer
+answer_looks state op moment is =
+    chosen_looks (can_be_sent op) (first_refusal state op) state (done state op moment)
+    (λ none. (done_looks state op moment is (known_is_none state.known (refusal state op) none), rights_stay state op moment))
+
+pub lookers_change_nothing : LookersChangeNothing
+unfolding answers
+lookers_change_nothing state [] is = refl
+lookers_change_nothing state (order ∷ orders) is =
+    let now = answer_looks state order.0 order.1 is in
+    lookers_change_nothing (answer state order.0 order.1).1 orders (now.1 ∙ is) ∙ now.0
