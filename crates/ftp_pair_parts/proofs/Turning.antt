@@ -1,7 +1,13 @@
 -- Turns are small events.
-use Rattle.std.proofs.Common.{◌≤◌, arith}
+use Rattle.std.proofs.Common.{◌≡◌, ◌∙◌, ◌≤◌, true, false, sym, arith}
+use Rattle.std.specs.Prelude.{IsTrue}
+use Rattle.std.proofs.lemmas.Bool.{false≢true}
+use Rattle.ftp_pair_world.specs.Events.{can_happen}
+use Rattle.ftp_pair_world.specs.Still.{IsStill}
+use Rattle.ftp_pair_world.specs.World.{World}
 use Rattle.ftp_pair_parts.specs.Calm.{most_in}
 use Rattle.ftp_pair_parts.specs.Happening.{IsSmall, turn_of}
+use Rattle.ftp_pair_parts.specs.Shown.{queue_of}
 use Rattle.ftp_pair_parts.specs.declared.turn.Turn.{Turn}
 use Rattle.ftp_pair_parts.specs.declared.turn.Turn.TheVariants as Turns
 
@@ -16,3 +22,9 @@ pub turn_few : (turn : Turn) → most_in (turn_of turn) ≤ 12312
 turn_few (Turns.Deliver queue) = omega arith
 turn_few Turns.Open = omega arith
 turn_few (Turns.End queue) = omega arith
+
+-- where one is possible, a world is not still
+pub not_still : (turn : Turn) (w : World) → IsTrue (can_happen (turn_of turn) w) → ¬ IsStill w
+not_still (Turns.Deliver queue) w can still = absurd (false≢true (sym (still.moved (queue_of queue) 4096 (omega arith) (omega arith)) ∙ can))
+not_still Turns.Open w can still = absurd (false≢true (sym still.opened ∙ can))
+not_still (Turns.End queue) w can still = absurd (false≢true (sym (still.ended (queue_of queue)) ∙ can))

@@ -4,7 +4,7 @@ ghost use Rattle.ftp_client_model.specs.Calls.{is_busy, starts, uploads};
 ghost use Rattle.ftp_client_model.specs.Tries.{over_breaks};
 ghost use Rattle.ftp_server_model.specs.Calls.{clocked};
 ghost use Rattle.ftp_operation.specs.declared.op.Op.{Op};
-ghost use Rattle.ftp_pair_world.specs.Events.{Happens, Next, Upload, begun_at, lends_none};
+ghost use Rattle.ftp_pair_world.specs.Events.{Happens, Next, Upload, begun_at, can_happen, lends_none};
 ghost use Rattle.ftp_pair_parts.specs.Calm.{Counted, tally_of};
 ghost use Rattle.ftp_pair_parts.specs.Shown.{shown, Calmly, HasRoom, Steps, is_unlinked};
 
@@ -30,6 +30,8 @@ impl<A: Allocator + Copy, T: Tree<A>, N: Near<A>, F: Far<A, T>> Parts<A, T, N, F
         requires given { given.old ≡ Some op }
         requires report { HasRoom N.client self.old }
         ensures ok { IfOk result (λ possible. Steps self.old.calm self.new.calm (λ read. Happens read (Next op moment.seconds) (shown N.client F.server self.old) possible (shown N.client F.server self.new))) }
+        ensures possible { IfOk result (λ possible. possible ≡ can_happen (Next op moment.seconds) (shown N.client F.server self.old)) }
+        ensures idle { IfOk result (λ possible. possible ≡ false → (shown N.client F.server self.new ≡ shown N.client F.server self.old) × (self.new.calm ≡ self.old.calm)) }
         ensures err { OnErr result ((shown N.client F.server self.new ≡ shown N.client F.server self.old) × (self.new.calm ≡ self.old.calm)) }
         ensures report { HasRoom N.client self.new }
         ensures unmoved { OnErr result (tally_of N.client F.server self.new ≡ tally_of N.client F.server self.old) }
@@ -59,6 +61,8 @@ impl<A: Allocator + Copy, T: Tree<A>, N: Near<A>, F: Far<A, T>> Parts<A, T, N, F
         requires given { given.old ≡ Some texts }
         requires report { HasRoom N.client self.old }
         ensures ok { IfOk result (λ possible. Steps self.old.calm self.new.calm (λ read. Happens read (Upload (over_breaks texts.0 texts.1 how) moment.seconds) (shown N.client F.server self.old) possible (shown N.client F.server self.new))) }
+        ensures possible { IfOk result (λ possible. possible ≡ can_happen (Upload (over_breaks texts.0 texts.1 how) moment.seconds) (shown N.client F.server self.old)) }
+        ensures idle { IfOk result (λ possible. possible ≡ false → (shown N.client F.server self.new ≡ shown N.client F.server self.old) × (self.new.calm ≡ self.old.calm)) }
         ensures err { OnErr result ((shown N.client F.server self.new ≡ shown N.client F.server self.old) × (self.new.calm ≡ self.old.calm)) }
         ensures report { HasRoom N.client self.new }
         ensures unmoved { OnErr result (tally_of N.client F.server self.new ≡ tally_of N.client F.server self.old) }

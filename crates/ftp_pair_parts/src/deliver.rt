@@ -17,6 +17,8 @@ impl<A: Allocator + Copy, T: Tree<A>, N: Near<A>, F: Far<A, T>> Parts<A, T, N, F
     pub(crate) fn step_deliver(&mut self, queue: Queue, count: usize) -> Result<bool, AllocError>
         requires report { HasRoom N.client self.old }
         ensures ok { IfOk result (λ possible. Steps self.old.calm self.new.calm (λ read. Happens read (Deliver (queue_of queue) count) (shown N.client F.server self.old) possible (shown N.client F.server self.new))) }
+        ensures possible { IfOk result (λ possible. possible ≡ can_happen (Deliver (queue_of queue) count) (shown N.client F.server self.old)) }
+        ensures idle { IfOk result (λ possible. possible ≡ false → (shown N.client F.server self.new ≡ shown N.client F.server self.old) × (self.new.calm ≡ self.old.calm)) }
         ensures err { OnErr result ((shown N.client F.server self.new ≡ shown N.client F.server self.old) × (self.new.calm ≡ self.old.calm)) }
         ensures report { HasRoom N.client self.new }
         ensures unmoved { OnErr result (tally_of N.client F.server self.new ≡ tally_of N.client F.server self.old) }

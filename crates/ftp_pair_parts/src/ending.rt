@@ -1,5 +1,5 @@
 // The end of the control connection, and ends that are told that the other has closed.
-ghost use Rattle.std.specs.Prelude.{◌≡◌, ◌<◌};
+ghost use Rattle.std.specs.Prelude.{◌≡◌, ◌<◌, false};
 ghost use Rattle.ftp_pair_world.specs.Events.{Happens, EndControl, End, DataToServer, DataToClient, ends_control, told, is_closed, can_happen, lends_none};
 ghost use Rattle.ftp_pair_parts.specs.Calm.{Counted};
 ghost use Rattle.ftp_pair_parts.specs.Shown.{shown, Calmly, HasRoom, Steps, queue_of};
@@ -17,6 +17,8 @@ impl<A: Allocator + Copy, T: Tree<A>, N: Near<A>, F: Far<A, T>> Parts<A, T, N, F
     pub(crate) fn step_end_control(&mut self) -> bool
         requires report { HasRoom N.client self.old }
         ensures does { Steps self.old.calm self.new.calm (λ read. Happens read EndControl (shown N.client F.server self.old) result (shown N.client F.server self.new)) }
+        ensures possible { result ≡ can_happen EndControl (shown N.client F.server self.old) }
+        ensures idle { result ≡ false → (shown N.client F.server self.new ≡ shown N.client F.server self.old) × (self.new.calm ≡ self.old.calm) }
         ensures report { HasRoom N.client self.new }
         ensures counted { Counted 24 N.client F.server self.old self.new }
     {
@@ -55,6 +57,7 @@ impl<A: Allocator + Copy, T: Tree<A>, N: Near<A>, F: Far<A, T>> Parts<A, T, N, F
         requires report { HasRoom N.client self.old }
         ensures does { Steps self.old.calm self.new.calm (λ read. Happens read (End (queue_of queue)) (shown N.client F.server self.old) result (shown N.client F.server self.new)) }
         ensures possible { result ≡ can_happen (End (queue_of queue)) (shown N.client F.server self.old) }
+        ensures idle { result ≡ false → (shown N.client F.server self.new ≡ shown N.client F.server self.old) × (self.new.calm ≡ self.old.calm) }
         ensures report { HasRoom N.client self.new }
         ensures counted { Counted 24 N.client F.server self.old self.new }
     {

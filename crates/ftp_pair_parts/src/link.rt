@@ -71,6 +71,7 @@ impl<A: Allocator + Copy, T: Tree<A>, N: Near<A>, F: Far<A, T>> Parts<A, T, N, F
         requires report { HasRoom N.client self.old }
         ensures does { Steps self.old.calm self.new.calm (λ read. Happens read Open (shown N.client F.server self.old) result (shown N.client F.server self.new)) }
         ensures possible { result ≡ can_happen Open (shown N.client F.server self.old) }
+        ensures idle { result ≡ false → (shown N.client F.server self.new ≡ shown N.client F.server self.old) × (self.new.calm ≡ self.old.calm) }
         ensures report { HasRoom N.client self.new }
         ensures counted { Counted 24 N.client F.server self.old self.new }
     {
@@ -105,6 +106,8 @@ impl<A: Allocator + Copy, T: Tree<A>, N: Near<A>, F: Far<A, T>> Parts<A, T, N, F
     pub(crate) fn step_refuse(&mut self) -> Result<bool, AllocError>
         requires report { HasRoom N.client self.old }
         ensures ok { IfOk result (λ possible. Steps self.old.calm self.new.calm (λ read. Happens read Refuse (shown N.client F.server self.old) possible (shown N.client F.server self.new))) }
+        ensures possible { IfOk result (λ possible. possible ≡ can_happen Refuse (shown N.client F.server self.old)) }
+        ensures idle { IfOk result (λ possible. possible ≡ false → (shown N.client F.server self.new ≡ shown N.client F.server self.old) × (self.new.calm ≡ self.old.calm)) }
         ensures err { OnErr result ((shown N.client F.server self.new ≡ shown N.client F.server self.old) × (self.new.calm ≡ self.old.calm)) }
         ensures report { HasRoom N.client self.new }
         ensures unmoved { OnErr result (tally_of N.client F.server self.new ≡ tally_of N.client F.server self.old) }
@@ -173,6 +176,8 @@ impl<A: Allocator + Copy, T: Tree<A>, N: Near<A>, F: Far<A, T>> Parts<A, T, N, F
     pub(crate) fn step_break(&mut self) -> Result<bool, AllocError>
         requires report { HasRoom N.client self.old }
         ensures ok { IfOk result (λ possible. Steps self.old.calm self.new.calm (λ read. Happens read Break (shown N.client F.server self.old) possible (shown N.client F.server self.new))) }
+        ensures possible { IfOk result (λ possible. possible ≡ can_happen Break (shown N.client F.server self.old)) }
+        ensures idle { IfOk result (λ possible. possible ≡ false → (shown N.client F.server self.new ≡ shown N.client F.server self.old) × (self.new.calm ≡ self.old.calm)) }
         ensures err { OnErr result ((shown N.client F.server self.new ≡ shown N.client F.server self.old) × (self.new.calm ≡ self.old.calm)) }
         ensures report { HasRoom N.client self.new }
         ensures unmoved { OnErr result (tally_of N.client F.server self.new ≡ tally_of N.client F.server self.old) }

@@ -1,6 +1,6 @@
 // One event, and what follows each: what is wanted is served, and the report is taken.
-ghost use Rattle.std.specs.Prelude.{◌≡◌, ◌<◌, vec_capacity, IfOk, OnErr};
-ghost use Rattle.ftp_pair_world.specs.Events.{Happens, lends_none};
+ghost use Rattle.std.specs.Prelude.{◌≡◌, ◌<◌, vec_capacity, false, IfOk, OnErr};
+ghost use Rattle.ftp_pair_world.specs.Events.{Happens, can_happen, lends_none};
 ghost use Rattle.ftp_pair_world.specs.Serving.{after_event, collected};
 ghost use Rattle.ftp_pair_parts.specs.Calm.{Counted, most_in, tally_of};
 ghost use Rattle.ftp_pair_parts.specs.Happening.{event_of};
@@ -19,6 +19,8 @@ impl<A: Allocator + Copy, T: Tree<A>, N: Near<A>, F: Far<A, T>> Parts<A, T, N, F
     pub fn step(&mut self, alloc: A, event: Event<A>) -> Result<bool, AllocError>
         requires report { HasRoom N.client self.old }
         ensures ok { IfOk result (λ possible. Steps self.old.calm self.new.calm (λ read. Happens read (event_of event) (shown N.client F.server self.old) possible (shown N.client F.server self.new))) }
+        ensures possible { IfOk result (λ possible. possible ≡ can_happen (event_of event) (shown N.client F.server self.old)) }
+        ensures idle { IfOk result (λ possible. possible ≡ false → (shown N.client F.server self.new ≡ shown N.client F.server self.old) × (self.new.calm ≡ self.old.calm)) }
         ensures err { OnErr result ((shown N.client F.server self.new ≡ shown N.client F.server self.old) × (self.new.calm ≡ self.old.calm)) }
         ensures report { HasRoom N.client self.new }
         ensures unmoved { OnErr result (tally_of N.client F.server self.new ≡ tally_of N.client F.server self.old) }

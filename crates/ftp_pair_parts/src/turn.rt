@@ -27,6 +27,7 @@ impl<A: Allocator + Copy, T: Tree<A>, N: Near<A>, F: Far<A, T>> Parts<A, T, N, F
         requires report { HasRoom N.client self.old }
         ensures does { result ≡ true → Stirs self.old.calm self.new.calm (shown N.client F.server self.old) (shown N.client F.server self.new) }
         ensures still { result ≡ false → IsStill (shown N.client F.server self.old) }
+        ensures stirs { result ≡ true → ¬ IsStill (shown N.client F.server self.old) }
         ensures same { result ≡ false → self.new ≡ self.old }
         ensures counted { Counted 12312 N.client F.server self.old self.new }
         ensures report { HasRoom N.client self.new }

@@ -1,4 +1,6 @@
-use Rattle.std.proofs.Common.{sym, ap, subst}
+use Rattle.std.proofs.Common.{◌≡◌, sym, ap, subst}
+use Rattle.std.specs.Prelude.{IfOk}
+use Rattle.ftp_pair_world.specs.Events.{can_happen}
 use Rattle.ftp_pair_parts.specs.Happening.{event_of}
 use Rattle.ftp_pair_parts.specs.Shown.{shown}
 use Rattle.ftp_pair_parts.proofs.Whole.{stepped, stepped_on}
@@ -52,3 +54,27 @@ returns-in-Next-clause-counted g c = subst (λ e. Counted (most_in (event_of e))
 
 pub returns-in-Upload-clause-counted : goal.returns-in-Upload-clause-counted
 returns-in-Upload-clause-counted g c = subst (λ e. Counted (most_in (event_of e)) g.N.Near.client g.F.Far.server c.args.self.now c.step_upload-possible.new.self) (sym c.in-Upload.is) c.step_upload-possible.ensures.counted
+
+pub returns-in-Deliver-clause-possible : goal.returns-in-Deliver-clause-possible
+returns-in-Deliver-clause-possible g c = subst (λ e. IfOk c.step_deliver.result (λ possible. possible ≡ can_happen (event_of e) (shown g.N.Near.client g.F.Far.server c.args.self.now))) (sym c.in-Deliver.is) c.step_deliver.ensures.possible
+
+pub returns-in-Open-clause-possible : goal.returns-in-Open-clause-possible
+returns-in-Open-clause-possible g c = subst (λ e. c.step_open.result ≡ can_happen (event_of e) (shown g.N.Near.client g.F.Far.server c.args.self.now)) (sym c.in-Open.is) c.step_open.ensures.possible
+
+pub returns-in-Refuse-clause-possible : goal.returns-in-Refuse-clause-possible
+returns-in-Refuse-clause-possible g c = subst (λ e. IfOk c.step_refuse.result (λ possible. possible ≡ can_happen (event_of e) (shown g.N.Near.client g.F.Far.server c.args.self.now))) (sym c.in-Refuse.is) c.step_refuse.ensures.possible
+
+pub returns-in-End-clause-possible : goal.returns-in-End-clause-possible
+returns-in-End-clause-possible g c = subst (λ e. c.step_end.result ≡ can_happen (event_of e) (shown g.N.Near.client g.F.Far.server c.args.self.now)) (sym c.in-End.is) c.step_end.ensures.possible
+
+pub returns-in-Break-clause-possible : goal.returns-in-Break-clause-possible
+returns-in-Break-clause-possible g c = subst (λ e. IfOk c.step_break.result (λ possible. possible ≡ can_happen (event_of e) (shown g.N.Near.client g.F.Far.server c.args.self.now))) (sym c.in-Break.is) c.step_break.ensures.possible
+
+pub returns-in-EndControl-clause-possible : goal.returns-in-EndControl-clause-possible
+returns-in-EndControl-clause-possible g c = subst (λ e. c.step_end_control.result ≡ can_happen (event_of e) (shown g.N.Near.client g.F.Far.server c.args.self.now)) (sym c.in-EndControl.is) c.step_end_control.ensures.possible
+
+pub returns-in-Next-clause-possible : goal.returns-in-Next-clause-possible
+returns-in-Next-clause-possible g c = subst (λ e. IfOk c.step_next-possible.result (λ possible. possible ≡ can_happen (event_of e) (shown g.N.Near.client g.F.Far.server c.args.self.now))) (sym c.in-Next.is) c.step_next-possible.ensures.possible
+
+pub returns-in-Upload-clause-possible : goal.returns-in-Upload-clause-possible
+returns-in-Upload-clause-possible g c = subst (λ e. IfOk c.step_upload-possible.result (λ possible. possible ≡ can_happen (event_of e) (shown g.N.Near.client g.F.Far.server c.args.self.now))) (sym c.in-Upload.is) c.step_upload-possible.ensures.possible

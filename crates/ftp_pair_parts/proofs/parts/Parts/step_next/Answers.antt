@@ -1,7 +1,7 @@
 use Rattle.std.proofs.Common.{ap, refl, sym, ◌∙◌, arith}
 use Rattle.ftp_client_model.specs.Calls.{is_busy}
 use Rattle.ftp_pair_parts.specs.Shown.{shown}
-use Rattle.ftp_pair_parts.proofs.Beginning.{began, busy_not, linked_not}
+use Rattle.ftp_pair_parts.proofs.Beginning.{began, busy_not, free_begins, linked_not}
 use Rattle.ftp_pair_parts.proofs.Keeping.{none, fewer, then, at_most}
 use Rattle.ftp_pair_parts.proofs.parts.Parts.step_next.Goals as goal
 
@@ -42,3 +42,18 @@ returns-clause-counted g c =
     let begun = then c.make_room.ensures.counted c.start.ensures.counted (at_most 3) in
     let noted = then begun c.note.ensures.counted (at_most 6) in
     then noted c.finish.ensures.counted (omega arith)
+
+pub returns-clause-possible : goal.returns-clause-possible
+returns-clause-possible g c =
+    sym (free_begins (shown g.N.Near.client g.F.Far.server c.args.self.now) (ap (λ w. is_busy w.near) (sym c.make_room.ensures.same) ∙ (c.start.ensures.begun c.if-not-start.false).0) (sym c.is_unlinked.ensures ∙ c.if-not-is_unlinked.false))
+
+pub returns-then-not-is_unlinked-clause-possible : goal.returns-then-not-is_unlinked-clause-possible
+returns-then-not-is_unlinked-clause-possible g c = sym (linked_not (shown g.N.Near.client g.F.Far.server c.args.self.now) (sym c.is_unlinked.ensures ∙ c.if-not-is_unlinked.true))
+
+pub returns-then-not-start-clause-possible : goal.returns-then-not-start-clause-possible
+returns-then-not-start-clause-possible g c =
+    sym (busy_not (shown g.N.Near.client g.F.Far.server c.args.self.now) (ap (λ w. is_busy w.near) (sym c.make_room.ensures.same) ∙ (c.start.ensures.busy c.if-not-start.true).0))
+
+pub returns-then-not-start-clause-idle : goal.returns-then-not-start-clause-idle
+returns-then-not-start-clause-idle g c is =
+    let busy = c.start.ensures.busy c.if-not-start.true in (busy.1 ∙ c.make_room.ensures.same, busy.2 ∙ c.make_room.ensures.calm)

@@ -1,5 +1,6 @@
 use Rattle.ftp_pair_parts.specs.Happening.{turn_of}
-use Rattle.ftp_pair_parts.proofs.Turning.{turn_small, turn_few}
+use Rattle.ftp_pair_parts.specs.Shown.{shown}
+use Rattle.ftp_pair_parts.proofs.Turning.{not_still, turn_small, turn_few}
 use Rattle.ftp_pair_parts.proofs.Keeping.{none, fewer}
 use Rattle.ftp_pair_parts.proofs.parts.Parts.turn.Goals as goal
 
@@ -11,3 +12,6 @@ returns-clause-counted g c = fewer c.take_turn.ensures.counted (turn_few c.in-So
 
 pub returns-in_default-clause-counted : goal.returns-in_default-clause-counted
 returns-in_default-clause-counted g c = none _ _ _
+
+pub returns-clause-stirs : goal.returns-clause-stirs
+returns-clause-stirs g c is = not_still c.in-Some.turn (shown g.N.Near.client g.F.Far.server c.args.self.now) c.in-Some.ensures.some
