@@ -12,4 +12,4 @@ returns-in-Err g c =
     let s = session_of g.T.Tree.table g.J.ServerTransfer.view old in
     let found = rw c.in-Some.is at c.in-Ok.ensures in
     tree_refused g.T.Tree.table g.T.Tree.failures g.J.ServerTransfer.view (mkd c.args.text.now) old c.make_dir.new.self _ _ Texts.Refused _ c.in-Err.ensures.refused (make-no _ _)
-    c.refused.ensures (λ why e. may_due s _ _ s.rights.make_dir _ c.if-not-make_dir.false (there_due s _ _ _ (λ path. make_refusal (under s.table s.root) path) why found.0 found.1 e))
+    c.refused.ensures (λ why e. may_due s _ _ s.rights.make_dir _ c.if-not-self.false (there_due s _ _ _ (λ path. make_refusal (under s.table s.root) path) why found.0 found.1 e))

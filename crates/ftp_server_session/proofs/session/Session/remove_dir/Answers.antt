@@ -15,4 +15,4 @@ returns g c =
     let s = session_of g.T.Tree.table g.J.ServerTransfer.view old in
     let found = rw c.in-Some.is at c.in-Ok.ensures in
     tree_refused g.T.Tree.table g.T.Tree.failures g.J.ServerTransfer.view (rmd c.args.text.now) old c.remove_dir.new.self _ _ Texts.Refused _ c.in-Err.ensures.refused (remove-no _ _)
-    c.refused.ensures (λ why e. may_due s _ _ s.rights.remove_dir _ c.if-not-remove_dir.false (there_due s _ _ _ (λ path. or_else (remove_refusal (under s.table s.root) path) (busy_refusal (direct_of s) path)) why found.0 found.1 (ap (λ r. or_else r (busy_refusal (direct_of s) c.in-Some.path)) e)))
+    c.refused.ensures (λ why e. may_due s _ _ s.rights.remove_dir _ c.if-not-self.false (there_due s _ _ _ (λ path. or_else (remove_refusal (under s.table s.root) path) (busy_refusal (direct_of s) path)) why found.0 found.1 (ap (λ r. or_else r (busy_refusal (direct_of s) c.in-Some.path)) e)))
