@@ -1,9 +1,7 @@
 //! What the definitions say of secrets. The calls do nothing: their contracts are the laws.
-ghost use Rattle.std.specs.Prelude.{◌≡◌, ◌∷◌, ℕ, [], List, Ok, map};
-ghost use Rattle.ftp_operation_secret.specs.Crypt.{Group, group};
+ghost use Rattle.std.specs.Prelude.{◌≡◌, ℕ, List, Ok};
 ghost use Rattle.ftp_operation_secret.specs.Places.{places, places_256, places_512};
 ghost use Rattle.ftp_operation_secret.specs.Secret.{read, secret_text};
-ghost use Rattle.ftp_operation_secret.specs.declared.method.Method.{Method};
 ghost use Rattle.ftp_operation_secret.specs.declared.method.Method.TheVariants.{Sha256, Sha512};
 ghost use Rattle.ftp_operation_secret.specs.declared.secret.Secret.{Secret};
 

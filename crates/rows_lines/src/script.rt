@@ -2,7 +2,8 @@
 use crate::row::{Row, octets_in};
 use crate::word::{FactWord, FileWord, Word, word_of};
 use crate::{
-    calendar, ears, endpoints, entries, growing, items, moments, pieces, replies, secrets, sizes, wires,
+    calendar, ears, endpoints, entries, growing, items, moments, pieces, replies, secrets, sizes,
+    wires,
 };
 use rows_base::{Paper, cut, split};
 use std::alloc::Global;
