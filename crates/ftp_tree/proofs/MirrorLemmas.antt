@@ -5,11 +5,11 @@ use Rattle.std.specs.Option.{option_map}
 use Rattle.std.proofs.lemmas.Bool.{true≢false}
 use Rattle.ftp_path.specs.Path.{Names}
 use Rattle.ftp_tree.specs.Change.{Refuses, next_count}
-use Rattle.ftp_tree.specs.Tree.{Node, Dir, File, Table, delete_refusal, file_refusal, install_refusal, kind_at, kind_of, node_at, room_answer, room_refusal}
+use Rattle.ftp_tree.specs.Tree.{Node, Dir, File, Table, delete_refusal, file_refusal, install_refusal, kind_at, kind_of, node_at, room_answer, room_refusal, under}
 use Rattle.ftp_tree.specs.declared.fault.TreeFault.{TreeFault}
 use Rattle.ftp_tree.specs.declared.fault.TreeFault.TheVariants.{Device}
 use Rattle.ftp_tree.proofs.TableLemmas.{both-none}
-use Rattle.ftp_tree.specs.Folder.{Mirrors}
+use Rattle.ftp_tree.specs.Folder.{Mirrors, SparesUnknown}
 
 -- ---- what a call that did not fail says, and what one that failed does
 
@@ -20,6 +20,10 @@ on-ok (Err x) told holds = absurd (true≢false told)
 pub on-err : {X Y P : Type 0} (r : Result X Y) → is_err r ≡ true → OnErr r P → P
 on-err (Ok x) told holds = absurd (true≢false (sym told))
 on-err (Err x) told holds = holds
+
+pub always-ok : {X Y P : Type 0} (r : Result X Y) → P → OnOk r P
+always-ok (Ok x) holds = holds
+always-ok (Err x) holds = tt
 
 -- ---- what the folder keeps
 
@@ -59,3 +63,8 @@ absent-node (Some node) none = absurd (true≢false none)
 pub kind-absent : (table : Table) (path : Names) → is_some (kind_at table path) ≡ false → node_at table path ≡ None
 unfolding kind_at
 kind-absent table path none = absent-node (node_at table path) none
+
+-- where the map has something at a path, nothing that it does not know stands there
+pub spares-known : (table : Table) (kept : Option Table) (root path : Names) → is_some (kind_at (under table root) path) ≡ true → SparesUnknown table kept root path
+unfolding kind_at
+spares-known table kept root path some none = absurd (true≢false (sym some ∙ ap (λ node. is_some (option_map kind_of node)) none))

@@ -1,9 +1,9 @@
 -- What a folder keeps outside memory, and how it stands to the tree that is mirrored to it (RFC 959, section 4.1.3).
-use Rattle.std.specs.Prelude.{◌≡◌, ℕ, Option, Some}
+use Rattle.std.specs.Prelude.{◌≡◌, ℕ, Option, Some, None}
 use Rattle.std.specs.Option.{option_map}
 use Rattle.ftp_path.specs.Path.{Names}
 use Rattle.ftp_tree.specs.Change.{next_count}
-use Rattle.ftp_tree.specs.Tree.{Table, under, with_part}
+use Rattle.ftp_tree.specs.Tree.{Table, node_at, under, with_part}
 
 -- the map with a change of the part below a root
 abbrev pub changed_below : Names → (Table → Table) → Table → Table
@@ -20,3 +20,12 @@ HasFailed old new before after = (new ≡ old) × (after ≡ next_count before)
 -- a folder mirrors a map where it keeps just that map, if what it keeps is known
 abbrev pub Mirrors : Option Table → Table → Type 0
 Mirrors kept table = (its : Table) → kept ≡ Some its → its ≡ table
+
+-- what it keeps has nothing at a path below a root, if what it keeps is known
+abbrev pub IsFree : (kept : Option Table) → (root path : Names) → Type 0
+IsFree kept root path = (its : Table) → kept ≡ Some its → node_at (under its root) path ≡ None
+
+-- A file is written over what stands in the folder only where the map has something at that path too: where the map has nothing, it is written
+-- where nothing stands, so what came into the folder meanwhile is not replaced.
+abbrev pub SparesUnknown : Table → (kept : Option Table) → (root path : Names) → Type 0
+SparesUnknown table kept root path = node_at (under table root) path ≡ None → IsFree kept root path

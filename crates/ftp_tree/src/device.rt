@@ -1,7 +1,7 @@
 // A folder outside memory, as a mirrored tree uses it.
 ghost use Rattle.std.specs.Prelude.{◌≡◌, ℕ, Option, OnErr, OnOk};
 ghost use Rattle.ftp_tree.specs.Tree.{Table, installed, made, moved, removed};
-ghost use Rattle.ftp_tree.specs.Folder.{HasFailed, IsKept, changed_below};
+ghost use Rattle.ftp_tree.specs.Folder.{HasFailed, IsFree, IsKept, changed_below};
 
 use crate::content::Content;
 use ftp_facts::Moment;
@@ -72,5 +72,17 @@ pub trait Folder: Drop {
         moment: Moment,
     ) -> Result<(), FolderFault>
         ensures done { OnOk result (IsKept (changed_below root.now (λ part. installed part path.now content.now moment.seconds)) (kept self.old) (kept self.new) (failures self.old) (failures self.new)) }
+        ensures failed { OnErr result (HasFailed (kept self.old) (kept self.new) (failures self.old) (failures self.new)) };
+
+    /// Writes a file of these octets where nothing stands; it fails where something does.
+    fn write_new<A: Allocator + Copy, B: Allocator + Copy, C: Allocator + Copy>(
+        &mut self,
+        root: &Path<B>,
+        path: &Path<C>,
+        content: &Content<A>,
+        moment: Moment,
+    ) -> Result<(), FolderFault>
+        ensures done { OnOk result (IsKept (changed_below root.now (λ part. installed part path.now content.now moment.seconds)) (kept self.old) (kept self.new) (failures self.old) (failures self.new)) }
+        ensures free { OnOk result (IsFree (kept self.old) root.now path.now) }
         ensures failed { OnErr result (HasFailed (kept self.old) (kept self.new) (failures self.old) (failures self.new)) };
 }

@@ -3,7 +3,7 @@ ghost use Rattle.std.specs.Prelude.{◌≡◌, ◌⊎◌, None, OnOk, OnErr, IfE
 ghost use Rattle.ftp_tree.specs.Change.{IsDone, IsRefused, Refuses};
 ghost use Rattle.ftp_tree.specs.Tree.{installed, made, moved, removed, under, with_part};
 ghost use Rattle.ftp_tree.specs.Tree.{delete_refusal, install_refusal, make_refusal, remove_refusal, rename_refusal};
-ghost use Rattle.ftp_tree.specs.Folder.{IsKept, Mirrors, changed_below};
+ghost use Rattle.ftp_tree.specs.Folder.{IsFree, IsKept, Mirrors, SparesUnknown, changed_below};
 
 use crate::content::Content;
 use crate::device::Folder;
@@ -233,6 +233,7 @@ impl<A: Allocator + Copy, D: Folder> Tree<A> for Mirror<A, D> {
         ensures taken { OnOk result (content.new ≡ []) }
         ensures back { OnErr result (content.new ≡ content.old) }
         ensures mirrors { Mirrors (D.kept self.old.folder) self.old.tree → Mirrors (D.kept self.new.folder) self.new.tree }
+        ensures spares { OnOk result (SparesUnknown self.old.tree (D.kept self.old.folder) root.now path.now) }
     {
         if let Some(fault) = self.tree.install_refusal(root, path, content.len()) {
             return Err(fault);
@@ -250,7 +251,7 @@ impl<A: Allocator + Copy, D: Folder> Tree<A> for Mirror<A, D> {
         if self.tree.make_place(root, path).is_err() {
             return Err(TreeFault::Memory);
         }
-        if let Err(fault) = put_over(
+        if let Err(fault) = put_new(
             &mut self.tree,
             &mut self.folder,
             root,
@@ -265,7 +266,7 @@ impl<A: Allocator + Copy, D: Folder> Tree<A> for Mirror<A, D> {
     }
 }
 
-/// Writes a file to the folder, and then puts it in the place of what stands in the tree: a file or an empty directory.
+/// Writes a file to the folder over what stands there, and then puts it in the place of what stands in the tree.
 fn put_over<A: Allocator + Copy, B: Allocator + Copy, C: Allocator + Copy, D: Folder>(
     tree: &mut MemTree<A>,
     folder: &mut D,
@@ -285,6 +286,33 @@ fn put_over<A: Allocator + Copy, B: Allocator + Copy, C: Allocator + Copy, D: Fo
         return Err(TreeFault::Memory);
     }
     if folder.write(root, path, content, moment).is_err() {
+        return Err(TreeFault::Device);
+    }
+    tree.put_over(root, path, content, moment);
+    Ok(())
+}
+
+/// Writes a file to the folder where nothing stands, and then puts it in the place that was made for it in the tree.
+fn put_new<A: Allocator + Copy, B: Allocator + Copy, C: Allocator + Copy, D: Folder>(
+    tree: &mut MemTree<A>,
+    folder: &mut D,
+    root: &Path<B>,
+    path: &Path<C>,
+    content: &mut Content<A>,
+    moment: Moment,
+) -> Result<(), TreeFault>
+    requires { let part = under tree.old root.now in (delete_refusal part path.now ≡ None) ⊎ (remove_refusal part path.now ≡ None) }
+    ensures tree { OnOk result (tree.new ≡ with_part tree.old root.now (installed (under tree.old root.now) path.now content.old moment.seconds)) }
+    ensures taken { OnOk result (content.new ≡ []) }
+    ensures kept { OnOk result (IsKept (changed_below root.now (λ part. installed part path.now content.old moment.seconds)) (D.kept folder.old) (D.kept folder.new) (D.failures folder.old) (D.failures folder.new)) }
+    ensures free { OnOk result (IsFree (D.kept folder.old) root.now path.now) }
+    ensures same { OnErr result ((tree.new ≡ tree.old) × (content.new ≡ content.old) × (D.kept folder.new ≡ D.kept folder.old)) }
+    ensures fault { IfErr result (λ fault. Refuses None fault (D.failures folder.old) (D.failures folder.new)) }
+{
+    if !tree.can_count(content.len()) {
+        return Err(TreeFault::Memory);
+    }
+    if folder.write_new(root, path, content, moment).is_err() {
         return Err(TreeFault::Device);
     }
     tree.put_over(root, path, content, moment);

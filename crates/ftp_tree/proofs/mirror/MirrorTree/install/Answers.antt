@@ -2,7 +2,7 @@ use Rattle.std.proofs.Common.{inl, is_some, length, sym, ap, ◌∙◌}
 use Rattle.ftp_tree.specs.Tree.{install_refusal, installed, removed, under, with_part}
 use Rattle.ftp_tree.proofs.PlacingLemmas.{had, install-above}
 use Rattle.ftp_tree.specs.Folder.{changed_below}
-use Rattle.ftp_tree.proofs.MirrorLemmas.{install-over, kind-absent, mirrors-on, on-ok, refuses-as}
+use Rattle.ftp_tree.proofs.MirrorLemmas.{always-ok, install-over, kind-absent, mirrors-on, on-ok, refuses-as, spares-known}
 use Rattle.ftp_tree.proofs.mirror.MirrorTree.install.Goals as goal
 
 pub put_over-requires : goal.put_over-requires
@@ -10,6 +10,10 @@ put_over-requires g c =
     let part = under c.args.self.now.tree c.args.root.now in
     let none = ap (install_refusal part c.args.path.now) (sym c.len.ensures) ∙ sym c.install_refusal.ensures ∙ c.in_default.is in
     inl (install-over part c.args.path.now (length c.args.content.now) none (ap is_some (sym c.kind.ensures) ∙ sym c.is_some.ensures ∙ c.if-is_some.true))
+
+pub returns-then-is_some-clause-spares : goal.returns-then-is_some-clause-spares
+returns-then-is_some-clause-spares g c =
+    always-ok c.put_over.result (spares-known c.args.self.now.tree _ c.args.root.now c.args.path.now (ap is_some (sym c.kind.ensures) ∙ sym c.is_some.ensures ∙ c.if-is_some.true))
 
 pub make_place-requires-clause-absent : goal.make_place-requires-clause-absent
 make_place-requires-clause-absent g c = kind-absent _ c.args.path.now (ap is_some (sym c.kind.ensures) ∙ sym c.is_some.ensures ∙ c.if-is_some.false)
@@ -42,10 +46,10 @@ pub returns-clause-mirrors : goal.returns-clause-mirrors
 returns-clause-mirrors g c =
     let absent = kind-absent (under c.args.self.now.tree c.args.root.now) c.args.path.now (ap is_some (sym c.kind.ensures) ∙ sym c.is_some.ensures ∙ c.if-is_some.false) in
     let place = had c.args.self.now.tree c.make_place.new.self c.args.root.now c.args.path.now absent (on-ok c.make_place.result (sym c.is_err.ensures.value ∙ c.if-is_err.false) c.make_place.ensures.ok) in
-    let put = c.in_default-put_over.ensures.tree ∙ place.over c.args.content.now c.args.moment.seconds in
+    let put = c.in_default-put_new.ensures.tree ∙ place.over c.args.content.now c.args.moment.seconds in
     λ before its held.
     mirrors-on _ _ (changed_below c.args.root.now (λ part. installed part c.args.path.now c.args.content.now c.args.moment.seconds)) c.args.self.now.tree before
-    c.in_default-put_over.ensures.kept.0 its held ∙ sym put
+    c.in_default-put_new.ensures.kept.0 its held ∙ sym put
 
 pub returns-clause-done : goal.returns-clause-done
 returns-clause-done g c =
@@ -53,4 +57,4 @@ returns-clause-done g c =
     let none = ap (install_refusal part c.args.path.now) (sym c.len.ensures) ∙ sym c.install_refusal.ensures ∙ c.in_default.is in
     let absent = kind-absent part c.args.path.now (ap is_some (sym c.kind.ensures) ∙ sym c.is_some.ensures ∙ c.if-is_some.false) in
     let place = had c.args.self.now.tree c.make_place.new.self c.args.root.now c.args.path.now absent (on-ok c.make_place.result (sym c.is_err.ensures.value ∙ c.if-is_err.false) c.make_place.ensures.ok) in
-    (none, c.in_default-put_over.ensures.tree ∙ place.over c.args.content.now c.args.moment.seconds, c.in_default-put_over.ensures.kept.1)
+    (none, c.in_default-put_new.ensures.tree ∙ place.over c.args.content.now c.args.moment.seconds, c.in_default-put_new.ensures.kept.1)
