@@ -1,4 +1,5 @@
--- What an account has no right to do is refused before the map is asked, and an account without a right to change changes nothing.
+-- What an account has no right to do is refused before anything else by the map, which is asked for one thing alone: whether a file stands where one is
+-- to be put. An account without a right to change changes nothing.
 use Rattle.std.specs.Prelude.{◌≡◌, ℕ, List, Option, None, is_none, if◌then◌else◌}
 use Rattle.ftp_tree.specs.Tree.{Table}
 use Rattle.ftp_operation.specs.Rights.{all_rights, no_rights}

@@ -40,7 +40,7 @@ pub fn offsets_lead()
     ensures { OffsetsLead }
 {}
 
-/// What an account may not do is refused before the map is asked, but for an offset without a meaning; all else is refused as of an account
+/// What an account may not do is refused before anything else by the map, but after an offset without a meaning; all else is refused as of an account
 /// that may do all.
 pub fn rights_come_first()
     ensures { RightsComeFirst }

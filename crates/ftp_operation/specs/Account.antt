@@ -4,12 +4,14 @@ use Rattle.std.specs.List.{find, list_all, list_any}
 use Rattle.std.specs.Cmp.Lexicographic.{pointwise}
 pub use Rattle.ftp_path.specs.Login.{is_user, is_password}
 use Rattle.ftp_path.specs.Path.{Names, is_within}
+use Rattle.ftp_operation_secret.specs.Secret.{opens}
+use Rattle.ftp_operation_secret.specs.declared.secret.Secret.{Secret}
 use Rattle.ftp_operation.specs.declared.account.Account.{Account as Held}
 use Rattle.ftp_operation.specs.declared.account.AccountsFault.{AccountsFault}
 use Rattle.ftp_operation.specs.declared.account.AccountsFault.TheVariants.{SameUser, NestedRoots}
 
--- an account: a user name, the password that it needs, if it needs one, its root, which is the path that is `/` to its user, and what it may
--- change there
+-- an account: a user name, the password that it needs, if it needs one, in clear or as SHA-crypt, its root, which is the path that is `/` to
+-- its user, and what it may change there
 abbrev pub Account : Type 0
 Account = Held (List ℕ) Names
 
@@ -40,10 +42,10 @@ abbrev pub accounts_refusal : List Account → Option AccountsFault
 accounts_refusal accounts =
     if not (are_distinct accounts) then Some SameUser else (if not (are_apart accounts) then Some NestedRoots else None)
 
--- a password is the account's, or none is needed
-abbrev pub passes : Option (List ℕ) → List ℕ → Bool
+-- a password opens the account's secret, or none is needed
+abbrev pub passes : Option Secret → List ℕ → Bool
 passes None pass = true
-passes (Some right) pass = pointwise nat_eq right pass
+passes (Some secret) pass = opens secret pass
 
 -- a login names an account without a password, or one with the password given
 abbrev pub knows : List ℕ → List ℕ → Account → Bool

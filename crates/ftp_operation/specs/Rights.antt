@@ -1,8 +1,6 @@
 -- What an account may change of what it sees of the map (own choice). Whoever is logged in may look and fetch.
 use Rattle.std.specs.Prelude.{Bool, true, false, not, ◌&&◌, ◌||◌, if◌then◌else◌}
 use Rattle.ftp_operation.specs.declared.rights.Rights.{Rights}
-use Rattle.ftp_operation.specs.declared.rights.Deed.{Deed}
-use Rattle.ftp_operation.specs.declared.rights.Deed.TheVariants as Deeds
 
 -- all of them
 abbrev pub all_rights : Rights
@@ -20,7 +18,13 @@ adding_rights = record { put = true; replace = false; delete = false; make_dir =
 abbrev pub may_put : Rights → (stands : Bool) → Bool
 may_put rights stands = if rights.put then rights.replace || not stands else rights.replace && stands
 
--- what a folder is told of them: whether it may make what does not stand, and change what does
-abbrev pub allows : Rights → Deed → Bool
-allows rights Deeds.Make = rights.put
-allows rights Deeds.Change = rights.replace
+-- these and those
+abbrev pub joined : Rights → Rights → Rights
+joined one other = record {
+  put = one.put || other.put;
+  replace = one.replace || other.replace;
+  delete = one.delete || other.delete;
+  make_dir = one.make_dir || other.make_dir;
+  remove_dir = one.remove_dir || other.remove_dir;
+  rename = one.rename || other.rename;
+}

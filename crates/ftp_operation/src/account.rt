@@ -6,6 +6,7 @@ ghost use Rattle.ftp_operation.specs.Account.{accounts_refusal, are_apart, are_d
 
 use crate::rights::Rights;
 use ftp_facts::Text;
+use ftp_operation_secret::Secret;
 use ftp_path::key::is_within;
 use ftp_path::{Path, is_password, is_user};
 use std::alloc::Allocator;
@@ -13,12 +14,12 @@ use std::error::Error;
 use std::fmt;
 use std::marker::Model;
 
-/// A user name, the password that it needs, if it needs one, the path that is `/` to its user, and what he may change there; `P` is how a text
-/// is held, `R` how a path is.
+/// A user name, the password that it needs, if it needs one, in clear or as SHA-crypt, the path that is `/` to its user, and what he may change
+/// there; `P` is how a text is held, `R` how a path is.
 #[derive(Drop)]
 pub struct Account<P, R> {
     pub user: P,
-    pub pass: Option<P>,
+    pub pass: Option<Secret>,
     pub root: R,
     pub rights: Rights,
 }
@@ -213,12 +214,12 @@ fn is_open<A: Allocator + Copy>(account: &Account<Text<A>, Path<A>>, user: &[u8]
     account.user.as_slice() == user && account.pass.is_none()
 }
 
-/// Whether a password is the one that is needed, or none is.
-fn passes<A: Allocator + Copy>(right: &Option<Text<A>>, pass: &[u8]) -> bool
-    ensures { result ≡ passes right.now pass.now }
+/// Whether a password opens the secret that is needed, or none is.
+fn passes(secret: &Option<Secret>, pass: &[u8]) -> bool
+    ensures { result ≡ passes secret.now pass.now }
 {
-    match right {
+    match secret {
         None => true,
-        Some(right) => right.as_slice() == pass,
+        Some(secret) => secret.opens(pass),
     }
 }

@@ -11,5 +11,5 @@ mod sendable;
 pub use account::{Account, Accounts, AccountsFault, Login, RefusedAccounts};
 pub use answer::Answer;
 pub use op::{How, Op};
-pub use rights::{Deed, Rights};
+pub use rights::Rights;
 pub use sendable::{can_be_sent, is_number};

@@ -1,6 +1,6 @@
 // What an account may change of what it sees of the tree.
 ghost use Rattle.std.specs.Prelude.{◌≡◌};
-ghost use Rattle.ftp_operation.specs.Rights.{adding_rights, all_rights, allows, may_put, no_rights};
+ghost use Rattle.ftp_operation.specs.Rights.{adding_rights, all_rights, joined, may_put, no_rights};
 
 /// What an account may change of what it sees of the tree, each by itself. Whoever is logged in may look and fetch.
 #[derive(Clone, Copy, Debug, PartialEq, Eq)]
@@ -17,15 +17,6 @@ pub struct Rights {
     pub remove_dir: bool,
     /// Rename files and directories.
     pub rename: bool,
-}
-
-/// What a change does to what stands in a folder.
-#[derive(Clone, Copy, Debug, PartialEq, Eq)]
-pub enum Deed {
-    /// It makes a file or a directory where nothing stands.
-    Make,
-    /// It replaces, moves or takes away what stands.
-    Change,
 }
 
 impl Rights {
@@ -82,13 +73,17 @@ impl Rights {
         }
     }
 
-    /// Whether a folder may make what does not stand, or change what does.
-    pub fn allows(self, deed: Deed) -> bool
-        ensures { result ≡ allows self deed }
+    /// These and those.
+    pub fn joined(self, other: Rights) -> Rights
+        ensures { result ≡ joined self other }
     {
-        match deed {
-            Deed::Make => self.put,
-            Deed::Change => self.replace,
+        Rights {
+            put: self.put || other.put,
+            replace: self.replace || other.replace,
+            delete: self.delete || other.delete,
+            make_dir: self.make_dir || other.make_dir,
+            remove_dir: self.remove_dir || other.remove_dir,
+            rename: self.rename || other.rename,
         }
     }
 }

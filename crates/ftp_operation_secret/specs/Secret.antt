@@ -46,6 +46,10 @@ abbrev pub secret_text : Secret → List ℕ
 secret_text (Plain right) = right.items
 secret_text (Crypt crypt) = sign crypt.method ++ rounds_text crypt.rounds ++ crypt.salt.items ++ dollar ∷ crypt.hash.items
 
+-- a password in clear, as a secret
+abbrev pub plain : List ℕ → Secret
+plain password = Plain record { items = password }
+
 -- ---- how a field is read
 
 -- a letter of a salt and of a digest: `.`, `/`, a digit, a capital or a small letter
@@ -135,7 +139,7 @@ read field =
     if nat_lt most_octets (length field) then Err Faults.TooLong
     else (if starts_with nat_eq field (sign Sha256) then with_method Sha256 (drop 3 field)
     else (if starts_with nat_eq field (sign Sha512) then with_method Sha512 (drop 3 field)
-    else (if has_kind field then Err Faults.Kind else Ok (Plain record { items = field }))))
+    else (if has_kind field then Err Faults.Kind else Ok (plain field))))
 
 -- ---- how a secret is made
 

@@ -221,6 +221,6 @@ impl Secret {
         if has_kind(field) {
             return Err(SecretFault::Kind);
         }
-        Ok(Secret::Plain(kept(field)))
+        Ok(Secret::plain(field))
     }
 }

@@ -1,10 +1,11 @@
 // A password that is needed, and which one opens it.
-ghost use Rattle.std.specs.Prelude.{◌≡◌};
+ghost use Rattle.std.specs.Prelude.{◌≡◌, ◌≤◌, length};
 ghost use Rattle.ftp_operation_secret.specs.Crypt.{hash_text};
-ghost use Rattle.ftp_operation_secret.specs.Secret.{opens, rounds_of};
+ghost use Rattle.ftp_operation_secret.specs.Secret.{opens, plain, rounds_of};
 
 use crate::crypt::digest_c;
 use crate::method::Method;
+use crate::reading::kept;
 use crate::same::is_same;
 use crate::text::{Letters, digest_text};
 use arrayvec::ArrayVec;
@@ -54,6 +55,14 @@ pub(crate) fn hash_text(method: Method, rounds: u32, salt: &[u8], password: &[u8
 }
 
 impl Secret {
+    /// A password in clear, of at most 255 octets. Takes no memory.
+    pub fn plain(password: &[u8]) -> Secret
+        requires { length password.now ≤ 255 }
+        ensures { result ≡ plain password.now }
+    {
+        Secret::Plain(kept(password))
+    }
+
     /// Whether a password is the one that is needed. Takes no memory. How long it takes depends on the secret's method, its rounds and
     /// the length of its salt, and on the length of the password: on no octet of the right one.
     pub fn opens(&self, password: &[u8]) -> bool

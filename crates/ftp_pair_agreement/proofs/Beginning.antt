@@ -17,6 +17,7 @@ use Rattle.ftp_ends.specs.Reply.{reply_octets}
 use Rattle.ftp_path.specs.Login.{is_login_octet}
 use Rattle.ftp_operation.specs.Account.{Account, has_user, are_distinct, are_apart, accounts_refusal, passes, knows, login_account, is_user, is_password}
 use Rattle.ftp_operation.specs.declared.account.AccountsFault.TheVariants.{SameUser, NestedRoots}
+use Rattle.ftp_operation_secret.specs.declared.secret.Secret.{Secret}
 use Rattle.ftp_path.specs.Path.{Names, fits, is_name, path_cmp, text_of}
 use Rattle.ftp_tree.specs.Sound.{is_sound_entry, is_sound_node, last_second}
 use Rattle.ftp_tree.specs.Tree.{Node, Dir, File, Table, IsTree, node_at, octets_in, length_of, total_limit}
@@ -69,12 +70,12 @@ same_account name pass (account ∷ accounts) found distinct is =
     not_true false e = refl
     not_true true e = absurd (cc)
 
-    by_pass : (right : Option (List ℕ)) → account.pass ≡ right → has_user name account ≡ true → not (list_any (has_user account.user) accounts) ≡ true
+    by_pass : (secret : Option Secret) → account.pass ≡ secret → has_user name account ≡ true → not (list_any (has_user account.user) accounts) ≡ true
         → find (knows name pass) (account ∷ accounts) ≡ Some found
     by_pass None none e apart =
         (λ i. cond (e i && passes (none i) pass) (Some account) (find (knows name pass) accounts))
         ∙ sym (λ i. cond (e i && is_none (none i)) (Some account) (find (is_open name) accounts)) ∙ is
-    by_pass (Some right) some e apart =
+    by_pass (Some secret) some e apart =
         let named : account.user ≡ name = (bytes_eq-Decides account.user name).0 e in
         let nobody : list_any (has_user name) accounts ≡ false = ap (λ u. list_any (has_user u) accounts) (sym named) ∙ not_true (list_any (has_user account.user) accounts) apart in
         absurd (let f : None ≡ Some found = sym (no_open name accounts nobody) ∙ (sym (λ i. cond (e i && is_none (some i)) (Some account) (find (is_open name) accounts)) ∙ is) in cc)

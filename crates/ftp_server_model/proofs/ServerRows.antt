@@ -7,6 +7,7 @@ use Rattle.ftp_settings.specs.declared.representation.Structure.TheVariants as S
 use Rattle.ftp_settings.specs.Representation.{defaults}
 use Rattle.ftp_command.specs.declared.command.Passive.TheVariants as Families
 use Rattle.ftp_operation.specs.Account.{Account, login_account}
+use Rattle.ftp_operation_secret.specs.Secret.{plain}
 use Rattle.ftp_operation.specs.Rights.{all_rights}
 use Rattle.ftp_direct.specs.declared.refusal.Refusal.{Refusal}
 use Rattle.ftp_direct.specs.Direct.{entries_in, entry_at, listed as listed_entry, is_directory, names_for, refusal, refused_file, file_of, place_in, or_refused, refused_there}
@@ -46,7 +47,7 @@ entering is_there account v = completed (turned (admits is_there account v.sessi
 
 -- the two accounts of the rows
 abbrev pub guest : Names → Account
-guest root = record { user = codes "guest"; pass = Some (codes "secret"); root = root; rights = all_rights }
+guest root = record { user = codes "guest"; pass = Some (plain (codes "secret")); root = root; rights = all_rights }
 
 abbrev pub anonymous : Names → Account
 anonymous root = record { user = codes "anonymous"; pass = None; root = root; rights = all_rights }

@@ -12,6 +12,7 @@ use Rattle.ftp_endpoint.specs.declared.endpoint.Endpoint.{Endpoint}
 use Rattle.ftp_command.specs.declared.fault.CommandFault.TheVariants as Faults
 use Rattle.ftp_endpoint.specs.declared.host.Host.{Host}
 use Rattle.ftp_operation.specs.Rights.{all_rights}
+use Rattle.ftp_operation_secret.specs.Secret.{plain}
 use Rattle.ftp_path.specs.Path.{Names}
 use Rattle.ftp_tree.specs.Tree.{Dir, File, Table, node_at, children, installed, made, moved, make_refusal, moves_fit, room_at, under, with_part}
 use Rattle.ftp_ends.specs.RowWords.{here, elsewhere, lines}
@@ -63,7 +64,7 @@ at host = record { host = host; port = 1930 }
 -- `guest` with a password and `anonymous` without one, both with this root
 abbrev pub accounts : Names → Accounts
 accounts root =
-    record { user = codes "guest"; pass = Some (codes "secret"); root = root; rights = all_rights }
+    record { user = codes "guest"; pass = Some (plain (codes "secret")); root = root; rights = all_rights }
     ∷ record { user = codes "anonymous"; pass = None; root = root; rights = all_rights } ∷ []
 
 -- a server of a map, whatever it holds, after events

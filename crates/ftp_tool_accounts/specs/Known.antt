@@ -2,11 +2,12 @@
 use Rattle.std.specs.Prelude.{List, [], ◌∷◌, Some, None, codes}
 use Rattle.ftp_operation.specs.Account.{Account}
 use Rattle.ftp_operation.specs.Rights.{all_rights}
+use Rattle.ftp_operation_secret.specs.Secret.{plain}
 use Rattle.ftp_tool_accounts.specs.Grants.{Grant}
 
 -- the account that needs a password
 abbrev pub guest : Account
-guest = record { user = codes "guest"; pass = Some (codes "secret"); root = []; rights = all_rights }
+guest = record { user = codes "guest"; pass = Some (plain (codes "secret")); root = []; rights = all_rights }
 
 -- the account without one
 abbrev pub anonymous : Account

@@ -8,6 +8,8 @@ use Rattle.ftp_operation.specs.declared.account.AccountsFault.{AccountsFault}
 use Rattle.ftp_operation.specs.declared.account.AccountsFault.TheVariants as AccountsFaults
 use Rattle.ftp_operation.specs.declared.rights.Rights.{Rights}
 use Rattle.ftp_operation.specs.Rights.{adding_rights, all_rights, no_rights}
+use Rattle.ftp_operation_secret.specs.Secret.{plain}
+use Rattle.ftp_operation_secret.specs.declared.secret.Secret.{Secret}
 use Rattle.ftp_tool_accounts.specs.declared.fault.LineFault.{LineFault}
 use Rattle.ftp_tool_accounts.specs.declared.fault.LineFault.TheVariants as Faults
 
@@ -28,9 +30,9 @@ abbrev pub is_silent : List ℕ → Bool
 is_silent line = list_all is_blank line || is_comment line
 
 -- the password that an account needs: none where the field is empty
-abbrev pub needed : List ℕ → Option (List ℕ)
+abbrev pub needed : List ℕ → Option Secret
 needed [] = None
-needed (octet ∷ octets) = Some (octet ∷ octets)
+needed (octet ∷ octets) = Some (plain (octet ∷ octets))
 
 -- an ASCII letter or digit
 abbrev pub is_word : ℕ → Bool

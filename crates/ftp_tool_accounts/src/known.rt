@@ -7,6 +7,7 @@ use crate::grants::{Grant, Grants};
 use crate::reading::Users;
 use ftp_facts::Text;
 use ftp_operation::{Account, Accounts, Rights};
+use ftp_operation_secret::Secret;
 use ftp_path::Path;
 use std::alloc::{AllocError, Allocator};
 
@@ -52,7 +53,7 @@ fn guest<A: Allocator + Copy>(alloc: A) -> Result<Account<Text<A>, Path<A>>, All
     ensures { IfOk result (λ account. account ≡ guest) }
 {
     let user = Text::copy_of(alloc, b"guest")?;
-    let pass = Some(Text::copy_of(alloc, b"secret")?);
+    let pass = Some(Secret::plain(b"secret"));
     let root = Path::root(alloc);
     Ok(Account {
         user,

@@ -1,5 +1,5 @@
 // One line of an accounts file.
-ghost use Rattle.std.specs.Prelude.{◌≡◌, ◌≢◌, [], IfOk, IfErr, IfSome, IfNone, IsTrue, false};
+ghost use Rattle.std.specs.Prelude.{◌≡◌, ◌≢◌, ◌≤◌, [], length, IfOk, IfErr, IfSome, IfNone, IsTrue, false};
 ghost use Rattle.std.specs.List.{list_all};
 ghost use Rattle.std.specs.Option.{option_map};
 ghost use Rattle.ftp_path.specs.Path.{resolved};
@@ -8,6 +8,7 @@ ghost use Rattle.ftp_tool_accounts.specs.Line.{EndsIn, HasFewFields, IsCut, IsFa
 use crate::fault::LineFault;
 use ftp_facts::{Text, cut_at};
 use ftp_operation::{Account, Rights};
+use ftp_operation_secret::Secret;
 use ftp_path::{Path, PathFault, is_password, is_user};
 use std::alloc::{AllocError, Allocator};
 
@@ -205,13 +206,14 @@ fn account<A: Allocator + Copy>(
     root: Path<A>,
     rights: Rights,
 ) -> Result<Account<Text<A>, Path<A>>, AllocError>
+    requires { length pass.now ≤ 255 }
     ensures user { IfOk result (λ account. account.user ≡ user.now) }
     ensures pass { IfOk result (λ account. account.pass ≡ needed pass.now) }
     ensures root { IfOk result (λ account. account.root ≡ root) }
     ensures rights { IfOk result (λ account. account.rights ≡ rights) }
 {
     let user = Text::copy_of(alloc, user)?;
-    let pass = needed(alloc, pass)?;
+    let pass = needed(pass);
     Ok(Account {
         user,
         pass,
@@ -221,11 +223,12 @@ fn account<A: Allocator + Copy>(
 }
 
 /// The password that an account needs, if one.
-fn needed<A: Allocator + Copy>(alloc: A, pass: &[u8]) -> Result<Option<Text<A>>, AllocError>
-    ensures { IfOk result (λ found. found ≡ needed pass.now) }
+fn needed(pass: &[u8]) -> Option<Secret>
+    requires { length pass.now ≤ 255 }
+    ensures { result ≡ needed pass.now }
 {
     if pass.is_empty() {
-        return Ok(None);
+        return None;
     }
-    Ok(Some(Text::copy_of(alloc, pass)?))
+    Some(Secret::plain(pass))
 }

@@ -4,6 +4,7 @@ use Rattle.ftp_endpoint.specs.declared.host.Host.{Host}
 use Rattle.ftp_endpoint.specs.declared.host.Host.TheVariants.{V4}
 use Rattle.ftp_operation.specs.Account.{Account}
 use Rattle.ftp_operation.specs.Rights.{all_rights}
+use Rattle.ftp_operation_secret.specs.Secret.{plain}
 use Rattle.ftp_tool_pair.specs.Begun.{begun}
 use Rattle.ftp_pair_world.specs.Claims.{Beginning}
 use Rattle.ftp_path.specs.Path.{Names, resolved}
@@ -16,7 +17,8 @@ own_host = V4 (127 ∷ 0 ∷ 0 ∷ 1 ∷ [])
 -- `guest` with the password `secret`, and `anonymous` without one, at these roots
 abbrev pub own_accounts : (guest anonymous : Names) → List Account
 own_accounts guest anonymous =
-    record { user = codes "guest"; pass = Some (codes "secret"); root = guest; rights = all_rights } ∷ record { user = codes "anonymous"; pass = None; root = anonymous; rights = all_rights } ∷ []
+    record { user = codes "guest"; pass = Some (plain (codes "secret")); root = guest; rights = all_rights }
+    ∷ record { user = codes "anonymous"; pass = None; root = anonymous; rights = all_rights } ∷ []
 
 -- with roots, where `guest` is and where `anonymous` is
 abbrev pub guest_root : Names

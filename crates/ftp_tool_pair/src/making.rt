@@ -9,6 +9,7 @@ use crate::beginning::Beginning;
 use ftp_endpoint::Host;
 use ftp_facts::Text;
 use ftp_operation::{Account, Login, Rights};
+use ftp_operation_secret::Secret;
 use ftp_path::{Path, is_path_text};
 use ftp_tree::{MemTree, Tree};
 use std::alloc::{AllocError, Allocator};
@@ -100,7 +101,7 @@ fn list_of<A: Allocator + Copy>(
     let mut list = Vec::new(alloc);
     list.push(Account {
         user: Text::copy_of(alloc, b"guest")?,
-        pass: Some(Text::copy_of(alloc, b"secret")?),
+        pass: Some(Secret::plain(b"secret")),
         root: guest,
         rights: Rights::all(),
     })?;

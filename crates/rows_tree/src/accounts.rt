@@ -4,6 +4,7 @@ use crate::step::{Line, Step};
 use crate::words::split;
 use ftp_facts::Text;
 use ftp_operation::{Account, Accounts, AccountsFault, Login, Rights};
+use ftp_operation_secret::Secret;
 use ftp_path::Path;
 use rows_base::Paper;
 use std::alloc::{Allocator, Global};
@@ -22,21 +23,29 @@ pub fn text<A: Allocator + Copy>(alloc: A, octets: &[u8]) -> Text<A> {
     }
 }
 
-/// An account that needs a password, unless the word is `-`; none where its root is no path.
+/// What a word says of a password: none is needed where it is `-`; `None` where it says none.
+fn pass_of(word: &[u8]) -> Option<Option<Secret>> {
+    if word == b"-".as_slice() {
+        return Some(None);
+    }
+    match Secret::read(word) {
+        Ok(secret) => Some(Some(secret)),
+        Err(_) => None,
+    }
+}
+
+/// The account of these words; none where the password is none, or the root is no path.
 fn account<A: Allocator + Copy>(
     alloc: A,
     user: &[u8],
     pass: &[u8],
     root: &[u8],
 ) -> Option<Account<Text<A>, Path<A>>> {
+    let pass = pass_of(pass)?;
     match place(alloc, root) {
         Ok(root) => Some(Account {
             user: text(alloc, user),
-            pass: if pass == b"-".as_slice() {
-                None
-            } else {
-                Some(text(alloc, pass))
-            },
+            pass,
             root,
             rights: Rights::all(),
         }),

@@ -3,6 +3,7 @@ use crate::event::YEAR_2000;
 use crate::turn::Turn;
 use ftp_facts::Text;
 use ftp_operation::{Account, Accounts, Rights};
+use ftp_operation_secret::Secret;
 use ftp_path::Path;
 use ftp_tree::{Content, MemTree, Tree};
 use rows_base::{cut, found, number, octets_of, split};
@@ -20,7 +21,7 @@ const MORE_THAN_NODES: u64 = 20_000;
 /// `guest` with the password `secret`, and `anonymous` without one, both at this root.
 pub fn accounts<A: Allocator + Copy>(heap: A, root: &[u8]) -> Result<Accounts<A>, AllocError> {
     let mut list = Vec::new(heap);
-    list.push(account(heap, b"guest", Some(b"secret"), root)?)?;
+    list.push(account(heap, b"guest", Some(Secret::plain(b"secret")), root)?)?;
     list.push(account(heap, b"anonymous", None, root)?)?;
     match Accounts::new(list) {
         Ok(accounts) => Ok(accounts),
@@ -31,16 +32,12 @@ pub fn accounts<A: Allocator + Copy>(heap: A, root: &[u8]) -> Result<Accounts<A>
 fn account<A: Allocator + Copy>(
     heap: A,
     user: &[u8],
-    pass: Option<&[u8]>,
+    pass: Option<Secret>,
     root: &[u8],
 ) -> Result<Account<Text<A>, Path<A>>, AllocError> {
     let user = Text::copy_of(heap, user)?;
     let Ok(root) = place(heap, root) else {
         return Err(AllocError);
-    };
-    let pass = match pass {
-        Some(pass) => Some(Text::copy_of(heap, pass)?),
-        None => None,
     };
     Ok(Account {
         user,
