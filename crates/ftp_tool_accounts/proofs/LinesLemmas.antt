@@ -1,5 +1,6 @@
 -- The accounts that lines say, one after another.
-use Rattle.std.proofs.Common.{◌≡◌, ◌≢◌, ◌==◌, ◌<◌, ◌+◌, suc, ℕ, Bool, true, false, List, [], ◌∷◌, ◌++◌, not, cond, map, refl, sym, ap, subst, ◌∙◌, append_assoc, append-nil, inl, inr, length, length-append, arith, Result, Ok, Err, IfOk, IfErr}
+use Rattle.std.proofs.Common.{◌≡◌, ◌≢◌, ◌==◌, ◌<◌, ◌+◌, suc, ℕ, Bool, true, false, List, [], ◌∷◌, ◌++◌, not, cond, map, length, Result, Ok, Err, IfOk, IfErr}
+use Rattle.std.proofs.Common.{refl, sym, ap, subst, ◌∙◌, append_assoc, append-nil, inl, inr, length-append, arith}
 use Rattle.std.specs.List.{All}
 use Rattle.std.specs.Prelude.{IsTrue, Some, None, nat_le, nat_lt, if◌then◌else◌}
 use Rattle.std.proofs.lemmas.List.{map-append, length-map}
@@ -10,10 +11,9 @@ use Rattle.ftp_facts.specs.Listing.{line_feed}
 use Rattle.ftp_operation.specs.Account.{Account, accounts_refusal}
 use Rattle.ftp_operation.specs.declared.account.AccountsFault.{AccountsFault}
 use Rattle.ftp_tool_accounts.specs.Blame.{HoldsUp, IsBarred, IsBlamed, IsHeld, IsOff, account_limit}
-use Rattle.ftp_operation.specs.declared.rights.Rights.{Rights}
-use Rattle.ftp_tool_accounts.specs.Grants.{Grant}
-use Rattle.ftp_tool_accounts.specs.Line.{Entry, Says, is_silent, of_accounts}
-use Rattle.ftp_tool_accounts.specs.Lines.{Adds, Line, Lists, Say, SayEach, accounts_of, granted, grants_of, lines_of, numbered, speakers, speaking, without_cr}
+use Rattle.ftp_tool_accounts.specs.Line.{Says, is_silent, of_accounts}
+use Rattle.ftp_tool_accounts.specs.Lines.{Adds, Line, Lists, SayEach, SaysAll, lines_of, numbered, speakers, speaking, without_cr}
+use Rattle.ftp_tool_accounts.specs.declared.fault.LineFault.{LineFault}
 use Rattle.ftp_tool_accounts.specs.declared.fault.TextFault.{TextFault}
 use Rattle.ftp_tool_accounts.specs.declared.fault.TextFault.TheVariants as Texts
 
@@ -73,18 +73,18 @@ shorter text front more is =
 -- ---- accounts
 
 -- lines and then others say what both say
-say_both : (lines later : List Line) (one other : List Entry) → SayEach lines one → SayEach later other → SayEach (lines ++ later) (one ++ other)
-say_both [] later [] other says behind = behind
-say_both [] later (entry ∷ one) other says behind = absurd says
-say_both (line ∷ lines) later [] other says behind = absurd says
-say_both (line ∷ lines) later (entry ∷ one) other says behind = (says.0, say_both lines later one other says.1 behind)
+say_both : (lines later : List Line) (one other : List Account) → SayEach lines one → SayEach later other → SayEach (lines ++ later) (one ++ other)
+say_both [] later [] other says after = after
+say_both [] later (account ∷ one) other says after = absurd says
+say_both (line ∷ lines) later [] other says after = absurd says
+say_both (line ∷ lines) later (account ∷ one) other says after = (says.0, say_both lines later one other says.1 after)
 
--- as many lines say as many entries
-say_length : (lines : List Line) (entries : List Entry) → SayEach lines entries → length lines ≡ length entries
+-- as many lines say as many accounts
+say_length : (lines : List Line) (accounts : List Account) → SayEach lines accounts → length accounts ≡ length lines
 say_length [] [] says = refl
-say_length [] (entry ∷ entries) says = absurd says
+say_length [] (account ∷ accounts) says = absurd says
 say_length (line ∷ lines) [] says = absurd says
-say_length (line ∷ lines) (entry ∷ entries) says = ap suc (say_length lines entries says.1)
+say_length (line ∷ lines) (account ∷ accounts) says = ap suc (say_length lines accounts says.1)
 
 -- one line and then others
 speaking_both : (line : Line) (lines : List Line) → speaking (line ∷ []) ++ speaking lines ≡ speaking (line ∷ lines)
@@ -98,36 +98,31 @@ speaking_both line lines = by (not (is_silent line.1))
 speaking_first : (line : Line) (lines : List Line) → is_silent line.1 ≡ false → speaking (line ∷ lines) ≡ line ∷ speaking lines
 speaking_first line lines speaks = ap (λ b. cond (not b) (line ∷ speaking lines) (speaking lines)) speaks
 
--- of all lines these are left, and the others say what stands so far
+-- of all lines these are left, and the others say the accounts so far
 pub record Stands (all left : List Line) (now : Lists) : Type 0 where
   pub above : List Line
-  pub entries : List Entry
   pub whole : all ≡ above ++ speaking left
-  pub say : SayEach above entries
-  pub accounts : now.0 ≡ accounts_of entries
-  pub grants : now.1 ≡ grants_of entries
-  pub numbers : now.2 ≡ map (λ line. line.0) above
+  pub say : SayEach above now.0
+  pub numbers : now.1 ≡ map (λ line. line.0) above
 
 -- before the first line
-pub first_stands : (text : List ℕ) (now : Lists) → now.0 ≡ [] → now.1 ≡ [] → now.2 ≡ [] → Stands (speakers text) (numbered 1 (lines_of text)) now
-first_stands text now accounts grants numbers =
-    record { above = []; entries = []; whole = refl; say = tt; accounts = accounts; grants = grants; numbers = numbers }
+pub first_stands : (text : List ℕ) (now : Lists) → now.0 ≡ [] → now.1 ≡ [] → Stands (speakers text) (numbered 1 (lines_of text)) now
+first_stands text now accounts numbers = record { above = []; whole = refl; say = subst (SayEach []) (sym accounts) tt; numbers = numbers }
 
 -- lists put together twice
 both_mapped : {X Y : Type 0} (f : X → Y) (one other : List X) (old new : List Y) → old ≡ map f one → new ≡ old ++ map f other → new ≡ map f (one ++ other)
-both_mapped f one other old new is behind = behind ∙ ap (λ l. l ++ map f other) is ∙ sym (map-append f one other)
+both_mapped f one other old new is after = after ∙ ap (λ l. l ++ map f other) is ∙ sym (map-append f one other)
 
 -- one line is read
 line_stands : (all : List Line) (line : Line) (left : List Line) (old new : Lists) → Stands all (line ∷ left) old → Adds line old new → Stands all left new
 line_stands all line left old new stands adds =
     record {
       above = stands.above ++ speaking (line ∷ []);
-      entries = stands.entries ++ adds.entries;
-      whole = stands.whole ∙ ap (λ l. stands.above ++ l) (sym (speaking_both line left)) ∙ sym (append_assoc stands.above (speaking (line ∷ [])) (speaking left));
-      say = say_both stands.above (speaking (line ∷ [])) stands.entries adds.entries stands.say adds.say;
-      accounts = both_mapped (λ entry. entry.0) stands.entries adds.entries old.0 new.0 stands.accounts adds.accounts;
-      grants = both_mapped granted stands.entries adds.entries old.1 new.1 stands.grants adds.grants;
-      numbers = both_mapped (λ line. line.0) stands.above (speaking (line ∷ [])) old.2 new.2 stands.numbers adds.numbers;
+      whole = stands.whole ∙ ap (λ l. stands.above ++ l) (sym (speaking_both line left))
+          ∙ sym (append_assoc stands.above (speaking (line ∷ [])) (speaking left));
+      say = subst (SayEach (stands.above ++ speaking (line ∷ []))) (sym adds.adds)
+          (say_both stands.above (speaking (line ∷ [])) old.0 adds.accounts stands.say adds.say);
+      numbers = both_mapped (λ line. line.0) stands.above (speaking (line ∷ [])) old.1 new.1 stands.numbers adds.numbers;
     }
 
 -- a line that ends with LF is read
@@ -147,26 +142,16 @@ last_line text number rest line old new lacks cut stands adds =
     line_stands (speakers text) (number, without_cr rest) [] old new (subst (λ lines. Stands (speakers text) (numbered number lines) old) e stands)
     (subst (λ l. Adds (number, l) old new) cut adds)
 
--- once all lines were read, they say what stands so far
-pub all_said : (text : List ℕ) (now : Lists) → Stands (speakers text) [] now → Say (speakers text) now.0 now.1
+-- once all lines were read, they say the accounts so far
+pub all_said : (text : List ℕ) (now : Lists) → Stands (speakers text) [] now → SaysAll text now.0
 all_said text now stands =
-    let e : speakers text ≡ stands.above = stands.whole ∙ append-nil stands.above in
-    record {
-      entries = stands.entries;
-      say = subst (λ lines. SayEach lines stands.entries) (sym e) stands.say;
-      accounts_are = stands.accounts;
-      grants_are = stands.grants;
-    }
+    subst (λ lines. SayEach lines now.0) (sym (stands.whole ∙ append-nil stands.above)) stands.say
 
 -- ---- which line is to blame
 
--- as many accounts as lines so far
-stands_length : (all left : List Line) (now : Lists) (stands : Stands all left now) → length now.0 ≡ length stands.above
-stands_length all left now stands = ap length stands.accounts ∙ length-map stands.entries (λ entry. entry.0) ∙ sym (say_length stands.above stands.entries stands.say)
-
--- and as many numbers
-pub as_many : (all left : List Line) (now : Lists) → Stands all left now → length now.2 ≡ length now.0
-as_many all left now stands = ap length stands.numbers ∙ length-map stands.above (λ line. line.0) ∙ sym (stands_length all left now stands)
+-- as many numbers as accounts
+pub as_many : (all left : List Line) (now : Lists) → Stands all left now → length now.1 ≡ length now.0
+as_many all left now stands = ap length stands.numbers ∙ length-map stands.above (λ line. line.0) ∙ sym (say_length stands.above now.0 stands.say)
 
 -- one more than so many
 one_more : (above : List Line) (line : Line) (below : List Line) (n : ℕ) → IsTrue (nat_le n (length above)) → IsTrue (nat_lt n (length (above ++ line ∷ below)))
@@ -182,7 +167,7 @@ line_off text number line left now (Texts.Line place fault) stands off =
       above = stands.above;
       line = line;
       below = speaking left;
-      entries = stands.entries;
+      accounts = now.0;
       whole = stands.whole ∙ ap (λ l. stands.above ++ l) (speaking_first (number, line) left off.1)
           ∙ ap (λ n. stands.above ++ (n, line) ∷ speaking left) (sym off.0);
       say = stands.say;
@@ -194,7 +179,7 @@ line_off text number line left now Texts.TooMany stands off =
     stands.whole ∙ ap (λ l. stands.above ++ l) (speaking_first (number, line) left off.0) in
     subst (λ lines. IsTrue (nat_lt account_limit (length lines))) (sym whole)
     (one_more stands.above (number, line) (speaking left) account_limit
-    (subst (λ n. IsTrue (nat_le account_limit n)) (stands_length (speakers text) ((number, line) ∷ left) now stands) off.1))
+    (subst (λ n. IsTrue (nat_le account_limit n)) (say_length stands.above now.0 stands.say) off.1))
 line_off text number line left now Texts.Memory stands off = tt
 
 -- the next line is to blame
@@ -232,7 +217,8 @@ parts f (x ∷ all) (one ∷ before) it behind is =
     record { front = x ∷ rest.front; at = rest.at; back = rest.back; whole = ap (λ l. x ∷ l) rest.whole; long = ap suc rest.long; is = rest.is }
 
 -- the line whose account those before it do not allow
-barred : (text : List ℕ) (now : Lists) (number : ℕ) (fault : _) → Stands (speakers text) [] now → HoldsUp now.0 now.2 number fault → IsBarred text number fault
+barred : (text : List ℕ) (now : Lists) (number : ℕ) (fault : LineFault) → Stands (speakers text) [] now → HoldsUp now.0 now.1 number fault
+    → IsBarred text number fault
 barred text now number fault stands holds =
     let e : speakers text ≡ stands.above = stands.whole ∙ append-nil stands.above in
     let cut = parts (λ line. line.0) stands.above holds.early number holds.late (sym stands.numbers ∙ holds.numbers_are) in
@@ -240,19 +226,17 @@ barred text now number fault stands holds =
       above = cut.front;
       line = cut.at.1;
       below = cut.back;
-      entries = stands.entries;
       before = holds.before;
       account = holds.account;
       behind = holds.behind;
       whole = e ∙ cut.whole ∙ ap (λ n. cut.front ++ (n, cut.at.1) ∷ cut.back) cut.is;
-      say = subst (λ lines. SayEach lines stands.entries) (sym e) stands.say;
-      accounts = sym stands.accounts ∙ holds.accounts_are;
+      say = subst (SayEach (speakers text)) holds.accounts_are (all_said text now stands);
       place = holds.place ∙ sym cut.long;
       bars = holds.bars;
     }
 
 -- accounts that can be no server's: which line is to blame
-pub held_off : (text : List ℕ) (now : Lists) (fault : TextFault) → Stands (speakers text) [] now → IsHeld now.0 now.2 fault → IsBlamed text fault
+pub held_off : (text : List ℕ) (now : Lists) (fault : TextFault) → Stands (speakers text) [] now → IsHeld now.0 now.1 fault → IsBlamed text fault
 held_off text now (Texts.Line number fault) stands held = inr (barred text now number fault stands held)
 held_off text now Texts.Mark stands held = absurd held
 held_off text now Texts.TooMany stands held = absurd held
@@ -321,32 +305,25 @@ holds_up all numbers list left fault less last fewer number it is also allowed =
 -- ---- what a call gives
 
 -- a line that is not silent adds what it says
-pub adds_line : {X E : Type 0} (result : Result X E) (number : ℕ) (line : List ℕ) (old new : Lists) (account : Account) (rights : Rights) → is_silent line ≡ false
-    → Says line (account, rights) → IfOk result (λ _. new.0 ≡ old.0 ++ account ∷ []) → IfOk result (λ _. new.1 ≡ old.1 ++ granted (account, rights) ∷ [])
-    → IfOk result (λ _. new.2 ≡ old.2 ++ number ∷ []) → IfOk result (λ _. Adds (number, line) old new)
-adds_line (Ok x) number line old new account rights speaks says accounts grants numbers =
+pub adds_line : {X E : Type 0} (result : Result X E) (number : ℕ) (line : List ℕ) (old new : Lists) (account : Account) → is_silent line ≡ false
+    → Says line account → IfOk result (λ _. new.0 ≡ old.0 ++ account ∷ []) → IfOk result (λ _. new.1 ≡ old.1 ++ number ∷ [])
+    → IfOk result (λ _. Adds (number, line) old new)
+adds_line (Ok x) number line old new account speaks says accounts numbers =
     let e : speaking ((number, line) ∷ []) ≡ (number, line) ∷ [] = speaking_first (number, line) [] speaks in
     record {
-      entries = (account, rights) ∷ [];
-      say = subst (λ lines. SayEach lines ((account, rights) ∷ [])) (sym e) (says, tt);
-      accounts = accounts;
-      grants = grants;
-      numbers = numbers ∙ ap (λ lines. old.2 ++ map (λ line. line.0) lines) (sym e);
+      accounts = account ∷ [];
+      say = subst (λ lines. SayEach lines (account ∷ [])) (sym e) (says, tt);
+      adds = accounts;
+      numbers = numbers ∙ ap (λ lines. old.1 ++ map (λ line. line.0) lines) (sym e);
     }
-adds_line (Err fault) number line old new account rights speaks says accounts grants numbers = tt
+adds_line (Err fault) number line old new account speaks says accounts numbers = tt
 
--- of what is given two things are known, from which a third follows
-pub ok_both : {X E : Type 0} (P Q R : X → Type 0) (result : Result X E) → ((x : X) → P x → Q x → R x) → IfOk result P → IfOk result Q → IfOk result R
-ok_both P Q R (Ok x) follows one other = follows x one other
-ok_both P Q R (Err fault) follows one other = tt
+-- of what is given something is known, from which more follows
+pub ok_more : {X E : Type 0} (P Q : X → Type 0) (result : Result X E) → ((x : X) → P x → Q x) → IfOk result P → IfOk result Q
+ok_more P Q (Ok x) follows known = follows x known
+ok_more P Q (Err fault) follows known = tt
 
 -- of a fault something is known, from which more follows
 pub err_more : {X E : Type 0} (P Q : E → Type 0) (result : Result X E) → ((fault : E) → P fault → Q fault) → IfErr result P → IfErr result Q
 err_more P Q (Ok x) follows known = tt
 err_more P Q (Err fault) follows known = follows fault known
-
--- what lines say, of accounts and grants that are the same
-pub said_same : (lines : List Line) (accounts one : List Account) (grants other : List Grant) → Say lines accounts grants → one ≡ accounts → other ≡ grants
-    → Say lines one other
-said_same lines accounts one grants other says a b =
-    record { entries = says.entries; say = says.say; accounts_are = a ∙ says.accounts_are; grants_are = b ∙ says.grants_are }

@@ -3,8 +3,8 @@ use Rattle.std.specs.Prelude.{◌≡◌, ℕ, ◌⊎◌, false, List, [], ◌∷
 use Rattle.std.specs.List.{starts_with}
 use Rattle.ftp_operation.specs.Account.{Account, accounts_refusal}
 use Rattle.ftp_operation.specs.declared.account.AccountsFault.{AccountsFault}
-use Rattle.ftp_tool_accounts.specs.Line.{Entry, IsFaulty, is_silent, of_accounts}
-use Rattle.ftp_tool_accounts.specs.Lines.{Line, SayEach, accounts_of, speakers}
+use Rattle.ftp_tool_accounts.specs.Line.{IsFaulty, is_silent, of_accounts}
+use Rattle.ftp_tool_accounts.specs.Lines.{Line, SayEach, speakers}
 use Rattle.ftp_tool_accounts.specs.declared.fault.LineFault.{LineFault}
 use Rattle.ftp_tool_accounts.specs.declared.fault.TextFault.{TextFault}
 use Rattle.ftp_tool_accounts.specs.declared.fault.TextFault.TheVariants as Texts
@@ -22,9 +22,9 @@ pub record IsNone (text : List ℕ) (number : ℕ) (fault : LineFault) : Type 0 
   pub above : List Line
   pub line : List ℕ
   pub below : List Line
-  pub entries : List Entry
+  pub accounts : List Account
   pub whole : speakers text ≡ above ++ (number, line) ∷ below
-  pub say : SayEach above entries
+  pub say : SayEach above accounts
   pub faulty : IsFaulty line fault
 
 -- these accounts are a server's, and with this one behind them they are not, and why
@@ -39,13 +39,11 @@ pub record IsBarred (text : List ℕ) (number : ℕ) (fault : LineFault) : Type 
   pub above : List Line
   pub line : List ℕ
   pub below : List Line
-  pub entries : List Entry
   pub before : List Account
   pub account : Account
   pub behind : List Account
   pub whole : speakers text ≡ above ++ (number, line) ∷ below
-  pub say : SayEach (speakers text) entries
-  pub accounts : accounts_of entries ≡ before ++ account ∷ behind
+  pub say : SayEach (speakers text) (before ++ account ∷ behind)
   pub place : length before ≡ length above
   pub bars : Bars before account fault
 

@@ -1,9 +1,9 @@
--- Who may log in where no file of accounts is given: `guest` with the password `secret`, and `anonymous`, which has none; the root of both is the tree's (own choice).
+-- Who may log in where no file of accounts is given: `guest` with the password `secret`, and `anonymous`, which has none; the root of both is the tree's
+-- (own choice).
 use Rattle.std.specs.Prelude.{List, [], ◌∷◌, Some, None, codes}
 use Rattle.ftp_operation.specs.Account.{Account}
 use Rattle.ftp_operation.specs.Rights.{all_rights}
 use Rattle.ftp_operation_secret.specs.Secret.{plain}
-use Rattle.ftp_tool_accounts.specs.Grants.{Grant}
 
 -- the account that needs a password
 abbrev pub guest : Account
@@ -16,7 +16,3 @@ anonymous = record { user = codes "anonymous"; pass = None; root = []; rights = 
 -- both
 abbrev pub two_accounts : List Account
 two_accounts = guest ∷ anonymous ∷ []
-
--- each may change all
-abbrev pub two_grants : List Grant
-two_grants = record { user = codes "guest"; rights = all_rights } ∷ record { user = codes "anonymous"; rights = all_rights } ∷ []

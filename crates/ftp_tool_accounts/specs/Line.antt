@@ -1,5 +1,6 @@
 -- What a line of an accounts file says (own choice: `user:password:root`, as in the password file of a system, or `user:password:root:rights`).
-use Rattle.std.specs.Prelude.{◌≡◌, ℕ, ◌||◌, ◌&&◌, ◌==◌, ◌⊎◌, Bool, false, List, [], ◌∷◌, ◌++◌, Option, Some, None, IsTrue, not, is_none, nat_eq, nat_le, if◌then◌else◌}
+use Rattle.std.specs.Prelude.{◌≡◌, ℕ, ◌||◌, ◌&&◌, ◌==◌, ◌⊎◌, Bool, true, List, [], ◌∷◌, ◌++◌, Option, Some, None, Result, Ok, Err}
+use Rattle.std.specs.Prelude.{IsTrue, not, is_none, nat_eq, if◌then◌else◌}
 use Rattle.std.specs.List.{list_all, starts_with}
 use Rattle.ftp_facts.specs.Fact.{Lacks}
 use Rattle.ftp_path.specs.Path.{fits, is_path_text, is_rooted, resolved}
@@ -7,8 +8,9 @@ use Rattle.ftp_operation.specs.Account.{Account, is_password, is_user}
 use Rattle.ftp_operation.specs.declared.account.AccountsFault.{AccountsFault}
 use Rattle.ftp_operation.specs.declared.account.AccountsFault.TheVariants as AccountsFaults
 use Rattle.ftp_operation.specs.declared.rights.Rights.{Rights}
-use Rattle.ftp_operation.specs.Rights.{adding_rights, all_rights, no_rights}
-use Rattle.ftp_operation_secret.specs.Secret.{plain}
+use Rattle.ftp_operation.specs.Rights.{adding_rights, all_rights, joined, no_rights}
+use Rattle.ftp_operation_secret.specs.Secret.{read}
+use Rattle.ftp_operation_secret.specs.declared.fault.SecretFault.{SecretFault}
 use Rattle.ftp_operation_secret.specs.declared.secret.Secret.{Secret}
 use Rattle.ftp_tool_accounts.specs.declared.fault.LineFault.{LineFault}
 use Rattle.ftp_tool_accounts.specs.declared.fault.LineFault.TheVariants as Faults
@@ -29,43 +31,34 @@ is_comment line = starts_with nat_eq line (35 ∷ [])
 abbrev pub is_silent : List ℕ → Bool
 is_silent line = list_all is_blank line || is_comment line
 
--- the password that an account needs: none where the field is empty
-abbrev pub needed : List ℕ → Option Secret
-needed [] = None
-needed (octet ∷ octets) = Some (plain (octet ∷ octets))
+-- the secret that an account needs: none where the field of its password is empty, and else what that field says, in clear or as SHA-crypt
+abbrev pub needed : List ℕ → Result (Option Secret) SecretFault
+needed [] = Ok None
+needed (octet ∷ octets) = elim (read (octet ∷ octets)) [ Ok secret ↦ Ok (Some secret) | Err fault ↦ Err fault ]
 
--- an ASCII letter or digit
-abbrev pub is_word : ℕ → Bool
-is_word octet = (nat_le 48 octet && nat_le octet 57) || ((nat_le 65 octet && nat_le octet 90) || (nat_le 97 octet && nat_le octet 122))
+-- the rights that a letter says: `r` to look alone, which adds none; `w` to put new files and make directories; `p` to put new files; `a` to append to files
+-- and replace them; `d` to delete files; `m` to make directories; `x` to remove directories; `f` to rename
+abbrev pub rights_of_letter : ℕ → Option Rights
+rights_of_letter letter =
+    if letter == 114 then Some no_rights
+    else (if letter == 119 then Some adding_rights
+    else (if letter == 112 then Some (record no_rights { put = true })
+    else (if letter == 97 then Some (record no_rights { replace = true })
+    else (if letter == 100 then Some (record no_rights { delete = true })
+    else (if letter == 109 then Some (record no_rights { make_dir = true })
+    else (if letter == 120 then Some (record no_rights { remove_dir = true })
+    else (if letter == 102 then Some (record no_rights { rename = true }) else None)))))))
 
--- a password is written as systems write digests, `$6$..`: `$`, one to three letters or digits, and `$` (crypt(5)). None is known here, and taken in clear
--- it would be another password
-abbrev pub ends_kind : List ℕ → Bool
-ends_kind [] = false
-ends_kind (octet ∷ octets) = octet == 36
+-- these rights and those of letters, each of which says some
+abbrev pub with_letters : Rights → List ℕ → Option Rights
+with_letters rights [] = Some rights
+with_letters rights (letter ∷ letters) = elim (rights_of_letter letter) [ Some more ↦ with_letters (joined rights more) letters | None ↦ None ]
 
-abbrev pub ends_kind_within_one : List ℕ → Bool
-ends_kind_within_one [] = false
-ends_kind_within_one (octet ∷ octets) = (octet == 36) || (is_word octet && ends_kind octets)
-
-abbrev pub ends_kind_within_two : List ℕ → Bool
-ends_kind_within_two [] = false
-ends_kind_within_two (octet ∷ octets) = (octet == 36) || (is_word octet && ends_kind_within_one octets)
-
-abbrev pub names_kind : List ℕ → Bool
-names_kind [] = false
-names_kind (octet ∷ octets) = is_word octet && ends_kind_within_two octets
-
-abbrev pub is_digest : List ℕ → Bool
-is_digest [] = false
-is_digest (octet ∷ octets) = (octet == 36) && names_kind octets
-
--- the rights that are said: all where no field stands, `r` to look alone, `w` also to put what does not stand; an empty field says none
+-- the rights that are said: all where no field stands, and else those of its letters; an empty field says none
 abbrev pub rights_said : Option (List ℕ) → Option Rights
 rights_said None = Some all_rights
-rights_said (Some (octet ∷ [])) = if octet == 114 then Some no_rights else (if octet == 119 then Some adding_rights else None)
 rights_said (Some []) = None
-rights_said (Some (octet ∷ next ∷ octets)) = None
+rights_said (Some (letter ∷ letters)) = with_letters no_rights (letter ∷ letters)
 
 -- a root: a path text that begins with `/`, and leads to a path within the limits
 abbrev pub is_root : List ℕ → Bool
@@ -87,30 +80,27 @@ pub record IsCut (line user pass root : List ℕ) (rights : Option (List ℕ)) :
   pub lack : Lacks user colon × Lacks pass colon
   pub ends : EndsIn rest root rights
 
+-- what is wrong with the fields after a password
+abbrev pub wrong_after : (root : List ℕ) → Option (List ℕ) → Option LineFault
+wrong_after root rights = if not (is_root root) then Some Faults.Root else (if is_none (rights_said rights) then Some Faults.Rights else None)
+
 -- what is wrong with the fields of a line: the first that is none
 abbrev pub wrong : (user pass root : List ℕ) → Option (List ℕ) → Option LineFault
 wrong user pass root rights =
     if not (is_user user) then Some Faults.User
     else (if not (is_password pass) then Some Faults.Password
-    else (if is_digest pass then Some Faults.Digest
-    else (if not (is_root root) then Some Faults.Root else (if is_none (rights_said rights) then Some Faults.Rights else None))))
+    else elim (needed pass) [ Ok secret ↦ wrong_after root rights | Err fault ↦ Some (Faults.Secret fault) ])
 
--- what a line says: an account, and what it may change
-abbrev pub Entry : Type 0
-Entry = Account × Rights
-
--- a line says an account and its rights
-pub record Says (line : List ℕ) (entry : Entry) : Type 0 where
+-- a line says an account
+pub record Says (line : List ℕ) (account : Account) : Type 0 where
   pub pass : List ℕ
   pub root : List ℕ
   pub rights : Option (List ℕ)
-  pub cut : IsCut line entry.0.user pass root rights
-  pub user : IsTrue (is_user entry.0.user)
-  pub password : IsTrue (is_password pass) × (entry.0.pass ≡ needed pass)
-  pub clear : is_digest pass ≡ false
-  pub path : IsTrue (is_root root) × (entry.0.root ≡ resolved [] root)
-  pub right : rights_said rights ≡ Some entry.1
-  pub held : entry.0.rights ≡ entry.1
+  pub cut : IsCut line account.user pass root rights
+  pub user : IsTrue (is_user account.user)
+  pub password : IsTrue (is_password pass) × (needed pass ≡ Ok account.pass)
+  pub path : IsTrue (is_root root) × (account.root ≡ resolved [] root)
+  pub right : rights_said rights ≡ Some account.rights
 
 -- a line has less than two colons
 pub record HasOneColon (line : List ℕ) : Type 0 where

@@ -3,8 +3,7 @@ use Rattle.std.specs.Prelude.{◌≡◌, ℕ, ◌+◌, ◌==◌, not, List, [], 
 use Rattle.std.specs.List.{slice_split}
 use Rattle.ftp_facts.specs.Listing.{line_feed}
 use Rattle.ftp_operation.specs.Account.{Account}
-use Rattle.ftp_tool_accounts.specs.Grants.{Grant}
-use Rattle.ftp_tool_accounts.specs.Line.{Entry, Says, is_silent}
+use Rattle.ftp_tool_accounts.specs.Line.{Says, is_silent}
 
 -- a line without the CR at its end
 abbrev pub without_cr : List ℕ → List ℕ
@@ -33,42 +32,24 @@ speaking lines = filter (λ line. not (is_silent line.1)) lines
 abbrev pub speakers : List ℕ → List Line
 speakers text = speaking (numbered 1 (lines_of text))
 
--- each line says what stands where it does, and nothing more is there
-abbrev pub SayEach : List Line → List Entry → Type 0
+-- each line says the account that stands where it does, and nothing more is there
+abbrev pub SayEach : List Line → List Account → Type 0
 SayEach [] [] = Unit {0}
-SayEach [] (entry ∷ entries) = ⊥
+SayEach [] (account ∷ accounts) = ⊥
 SayEach (line ∷ lines) [] = ⊥
-SayEach (line ∷ lines) (entry ∷ entries) = Says line.1 entry × SayEach lines entries
+SayEach (line ∷ lines) (account ∷ accounts) = Says line.1 account × SayEach lines accounts
 
--- the accounts, and what each may change
-abbrev pub accounts_of : List Entry → List Account
-accounts_of entries = map (λ entry. entry.0) entries
+-- a text says these accounts: its lines that are not silent do, in their order
+abbrev pub SaysAll : List ℕ → List Account → Type 0
+SaysAll text accounts = SayEach (speakers text) accounts
 
-abbrev pub granted : Entry → Grant
-granted entry = record { user = entry.0.user; rights = entry.1 }
-
-abbrev pub grants_of : List Entry → List Grant
-grants_of entries = map granted entries
-
--- lines say these accounts with what each may change, one by each line, in the order of the lines
-pub record Say (lines : List Line) (accounts : List Account) (grants : List Grant) : Type 0 where
-  pub entries : List Entry
-  pub say : SayEach lines entries
-  pub accounts_are : accounts ≡ accounts_of entries
-  pub grants_are : grants ≡ grants_of entries
-
--- a text says these: its lines that are not silent do
-abbrev pub SaysAll : List ℕ → List Account → List Grant → Type 0
-SaysAll text accounts grants = Say (speakers text) accounts grants
-
--- the accounts so far, what each may change, and the number of each line
+-- the accounts so far, and the number of the line of each
 abbrev pub Lists : Type 0
-Lists = List Account × List Grant × List ℕ
+Lists = List Account × List ℕ
 
--- behind what stands so far stands what a line says, if it is not silent
+-- after what stands so far comes what a line says, if it is not silent
 pub record Adds (line : Line) (old new : Lists) : Type 0 where
-  pub entries : List Entry
-  pub say : SayEach (speaking (line ∷ [])) entries
-  pub accounts : new.0 ≡ old.0 ++ accounts_of entries
-  pub grants : new.1 ≡ old.1 ++ grants_of entries
-  pub numbers : new.2 ≡ old.2 ++ map (λ line. line.0) (speaking (line ∷ []))
+  pub accounts : List Account
+  pub say : SayEach (speaking (line ∷ [])) accounts
+  pub adds : new.0 ≡ old.0 ++ accounts
+  pub numbers : new.1 ≡ old.1 ++ map (λ line. line.0) (speaking (line ∷ []))

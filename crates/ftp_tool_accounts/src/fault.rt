@@ -3,6 +3,7 @@ ghost use Rattle.std.specs.Prelude.{◌≡◌};
 ghost use Rattle.ftp_tool_accounts.specs.Line.{of_accounts};
 
 use ftp_operation::AccountsFault;
+use ftp_operation_secret::SecretFault;
 use std::io;
 use thiserror::Error;
 
@@ -17,13 +18,13 @@ pub enum LineFault {
     /// Over 255 octets, or CR or NUL.
     #[error("the password is none")]
     Password,
-    /// `$`, one to three letters or digits, and `$`: passwords are in clear here.
-    #[error("the password is written as a digest, and digests are not known: it is wanted in clear")]
-    Digest,
+    /// It is written as a digest, `$6$..` or another kind, and none that is known.
+    #[error("the password is none: {0}")]
+    Secret(SecretFault),
     /// It does not begin with `/`, or is no path text, or is past the limits of a path.
     #[error("the root is no path that begins with /")]
     Root,
-    #[error("the rights are none: :r or :w is wanted after the root, or no colon")]
+    #[error("the rights are none: letters of r, w, p, a, d, m, x and f are wanted after the root, or no colon")]
     Rights,
     #[error("a line above has this user")]
     SameUser,

@@ -3,8 +3,9 @@ ghost use Rattle.std.specs.Prelude.{◌≡◌, None, IfOk};
 ghost use Rattle.ftp_operation.specs.Account.{accounts_refusal};
 
 use crate::fault::AccountsFileFault;
-use crate::reading::{Users, read_users};
+use crate::reading::read_accounts;
 use crate::roots::read_roots;
+use ftp_operation::Accounts;
 use ftp_path::Path;
 use ftp_tool_words::{NotPrivate, read_private};
 use std::alloc::Global;
@@ -13,16 +14,16 @@ use std::fs::Files;
 /// The most octets of a file of accounts (own choice).
 const FILE_LIMIT: u64 = 1_048_576;
 
-/// The accounts that a file says, and what each may change. It has passwords, so its owner alone may use it.
-pub fn load_users<R: Files + AllocGlobal>(
+/// The accounts that a file says. It has passwords, so its owner alone may use it.
+pub fn load_accounts<R: Files + AllocGlobal>(
     files: &R,
     file: &str,
-) -> Result<Users<Global>, AccountsFileFault>
-    ensures allowed { IfOk result (λ users. accounts_refusal users.accounts ≡ None) }
+) -> Result<Accounts<Global>, AccountsFileFault>
+    ensures allowed { IfOk result (λ accounts. accounts_refusal accounts ≡ None) }
 {
     let text = text_of(files, file)?;
-    match read_users(files.alloc(), text.as_slice()) {
-        Ok(users) => Ok(users),
+    match read_accounts(files.alloc(), text.as_slice()) {
+        Ok(accounts) => Ok(accounts),
         Err(fault) => Err(AccountsFileFault::Text(fault)),
     }
 }

@@ -4,15 +4,13 @@
 mod blame;
 mod fault;
 mod file;
-mod grants;
 mod known;
 mod line;
 mod reading;
 mod roots;
 
 pub use fault::{AccountsFileFault, LineFault, TextFault};
-pub use file::{load_roots, load_users};
-pub use grants::{Grant, Grants};
-pub use known::{two_accounts, two_users};
-pub use reading::{Users, read_users};
+pub use file::{load_accounts, load_roots};
+pub use known::two_accounts;
+pub use reading::read_accounts;
 pub use roots::read_roots;

@@ -1,14 +1,16 @@
 // One line of an accounts file.
-ghost use Rattle.std.specs.Prelude.{◌≡◌, ◌≢◌, ◌≤◌, [], length, IfOk, IfErr, IfSome, IfNone, IsTrue, false};
+ghost use Rattle.std.specs.Prelude.{◌≡◌, ◌≢◌, [], IfOk, IfErr, IfSome, IfNone, IsTrue, false};
 ghost use Rattle.std.specs.List.{list_all};
 ghost use Rattle.std.specs.Option.{option_map};
 ghost use Rattle.ftp_path.specs.Path.{resolved};
-ghost use Rattle.ftp_tool_accounts.specs.Line.{EndsIn, HasFewFields, IsCut, IsFaulty, Says, ends_kind, ends_kind_within_one, ends_kind_within_two, is_blank, is_comment, is_digest, is_root, is_silent, is_word, names_kind, needed, rights_said};
+ghost use Rattle.ftp_operation.specs.Rights.{no_rights};
+ghost use Rattle.ftp_tool_accounts.specs.Line.{EndsIn, HasFewFields, IsCut, IsFaulty, Says, is_blank, is_comment, is_root, is_silent};
+ghost use Rattle.ftp_tool_accounts.specs.Line.{needed, rights_of_letter, rights_said, with_letters};
 
 use crate::fault::LineFault;
 use ftp_facts::{Text, cut_at};
 use ftp_operation::{Account, Rights};
-use ftp_operation_secret::Secret;
+use ftp_operation_secret::{Secret, SecretFault};
 use ftp_path::{Path, PathFault, is_password, is_user};
 use std::alloc::{AllocError, Allocator};
 
@@ -37,16 +39,12 @@ fn is_comment(line: &[u8]) -> bool
     line.starts_with(b"#")
 }
 
-/// What a line says: an account, and what it may change.
-#[derive(Drop)]
-pub(crate) struct Entry<A: Allocator + Copy> {
-    pub(crate) account: Account<Text<A>, Path<A>>,
-    pub(crate) rights: Rights,
-}
-
 /// The account that a line says: `user:password:root` or `user:password:root:rights`. An empty password: none is needed.
-pub(crate) fn entry_of<A: Allocator + Copy>(alloc: A, line: &[u8]) -> Result<Entry<A>, LineFault>
-    ensures says { IfOk result (λ entry. Says line.now (entry.account, entry.rights)) }
+pub(crate) fn account_of<A: Allocator + Copy>(
+    alloc: A,
+    line: &[u8],
+) -> Result<Account<Text<A>, Path<A>>, LineFault>
+    ensures says { IfOk result (λ account. Says line.now account) }
     ensures fault { IfErr result (λ fault. IsFaulty line.now fault) }
 {
     let Some(fields) = fields_of(line) else {
@@ -58,9 +56,10 @@ pub(crate) fn entry_of<A: Allocator + Copy>(alloc: A, line: &[u8]) -> Result<Ent
     if !is_password(fields.pass) {
         return Err(LineFault::Password);
     }
-    if is_digest(fields.pass) {
-        return Err(LineFault::Digest);
-    }
+    let pass = match needed(fields.pass) {
+        Ok(pass) => pass,
+        Err(fault) => return Err(LineFault::Secret(fault)),
+    };
     let root = match root_of(alloc, fields.root) {
         Ok(root) => root,
         Err(fault) => return Err(fault),
@@ -68,8 +67,13 @@ pub(crate) fn entry_of<A: Allocator + Copy>(alloc: A, line: &[u8]) -> Result<Ent
     let Some(rights) = rights_of(fields.rights) else {
         return Err(LineFault::Rights);
     };
-    match account(alloc, fields.user, fields.pass, root, rights) {
-        Ok(account) => Ok(Entry { account, rights }),
+    match Text::copy_of(alloc, fields.user) {
+        Ok(user) => Ok(Account {
+            user,
+            pass,
+            root,
+            rights,
+        }),
         Err(AllocError) => Err(LineFault::Memory),
     }
 }
@@ -113,61 +117,17 @@ fn ends_of(rest: &[u8]) -> (&[u8], Option<&[u8]>)
     }
 }
 
-/// Whether a password is written as systems write digests: `$`, one to three letters or digits, and `$`.
-fn is_digest(pass: &[u8]) -> bool
-    ensures { result ≡ is_digest pass.now }
+/// The secret that an account needs, if one, by the field of its password.
+fn needed(pass: &[u8]) -> Result<Option<Secret>, SecretFault>
+    ensures { result ≡ needed pass.now }
 {
-    match pass.split_first() {
-        Some((octet, rest)) => *octet == b'$' && names_kind(rest),
-        None => false,
+    if pass.is_empty() {
+        return Ok(None);
     }
-}
-
-/// Whether a text begins with one to three letters or digits, and `$`.
-fn names_kind(text: &[u8]) -> bool
-    ensures { result ≡ names_kind text.now }
-{
-    match text.split_first() {
-        Some((octet, rest)) => is_word(*octet) && ends_kind_within_two(rest),
-        None => false,
+    match Secret::read(pass) {
+        Ok(secret) => Ok(Some(secret)),
+        Err(fault) => Err(fault),
     }
-}
-
-/// The same with at most two before it.
-fn ends_kind_within_two(text: &[u8]) -> bool
-    ensures { result ≡ ends_kind_within_two text.now }
-{
-    match text.split_first() {
-        Some((octet, rest)) => *octet == b'$' || is_word(*octet) && ends_kind_within_one(rest),
-        None => false,
-    }
-}
-
-/// The same with at most one.
-fn ends_kind_within_one(text: &[u8]) -> bool
-    ensures { result ≡ ends_kind_within_one text.now }
-{
-    match text.split_first() {
-        Some((octet, rest)) => *octet == b'$' || is_word(*octet) && ends_kind(rest),
-        None => false,
-    }
-}
-
-/// Whether a text begins with `$`.
-fn ends_kind(text: &[u8]) -> bool
-    ensures { result ≡ ends_kind text.now }
-{
-    match text.split_first() {
-        Some((octet, _)) => *octet == b'$',
-        None => false,
-    }
-}
-
-/// An ASCII letter or digit.
-fn is_word(octet: u8) -> bool
-    ensures { result ≡ is_word octet }
-{
-    matches!(octet, b'0'..=b'9' | b'A'..=b'Z' | b'a'..=b'z')
 }
 
 /// The path from `/` that a text names.
@@ -192,43 +152,54 @@ fn rights_of(field: Option<&[u8]>) -> Option<Rights>
 {
     match field {
         None => Some(Rights::all()),
-        Some([b'r']) => Some(Rights::none()),
-        Some([b'w']) => Some(Rights::adding()),
-        Some(_) => None,
+        Some([]) => None,
+        Some(letters) => rights_of_letters(letters),
     }
 }
 
-/// The account of a user, a password, a root and rights.
-fn account<A: Allocator + Copy>(
-    alloc: A,
-    user: &[u8],
-    pass: &[u8],
-    root: Path<A>,
-    rights: Rights,
-) -> Result<Account<Text<A>, Path<A>>, AllocError>
-    requires { length pass.now ≤ 255 }
-    ensures user { IfOk result (λ account. account.user ≡ user.now) }
-    ensures pass { IfOk result (λ account. account.pass ≡ needed pass.now) }
-    ensures root { IfOk result (λ account. account.root ≡ root) }
-    ensures rights { IfOk result (λ account. account.rights ≡ rights) }
+/// The rights of letters, where each says some.
+fn rights_of_letters(letters: &[u8]) -> Option<Rights>
+    ensures { result ≡ with_letters no_rights letters.now }
 {
-    let user = Text::copy_of(alloc, user)?;
-    let pass = needed(pass);
-    Ok(Account {
-        user,
-        pass,
-        root,
-        rights,
-    })
+    let mut rights = Rights::none();
+    for at in 0..letters.len() {
+        let Some(more) = rights_of_letter(letters[at]) else {
+            return None;
+        };
+        rights = rights.joined(more);
+    }
+    Some(rights)
 }
 
-/// The password that an account needs, if one.
-fn needed(pass: &[u8]) -> Option<Secret>
-    requires { length pass.now ≤ 255 }
-    ensures { result ≡ needed pass.now }
+/// The rights that a letter says.
+fn rights_of_letter(letter: u8) -> Option<Rights>
+    ensures { result ≡ rights_of_letter letter }
 {
-    if pass.is_empty() {
-        return None;
+    let none = Rights::none();
+    match letter {
+        b'r' => Some(none),
+        b'w' => Some(Rights::adding()),
+        b'p' => Some(Rights { put: true, ..none }),
+        b'a' => Some(Rights {
+            replace: true,
+            ..none
+        }),
+        b'd' => Some(Rights {
+            delete: true,
+            ..none
+        }),
+        b'm' => Some(Rights {
+            make_dir: true,
+            ..none
+        }),
+        b'x' => Some(Rights {
+            remove_dir: true,
+            ..none
+        }),
+        b'f' => Some(Rights {
+            rename: true,
+            ..none
+        }),
+        _ => None,
     }
-    Some(Secret::plain(pass))
 }

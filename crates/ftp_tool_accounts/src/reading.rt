@@ -2,16 +2,15 @@
 ghost use Rattle.std.specs.Prelude.{◌≡◌, ◌++◌, ◌∷◌, [], None, IfOk, IfErr, length};
 ghost use Rattle.ftp_operation.specs.Account.{accounts_refusal};
 ghost use Rattle.ftp_tool_accounts.specs.Blame.{IsBlamed, IsHeld, IsOff};
-ghost use Rattle.ftp_tool_accounts.specs.Lines.{Adds, SaysAll, granted, without_cr};
+ghost use Rattle.ftp_tool_accounts.specs.Lines.{Adds, SaysAll, without_cr};
 
 use crate::blame::blamed;
 use crate::fault::TextFault;
-use crate::grants::{Grant, Grants};
-use crate::line::{Entry, entry_of, is_silent};
+use crate::line::{account_of, is_silent};
 use ftp_facts::{Text, cut_at};
 use ftp_operation::{Account, Accounts};
 use ftp_path::Path;
-use std::alloc::{AllocError, Allocator};
+use std::alloc::Allocator;
 
 /// The most accounts (own choice).
 const ACCOUNT_LIMIT: usize = 1_000;
@@ -19,21 +18,14 @@ const ACCOUNT_LIMIT: usize = 1_000;
 /// A byte order mark.
 const MARK: &[u8] = b"\xef\xbb\xbf";
 
-/// Who may log in, and what each may change.
-#[derive(Drop)]
-pub struct Users<A: Allocator + Copy> {
-    pub accounts: Accounts<A>,
-    pub grants: Grants<A>,
-}
-
-/// The accounts that a text says, in the order of its lines, and what each may change: each line is `user:password:root`, where an empty password
-/// means that none is needed, or that with `:r` or `:w` behind it. Lines end with LF, or CR LF; one of blanks alone or that begins with `#` says nothing.
+/// The accounts that a text says, in the order of its lines: each line is `user:password:root`, where an empty password means that none is needed, or that with
+/// a colon and letters of rights after it. Lines end with LF, or CR LF; one of blanks alone or that begins with `#` says nothing.
 ///
 /// The first line that says no account is told; then the first that no account can follow, since its user stands above or its root
 /// is below another's or above it.
-pub fn read_users<A: Allocator + Copy>(alloc: A, text: &[u8]) -> Result<Users<A>, TextFault>
-    ensures said { IfOk result (λ users. SaysAll text.now users.accounts users.grants) }
-    ensures allowed { IfOk result (λ users. accounts_refusal users.accounts ≡ None) }
+pub fn read_accounts<A: Allocator + Copy>(alloc: A, text: &[u8]) -> Result<Accounts<A>, TextFault>
+    ensures said { IfOk result (λ accounts. SaysAll text.now accounts) }
+    ensures allowed { IfOk result (λ accounts. accounts_refusal accounts ≡ None) }
     ensures fault { IfErr result (λ fault. IsBlamed text.now fault) }
 {
     if text.starts_with(MARK) {
@@ -52,7 +44,7 @@ pub fn read_users<A: Allocator + Copy>(alloc: A, text: &[u8]) -> Result<Users<A>
     if let Err(fault) = said.read_line(alloc, number, without_cr(rest)) {
         return Err(fault);
     }
-    said.users()
+    said.accounts()
 }
 
 /// A line without the CR at its end.
@@ -65,11 +57,10 @@ pub(crate) fn without_cr(line: &[u8]) -> &[u8]
     }
 }
 
-/// The accounts so far, what each may change, and the number of each line.
+/// The accounts so far, and the number of the line of each.
 #[derive(Drop)]
 struct Said<A: Allocator + Copy> {
     list: Vec<Account<Text<A>, Path<A>>, A>,
-    grants: Vec<Grant<Text<A>>, A>,
     numbers: Vec<usize, A>,
 }
 
@@ -77,20 +68,17 @@ impl<A: Allocator + Copy> Said<A> {
     /// No line was read.
     fn nothing(alloc: A) -> Said<A>
         ensures list { result.list.items ≡ [] }
-        ensures grants { result.grants.items ≡ [] }
         ensures numbers { result.numbers.items ≡ [] }
     {
         Said {
             list: Vec::new(alloc),
-            grants: Vec::new(alloc),
             numbers: Vec::new(alloc),
         }
     }
 
     /// Reads one line, of that number.
     fn read_line(&mut self, alloc: A, number: usize, text: &[u8]) -> Result<(), TextFault>
-        ensures adds { IfOk result (λ _. Adds (number, text.now) (self.old.list.items, self.old.grants.items, self.old.numbers.items)
-            (self.new.list.items, self.new.grants.items, self.new.numbers.items)) }
+        ensures adds { IfOk result (λ _. Adds (number, text.now) (self.old.list.items, self.old.numbers.items) (self.new.list.items, self.new.numbers.items)) }
         ensures fault { IfErr result (λ fault. IsOff number text.now self.old.list.items fault) }
     {
         if is_silent(text) {
@@ -99,8 +87,8 @@ impl<A: Allocator + Copy> Said<A> {
         if self.list.len() >= ACCOUNT_LIMIT {
             return Err(TextFault::TooMany);
         }
-        match entry_of(alloc, text) {
-            Ok(entry) => self.push(alloc, entry, number),
+        match account_of(alloc, text) {
+            Ok(account) => self.push(account, number),
             Err(fault) => Err(TextFault::Line {
                 line: number,
                 fault,
@@ -108,44 +96,28 @@ impl<A: Allocator + Copy> Said<A> {
         }
     }
 
-    /// Puts what a line says behind the others.
-    fn push(&mut self, alloc: A, entry: Entry<A>, number: usize) -> Result<(), TextFault>
-        ensures list { IfOk result (λ _. self.new.list.items ≡ self.old.list.items ++ entry.account ∷ []) }
-        ensures grants { IfOk result (λ _. self.new.grants.items ≡ self.old.grants.items ++ record { user = entry.account.user; rights = entry.rights } ∷ []) }
+    /// Puts what a line says after the others.
+    fn push(&mut self, account: Account<Text<A>, Path<A>>, number: usize) -> Result<(), TextFault>
+        ensures list { IfOk result (λ _. self.new.list.items ≡ self.old.list.items ++ account ∷ []) }
         ensures numbers { IfOk result (λ _. self.new.numbers.items ≡ self.old.numbers.items ++ number ∷ []) }
         ensures fault { IfErr result (λ fault. fault ≡ TextFault.Memory) }
     {
-        let Ok(user) = Text::copy_of(alloc, entry.account.user.as_slice()) else {
-            return Err(TextFault::Memory);
-        };
-        let Entry { account, rights } = entry;
-        let pushed = self.grants.push(Grant { user, rights }).is_ok()
-            && self.numbers.push(number).is_ok()
-            && self.list.push(account).is_ok();
-        if pushed {
+        if self.numbers.push(number).is_ok() && self.list.push(account).is_ok() {
             return Ok(());
         }
         Err(TextFault::Memory)
     }
 
     /// The accounts, where they can be a server's.
-    fn users(self) -> Result<Users<A>, TextFault>
+    fn accounts(self) -> Result<Accounts<A>, TextFault>
         requires { length self.numbers.items ≡ length self.list.items }
-        ensures accounts { IfOk result (λ users. users.accounts ≡ self.list.items) }
-        ensures grants { IfOk result (λ users. users.grants ≡ self.grants.items) }
-        ensures allowed { IfOk result (λ users. accounts_refusal users.accounts ≡ None) }
+        ensures same { IfOk result (λ accounts. accounts ≡ self.list.items) }
+        ensures allowed { IfOk result (λ accounts. accounts_refusal accounts ≡ None) }
         ensures fault { IfErr result (λ fault. IsHeld self.list.items self.numbers.items fault) }
     {
-        let Said {
-            list,
-            grants,
-            numbers,
-        } = self;
+        let Said { list, numbers } = self;
         match Accounts::new(list) {
-            Ok(accounts) => Ok(Users {
-                accounts,
-                grants: Grants::of(grants),
-            }),
+            Ok(accounts) => Ok(accounts),
             Err(refused) => Err(blamed(refused, numbers)),
         }
     }

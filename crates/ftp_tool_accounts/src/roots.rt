@@ -1,6 +1,6 @@
 // The roots of the accounts that a text says.
 use crate::fault::TextFault;
-use crate::line::{entry_of, is_silent};
+use crate::line::{account_of, is_silent};
 use crate::reading::without_cr;
 use ftp_facts::cut_at;
 use ftp_path::Path;
@@ -38,8 +38,8 @@ fn push_root<A: Allocator + Copy>(
     if is_silent(text) {
         return Ok(());
     }
-    let account = match entry_of(alloc, text) {
-        Ok(entry) => entry.account,
+    let account = match account_of(alloc, text) {
+        Ok(account) => account,
         Err(fault) => return Err(TextFault::Line { line, fault }),
     };
     match roots.push(account.root) {

@@ -1,12 +1,13 @@
-use Rattle.std.proofs.Common.{rules, arith, length, ◌<◌, []}
+use Rattle.std.proofs.Common.{rules, arith, length, ◌<◌, [], subst, sym}
 use Rattle.ftp_tool_accounts.specs.Blame.{IsBlamed}
-use Rattle.ftp_tool_accounts.specs.Lines.{speakers}
-use Rattle.ftp_tool_accounts.proofs.LinesLemmas.{all_said, as_many, err_more, first_stands, held_off, last_line, last_off, next_line, next_off, ok_both, said_same, shorter}
-use Rattle.ftp_tool_accounts.proofs.reading.read_users.Goals as goal
+use Rattle.ftp_tool_accounts.specs.Lines.{SaysAll, speakers}
+use Rattle.ftp_tool_accounts.proofs.LinesLemmas.{all_said, as_many, err_more, first_stands, held_off, last_line, last_off, next_line, next_off}
+use Rattle.ftp_tool_accounts.proofs.LinesLemmas.{ok_more, shorter}
+use Rattle.ftp_tool_accounts.proofs.reading.read_accounts.Goals as goal
 
 pub loop-line-init : goal.loop-line-init
 loop-line-init g c =
-    (first_stands c.args.text.now _ c.nothing-said.ensures.list c.nothing-said.ensures.grants c.nothing-said.ensures.numbers, omega arith)
+    (first_stands c.args.text.now _ c.nothing-said.ensures.list c.nothing-said.ensures.numbers, omega arith)
 
 pub returns-in-Err-clause-fault : goal.returns-in-Err-clause-fault
 returns-in-Err-clause-fault g c =
@@ -29,23 +30,22 @@ returns-in-Err-read_line-clause-fault g c =
     last_off c.args.text.now c.loop-line.number c.loop-line.rest.now c.without_cr-2.result.now _ c.in-Err-read_line.fault (search rules) c.without_cr-2.ensures
     c.loop-line.invariant.0 c.in-Err-read_line.ensures.fault
 
-pub users-requires : goal.users-requires
-users-requires g c =
-    as_many _ [] (c.read_line-2.new.self.list.items, c.read_line-2.new.self.grants.items, c.read_line-2.new.self.numbers.items)
+pub accounts-requires : goal.accounts-requires
+accounts-requires g c =
+    as_many _ [] (c.read_line-2.new.self.list.items, c.read_line-2.new.self.numbers.items)
     (last_line c.args.text.now c.loop-line.number c.loop-line.rest.now c.without_cr-2.result.now _ _ (search rules) c.without_cr-2.ensures
     c.loop-line.invariant.0 c.in_default-read_line-2.ensures.adds)
 
 pub returns-clause-said : goal.returns-clause-said
 returns-clause-said g c =
-    let says = all_said c.args.text.now (c.read_line-2.new.self.list.items, c.read_line-2.new.self.grants.items, c.read_line-2.new.self.numbers.items)
+    let says = all_said c.args.text.now (c.read_line-2.new.self.list.items, c.read_line-2.new.self.numbers.items)
     (last_line c.args.text.now c.loop-line.number c.loop-line.rest.now c.without_cr-2.result.now _ _ (search rules) c.without_cr-2.ensures
     c.loop-line.invariant.0 c.in_default-read_line-2.ensures.adds) in
-    ok_both _ _ _ c.users.result (λ users accounts grants. said_same (speakers c.args.text.now) _ users.accounts _ users.grants says accounts grants)
-    c.users.ensures.accounts c.users.ensures.grants
+    ok_more _ (SaysAll c.args.text.now) c.accounts.result (λ accounts same. subst (SaysAll c.args.text.now) (sym same) says) c.accounts.ensures.same
 
 pub returns-clause-fault : goal.returns-clause-fault
 returns-clause-fault g c =
     let stands = last_line c.args.text.now c.loop-line.number c.loop-line.rest.now c.without_cr-2.result.now _
-    (c.read_line-2.new.self.list.items, c.read_line-2.new.self.grants.items, c.read_line-2.new.self.numbers.items) (search rules) c.without_cr-2.ensures
+    (c.read_line-2.new.self.list.items, c.read_line-2.new.self.numbers.items) (search rules) c.without_cr-2.ensures
     c.loop-line.invariant.0 c.in_default-read_line-2.ensures.adds in
-    err_more _ (IsBlamed c.args.text.now) c.users.result (λ fault held. held_off c.args.text.now _ fault stands held) c.users.ensures.fault
+    err_more _ (IsBlamed c.args.text.now) c.accounts.result (λ fault held. held_off c.args.text.now _ fault stands held) c.accounts.ensures.fault
