@@ -7,6 +7,7 @@
 mod downloads;
 mod failing;
 mod handle;
+mod letters;
 mod loopback;
 mod made;
 mod places;
@@ -96,12 +97,14 @@ fn served(rt: &HostRuntime) -> io::Result<()> {
     let refused = refused::rows(rt);
     let served = loopback::row(rt);
     let shared = rights::row(rt);
+    let lettered = letters::row(rt);
     let inbox = soak::row(rt);
     let failing = failing::rows(rt);
     fs::remove_dir_all(rt, PLACE)?;
     refused?;
     served?;
     shared?;
+    lettered?;
     inbox?;
     failing
 }

@@ -37,6 +37,13 @@ const FOLDERS: &[(&str, &str)] = &[
     ("a part that an upload left", "rows_of_serve/left"),
 ];
 
+/// Passwords as SHA-crypt: the first published vector of each digest, and the second of SHA-256, which says its rounds.
+const CRYPTS: &str =
+    "a:$6$saltstring$svn8UoSVapNtMuq1ukKS4tPQd8iKwSMHWjl/O817G3uBnIFNjnQJuesI68u4OTLiBFdcbYEdFCoEOfaS35inz1:/a
+b:$5$saltstring$5B8vYYiY.CVt1RlTTf8KbXBH3hsxY/GNooZaBBGWEc5:/b:r
+c:$5$rounds=10000$saltstringsaltst$3xv.VbSHBb41AL9AvLeujZkZRBAwqFMz2.opqey6IcA:/c:wf
+";
+
 /// Files of accounts, with their modes.
 const FILES: &[(&str, &str, u32)] = &[
     ("accounts", "# who may log in\n\nguest:secret:/\n", 0o600),
@@ -47,10 +54,27 @@ const FILES: &[(&str, &str, u32)] = &[
     ("a root without a slash", "a::/a\nb::b\n", 0o600),
     ("a user twice", "a::/a\na::/b\n", 0o600),
     ("a root below another", "a::/a\nb::/a/b\n", 0o600),
-    ("rights", "a::/a:r\nb:b:/b:w\nc::/c\n", 0o600),
-    ("rights that are none", "a::/a:r\nb::/b:rw\n", 0o600),
+    (
+        "rights",
+        "a::/a:r\nb:b:/b:w\nc::/c\nd::/d:wfa\ne::/e:fxmdapwr\n",
+        0o600,
+    ),
+    ("rights that are none", "a::/a:r\nb::/b:wo\n", 0o600),
     ("a colon without rights", "a::/a\nb::/b:\n", 0o600),
-    ("a password as a digest", "a::/a\n\nb:$6$salt$x:/b\n", 0o600),
+    ("passwords as SHA-crypt", CRYPTS, 0o600),
+    ("a digest cut short", "a::/a\n\nb:$6$salt$x:/b\n", 0o600),
+    ("a salt cut short", "a:$5$saltstring:/a\n", 0o600),
+    (
+        "rounds that are too many",
+        "a:$6$rounds=1000001$salt$x:/a\n",
+        0o600,
+    ),
+    (
+        "a digest of another kind",
+        "a::/a\nb:$1$saltstri$uDTLuqRz0VNhdBgYQmB7B.:/b:q\n",
+        0o600,
+    ),
+    ("a password that begins with $", "a:$6:/a\nb:$$:/b\n", 0o600),
     ("a byte order mark", "\u{feff}guest:secret:/\n", 0o600),
 ];
 
