@@ -32,9 +32,10 @@ Loads the folder, and serves control connections one after another; what clients
 Who may log in: those of the file of accounts, each below its root; it is read anew for each session. Without one guest with the password
 secret and anonymous, who may change all that is served, and then an address of the loopback alone is listened at. Everything goes in
 cleartext, passwords too.
-A line of the file: user:password:root, where an empty password is none and root is a directory of the folder, as /; after it nothing, :r for
-an account that may look and fetch alone, or :w for one that may also put and make what does not stand, but not change what stands. The
-file's mode gives its group and others nothing.
+A line of the file: user:password:root, where an empty password is none, one as openssl passwd -6 writes it is SHA-crypt, and root is a directory
+of the folder, as /. All may look and fetch; after root nothing, for an account that may change all, or a colon and letters of what it may
+change: r nothing, p put new files, a append to files and replace them, d delete files, m make directories, x remove directories, f rename,
+w both p and m. The file's mode gives its group and others nothing.
 Output: listening on, the address and the port, once clients can connect. With --log on standard error a line for each session that begins
 or ends, login, refused command, transfer and change: moment, peer, verb, path, octets of data connections, code.
 Each session begins with the folder as it is then: what other programs put there or took away since is seen, and only files that changed
