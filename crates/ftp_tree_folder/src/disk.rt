@@ -2,7 +2,7 @@
 // their bounds.
 use crate::fault::LoadFault;
 use crate::reading::{read_same, tell_entries};
-use crate::writing::{sync_above, write_over};
+use crate::writing::{sync_above, write_new, write_over};
 use ftp_facts::Moment;
 use ftp_tree::Content;
 use std::alloc::{Allocator, Global};
@@ -34,6 +34,14 @@ pub trait Disk {
 
     /// Writes a file so that a crash leaves the old one or the new one.
     fn write_over<A: Allocator + Copy>(
+        &self,
+        place: &str,
+        content: &Content<A>,
+        moment: Moment,
+    ) -> io::Result<()>;
+
+    /// Writes a file where nothing stands, so that a crash leaves none or the whole one; where something does, it stays and this fails.
+    fn write_new<A: Allocator + Copy>(
         &self,
         place: &str,
         content: &Content<A>,
@@ -99,6 +107,15 @@ impl<R: Files + AllocGlobal + Clone + Drop> Disk for R {
         moment: Moment,
     ) -> io::Result<()> {
         write_over(self, place, content, moment)
+    }
+
+    fn write_new<A: Allocator + Copy>(
+        &self,
+        place: &str,
+        content: &Content<A>,
+        moment: Moment,
+    ) -> io::Result<()> {
+        write_new(self, place, content, moment)
     }
 
     fn read_same(

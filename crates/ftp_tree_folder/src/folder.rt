@@ -5,17 +5,16 @@ ghost use Rattle.ftp_tree_folder.specs.Place.{folder_text};
 
 use crate::loading::dir_text;
 use crate::place::{check_free, check_way, place_of};
-use crate::reasons::{Reasons, Touches};
+use crate::reasons::Reasons;
 use crate::{Disk, Folder, FolderFault};
 use ftp_facts::Moment;
-use ftp_operation::{Deed, Rights};
 use ftp_path::Path;
 use ftp_tree::Content;
 use std::alloc::{AllocError, Allocator, Global};
 use std::io;
 
 /// The files and directories below a directory of the system. No clause says what files keep: what it keeps is not known. A link on
-/// the way to what is changed is not followed: the call fails. So does a change that the rights of `reasons` do not allow, before the folder is touched.
+/// the way to what is changed is not followed: the call fails.
 pub struct DiskFolder<'a, R: Disk> {
     files: &'a R,
     reasons: &'a Reasons,
@@ -36,8 +35,7 @@ impl<'a, R: Disk> Drop for DiskFolder<'a, R> {
 }
 
 impl<'a, R: Disk> DiskFolder<'a, R> {
-    /// The folder below a directory, which is the current one for an empty text. Nothing is looked at. What may be changed is asked of
-    /// `reasons`, and why a change fails goes there.
+    /// The folder below a directory, which is the current one for an empty text. Nothing is looked at. Why a change fails goes to `reasons`.
     pub fn new(
         files: &'a R,
         dir: &str,
@@ -66,24 +64,13 @@ impl<'a, R: Disk> DiskFolder<'a, R> {
         Ok(place)
     }
 
-    /// The same, where the rights allow to do that with names.
-    fn place_to<B: Allocator + Copy, C: Allocator + Copy>(
-        &self,
-        deed: Deed,
-        root: &Path<B>,
-        path: &Path<C>,
-    ) -> io::Result<String<Global>> {
-        self.reasons.check(deed, Touches::Names)?;
-        self.place(root, path)
-    }
-
     fn changed<B: Allocator + Copy, C: Allocator + Copy>(
         &self,
         change: Change,
         root: &Path<B>,
         path: &Path<C>,
     ) -> io::Result<()> {
-        match self.place_to(change.deed(), root, path) {
+        match self.place(root, path) {
             Ok(place) => change_at(self.files, change, place.as_str()),
             Err(error) => Err(error),
         }
@@ -95,7 +82,7 @@ impl<'a, R: Disk> DiskFolder<'a, R> {
         from: &Path<C>,
         to: &Path<D>,
     ) -> io::Result<()> {
-        let from = self.place_to(Deed::Change, root, from)?;
+        let from = self.place(root, from)?;
         let to = self.place(root, to)?;
         move_at(self.files, from.as_str(), to.as_str())
     }
@@ -108,21 +95,18 @@ impl<'a, R: Disk> DiskFolder<'a, R> {
         moment: Moment,
     ) -> io::Result<()> {
         let place = self.place(root, path)?;
-        match self.check_writing(place.as_str()) {
-            Ok(()) => self.files.write_over(place.as_str(), content, moment),
-            Err(error) => Err(error),
-        }
+        self.files.write_over(place.as_str(), content, moment)
     }
 
-    /// Fails where the rights do not allow to write a file at a place: where something stands there, that is a change of it.
-    fn check_writing(&self, place: &str) -> io::Result<()> {
-        if self.reasons.rights() == Rights::all() {
-            return Ok(());
-        }
-        match check_free(self.files, place) {
-            Ok(()) => self.reasons.check(Deed::Make, Touches::Content),
-            Err(_) => self.reasons.check(Deed::Change, Touches::Content),
-        }
+    fn written_new<A: Allocator + Copy, B: Allocator + Copy, C: Allocator + Copy>(
+        &self,
+        root: &Path<B>,
+        path: &Path<C>,
+        content: &Content<A>,
+        moment: Moment,
+    ) -> io::Result<()> {
+        let place = self.place(root, path)?;
+        self.files.write_new(place.as_str(), content, moment)
     }
 
     /// What a call answers; a failure is counted, and its reason is kept for whoever tells of it.
@@ -197,6 +181,17 @@ impl<'a, R: Disk> Folder for DiskFolder<'a, R> {
         let done = self.written(root, path, content, moment);
         self.counted(done)
     }
+
+    fn write_new<A: Allocator + Copy, B: Allocator + Copy, C: Allocator + Copy>(
+        &mut self,
+        root: &Path<B>,
+        path: &Path<C>,
+        content: &Content<A>,
+        moment: Moment,
+    ) -> Result<(), FolderFault> {
+        let done = self.written_new(root, path, content, moment);
+        self.counted(done)
+    }
 }
 
 /// What is done with one name: a directory is made or removed, or a file is deleted.
@@ -205,16 +200,6 @@ enum Change {
     Made,
     Removed,
     Deleted,
-}
-
-impl Change {
-    /// What whoever makes it has to be allowed.
-    fn deed(self) -> Deed {
-        match self {
-            Change::Made => Deed::Make,
-            Change::Removed | Change::Deleted => Deed::Change,
-        }
-    }
 }
 
 /// Changes a name, and then it is on the disk, or that it is gone; of a directory that is made, or there is none.

@@ -18,5 +18,5 @@ pub use folder::DiskFolder;
 pub use ftp_tree::{Folder, FolderFault, Mirror};
 pub use loading::{load, open};
 pub use look::Seen;
-pub use reasons::{Reasons, Touches};
+pub use reasons::Reasons;
 pub use reloading::{LeftOut, reloaded};

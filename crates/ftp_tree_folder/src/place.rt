@@ -6,6 +6,7 @@ ghost use Rattle.ftp_tree_folder.specs.Place.{IsBelow};
 use crate::Disk;
 use ftp_path::Path;
 use std::alloc::{Allocator, Global};
+use std::fs::Metadata;
 use std::io;
 use std::io::{Error, ErrorKind};
 
@@ -60,7 +61,12 @@ fn check_dir<R: Disk>(files: &R, place: &str) -> io::Result<()> {
 
 /// Fails where something stands at a place.
 pub(crate) fn check_free<R: Disk>(files: &R, place: &str) -> io::Result<()> {
-    match files.found(place) {
+    check_none(files.found(place))
+}
+
+/// Fails where something was found at a place, or where that is not known.
+pub(crate) fn check_none(found: io::Result<Metadata>) -> io::Result<()> {
+    match found {
         Ok(_) => Err(Error::from(ErrorKind::AlreadyExists)),
         Err(error) if error.kind() == ErrorKind::NotFound => Ok(()),
         Err(error) => Err(error),

@@ -2,6 +2,7 @@
 ghost use Rattle.std.specs.Prelude.{IfOk, OnOk};
 ghost use Rattle.std.specs.Io.KnownBytes.{Appends};
 
+use crate::place::check_none;
 use ftp_facts::Moment;
 use ftp_tree::Content;
 use std::alloc::{AllocError, Allocator, Global};
@@ -31,11 +32,62 @@ pub(crate) fn write_over<R: Files + AllocGlobal, A: Allocator + Copy>(
     moment: Moment,
 ) -> io::Result<()> {
     let beside = beside(files.alloc(), place)?;
-    if let Err(error) = write_beside(files, place, beside.as_str(), content, moment) {
-        let _gone = fs::remove_file(files, beside.as_str());
-        return Err(error);
-    }
+    let kept = kept_mode(files, place)?;
+    write_beside(files, beside.as_str(), kept, content, moment)?;
+    kept_or_gone(
+        files,
+        beside.as_str(),
+        fs::rename(files, beside.as_str(), place),
+    )?;
     sync_above(files, place)
+}
+
+/// The same where nothing stands under the name: where something does, also what came there since, that stays, and this fails. So does it where the
+/// directory can't be flushed: then the file is removed again.
+pub(crate) fn write_new<R: Files + AllocGlobal, A: Allocator + Copy>(
+    files: &R,
+    place: &str,
+    content: &Content<A>,
+    moment: Moment,
+) -> io::Result<()> {
+    check_none(fs::symlink_metadata(files, place))?;
+    let beside = beside(files.alloc(), place)?;
+    write_beside(files, beside.as_str(), None, content, moment)?;
+    kept_or_gone(
+        files,
+        beside.as_str(),
+        move_new(files, beside.as_str(), place),
+    )?;
+    kept_or_gone(files, place, sync_above(files, place))
+}
+
+/// Where the last step with a file failed, it is removed.
+fn kept_or_gone<R: Files>(files: &R, place: &str, done: io::Result<()>) -> io::Result<()> {
+    if done.is_err() {
+        let _gone = fs::remove_file(files, place);
+    }
+    done
+}
+
+/// Gives a file the name of a place where nothing stands, in one step: by a link, since that replaces nothing, and then the other name goes. A file system
+/// without links has no such step: there it is looked at once more and then moved, and what comes between the two is replaced (own choice).
+fn move_new<R: Files>(files: &R, from: &str, to: &str) -> io::Result<()> {
+    match fs::hard_link(files, from, to) {
+        Ok(()) => {
+            let _gone = fs::remove_file(files, from);
+            Ok(())
+        }
+        Err(error) if has_no_links(error.kind()) => {
+            check_none(fs::symlink_metadata(files, to))?;
+            fs::rename(files, from, to)
+        }
+        Err(error) => Err(error),
+    }
+}
+
+/// Whether a link was refused as by a file system that has none.
+fn has_no_links(kind: ErrorKind) -> bool {
+    matches!(kind, ErrorKind::PermissionDenied | ErrorKind::Unsupported)
 }
 
 /// The text of the directory in which a place is.
@@ -63,19 +115,33 @@ fn beside(alloc: Global, place: &str) -> Result<String<Global>, AllocError> {
     Ok(text)
 }
 
+/// Writes a file beside a name, with its permissions, where they are known, and its moment, and flushes it; where that fails it is removed again.
 fn write_beside<R: Files + AllocGlobal, A: Allocator + Copy>(
     files: &R,
-    place: &str,
     beside: &str,
+    kept: Option<u32>,
     content: &Content<A>,
     moment: Moment,
 ) -> io::Result<()> {
-    let kept = kept_mode(files, place)?;
     let mode = if kept.is_some() { OWN_MODE } else { NEW_MODE };
     let file = create(files, beside, mode)?;
-    let file = put_gathered(files.alloc(), file, content)?;
-    settle(&file, kept, moment)?;
-    fs::rename(files, beside, place)
+    kept_or_gone(
+        files,
+        beside,
+        fill(files.alloc(), file, kept, content, moment),
+    )
+}
+
+/// Writes the octets of a file, gives it its permissions and its moment, and flushes it.
+fn fill<F: OpenFile + Write + Drop, A: Allocator + Copy>(
+    alloc: Global,
+    file: F,
+    kept: Option<u32>,
+    content: &Content<A>,
+    moment: Moment,
+) -> io::Result<()> {
+    let file = put_gathered(alloc, file, content)?;
+    settle(&file, kept, moment)
 }
 
 /// Gives a file that is written its permissions, where they are known, and its moment, and flushes it.
