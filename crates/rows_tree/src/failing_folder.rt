@@ -1,7 +1,8 @@
 // A folder in memory that fails.
-ghost use Rattle.std.specs.Prelude.{◌≡◌, IfOk, Some};
+ghost use Rattle.std.specs.Prelude.{◌≡◌, IfOk, OnErr, OnOk, Some};
 ghost use Rattle.ftp_tree.specs.Change.{next_count};
-ghost use Rattle.ftp_tree.specs.Tree.{root_alone};
+ghost use Rattle.ftp_tree.specs.Folder.{HasFailed, IsKept, changed_below};
+ghost use Rattle.ftp_tree.specs.Tree.{installed, root_alone};
 
 use ftp_facts::Moment;
 use ftp_path::Path;
@@ -50,6 +51,26 @@ impl<A: Allocator + Copy> FailingFolder<A> {
     {
         self.failures = next(self.failures);
         FolderFault
+    }
+
+    /// Writes a file, in the place of one that stands there.
+    fn written<E: Allocator + Copy, B: Allocator + Copy, C: Allocator + Copy>(
+        &mut self,
+        root: &Path<B>,
+        path: &Path<C>,
+        content: &Content<E>,
+        moment: Moment,
+    ) -> Result<(), FolderFault>
+        ensures done { OnOk result (IsKept (changed_below root.now (λ part. installed part path.now content.now moment.seconds)) (Some self.old.tree) (Some self.new.tree) self.old.failures self.new.failures) }
+        ensures failed { OnErr result (HasFailed (Some self.old.tree) (Some self.new.tree) self.old.failures self.new.failures) }
+    {
+        let Ok(mut copy) = copy_of(self.alloc, content) else {
+            return Err(self.failed());
+        };
+        match self.tree.install(root, path, &mut copy, moment) {
+            Ok(()) => Ok(()),
+            Err(_) => Err(self.failed()),
+        }
     }
 }
 
@@ -136,13 +157,23 @@ impl<A: Allocator + Copy> Folder for FailingFolder<A> {
         if self.fails() {
             return Err(self.failed());
         }
-        let Ok(mut copy) = copy_of(self.alloc, content) else {
+        self.written(root, path, content, moment)
+    }
+
+    fn write_new<E: Allocator + Copy, B: Allocator + Copy, C: Allocator + Copy>(
+        &mut self,
+        root: &Path<B>,
+        path: &Path<C>,
+        content: &Content<E>,
+        moment: Moment,
+    ) -> Result<(), FolderFault> {
+        if self.fails() {
             return Err(self.failed());
-        };
-        match self.tree.install(root, path, &mut copy, moment) {
-            Ok(()) => Ok(()),
-            Err(_) => Err(self.failed()),
         }
+        if self.tree.kind(root, path).is_some() {
+            return Err(self.failed());
+        }
+        self.written(root, path, content, moment)
     }
 }
 
