@@ -1,3 +1,2 @@
 pub mod Listening
 pub mod Manner
-pub mod Mend

@@ -2,7 +2,6 @@
 ghost use Rattle.std.specs.Prelude.{◌≡◌};
 ghost use Rattle.ftp_tool_serve.specs.Listening.{told_host};
 
-use crate::guard::Guard;
 use crate::heard::{CountedPorts, HeardReader, SaidWriter};
 use crate::journal::{Journal, Log};
 use ftp_control::Failed;
@@ -13,7 +12,6 @@ use ftp_server_drive::{Clocked, Control, drive_server};
 use ftp_server_model::Far;
 use ftp_server_parts::ServerTransfer;
 use ftp_server_transfer::TreeTransfer;
-use ftp_tool_accounts::Grants;
 use ftp_tool_guesses::Guesses;
 use ftp_tool_log::Lines;
 use ftp_tool_sockets::{
@@ -51,9 +49,7 @@ fn told_host(asked: Option<IpAddr>, reached: Host) -> Host
 #[derive(Clone, Copy)]
 pub struct Service<'a> {
     pub log: Log,
-    /// What each account may change.
-    pub grants: &'a Grants<Global>,
-    /// What may be changed of the tree's folder now, and why a change of it failed.
+    /// Why a change of the tree's folder failed.
     pub reasons: &'a Reasons,
     pub patience: &'a Patience<'a>,
     pub passive: &'a PassivePorts,
@@ -238,8 +234,7 @@ where
         inner: ControlReader::new(stream, patience),
         journal,
     };
-    let said = SaidWriter::new(ControlWriter::new(stream, patience), journal);
-    let writer = Guard::new(said, rt.alloc());
+    let writer = SaidWriter::new(ControlWriter::new(stream, patience), journal);
     let mut ports = CountedPorts {
         inner: ports,
         journal,

@@ -46,10 +46,6 @@ impl<'a, R: Tells> SaidWriter<'a, R> {
             told: 0,
         }
     }
-
-    pub(crate) fn journal(&self) -> &'a Journal<'a, R> {
-        self.journal
-    }
 }
 
 impl<'a, R: Tells> Write for SaidWriter<'a, R> {

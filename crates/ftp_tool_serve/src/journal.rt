@@ -6,11 +6,9 @@ use crate::goodbye::{guessed_from, last_reply};
 use crate::line::Line;
 use crate::manner::{Manner, Pace};
 use crate::talk::{Answered, Talk, Told};
-use crate::telling::{Asked, Guest, tells, touched_by};
+use crate::telling::{Asked, Guest, tells};
 use crate::tells::{Entry, Fate, Note, Outcome, Tells};
-use ftp_operation::Rights;
 use ftp_tool_sockets::{Over, monotonic_seconds, pause};
-use ftp_tree_folder::Touches;
 use std::alloc::{AllocError, Global};
 use std::cell::{Cell, RefCell};
 use std::net::SocketAddr;
@@ -35,8 +33,6 @@ struct Known {
 /// Tells of one session, a line each: the moment, the peer, the user, the verb, what it names, the octets that went over data connections for
 /// it, and the code of the last reply, behind it `reset` where the data connection was, and the reason where the folder failed. A line is told
 /// before its reply is written, so whether or not that can be. What standard error refuses is dropped.
-///
-/// As it hears who logs in, the folder is told what that account may change.
 #[derive(Drop)]
 pub(crate) struct Journal<'a, R: Tells> {
     rt: &'a R,
@@ -51,16 +47,13 @@ pub(crate) struct Journal<'a, R: Tells> {
 }
 
 impl<'a, R: Tells> Journal<'a, R> {
-    /// Nobody is logged in, and nothing may be changed.
+    /// Nobody is logged in, and nothing was said.
     pub(crate) fn new(
         rt: &'a R,
         alloc: Global,
         peer: SocketAddr,
         service: Service<'a>,
     ) -> Result<Journal<'a, R>, AllocError> {
-        service.reasons.allow(Rights::none());
-        let _content = service.reasons.take_barred(Touches::Content);
-        let _names = service.reasons.take_barred(Touches::Names);
         let known = Known {
             talk: Talk::new(alloc)?,
             guest: Guest::nobody(),
@@ -117,39 +110,10 @@ impl<'a, R: Tells> Journal<'a, R> {
             taken += told.taken;
             if let Some(answered) = told.answered {
                 let named = self.named(&answered);
-                self.permit();
                 self.judge(&answered);
                 self.tell(&answered, named);
             }
         }
-    }
-
-    /// From now on as much may be changed as the account that is logged in may change; nothing where that is not known.
-    fn permit(&self) {
-        self.service.reasons.allow(self.rights());
-    }
-
-    fn rights(&self) -> Rights {
-        let Ok(known) = self.known.try_borrow_mut() else {
-            return Rights::none();
-        };
-        if !known.talk.is_whole() {
-            return Rights::none();
-        }
-        self.service.grants.rights_of(known.guest.user())
-    }
-
-    /// Whether the line that is answered next asked for a change that was refused, since the account may not make it. It is told once.
-    pub(crate) fn bars(&self) -> bool {
-        match self.touched() {
-            Some(touched) => self.service.reasons.take_barred(touched),
-            None => false,
-        }
-    }
-
-    /// What the line that is answered next changes, where it does.
-    fn touched(&self) -> Option<Touches> {
-        touched_by(self.known.try_borrow_mut().ok()?.talk.next_verb()?)
     }
 
     /// Takes in how a login went. After some that were refused each answer waits until somebody is logged in, and then that to a refused one.

@@ -2,13 +2,13 @@
 ghost use Rattle.std.specs.Prelude.{◌↔◌, IsTrue};
 ghost use Rattle.ftp_tool_serve.specs.Listening.{MayListen};
 
+use crate::accounts::{accounts_of, roots_of};
 use crate::connection::{Service, session};
 use crate::journal::Log;
 use crate::starting::{Unserved, is_folder, opened, tell_left, tell_roots};
 use crate::tells::{NoClient, OfFile, Told};
-use crate::users::{roots_of, users_of};
 use ftp_control::{TURNS, Watch};
-use ftp_tool_accounts::Users;
+use ftp_operation::Accounts;
 use ftp_tool_guesses::Guesses;
 use ftp_tool_log::Lines;
 use ftp_tool_shown::Shown;
@@ -105,7 +105,7 @@ where
     if !job.may_listen() {
         return refuse_address(rt);
     }
-    match users_of(rt, job.accounts) {
+    match accounts_of(rt, job.accounts) {
         Ok(_) => serve_dir(rt, &job),
         Err(fault) => refuse(rt, "accounts: ", &OfFile(job.accounts, &fault)),
     }
@@ -144,12 +144,12 @@ fn tell_address<R: Print>(rt: &R, listener: &TcpListener) -> io::Result<()> {
 }
 
 /// Who may log in; where that can't be had, it is told why.
-fn users_told<R>(rt: &R, file: Option<&str>, lines: &Lines) -> Option<Users<Global>>
+fn accounts_told<R>(rt: &R, file: Option<&str>, lines: &Lines) -> Option<Accounts<Global>>
 where
     R: Files + Clock + AllocGlobal,
 {
-    match users_of(rt, file) {
-        Ok(users) => Some(users),
+    match accounts_of(rt, file) {
+        Ok(accounts) => Some(accounts),
         Err(fault) => {
             lines.tell(rt, &Told("error: accounts: ", &OfFile(file, &fault)));
             None
@@ -355,14 +355,13 @@ where
     let Some(stream) = next_client(rt, desk.listener, desk.lines) else {
         return (mirror, false);
     };
-    let Some(Users { accounts, grants }) = users_told(rt, desk.job.accounts, desk.lines) else {
+    let Some(accounts) = accounts_told(rt, desk.job.accounts, desk.lines) else {
         return (mirror, false);
     };
     let mirror = looked_at(rt, mirror, seen, desk);
     let patience = Patience::new(desk.job.limits, Some(desk.listener));
     let service = Service {
         log: desk.job.log,
-        grants: &grants,
         reasons: desk.reasons,
         patience: &patience,
         passive: desk.passive,

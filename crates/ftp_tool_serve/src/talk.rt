@@ -2,7 +2,7 @@
 ghost use Rattle.std.specs.Prelude.{◌≤◌, ◌<◌, length};
 
 use crate::telling::{Asked, asked_of};
-use ftp_command::{LINE_LIMIT, Verb};
+use ftp_command::LINE_LIMIT;
 use ftp_nvt::{Ear, Event};
 use ftp_reply::Reader;
 use std::alloc::{AllocError, Global};
@@ -78,19 +78,9 @@ impl Talk {
         }
     }
 
-    /// Whether it is known which reply answers which line.
-    pub(crate) fn is_whole(&self) -> bool {
-        self.whole
-    }
-
     /// Whether all that was said is whole replies.
     pub(crate) fn is_between_replies(&self) -> bool {
         self.whole && !self.in_reply && self.said.unfinished() == 0
-    }
-
-    /// The verb of the line that is answered next.
-    pub(crate) fn next_verb(&self) -> Option<Verb> {
-        self.asked.first()?.verb
     }
 
     /// Octets are said to the client: takes them up to the end of a line, and gives the line of the client that is answered by it, if one is.

@@ -2,7 +2,6 @@
 use crate::line::Line;
 use crate::manner::{Login, login_by};
 use ftp_command::{Verb, verb_of};
-use ftp_tree_folder::Touches;
 
 /// The code of a login (RFC 959, section 4.2.2).
 const LOGGED_IN: u16 = 230;
@@ -108,15 +107,6 @@ fn parts_of(line: &[u8]) -> (&[u8], &[u8]) {
 /// Whether a path stands behind a verb.
 fn names_path(verb: Verb) -> bool {
     is_told(verb) || matches!(verb, Verb::User | Verb::Mlst | Verb::Size | Verb::Mdtm)
-}
-
-/// What a line of a verb changes of a folder, where it does.
-pub(crate) fn touched_by(verb: Verb) -> Option<Touches> {
-    match verb {
-        Verb::Stor | Verb::Stou | Verb::Appe => Some(Touches::Content),
-        Verb::Mkd | Verb::Rmd | Verb::Dele | Verb::Rnto => Some(Touches::Names),
-        _ => None,
-    }
 }
 
 /// Whether a line of a verb is told whatever is answered: transfers, and what changes the folder or the directory.

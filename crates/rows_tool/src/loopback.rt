@@ -1,8 +1,9 @@
 // A session over the loopback, with both ends in one thread: the client says all its lines, and then the server serves them.
 use crate::handle::Handle;
 use crate::made::file;
+use ftp_operation::Accounts;
 use ftp_tool_serve::{
-    Guesses, Limits, Lines, Log, PassivePorts, Patience, Service, Users, session, users_of,
+    Guesses, Limits, Lines, Log, PassivePorts, Patience, Service, accounts_of, session,
 };
 use ftp_tree::Tree;
 use ftp_tree_folder::{DiskFolder, Mirror, Reasons, open};
@@ -109,18 +110,18 @@ pub(crate) fn served_over<'a>(
     accounts: Option<&str>,
     reasons: &Reasons,
 ) -> io::Result<(Mirror<Global, DiskFolder<'a, HostRuntime>>, bool)> {
-    match users_of(rt, accounts) {
-        Ok(users) => Ok(served_users(rt, stream, mirror, users, reasons)),
+    match accounts_of(rt, accounts) {
+        Ok(accounts) => Ok(served_accounts(rt, stream, mirror, accounts, reasons)),
         Err(_) => Err(io::Error::from(ErrorKind::InvalidData)),
     }
 }
 
-/// Serves a control connection of these users over a tree; gives that back, and whether all went well.
-fn served_users<T>(
+/// Serves a control connection of these accounts over a tree; gives that back, and whether all went well.
+fn served_accounts<T>(
     rt: &HostRuntime,
     stream: &TcpStream,
     tree: T,
-    users: Users<Global>,
+    accounts: Accounts<Global>,
     reasons: &Reasons,
 ) -> (T, bool)
 where
@@ -130,10 +131,8 @@ where
     let passive = PassivePorts::new(0, 0);
     let lines = Lines::new();
     let guesses = RefCell::new(Guesses::nothing(rt.alloc()));
-    let Users { accounts, grants } = users;
     let service = Service {
         log: Log::Told,
-        grants: &grants,
         reasons,
         patience: &patience,
         passive: &passive,

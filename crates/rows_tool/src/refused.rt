@@ -2,7 +2,7 @@
 use crate::handle::Handle;
 use crate::made::{deep, file};
 use crate::statuses::put;
-use ftp_tool_serve::{Limits, Log, Odd, Others, Serving, Sessions, serve, users_of};
+use ftp_tool_serve::{Limits, Log, Odd, Others, Serving, Sessions, accounts_of, serve};
 use ftp_tree_folder::{LoadFault, Reasons, open};
 use rows_base::Paper;
 use std::net::{IpAddr, Ipv4Addr, Net, SocketAddr, TcpListener};
@@ -159,7 +159,7 @@ fn kept_row(rt: &HostRuntime) -> io::Result<()> {
 
 /// Writes why the file of accounts is refused, if it is.
 fn tell_accounts(rt: &HostRuntime) -> io::Result<()> {
-    match &users_of(rt, Some(ACCOUNTS)) {
+    match &accounts_of(rt, Some(ACCOUNTS)) {
         Ok(_) => Ok(()),
         Err(fault) => println!(rt; "{fault}"),
     }

@@ -1,18 +1,19 @@
 // Who may log in.
+use ftp_operation::Accounts;
 use ftp_path::Path;
-use ftp_tool_accounts::{AccountsFileFault, TextFault, Users, load_roots, load_users, two_users};
+use ftp_tool_accounts::{AccountsFileFault, TextFault, load_accounts, load_roots, two_accounts};
 use std::alloc::{AllocError, Global};
 use std::fs::Files;
 
-/// The accounts that a file says, and what each may change; where none is given, `guest` and `anonymous`, who may change all.
-pub fn users_of<R: Files + AllocGlobal>(
+/// The accounts that a file says; where none is given, `guest` and `anonymous`, who may change all.
+pub fn accounts_of<R: Files + AllocGlobal>(
     rt: &R,
     file: Option<&str>,
-) -> Result<Users<Global>, AccountsFileFault> {
+) -> Result<Accounts<Global>, AccountsFileFault> {
     match file {
-        Some(file) => load_users(rt, file),
-        None => match two_users(rt.alloc()) {
-            Ok(users) => Ok(users),
+        Some(file) => load_accounts(rt, file),
+        None => match two_accounts(rt.alloc()) {
+            Ok(accounts) => Ok(accounts),
             Err(AllocError) => Err(AccountsFileFault::Text(TextFault::Memory)),
         },
     }
