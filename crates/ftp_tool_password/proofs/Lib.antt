@@ -1,0 +1,4 @@
+pub mod ReadBack
+pub mod Opening
+pub mod Salting
+pub mod Ending

@@ -1,0 +1,5 @@
+pub mod Typed
+pub mod Salt
+pub mod Field
+pub mod Opened
+pub mod Making
