@@ -8,8 +8,8 @@ mod several;
 use clap::{ArgMatches, Error};
 use ftp_tool_command::{
     BadValue, PLACE_OPTION, Program, Refusal, asked_of, command, download_of, fetch_task_of,
-    mirror_of, program_of, script_server_of, script_user_of, serving_of, settings_of, task_of,
-    url_in, urls_in,
+    mirror_of, program_of, rounds_of, script_server_of, script_user_of, serving_of, settings_of,
+    task_of, url_in, urls_in,
 };
 use ftp_tool_fetch::{Target, Task};
 use ftp_tool_shown::Shown;
@@ -65,6 +65,7 @@ where
         Program::Serve => serve(rt, inner),
         Program::Loop => number_of(rt.play_loop()),
         Program::Pair => play_pair(rt, inner, faults),
+        Program::Password => make_field(rt, inner, faults),
         Program::Run => run_script(rt, inner),
         Program::Mirror => mirror(rt, alloc, inner),
         Program::Get => get(rt, alloc, inner, faults.is_terminal()),
@@ -103,6 +104,18 @@ where
     match settings_of(words) {
         Some(settings) => Ok(rt.play_pair(settings, faults).number()),
         None => refuse(rt, Refusal::Number),
+    }
+}
+
+/// Does what `password` asks for.
+fn make_field<R, F>(rt: &R, words: &ArgMatches<'_>, faults: &mut F) -> io::Result<u8>
+where
+    R: Programs + Eprint,
+    F: Write,
+{
+    match rounds_of(words) {
+        Ok(rounds) => Ok(rt.password(rounds, faults).number()),
+        Err(refusal) => refuse(rt, refusal),
     }
 }
 

@@ -12,6 +12,7 @@ use std::env::Env;
 use std::fs::Files;
 use std::io::Write;
 use std::net::{Net, TcpListener, TcpStream};
+use std::random::RandomSource;
 use std::time::Clock;
 use std::{fs, io};
 
@@ -22,6 +23,9 @@ pub(crate) trait Programs {
     fn play_loop(&self) -> io::Result<Status>;
 
     fn play_pair<F: Write>(&self, settings: PairSettings, faults: &mut F) -> Status;
+
+    /// By so many rounds, or the default.
+    fn password<F: Write>(&self, rounds: Option<u32>, faults: &mut F) -> Status;
 
     /// A user is named where the script says none.
     fn run(&self, server: ServerAddress<'_>, user: Option<User<'_>>) -> io::Result<Status>;
@@ -46,6 +50,7 @@ where
         + Files
         + AllocGlobal
         + Clock
+        + RandomSource
         + Net<Listener = TcpListener, Stream = TcpStream>
         + Clone
         + Drop,
@@ -67,6 +72,10 @@ where
             &mut io::writer(self),
             faults,
         )
+    }
+
+    fn password<F: Write>(&self, rounds: Option<u32>, faults: &mut F) -> Status {
+        ftp_tool_password::password(self, rounds, faults)
     }
 
     fn run(&self, server: ServerAddress<'_>, user: Option<User<'_>>) -> io::Result<Status> {

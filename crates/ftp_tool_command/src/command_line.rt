@@ -3,6 +3,7 @@ use crate::fetching::{CAT, GET, LS, MKDIR, MV, PUT, RM, RMDIR, SIZE, place_optio
 use crate::help;
 use crate::mirroring::{MIRROR, mirror_options};
 use crate::pairing::PAIR;
+use crate::password::PASSWORD;
 use crate::running::RUN;
 use crate::serving::{SERVE, serve_options};
 use crate::words::{Form, MODE, MOST, STRU, Subcommand, TYPE, Value, Word, subcommand_of};
@@ -77,6 +78,7 @@ pub enum Program {
     Serve,
     Loop,
     Pair,
+    Password,
     Run,
     Mirror,
     Get,
@@ -93,6 +95,7 @@ pub fn program_of(name: &str) -> Program {
         "serve" => Program::Serve,
         "loop" => Program::Loop,
         "pair" => Program::Pair,
+        "password" => Program::Password,
         "run" => Program::Run,
         "mirror" => Program::Mirror,
         "get" => Program::Get,
@@ -126,6 +129,7 @@ fn put_subcommands<'a>(alloc: Global, known: &mut Vec<Command<'a>>) -> Result<()
     put_transfers(alloc, known)?;
     put_simple(alloc, known)?;
     put_run(alloc, known)?;
+    put_password(alloc, known)?;
     put_mirror(alloc, known)
 }
 
@@ -152,6 +156,10 @@ fn put_simple<'a>(alloc: Global, known: &mut Vec<Command<'a>>) -> Result<(), All
 
 fn put_run<'a>(alloc: Global, known: &mut Vec<Command<'a>>) -> Result<(), AllocError> {
     put_all(alloc, known, &[RUN], &[])
+}
+
+fn put_password<'a>(alloc: Global, known: &mut Vec<Command<'a>>) -> Result<(), AllocError> {
+    put_all(alloc, known, &[PASSWORD], &[])
 }
 
 fn put_mirror<'a>(alloc: Global, known: &mut Vec<Command<'a>>) -> Result<(), AllocError> {
