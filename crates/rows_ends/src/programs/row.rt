@@ -12,6 +12,8 @@ pub enum Program {
     Frame(Representation, Direction),
     /// Letters that are no type, structure and mode.
     NoForm,
+    /// The field of a password, with a salt that the row says.
+    Password,
     /// The number that a word of a command line is.
     Number,
     /// Octets are written.
@@ -22,6 +24,7 @@ pub enum Program {
 
 const PROGRAMS: &[(&'static [u8], Program)] = &[
     (b"facts", Program::Facts),
+    (b"password", Program::Password),
     (b"number", Program::Number),
     (b"put", Program::Put),
     (b"get", Program::Get),
@@ -32,6 +35,9 @@ const PROGRAMS: &[(&'static [u8], Program)] = &[
 pub struct Row {
     pub program: Program,
     pub status: u8,
+    /// With which salt the field of a password is made, and by how many rounds, if that is said.
+    pub salt: Paper,
+    pub rounds: Option<u32>,
     pub input: Paper,
     pub output: Paper,
     /// What it tells of faults.
@@ -43,9 +49,18 @@ pub fn row_of(alloc: Global, text: &[u8]) -> Row {
     Row {
         program: program_of(text),
         status: (number(said(text, b"status").unwrap_or(b"")) % 256) as u8,
+        salt: written(alloc, text, b"salt"),
+        rounds: rounds_of(said(text, b"rounds")),
         input: written(alloc, text, b"in"),
         output: written(alloc, text, b"out"),
         told: written(alloc, text, b"tells"),
+    }
+}
+
+fn rounds_of(said: Option<&[u8]>) -> Option<u32> {
+    match said {
+        Some(digits) => Some(number(digits).min(u64::from(u32::MAX)) as u32),
+        None => None,
     }
 }
 

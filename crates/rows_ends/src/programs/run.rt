@@ -3,6 +3,7 @@ use crate::programs::row::{Program, Row, word};
 use ftp_control::{Failed, get, put};
 use ftp_tool_dialogue::dialogue;
 use ftp_tool_files::{Direction, facts, frame, number_of};
+use ftp_tool_password::make;
 use itoa::Buffer;
 use rows_base::{FailingReader, FailingWriter, Refusing};
 use std::alloc::{Allocator, Global};
@@ -86,6 +87,7 @@ fn run_on<A: Allocator + Copy>(
         Program::Dialogue => dialogue(heap, reader, output, piece),
         Program::Facts => facts(heap, reader, output),
         Program::Frame(form, direction) => frame(heap, form, direction, reader, output, told),
+        Program::Password => { make(row.rounds, row.salt.text(), reader, output, told).number() }
         Program::NoForm => REFUSED,
         Program::Number => tell_number(row.input.text(), output),
         Program::Put => put_status(output, row.input.text()),
