@@ -30,7 +30,7 @@ same_number m n =
       | inr e ↦ inr (λ same. true≢false (sym (eq-eqb m n same) ∙ e))
     ]
 
-same_counts : (a b : Counts) → (a ≡ b) ⊎ (a ≢ b)
+pub same_counts : (a b : Counts) → (a ≡ b) ⊎ (a ≢ b)
 same_counts a b = both (same_number a.refusals b.refusals) (same_number a.failures b.failures)
   where
     both : (a.refusals ≡ b.refusals) ⊎ (a.refusals ≢ b.refusals) → (a.failures ≡ b.failures) ⊎ (a.failures ≢ b.failures) → (a ≡ b) ⊎ (a ≢ b)

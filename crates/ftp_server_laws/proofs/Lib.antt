@@ -13,3 +13,4 @@ pub mod RootTheorems
 pub mod CopyLemmas
 pub mod LookTurns
 pub mod LookLemmas
+pub mod LookLosses

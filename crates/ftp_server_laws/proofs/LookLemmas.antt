@@ -26,7 +26,7 @@ use Rattle.ftp_server_model.specs.declared.session.Way.TheVariants as Ways
 use Rattle.ftp_server_model.specs.declared.session.ServerLink.{ServerLink}
 use Rattle.ftp_server_model.specs.declared.session.ServerLink.TheVariants as Data
 use Rattle.ftp_server_model.specs.declared.session.Transfer.TheVariants as Transfers
-use Rattle.ftp_server_laws.specs.Lookers.{CallsOnlyLook, HasNoUpload, IsNoUpload, Looks, LookersLeaveTheMap, OnlyLooks}
+use Rattle.ftp_server_laws.specs.Lookers.{CallsOnlyLook, HasNoUpload, IsNoUpload, Looks, LookersLeaveTheMap, OnlyLooks, StartsLook}
 use Rattle.ftp_server_laws.proofs.LookTurns.{connected_looks, decided_looks, disconnected_looks, forgotten_looks}
 
 module _ (table : Table) where
@@ -36,7 +36,7 @@ module _ (table : Table) where
   replied_looks text session v short k = record { accounts = k.accounts; session = short }
 
   -- a forgotten endpoint, and a reply
-  forgets_with : (text : FixedReply) (v : View) → OnlyLooks table v → OnlyLooks table (replied text (forgotten v.session) v)
+  pub forgets_with : (text : FixedReply) (v : View) → OnlyLooks table v → OnlyLooks table (replied text (forgotten v.session) v)
   forgets_with text v k = replied_looks text (forgotten v.session) v (forgotten_looks table v.session k.session) k
 
   -- ---- a line is acted on
@@ -77,7 +77,7 @@ module _ (table : Table) where
       cond_both (is_idle v) (obeyed heard before) v (OnlyLooks table)
       (λ idle. obeyed_looks heard before (record { accounts = k.accounts; session = k.session })) (λ busy. k)
 
-  later_looks : (v : View) → OnlyLooks table v → OnlyLooks table (later v)
+  pub later_looks : (v : View) → OnlyLooks table v → OnlyLooks table (later v)
   later_looks v k = waited_looks v.waiting v k
 
   -- ---- the calls of the data connection
@@ -194,7 +194,7 @@ module _ (table : Table) where
   data_looks (Data.Opening transfer way) octet v none k = k
   data_looks Data.Ready octet v none k = k
 
-  receives_looks : (v : View) (octet : ℕ) → OnlyLooks table v → OnlyLooks table (receives_octet v octet)
+  pub receives_looks : (v : View) (octet : ℕ) → OnlyLooks table v → OnlyLooks table (receives_octet v octet)
   unfolding receives_octet
   receives_looks v octet k =
       later_looks (takes_data (connection_of v.session) octet v) (by_connection v (λ connection. takes_data connection octet v) k (data_looks v.session.connection octet v k.session.connection k))
@@ -216,13 +216,13 @@ module _ (table : Table) where
       let one = aborts_looks v.session.connection v k.session.connection k in
       later_looks (abort_said (aborts v.session.connection v)) (replied_looks Texts.AbortDone (aborts v.session.connection v).session (aborts v.session.connection v) one.session one)
 
-  line_looks : (heard : HeardLine (List ℕ)) (v : View) → OnlyLooks table v → OnlyLooks table (heard_line heard v)
+  pub line_looks : (heard : HeardLine (List ℕ)) (v : View) → OnlyLooks table v → OnlyLooks table (heard_line heard v)
   line_looks heard v k =
       let waits : View = record v { waiting = Some heard } in
       cond_both (is_abort heard v) (aborted v) (later waits) (OnlyLooks table) (λ is. aborted_looks v k)
       (λ is. later_looks waits (record { accounts = k.accounts; session = k.session }))
 
-  event_looks : (read : Reading) (event : NvtEvent) (v : View) → OnlyLooks table v → OnlyLooks table (heard_event read event v)
+  pub event_looks : (read : Reading) (event : NvtEvent) (v : View) → OnlyLooks table v → OnlyLooks table (heard_event read event v)
   event_looks read (line text) v k = line_looks (read text) v k
   event_looks read too_long v k = line_looks TooLong v k
   event_looks read (owed answer) v k = record { accounts = k.accounts; session = k.session }
@@ -239,53 +239,53 @@ module _ (table : Table) where
 
   -- ---- the steps of the other calls
 
-  clock_looks : (moment : ℕ) (v : View) → OnlyLooks table v → OnlyLooks table (clock_step moment v)
+  pub clock_looks : (moment : ℕ) (v : View) → OnlyLooks table v → OnlyLooks table (clock_step moment v)
   clock_looks moment v k = record { accounts = k.accounts; session = k.session }
 
-  control_looks : (count : ℕ) (v : View) → OnlyLooks table v → OnlyLooks table (control_step count v)
+  pub control_looks : (count : ℕ) (v : View) → OnlyLooks table v → OnlyLooks table (control_step count v)
   control_looks count v k = record { accounts = k.accounts; session = k.session }
 
-  close_looks : (v : View) → OnlyLooks table v → OnlyLooks table (close_step v)
+  pub close_looks : (v : View) → OnlyLooks table v → OnlyLooks table (close_step v)
   close_looks v k = record { accounts = k.accounts; session = record { same = k.session.same; rights = k.session.rights; connection = k.session.connection } }
 
-  control_end_looks : (v : View) → OnlyLooks table v → OnlyLooks table (control_end v)
+  pub control_end_looks : (v : View) → OnlyLooks table v → OnlyLooks table (control_end v)
   unfolding control_end
   control_end_looks v k = record { accounts = k.accounts; session = record { same = k.session.same; rights = k.session.rights; connection = tt } }
 
-  listening_looks : (port : ℕ) (v : View) → OnlyLooks table v → OnlyLooks table (listening_step port v)
+  pub listening_looks : (port : ℕ) (v : View) → OnlyLooks table v → OnlyLooks table (listening_step port v)
   listening_looks port v k =
       by_connection v (λ connection. turned (listening_turn connection v.footing port v.session) v) (record { accounts = k.accounts; session = k.session }) (listened_looks port v.session.connection v k)
 
-  no_port_looks : (v : View) → OnlyLooks table v → OnlyLooks table (no_port_step v)
+  pub no_port_looks : (v : View) → OnlyLooks table v → OnlyLooks table (no_port_step v)
   no_port_looks v k = by_connection v (λ connection. unheard connection v) k (unheard_looks v.session.connection v k)
 
-  opened_looks : (host : Host) (v : View) → OnlyLooks table v → OnlyLooks table (opened_step host v)
+  pub opened_looks : (host : Host) (v : View) → OnlyLooks table v → OnlyLooks table (opened_step host v)
   opened_looks host v k =
       completed_looks (opens (connection_of v.session) (same_host host v.footing.peer) v)
       (by_connection v (λ connection. opens connection (same_host host v.footing.peer) v) k (opens_looks v.session.connection (same_host host v.footing.peer) v refl k))
 
-  refused_looks : (v : View) → OnlyLooks table v → OnlyLooks table (refused_step v)
+  pub refused_looks : (v : View) → OnlyLooks table v → OnlyLooks table (refused_step v)
   refused_looks v k = by_connection v (λ connection. refuses connection v) k (refuses_looks v.session.connection v k)
 
-  given_by_looks : (count : ℕ) (v : View) → OnlyLooks table v → OnlyLooks table (takes_given (connection_of v.session) count v)
+  pub given_by_looks : (count : ℕ) (v : View) → OnlyLooks table v → OnlyLooks table (takes_given (connection_of v.session) count v)
   given_by_looks count v k = by_connection v (λ connection. takes_given connection count v) k (takes_given_looks count v.session.connection v k)
 
-  given_looks : (count : ℕ) (v : View) → OnlyLooks table v → OnlyLooks table (given_step count v)
+  pub given_looks : (count : ℕ) (v : View) → OnlyLooks table v → OnlyLooks table (given_step count v)
   given_looks count v k = completed_looks (takes_given (connection_of v.session) count v) (given_by_looks count v k)
 
-  end_step_looks : (v : View) → OnlyLooks table v → OnlyLooks table (end_step v)
+  pub end_step_looks : (v : View) → OnlyLooks table v → OnlyLooks table (end_step v)
   end_step_looks v k = by_connection v (λ connection. ends connection v) k (ends_looks v.session.connection v k.session.connection k)
 
-  break_step_looks : (v : View) → OnlyLooks table v → OnlyLooks table (break_step v)
+  pub break_step_looks : (v : View) → OnlyLooks table v → OnlyLooks table (break_step v)
   break_step_looks v k = by_connection v (λ connection. breaks connection v) k (breaks_looks v.session.connection v k.session.connection k)
 
   -- ---- octets
 
-  all_heard : (read : Reading) (octets : List ℕ) (v : View) → OnlyLooks table v → OnlyLooks table (hears read v octets)
+  pub all_heard : (read : Reading) (octets : List ℕ) (v : View) → OnlyLooks table v → OnlyLooks table (hears read v octets)
   all_heard read [] v k = k
   all_heard read (octet ∷ octets) v k = all_heard read octets (hears_octet read v octet) (hears_looks read v octet k)
 
-  all_received : (octets : List ℕ) (v : View) → OnlyLooks table v → OnlyLooks table (receives v octets)
+  pub all_received : (octets : List ℕ) (v : View) → OnlyLooks table v → OnlyLooks table (receives v octets)
   all_received [] v k = k
   all_received (octet ∷ octets) v k = all_received octets (receives_octet v octet) (receives_looks v octet k)
 
@@ -316,6 +316,8 @@ module _ (table : Table) where
 pub calls_only_look : CallsOnlyLook
 calls_only_look read cue table v k = calls_look table read cue v k
 
+pub starts_look : StartsLook
+starts_look table accounts here peer none = record { accounts = none; session = record { same = refl; rights = refl; connection = tt } }
+
 pub lookers_leave_the_map : LookersLeaveTheMap
-lookers_leave_the_map read table accounts here peer cues none =
-    (left_looks table read cues _ (record { accounts = none; session = record { same = refl; rights = refl; connection = tt } })).session.same
+lookers_leave_the_map read table accounts here peer cues none = (left_looks table read cues _ (starts_look table accounts here peer none)).session.same

@@ -1,10 +1,13 @@
--- Where no account has a right to change, no call changes the map, hostile octets too (own choice of rights).
-use Rattle.std.specs.Prelude.{◌≡◌, List}
+-- Where no account has a right to change, no call changes the map, hostile octets too, also where memory is refused or the device fails (own
+-- choice of rights).
+use Rattle.std.specs.Prelude.{◌≡◌, ℕ, List}
 use Rattle.std.specs.List.{AllByRecursion}
 use Rattle.ftp_endpoint.specs.declared.host.Host.{Host}
 use Rattle.ftp_operation.specs.Rights.{no_rights}
 use Rattle.ftp_tree.specs.Tree.{Table}
-use Rattle.ftp_server_model.specs.Calls.{start}
+use Rattle.ftp_server_model.specs.Calls.{break_step, clock_step, close_step, control_end, control_step, end_step, given_step, listening_step, no_port_step, opened_step, refused_step, start}
+use Rattle.ftp_server_model.specs.Failing.{EndFails, GiveFails}
+use Rattle.ftp_server_model.specs.Far.{Acts, Hears, Receives, Server, Steps}
 use Rattle.ftp_server_model.specs.Machine.{Reading}
 use Rattle.ftp_server_model.specs.Play.{Cue, call, left_by}
 use Rattle.ftp_server_model.specs.View.{Accounts, Session, Transfer, View}
@@ -53,3 +56,29 @@ abbrev pub LookersLeaveTheMap : Type 0
 LookersLeaveTheMap =
     (read : Reading) (table : Table) (accounts : Accounts) (here peer : Host) (cues : List Cue)
     → MayOnlyLook accounts → (left_by read cues (start table accounts here peer)).session.table ≡ table
+
+-- ---- whatever fails
+
+-- so it is after each call, as its clause of `Far` says it
+pub record FarOnlyLooks (table : Table) (old new : Server) : Type 0 where
+  pub clock : (moment : ℕ) → Acts (clock_step moment) old new → OnlyLooks table new.view
+  pub hear : (octets : List ℕ) → Hears octets old new → OnlyLooks table new.view
+  pub control_out : (count : ℕ) → Acts (control_step count) old new → OnlyLooks table new.view
+  pub control_ended : new ≡ record old { view = control_end old.view } → OnlyLooks table new.view
+  pub listens : (port : ℕ) → Acts (listening_step port) old new → OnlyLooks table new.view
+  pub no_port : Acts no_port_step old new → OnlyLooks table new.view
+  pub opened : (host : Host) → Acts (opened_step host) old new → OnlyLooks table new.view
+  pub refused : Acts refused_step old new → OnlyLooks table new.view
+  pub received : (octets : List ℕ) → Receives octets old new → OnlyLooks table new.view
+  pub ended : Steps EndFails end_step old new → OnlyLooks table new.view
+  pub broke : Steps EndFails break_step old new → OnlyLooks table new.view
+  pub gave : (count : ℕ) → Steps (GiveFails count) (given_step count) old new → OnlyLooks table new.view
+  pub closed : Acts close_step old new → OnlyLooks table new.view
+
+-- of a server on which nobody may change anything
+abbrev pub FarLeavesTheMap : Type 0
+FarLeavesTheMap = (table : Table) (old new : Server) → OnlyLooks table old.view → FarOnlyLooks table old new
+
+-- and a server is one at its start, where no account has a right to change
+abbrev pub StartsLook : Type 0
+StartsLook = (table : Table) (accounts : Accounts) (here peer : Host) → MayOnlyLook accounts → OnlyLooks table (start table accounts here peer)

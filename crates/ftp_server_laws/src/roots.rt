@@ -1,7 +1,7 @@
 //! What an account's root keeps apart, and what an account without rights leaves as it is: functions that do nothing, whose contracts are laws.
 ghost use Rattle.ftp_server_model.specs.Play.{RootsAreApart};
 ghost use Rattle.ftp_server_laws.specs.Apart.{CallsStayApart, CopiesLookAlike, StartsAreCopies};
-ghost use Rattle.ftp_server_laws.specs.Lookers.{CallsOnlyLook, LookersLeaveTheMap};
+ghost use Rattle.ftp_server_laws.specs.Lookers.{CallsOnlyLook, FarLeavesTheMap, LookersLeaveTheMap, StartsLook};
 
 /// Whatever is called, hostile octets too: where each login that succeeds is to one root, nothing outside of it changes, and what the calls
 /// give is what they give of the part of the map at and below it.
@@ -17,8 +17,11 @@ pub fn calls_stay_apart()
     ensures alike { CopiesLookAlike }
 {}
 
-/// Where no account has a right to change, the map stays as it is, whatever is called, hostile octets too.
+/// Where no account has a right to change, the map stays as it is, whatever is called, hostile octets too; and so it is with each call of whoever
+/// keeps the clauses of `Far`, where memory is refused and where the device fails too.
 pub fn lookers_leave_the_map()
+    ensures start { StartsLook }
     ensures calls { CallsOnlyLook }
     ensures always { LookersLeaveTheMap }
+    ensures far { FarLeavesTheMap }
 {}
