@@ -4,15 +4,16 @@ use Rattle.std.specs.Prelude.{map}
 use Rattle.std.proofs.lemmas.Bool.{eq-eqb}
 use Rattle.std.proofs.lemmas.Bool.Decides.{nat_tests}
 use Rattle.std.proofs.lemmas.List.{length-map, map-append, take-map, take_all, take_more}
-use Rattle.ftp_tree.specs.Tree.{node_at}
+use Rattle.ftp_tree.specs.Tree.{Table, node_at}
 use Rattle.ftp_server_model.specs.Far.{Server, counts_told}
 use Rattle.ftp_server_model.specs.declared.counts.Counts.{Counts as Told}
 use Rattle.ftp_server_model.specs.Machine.{IsReading, Reading}
-use Rattle.ftp_server_model.specs.Play.{Cue, Gift, IsApart, LogsInAt, call, left_by, played}
+use Rattle.ftp_server_model.specs.Play.{Cue, Gift, Clock, Hear, ControlOut, ControlEnd, Listening, ListenRefused, DataOpened, DataRefused, DataHear, DataOut, DataEnd, DataFault, DataClosed, AsksWants, IsApart, LogsInAt, call, left_by, most_given, played}
 use Rattle.ftp_server_model.specs.View.{View}
-use Rattle.ftp_server_laws.proofs.LookLemmas.{lookers_leave_the_map}
+use Rattle.ftp_server_laws.specs.Lookers.{OnlyLooks}
+use Rattle.ftp_server_laws.proofs.LookLemmas.{starts_look}
+use Rattle.ftp_server_laws.proofs.LookLosses.{far_leaves_the_map}
 use Rattle.ftp_server_laws.proofs.RootTheorems.{roots_are_apart}
-use Rattle.ftp_server_model.proofs.LinesDecided.{reading_exists}
 use Rattle.ftp_server_play.proofs.CallLemmas.{makes_gives}
 use Rattle.ftp_server_play.proofs.CountLemmas.{calm_all}
 use Rattle.ftp_server_play.specs.Cues.{cue_of, cues_of, gift_of, gifts_of}
@@ -217,9 +218,52 @@ keeps_apart calm cues gifts old new plays = λ read table accounts here peer roo
 
 -- ---- where nobody may change anything
 
-pub keeps_the_map : (calm : ℕ) (cues : List Cue) (gifts : List Gift) (old new : Server) → PlaysAs calm cues gifts old new → KeepsTheMap calm cues old new
-keeps_the_map calm cues gifts old new plays = λ table accounts here peer starts none all.
-    let read : Reading = reading_exists.0 in
-    ap (λ (v : View). v.session.table) (plays.left read reading_exists.1 all)
-    ∙ ap (λ (v : View). (left_by read cues v).session.table) starts
-    ∙ lookers_leave_the_map read table accounts here peer cues none
+-- each call
+call_looks : (table : Table) (cue : Cue) (gift : Gift) (old new : Server) → Makes cue gift old new → OnlyLooks table old.view → OnlyLooks table new.view
+call_looks table (Clock moment) gift old new makes k = (far_leaves_the_map table old new k).clock moment makes.1
+call_looks table (Hear octets) gift old new makes k = (far_leaves_the_map table old new k).hear (take makes.0 octets) makes.2.took
+call_looks table (ControlOut room) gift old new makes k = (far_leaves_the_map table old new k).control_out (most_given room old.view.owed) makes.1
+call_looks table ControlEnd gift old new makes k = (far_leaves_the_map table old new k).control_ended makes.1
+call_looks table (Listening port) gift old new makes k = (far_leaves_the_map table old new k).listens port makes.1
+call_looks table ListenRefused gift old new makes k = (far_leaves_the_map table old new k).no_port makes.1
+call_looks table (DataOpened host) gift old new makes k = (far_leaves_the_map table old new k).opened host makes.1
+call_looks table DataRefused gift old new makes k = (far_leaves_the_map table old new k).refused makes.1
+call_looks table (DataHear octets) gift old new makes k = (far_leaves_the_map table old new k).received (take makes.0 octets) makes.2.took
+call_looks table (DataOut room) gift old new makes k = (far_leaves_the_map table old new k).gave makes.0 makes.2.now
+call_looks table DataEnd gift old new makes k = (far_leaves_the_map table old new k).ended makes.1
+call_looks table DataFault gift old new makes k = (far_leaves_the_map table old new k).broke makes.1
+call_looks table DataClosed gift old new makes k = (far_leaves_the_map table old new k).closed makes.1
+call_looks table AsksWants gift old new makes k = subst (λ (s : Server). OnlyLooks table s.view) (sym makes.1) k
+
+-- calls in order
+made_looks : (table : Table) (cues : List Cue) (gifts : List Gift) (old new : Server) → AreMade cues gifts old new → OnlyLooks table old.view
+    → OnlyLooks table new.view
+made_looks table [] [] old new made k = subst (λ (s : Server). OnlyLooks table s.view) (sym made) k
+made_looks table [] (gift ∷ gifts) old new made k = absurd made
+made_looks table (cue ∷ cues) [] old new made k = absurd made
+made_looks table (cue ∷ cues) (gift ∷ gifts) old new made k = made_looks table cues gifts made.0 new made.2 (call_looks table cue gift old made.0 made.1 k)
+
+-- the same, as `play` tells of them
+played_looks : (table : Table) (calm : ℕ) (cues : List Cue) (gifts : List Gift) (old new : Server) → ArePlayed calm cues gifts old new
+    → OnlyLooks table old.view → OnlyLooks table new.view
+played_looks table zero [] [] old new made k = subst (λ (s : Server). OnlyLooks table s.view) (sym made) k
+played_looks table zero [] (gift ∷ gifts) old new made k = absurd made
+played_looks table zero (cue ∷ cues) [] old new made k = absurd made
+played_looks table zero (cue ∷ cues) (gift ∷ gifts) old new made k =
+    made_looks table cues gifts made.0 new made.3 (call_looks table cue gift old made.0 made.1 k)
+played_looks table (suc calm) [] gifts old new made k = absurd made
+played_looks table (suc calm) (cue ∷ cues) [] old new made k = absurd made
+played_looks table (suc calm) (cue ∷ cues) (gift ∷ gifts) old new made k =
+    played_looks table calm cues gifts made.0 new made.3 (call_looks table cue gift old made.0 made.1 k)
+
+-- so the map stays
+pub keeps_the_map : (calm : ℕ) (cues : List Cue) (gifts : List Gift) (old new : Server) → ArePlayed calm cues gifts old new → KeepsTheMap old new
+keeps_the_map calm cues gifts old new made = record {
+  began = λ table accounts here peer starts none.
+      (played_looks table calm cues gifts old new made (subst (OnlyLooks table) (sym starts) (starts_look table accounts here peer none))).session.same;
+  stays = λ table. played_looks table calm cues gifts old new made;
+}
+
+-- where memory was refused before one of them
+pub some_keep : (cues : List Cue) (old new : Server) → PlaysSome cues old new → KeepsTheMap old new
+some_keep cues old new some = keeps_the_map some.calm (take some.count cues) some.gifts old new some.made

@@ -10,7 +10,7 @@ use Rattle.ftp_server_model.specs.Machine.{IsReading, Reading}
 use Rattle.ftp_server_model.specs.Play.{Cue, Gift, LogsInAt, call, gives_at, left_by, played}
 use Rattle.ftp_server_model.specs.View.{Accounts}
 use Rattle.ftp_server_laws.specs.Apart.{LeavesOthers}
-use Rattle.ftp_server_laws.specs.Lookers.{MayOnlyLook}
+use Rattle.ftp_server_laws.specs.Lookers.{MayOnlyLook, OnlyLooks}
 use Rattle.ftp_server_play.specs.Making.{ArePlayed}
 
 -- one call gives this, where neither count moved
@@ -42,8 +42,10 @@ KeepsApart calm cues gifts old new =
     → (take calm gifts ≡ gives_at read root (take calm cues) old.view)
     × (calm ≡ length cues → LeavesOthers root old.view.session.table new.view.session.table)
 
--- of a server as it began: where no account has a right to change and nothing failed in any of the calls, the map stayed
-abbrev pub KeepsTheMap : (calm : ℕ) → List Cue → (old new : Server) → Type 0
-KeepsTheMap calm cues old new =
-    (table : Table) (accounts : Accounts) (here peer : Host) → old.view ≡ start table accounts here peer → MayOnlyLook accounts → calm ≡ length cues
-    → new.view.session.table ≡ table
+-- whatever failed in the calls: who may only look left the map as it was, of a server as it began, and of one on which nobody may change
+-- anything, which is one still
+pub record KeepsTheMap (old new : Server) : Type 0 where
+  pub began :
+      (table : Table) (accounts : Accounts) (here peer : Host) → old.view ≡ start table accounts here peer → MayOnlyLook accounts
+      → new.view.session.table ≡ table
+  pub stays : (table : Table) → OnlyLooks table old.view → OnlyLooks table new.view

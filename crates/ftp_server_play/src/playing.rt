@@ -24,9 +24,10 @@ pub trait Plays<A: Allocator + Copy, T: Tree<A>>: Far<A, T> {
         // Where each login that succeeds is to one root, they keep the rest of the map apart.
         ensures apart { IfOk result (λ played. KeepsApart played.calm (cues_of cues.now) (gifts_of played.gifts.items) (Self.server self.old) (Self.server self.new)) }
 
-        // Where no account has a right to change, they leave the map as it was.
-        ensures looks { IfOk result (λ played. KeepsTheMap played.calm (cues_of cues.now) (Self.server self.old) (Self.server self.new)) }
-        ensures begun { OnErr result (PlaysSome (cues_of cues.now) (Self.server self.old) (Self.server self.new)) };
+        ensures begun { OnErr result (PlaysSome (cues_of cues.now) (Self.server self.old) (Self.server self.new)) }
+
+        // Where no account has a right to change, they leave the map as it was, whatever failed in them or before one of them.
+        ensures looks { KeepsTheMap (Self.server self.old) (Self.server self.new) };
 }
 
 impl<A: Allocator + Copy, T: Tree<A>, S: Far<A, T>> Plays<A, T> for S {
@@ -44,6 +45,7 @@ fn play_all<A: Allocator + Copy, T: Tree<A>, S: Far<A, T>>(
 ) -> Result<Played<A>, AllocError>
     ensures made { IfOk result (λ played. ArePlayed played.calm (cues_of cues.now) (gifts_of played.gifts.items) (S.server server.old) (S.server server.new)) }
     ensures begun { OnErr result (PlaysSome (cues_of cues.now) (S.server server.old) (S.server server.new)) }
+    ensures looks { KeepsTheMap (S.server server.old) (S.server server.new) }
 {
     let mut gifts = Vec::new(alloc);
     let mut calm = 0;

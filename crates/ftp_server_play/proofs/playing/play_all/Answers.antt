@@ -1,6 +1,6 @@
-use Rattle.std.proofs.Common.{◌≡◌, ◌∙◌, [], arith, length, refl, rules, sym}
-use Rattle.ftp_server_play.proofs.PlayLemmas.{long_more, none_made, one_more, some_made}
-use Rattle.ftp_server_play.specs.Cues.{gifts_of}
+use Rattle.std.proofs.Common.{◌≡◌, ◌∙◌, [], arith, length, refl, rules, sym, take}
+use Rattle.ftp_server_play.proofs.PlayLemmas.{keeps_the_map, long_more, none_made, one_more, some_keep, some_made}
+use Rattle.ftp_server_play.specs.Cues.{cues_of, gifts_of}
 use Rattle.ftp_server_play.proofs.playing.play_all.Goals as goal
 
 pub loop-cue-init : goal.loop-cue-init
@@ -27,3 +27,16 @@ returns-in_default-clause-begun g c =
     let server = g.S.Far.server in
     some_made c.args.cues.now c.loop-cue.cue-index c.loop-cue.calm (gifts_of c.loop-cue.gifts.items) (server c.args.server.now) (server c.loop-cue.server)
     (server c.play_one.new.server) (omega (arith, c.loop-cue-test.true)) c.loop-cue.invariant.made c.in_default.ensures.back
+
+pub returns-in_default-clause-looks : goal.returns-in_default-clause-looks
+returns-in_default-clause-looks g c =
+    let server = g.S.Far.server in
+    some_keep (cues_of c.args.cues.now) (server c.args.server.now) (server c.play_one.new.server)
+    (some_made c.args.cues.now c.loop-cue.cue-index c.loop-cue.calm (gifts_of c.loop-cue.gifts.items) (server c.args.server.now) (server c.loop-cue.server)
+    (server c.play_one.new.server) (omega (arith, c.loop-cue-test.true)) c.loop-cue.invariant.made c.in_default.ensures.back)
+
+pub returns-clause-looks : goal.returns-clause-looks
+returns-clause-looks g c =
+    let server = g.S.Far.server in
+    keeps_the_map c.loop-cue.calm (cues_of (take c.loop-cue.cue-index c.args.cues.now)) (gifts_of c.loop-cue.gifts.items) (server c.args.server.now)
+    (server c.loop-cue.server) c.loop-cue.invariant.made

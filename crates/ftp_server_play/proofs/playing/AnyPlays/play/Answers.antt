@@ -1,4 +1,4 @@
-use Rattle.ftp_server_play.proofs.PlayLemmas.{keeps_apart, keeps_the_map, plays_as}
+use Rattle.ftp_server_play.proofs.PlayLemmas.{keeps_apart, plays_as}
 use Rattle.ftp_server_play.specs.Cues.{cues_of, gifts_of}
 use Rattle.ftp_server_play.proofs.playing.AnyPlays.play.Goals as goal
 
@@ -12,11 +12,4 @@ returns-clause-apart g c =
     let server = g.S.Far.server in let played = c.in_ok-played.played in
     let old = server c.args.self.now in let new = server c.play_all.new.server in
     keeps_apart played.calm (cues_of c.args.cues.now) (gifts_of played.gifts.items) old new
-    (plays_as played.calm (cues_of c.args.cues.now) (gifts_of played.gifts.items) old new c.in_ok-played.ensures.made)
-
-pub returns-clause-looks : goal.returns-clause-looks
-returns-clause-looks g c =
-    let server = g.S.Far.server in let played = c.in_ok-played.played in
-    let old = server c.args.self.now in let new = server c.play_all.new.server in
-    keeps_the_map played.calm (cues_of c.args.cues.now) (gifts_of played.gifts.items) old new
     (plays_as played.calm (cues_of c.args.cues.now) (gifts_of played.gifts.items) old new c.in_ok-played.ensures.made)
