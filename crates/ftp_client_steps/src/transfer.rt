@@ -53,12 +53,13 @@ pub trait ClientTransfer<A: Allocator + Copy>: Drop {
         ensures down { OnErr result (IsTrue (is_down (flow op.now self))) };
 
     /// Takes octets of a download, and says how many: all, or up to one behind which a Peek has enough. `Err` says behind how many of them
-    /// memory was refused; it is of no use any more then.
+    /// memory was refused; it is of no use any more then. Only a download takes memory.
     fn hear(&mut self, op: &Op<Text<A>>, piece: &[u8]) -> Result<usize, usize>
         ensures heard { IfOk result (λ count. flow op.now self.new ≡ heard_all (flow op.now self.old) (take count piece.now)) }
         ensures within { IfOk result (λ count. (count ≤ length piece.now) × NotYet op.now (flow op.now self.old) (take count piece.now)) }
         ensures some { IfOk result (λ count. 0 < length piece.now → 0 < count) }
-        ensures refused { IfErr result (λ count. count < length piece.now) };
+        ensures refused { IfErr result (λ count. count < length piece.now) }
+        ensures down { OnErr result (IsTrue (is_down (flow op.now self.old))) };
 
     /// Gives octets of an upload, and says how many.
     fn give(&mut self, op: &Op<Text<A>>, room: &mut [u8]) -> usize
