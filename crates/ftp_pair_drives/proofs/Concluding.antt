@@ -1,0 +1,72 @@
+-- What follows of a world that is alike both drives: agreement, and the direct run.
+use Rattle.std.proofs.Common.{◌≡◌, ℕ, List, [], ◌∷◌, ◌++◌, Option, None, option_to_list, refl, ap, subst, ◌∙◌, append-nil}
+use Rattle.ftp_control.specs.Deeds.{Deed, Other}
+use Rattle.ftp_control.specs.Machine.{Aside}
+use Rattle.ftp_client_drive.specs.Side.{Starting, client_side}
+use Rattle.ftp_client_model.specs.Calls.{report_of}
+use Rattle.ftp_operation.specs.Answer.{Said}
+use Rattle.ftp_server_drive.specs.Side.{Timed, ended}
+use Rattle.ftp_server_model.specs.Calls.{control_end}
+use Rattle.ftp_server_model.specs.Machine.{ReadingExists}
+use Rattle.ftp_server_model.specs.View.{View as Far}
+use Rattle.ftp_tree.specs.Tree.{Table}
+use Rattle.ftp_pair_world.specs.Agreement.{Agrees, AreSingle, Order, Single, Tries, WorldAgrees}
+use Rattle.ftp_pair_world.specs.Claims.{AgreesAlways, state_of}
+use Rattle.ftp_pair_world.proofs.AgreementLemmas.{unmarked_is_direct}
+use Rattle.ftp_pair_drives.specs.Alone.{begun_by, begun_in, reports_in}
+use Rattle.ftp_pair_drives.specs.Between.{client_deeds}
+use Rattle.ftp_pair_drives.specs.Claims.{DrivesAgree, DrivesAreTheDirectRun, EndsKeepTheMap}
+use Rattle.ftp_pair_drives.proofs.Simulating.{drives_are_of_worlds}
+use Rattle.ftp_pair_drives.proofs.Taken.{free_none}
+
+pub drives_agree_by : AgreesAlways → ReadingExists → DrivesAgree
+drives_agree_by always reading b fair moment timed turns between server client did =
+    let of_world = drives_are_of_worlds reading.0 reading.1 b moment timed turns between server client did in
+    let w = of_world.world in
+    let alike = of_world.alike in
+    let begun : List Order = begun_in moment (client_deeds turns) in
+    let agree : WorldAgrees (state_of b) begun w = always reading.0 reading.1 b fair of_world.events begun w of_world.timed of_world.leads in
+    let said : List Said = reports_in (client_deeds turns) ++ option_to_list (report_of client.owner.end.view) in
+    let table = ap (λ (f : Far). f.session.table) alike.far in (
+      w.marks,
+      alike.marks,
+      subst (λ (t : Table). Agrees (state_of b) begun w.marks None said t) table
+          (subst (λ (r : List Said). Agrees (state_of b) begun w.marks None r w.far.session.table) alike.reported
+          (subst (λ (c : Option ℕ). Agrees (state_of b) begun w.marks c w.reports w.far.session.table) alike.cutoff agree)),
+    )
+
+-- no deed begins an upload over breaks as an order of its own
+by_single : (moment : ℕ) (deed : Deed client_side) → AreSingle (begun_by moment deed)
+by_single moment (Other (Aside (Starting op))) = tt
+by_single moment deed = tt
+
+both_single : (front given : List Order) → AreSingle front → AreSingle given → AreSingle (front ++ given)
+both_single [] given one other = other
+both_single (Single op moment ∷ front) given one other = both_single front given one other
+both_single (Tries upload moment ∷ front) given one other = absurd one
+
+in_single : (moment : ℕ) (deeds : List (Deed client_side)) → AreSingle (begun_in moment deeds)
+in_single moment [] = tt
+in_single moment (deed ∷ before) = both_single (begun_in moment before) (begun_by moment deed) (in_single moment before) (by_single moment deed)
+
+pub drives_are_the_direct_run_by : AgreesAlways → ReadingExists → DrivesAreTheDirectRun
+drives_are_the_direct_run_by always reading b fair moment timed turns between server client did free told =
+    let agree = drives_agree_by always reading b fair moment timed turns between server client did in
+    let reports : List Said = reports_in (client_deeds turns) in
+    let none : reports ++ option_to_list (report_of client.owner.end.view) ≡ reports =
+    ap (λ o. reports ++ option_to_list o) (free_none client.owner.end.view free) ∙ append-nil reports in
+    let begun : List Order = begun_in moment (client_deeds turns) in
+    unmarked_is_direct (state_of b) begun agree.0 reports server.owner.end.server.view.session.table (in_single moment (client_deeds turns)) agree.1 told
+    (subst (λ (r : List Said). Agrees (state_of b) begun agree.0 None r server.owner.end.server.view.session.table) none agree.2)
+
+-- ---- the end of a server
+
+cut_keeps : (at : Timed) → (ended at).server.view.session.table ≡ at.server.view.session.table
+unfolding control_end
+cut_keeps at = refl
+
+pub ends_keep_the_map : EndsKeepTheMap
+ends_keep_the_map asked old new led =
+    let table : Timed → Table = λ at. at.server.view.session.table in
+    let cut = led.1.2 in
+    ap table led.2.0.0 ∙ ap table cut.cut.0 ∙ cut_keeps led.1.0.owner.end ∙ ap (λ s. table s.owner.end) led.1.1

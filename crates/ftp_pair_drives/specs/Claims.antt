@@ -1,0 +1,78 @@
+-- What is claimed of two drives by their deeds, in any order in which each can happen, where no data connection was wanted: a list of the
+-- world's events leads from the beginning to what both ends hold; so there is agreement, and the direct run.
+use Rattle.std.specs.Prelude.{◌≡◌, ℕ, ◌≤◌, false, List, [], ◌∷◌, ◌++◌, length, None, option_to_list}
+use Rattle.ftp_control.specs.Asking.{Asked}
+use Rattle.ftp_control.specs.Deeds.{Ended, Led, Other, Stand}
+use Rattle.ftp_control.specs.Machine.{Left}
+use Rattle.ftp_client_drive.specs.Side.{client_side}
+use Rattle.ftp_client_model.specs.Calls.{is_busy, report_of}
+use Rattle.ftp_client_model.specs.View.{client as client_view}
+use Rattle.ftp_pair_drives.specs.Alike.{IsAlike}
+use Rattle.ftp_pair_drives.specs.Alone.{AsksAlone, ServesAlone, begun_in, reports_in}
+use Rattle.ftp_pair_drives.specs.Between.{Between, Happened, Turn, client_deeds, server_deeds}
+use Rattle.ftp_pair_world.specs.Agreement.{Agrees, Leads}
+use Rattle.ftp_pair_world.specs.Claims.{AreAnswers, AreTimed, AreUnmarked, Beginning, IsFair, state_of, world_of}
+use Rattle.ftp_pair_world.specs.Events.{Event}
+use Rattle.ftp_pair_world.specs.World.{Mark, World}
+use Rattle.ftp_server_drive.specs.Side.{server_side}
+use Rattle.ftp_server_model.specs.Calls.{start as server_view}
+use Rattle.ftp_server_model.specs.Machine.{IsReading, Reading}
+use Rattle.ftp_tree.specs.Sound.{last_second}
+
+-- both ends as a session begins, of whose control connection nothing was read
+pub record Begins (b : Beginning) (server : Stand server_side) (client : Stand client_side) : Type 0 where
+  pub server_view : server.owner.end.server.view ≡ server_view b.table b.accounts b.far_host b.near_host
+  pub server_unheard : server.unheard ≡ []
+  pub client_view : client.owner.end.view ≡ client_view b.user b.pass b.near_host b.far_host
+  pub client_unheard : client.unheard ≡ []
+
+-- one server's drive and drives of one client did these deeds in this order, each when it could be done, over control alone
+pub record Did (b : Beginning) (turns : List Turn) (between : Between) (server : Stand server_side) (client : Stand client_side) : Type 0 where
+  pub server_start : Stand server_side
+  pub client_start : Stand client_side
+  pub begins : Begins b server_start client_start
+  pub happened : Happened turns between
+  pub server_led : Led (server_deeds turns) server_start server
+  pub client_led : Led (client_deeds turns) client_start client
+  pub serves : ServesAlone (server_deeds turns) server_start server server_led
+  pub asks : AsksAlone (client_deeds turns) client_start client client_led
+
+-- events of a world lead from the beginning to what both ends hold, and began the same operations
+pub record IsOfWorld (read : Reading) (b : Beginning) (moment : ℕ) (turns : List Turn) (between : Between) (server : Stand server_side)
+    (client : Stand client_side) : Type 0 where
+  pub events : List Event
+  pub timed : AreTimed events
+  pub world : World
+  pub leads : Leads read (world_of b) events (begun_in moment (client_deeds turns)) world
+  pub alike : IsAlike between.control server client (reports_in (client_deeds turns)) world
+
+-- so it is of any such deeds, at any moment
+abbrev pub DrivesAreOfWorlds : Type 0
+DrivesAreOfWorlds =
+    (read : Reading) → IsReading read → (b : Beginning) (moment : ℕ) → moment ≤ last_second
+    → (turns : List Turn) (between : Between) (server : Stand server_side) (client : Stand client_side)
+    → Did b turns between server client → IsOfWorld read b moment turns between server client
+
+-- so reports and map agree with what was begun, a report that was not taken yet among them
+abbrev pub DrivesAgree : Type 0
+DrivesAgree =
+    (b : Beginning) → IsFair b → (moment : ℕ) → moment ≤ last_second
+    → (turns : List Turn) (between : Between) (server : Stand server_side) (client : Stand client_side)
+    → Did b turns between server client → (marks : List (List Mark)) × AreUnmarked marks
+    × Agrees (state_of b) (begun_in moment (client_deeds turns)) marks None
+    (reports_in (client_deeds turns) ++ option_to_list (report_of client.owner.end.view)) server.owner.end.server.view.session.table
+
+-- where each operation has its report, they are those of the operations run directly
+abbrev pub DrivesAreTheDirectRun : Type 0
+DrivesAreTheDirectRun =
+    (b : Beginning) → IsFair b → (moment : ℕ) → moment ≤ last_second
+    → (turns : List Turn) (between : Between) (server : Stand server_side) (client : Stand client_side)
+    → Did b turns between server client → is_busy client.owner.end.view ≡ false
+    → length (reports_in (client_deeds turns)) ≡ length (begun_in moment (client_deeds turns))
+    → AreAnswers (state_of b) (begun_in moment (client_deeds turns)) (reports_in (client_deeds turns)) server.owner.end.server.view.session.table
+
+-- a server that is told that the control connection ended, and whose data connection is left, keeps the map
+abbrev pub EndsKeepTheMap : Type 0
+EndsKeepTheMap =
+    (asked : Asked) (old new : Stand server_side) → Led (Other (Left asked) ∷ Ended ∷ []) old new
+    → new.owner.end.server.view.session.table ≡ old.owner.end.server.view.session.table

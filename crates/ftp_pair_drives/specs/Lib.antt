@@ -1,0 +1,5 @@
+pub mod Touches
+pub mod Between
+pub mod Alone
+pub mod Alike
+pub mod Claims
