@@ -47,6 +47,7 @@ module _ (read : Reading) (server : Stand server_side) (old new : Stand client_s
     to_server = alike.to_server ∙ ap (λ q. server.unheard ++ q) (sym other);
     to_client = alike.to_client ∙ queue;
     reported = alike.reported ∙ ap (λ l. reports ++ l) said ∙ sym (append_assoc reports more (option_to_list (near.report_of new.owner.end.view)));
+    control = alike.control;
     link = alike.link;
     marks = alike.marks;
     cutoff = alike.cutoff;
@@ -79,6 +80,7 @@ module _ (read : Reading) (server : Stand server_side) (old new : Stand client_s
           to_client = alike.to_client ∙ ap (λ u. u ++ ways.to_client) (sym says.unheard);
           reported = alike.reported ∙ ap (λ (u : Near). reports ++ option_to_list (near.report_of u)) (sym is)
               ∙ ap (λ r. r ++ option_to_list (near.report_of new.owner.end.view)) (sym (append-nil reports));
+          control = alike.control;
           link = alike.link;
           marks = alike.marks;
           cutoff = alike.cutoff;
@@ -125,6 +127,7 @@ module _ (read : Reading) (server : Stand server_side) (old new : Stand client_s
               ∙ append_assoc reports (option_to_list (near.report_of v)) (option_to_list (near.report_of (near.hears (taken v) all)))
               ∙ ap (λ l. reports ++ l) same.report ∙ ap (λ (u : Near). reports ++ option_to_list (near.report_of u)) (sym is)
               ∙ ap (λ r. r ++ option_to_list (near.report_of new.owner.end.view)) (sym (append-nil reports));
+          control = alike.control;
           link = alike.link;
           marks = alike.marks;
           cutoff = alike.cutoff;
@@ -164,6 +167,7 @@ module _ (read : Reading) (server : Stand server_side) (old new : Stand client_s
           to_server = alike.to_server;
           to_client = alike.to_client ∙ ap (λ (s : Stand client_side). s.unheard ++ ways.to_client) (sym did.1);
           reported = ap₂ (λ r n. r ++ option_to_list (near.report_of n)) (alike.reported ∙ ap (λ o. reports ++ option_to_list o) (free_none v free)) begun;
+          control = alike.control;
           link = alike.link;
           marks = more_unmarked w.marks alike.marks;
           cutoff = alike.cutoff;

@@ -1,23 +1,27 @@
 -- What follows of a world that is alike both drives: agreement, and the direct run.
-use Rattle.std.proofs.Common.{◌≡◌, ℕ, List, [], ◌∷◌, ◌++◌, Option, None, option_to_list, refl, ap, subst, ◌∙◌, append-nil}
+use Rattle.std.proofs.Common.{◌≡◌, ℕ, List, [], ◌∷◌, ◌++◌, length, Option, Some, None, option_to_list, refl, ap, ap₂, subst, ◌∙◌, append_assoc, append-nil}
 use Rattle.ftp_control.specs.Deeds.{Deed, Other}
 use Rattle.ftp_control.specs.Machine.{Aside}
 use Rattle.ftp_client_drive.specs.Side.{Starting, client_side}
-use Rattle.ftp_client_model.specs.Calls.{report_of}
+use Rattle.ftp_client_model.specs.Calls.{control_end, report_of}
 use Rattle.ftp_operation.specs.Answer.{Said}
 use Rattle.ftp_server_drive.specs.Side.{Timed, ended}
-use Rattle.ftp_server_model.specs.Calls.{control_end}
+use Rattle.ftp_server_model.specs.Calls as far
 use Rattle.ftp_server_model.specs.Machine.{ReadingExists}
 use Rattle.ftp_server_model.specs.View.{View as Far}
 use Rattle.ftp_tree.specs.Tree.{Table}
 use Rattle.ftp_pair_world.specs.Agreement.{Agrees, AreSingle, Order, Single, Tries, WorldAgrees}
-use Rattle.ftp_pair_world.specs.Claims.{AgreesAlways, state_of}
+use Rattle.ftp_pair_world.specs.Claims.{AgreesAlways, state_of, world_of}
+use Rattle.ftp_pair_world.specs.Events.{is_parted}
+use Rattle.ftp_pair_world.specs.World.{Mark}
 use Rattle.ftp_pair_world.proofs.AgreementLemmas.{unmarked_is_direct}
 use Rattle.ftp_pair_drives.specs.Alone.{begun_by, begun_in, reports_in}
 use Rattle.ftp_pair_drives.specs.Between.{client_deeds}
-use Rattle.ftp_pair_drives.specs.Claims.{DrivesAgree, DrivesAreTheDirectRun, EndsKeepTheMap}
+use Rattle.ftp_pair_drives.specs.Claims.{DrivesAgree, DrivesAreTheDirectRun, EndsKeepTheMap, PartingAgrees}
 use Rattle.ftp_pair_drives.proofs.Simulating.{drives_are_of_worlds}
-use Rattle.ftp_pair_drives.proofs.Taken.{free_none}
+use Rattle.ftp_pair_drives.proofs.Parting.{parts}
+use Rattle.ftp_pair_drives.proofs.Taken.{cut_alike, free_none, reports_is, taken}
+use Rattle.ftp_pair_drives.proofs.Worlds.{LeadsOn, leads_then}
 
 pub drives_agree_by : AgreesAlways → ReadingExists → DrivesAgree
 drives_agree_by always reading b fair moment timed turns between server client did =
@@ -62,7 +66,7 @@ drives_are_the_direct_run_by always reading b fair moment timed turns between se
 -- ---- the end of a server
 
 cut_keeps : (at : Timed) → (ended at).server.view.session.table ≡ at.server.view.session.table
-unfolding control_end
+unfolding far.control_end
 cut_keeps at = refl
 
 pub ends_keep_the_map : EndsKeepTheMap
@@ -70,3 +74,30 @@ ends_keep_the_map asked old new led =
     let table : Timed → Table = λ at. at.server.view.session.table in
     let cut = led.1.2 in
     ap table led.2.0.0 ∙ ap table cut.cut.0 ∙ cut_keeps led.1.0.owner.end ∙ ap (λ s. table s.owner.end) led.1.1
+
+-- ---- where the control connection ends
+
+pub parting_agrees_by : AgreesAlways → ReadingExists → PartingAgrees
+parting_agrees_by always reading b fair moment timed turns between server client did =
+    let o = drives_are_of_worlds reading.0 reading.1 b moment timed turns between server client did in
+    let w = o.world in
+    let alike = o.alike in
+    let v = client.owner.end.view in
+    let begun : List Order = begun_in moment (client_deeds turns) in
+    let reports : List Said = reports_in (client_deeds turns) in
+    let p = parts reading.0 w alike.link (ap is_parted alike.control) in
+    let to_there : LeadsOn reading.0 begun (world_of b) w = record { events = o.events; timed = o.timed; leads = o.leads } in
+    let all = subst (λ (l : List Order). LeadsOn reading.0 l (world_of b) p.new) (append-nil begun)
+    (leads_then reading.0 begun [] (world_of b) w p.new to_there p.leads) in
+    let agree : WorldAgrees (state_of b) begun p.new = always reading.0 reading.1 b fair all.events begun p.new all.timed all.leads in
+    let told : p.new.reports ≡ reports ++ option_to_list (report_of (control_end v)) =
+    p.reports ∙ ap₂ (λ r n. r ++ option_to_list (report_of (control_end n))) alike.reported (alike.near ∙ reports_is v)
+    ∙ append_assoc reports (option_to_list (report_of v)) (option_to_list (report_of (control_end (taken v)))) ∙ ap (λ l. reports ++ l) (cut_alike v) in
+    let table = p.table ∙ ap (λ (f : Far). f.session.table) alike.far in (
+      w.marks,
+      alike.marks,
+      subst (λ (t : Table). Agrees (state_of b) begun w.marks (Some (length w.marks)) (reports ++ option_to_list (report_of (control_end v))) t) table
+          (subst (λ (r : List Said). Agrees (state_of b) begun w.marks (Some (length w.marks)) r p.new.far.session.table) told
+          (subst (λ (c : Option ℕ). Agrees (state_of b) begun w.marks c p.new.reports p.new.far.session.table) p.cutoff
+          (subst (λ (m : List (List Mark)). Agrees (state_of b) begun m p.new.cutoff p.new.reports p.new.far.session.table) p.marks agree))),
+    )

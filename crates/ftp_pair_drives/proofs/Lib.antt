@@ -6,3 +6,7 @@ pub mod ServerSteps
 pub mod ClientSteps
 pub mod Simulating
 pub mod Concluding
+pub mod Parting
+pub mod Ending
+pub mod Losing
+pub mod Theorems

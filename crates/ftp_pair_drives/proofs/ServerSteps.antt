@@ -88,6 +88,7 @@ module _ (read : Reading) (reads : IsReading read) where
       to_server = alike.to_server ∙ queue;
       to_client = alike.to_client ∙ ap (λ q. client.unheard ++ q) (sym other);
       reported = alike.reported;
+      control = alike.control;
       link = alike.link;
       marks = alike.marks;
       cutoff = alike.cutoff;
@@ -113,6 +114,7 @@ module _ (read : Reading) (reads : IsReading read) where
             to_server = alike.to_server ∙ ap (λ u. u ++ ways.to_server) (sym says.unheard);
             to_client = ap (λ q. q ++ octets) alike.to_client ∙ append_assoc client.unheard ways.to_client octets;
             reported = alike.reported;
+            control = alike.control;
             link = alike.link;
             marks = alike.marks;
             cutoff = alike.cutoff;
@@ -154,6 +156,7 @@ module _ (read : Reading) (reads : IsReading read) where
             to_server = refl;
             to_client = alike.to_client;
             reported = alike.reported;
+            control = alike.control;
             link = alike.link;
             marks = alike.marks;
             cutoff = alike.cutoff;

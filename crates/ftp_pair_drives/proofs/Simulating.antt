@@ -22,7 +22,7 @@ use Rattle.ftp_pair_drives.proofs.ClientSteps.{client_begins, client_closed, cli
 use Rattle.ftp_pair_drives.proofs.ServerSteps.{Goes, server_aside, server_heard, server_read, server_said}
 use Rattle.ftp_pair_drives.proofs.Worlds.{LeadsOn, leads_none, leads_then}
 
--- what holds of the end behind deeds
+-- what holds of the end after deeds
 ends_so : {side : Side} (Is : Deed side → Type 0) (Keeps : (old new : side.End) → Type 0) (Stands : side.End → Type 0)
     → (deeds : List (Deed side)) (start now : Stand side) (led : Led deeds start now) → Throughout Is Keeps Stands deeds start now led → Stands now.owner
 ends_so Is Keeps Stands [] start now led held = held
@@ -82,7 +82,7 @@ module _ (read : Reading) (reads : IsReading read) (moment : ℕ) (timed : momen
   client_goes deed is server old new reports w calm serves before after did a b can alike = absurd is
 
   module _ (b : Beginning) where
-    -- behind deeds, a world is alike both drives
+    -- after deeds, a world is alike both drives
     abbrev Reached : List Turn → Between → Stand server_side → Stand client_side → Type 0
     Reached turns between server client =
         (w : World) × LeadsOn read (begun_in moment (client_deeds turns)) (world_of b) w
@@ -98,6 +98,7 @@ module _ (read : Reading) (reads : IsReading read) (moment : ℕ) (timed : momen
       to_server = ap (λ u. u ++ []) (sym begins.server_unheard);
       to_client = ap (λ u. u ++ []) (sym begins.client_unheard);
       reported = ap (λ v. option_to_list (near.report_of v)) (sym begins.client_view);
+      control = refl;
       link = refl;
       marks = tt;
       cutoff = refl;

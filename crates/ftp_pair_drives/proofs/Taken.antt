@@ -10,7 +10,7 @@ use Rattle.ftp_operation.specs.Answer.{Said}
 use Rattle.ftp_reply.specs.Lines.{Text}
 use Rattle.ftp_reply.specs.Reader.{Between, GoesOn, Says, Faulty, Heard, line_heard}
 use Rattle.ftp_command.specs.declared.command.Command.TheVariants as Commands
-use Rattle.ftp_client_model.specs.Calls.{event_taken, events_taken, hears, hears_octet, is_busy, is_busy_job, is_sound, line_taken, link_wants, may_hear, report_of, report_of_job, reports, wants}
+use Rattle.ftp_client_model.specs.Calls.{control_end, event_taken, events_taken, hears, hears_octet, is_busy, is_busy_job, is_sound, line_taken, link_wants, may_hear, report_of, report_of_job, reports, wants}
 use Rattle.ftp_client_model.specs.Dialogue.{answered, greeted, judged_reply, login_ends, pass_answered, sends, stand_answered, user_answered}
 use Rattle.ftp_client_model.specs.Replies.{Verdict, Preliminary, Completion, Intermediate, Negative, Closing, Displaced, verdict_of}
 use Rattle.ftp_client_model.specs.View.{Idle, Job, Told, View, dropped, fails, fails_by, silent, strange}
@@ -142,9 +142,9 @@ module _ (answer : Said) where
   hears_goes [] v = record { both = v; told_is = refl; idle_is = refl }
   hears_goes (octet ∷ octets) v = goes_then (λ u. hears_octet u octet) (λ u. hears u octets) v (octet_goes octet v) (hears_goes octets)
 
--- ---- octets that are heard behind a report
+-- ---- octets that are heard after a report
 
--- what comes of them, whether it was taken before them or is taken behind them
+-- what comes of them, whether it was taken before them or is taken after them
 pub record HearsAlike (octets : List ℕ) (v : View) : Type 0 where
   pub may : may_hear (hears (taken v) octets) ≡ may_hear (hears v octets)
   pub view : taken (hears (taken v) octets) ≡ taken (hears v octets)
@@ -204,3 +204,21 @@ none_closing v e = by v.closing e
         ≡ Want.Nothing → closing ≡ false
     by true e = absurd (true≢false (ap is_close e))
     by false e = refl
+
+-- ---- the end of the control connection, after a report
+
+-- what comes of it, whether the report was taken before it or is taken after it
+pub cut_alike : (v : View)
+    → option_to_list (report_of v) ++ option_to_list (report_of (control_end (taken v))) ≡ option_to_list (report_of (control_end v))
+unfolding control_end
+cut_alike v = by_job v.job
+  where
+    Alike : View → Type 0
+    Alike u = option_to_list (report_of u) ++ option_to_list (report_of (fails Failures.Lost (taken u))) ≡ option_to_list (report_of (fails Failures.Lost u))
+
+    by_told : (answer : Said) → Goes answer (fails Failures.Lost) v → Alike (record v { job = Told answer })
+    by_told answer goes = ap (λ u. answer ∷ option_to_list (report_of u)) goes.idle_is ∙ sym (ap (λ u. option_to_list (report_of u)) goes.told_is)
+
+    by_job : (job : Job) → Alike (record v { job = job })
+    by_job (Told answer) = by_told answer (fails_goes answer Failures.Lost v)
+    by_job job = refl

@@ -25,7 +25,7 @@ use Rattle.ftp_pair_world.specs.World.{Gone, World}
 use Rattle.ftp_pair_drives.proofs.Moments.{IsStill}
 use Rattle.ftp_pair_drives.proofs.Taken.{idle_of, taken}
 
--- ---- what is done behind an event
+-- ---- what is done after an event
 
 -- a world both of whose ends want nothing stays as it is
 served_is : (w : World) → near.wants w.near ≡ Want.Nothing → far.wants w.far ≡ Want.Nothing → served w ≡ w
@@ -36,7 +36,7 @@ served_is w none none_too =
     ∙ ap (λ u. far_served (far_served (far_served u))) n ∙ ap (λ u. far_served (far_served u)) f ∙ ap far_served f ∙ f
 
 -- but for its report, which is taken
-collected_is : (w : World) → collected w ≡ record w { near = taken w.near; reports = w.reports ++ option_to_list (near.report_of w.near) }
+pub collected_is : (w : World) → collected w ≡ record w { near = taken w.near; reports = w.reports ++ option_to_list (near.report_of w.near) }
 collected_is w = by_job w.near.job
   where
     with_job : Job → World
@@ -119,7 +119,8 @@ leads_then read begun more old mid new first second = record {
 }
 
 -- one event that happens
-one_leads : (read : Reading) (event : Event) (old new : World) → IsTimed event → Happens read event old true new → LeadsOn read (begun_by event true) old new
+pub one_leads : (read : Reading) (event : Event) (old new : World) → IsTimed event → Happens read event old true new
+    → LeadsOn read (begun_by event true) old new
 one_leads read event old new timed happens = record {
   events = event ∷ [];
   timed = (timed, tt);
@@ -139,7 +140,7 @@ can_say : (count : ℕ) (octet : ℕ) (octets due : List ℕ) → due ≡ octet 
     → IsTrue ((has_octets due && ((0 == 0) || nat_lt count 0)) || taking)
 can_say count octet octets due is taking = ap (λ d. (has_octets d && ((0 == 0) || nat_lt count 0)) || taking) is
 
--- what is lent behind octets that were said: none, where there were any
+-- what is lent after octets that were said: none, where there were any
 abbrev pub lent_behind : (said lent : List ℕ) → List ℕ
 lent_behind [] lent = lent
 lent_behind (octet ∷ octets) lent = []
@@ -149,7 +150,7 @@ lent_none [] = refl
 lent_none (octet ∷ octets) = refl
 
 module _ (read : Reading) where
-  -- what is left, behind octets that the server said
+  -- what is left, after octets that the server said
   abbrev pub far_saying : (octets rest : List ℕ) → World → World
   far_saying octets rest w =
       record w { far = record w.far { owed = rest }; control_to_client = w.control_to_client ++ octets; taken = lent_behind octets w.taken }
@@ -196,7 +197,7 @@ module _ (read : Reading) where
       (octet ∷ []) octets) (lent_none octets) in
       subst (λ u. LeadsOn read [] w u) is (leads_then read [] [] w mid (far_saying octets rest mid) (far_says_one octet (octets ++ rest) w ready owed) on)
 
-  -- what is left, behind octets that the client said
+  -- what is left, after octets that the client said
   abbrev pub near_saying : (octets rest : List ℕ) → World → World
   near_saying octets rest w =
       record w { near = record w.near { owed = rest }; control_to_server = w.control_to_server ++ octets; taken = lent_behind octets w.taken }

@@ -51,7 +51,7 @@ ServerIsCalm old new = new.end.server.counts ≡ old.end.server.counts
 abbrev pub ClientIsCalm : (old new : Held Client) → Type 0
 ClientIsCalm old new = new.end.refusals ≡ old.end.refusals
 
--- something holds of each deed of these, another of how the end stood before and behind it, and a third of the end before and behind each
+-- each of these deeds is such, the end before and the end after it keep this, and the end stands so at the start and after each
 module _ {side : Side} (Is : Deed side → Type 0) (Keeps : (old new : side.End) → Type 0) (Stands : side.End → Type 0) where
   abbrev pub Throughout : (deeds : List (Deed side)) (start now : Stand side) → Led deeds start now → Type 0
   Throughout [] start now led = Stands now.owner

@@ -69,7 +69,7 @@ IsHad hold = Unit {0}
 abbrev pub dialled : Who → Between → Between
 dialled who between = with_hold who Has (with_hold (peer who) Has_not (record between { data_ways = record { to_server = []; to_client = [] } }))
 
--- octets that one writes go behind those that its peer is still to read
+-- octets that one writes go after those that its peer is still to read
 abbrev pub sent : Who → List ℕ → Ways → Ways
 sent who octets ways = with_coming (peer who) (coming (peer who) ways ++ octets) ways
 

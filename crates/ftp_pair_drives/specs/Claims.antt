@@ -1,11 +1,11 @@
 -- What is claimed of two drives by their deeds, in any order in which each can happen, where no data connection was wanted: a list of the
 -- world's events leads from the beginning to what both ends hold; so there is agreement, and the direct run.
-use Rattle.std.specs.Prelude.{◌≡◌, ℕ, ◌≤◌, false, List, [], ◌∷◌, ◌++◌, length, None, option_to_list}
+use Rattle.std.specs.Prelude.{◌≡◌, ℕ, ◌≤◌, false, List, [], ◌∷◌, ◌++◌, length, Some, None, option_to_list}
 use Rattle.ftp_control.specs.Asking.{Asked}
 use Rattle.ftp_control.specs.Deeds.{Ended, Led, Other, Stand}
 use Rattle.ftp_control.specs.Machine.{Left}
 use Rattle.ftp_client_drive.specs.Side.{client_side}
-use Rattle.ftp_client_model.specs.Calls.{is_busy, report_of}
+use Rattle.ftp_client_model.specs.Calls.{control_end, is_busy, report_of}
 use Rattle.ftp_client_model.specs.View.{client as client_view}
 use Rattle.ftp_pair_drives.specs.Alike.{IsAlike}
 use Rattle.ftp_pair_drives.specs.Alone.{AsksAlone, ServesAlone, begun_in, reports_in}
@@ -61,6 +61,15 @@ DrivesAgree =
     → Did b turns between server client → (marks : List (List Mark)) × AreUnmarked marks
     × Agrees (state_of b) (begun_in moment (client_deeds turns)) marks None
     (reports_in (client_deeds turns) ++ option_to_list (report_of client.owner.end.view)) server.owner.end.server.view.session.table
+
+-- so they do where both ends are told then that the control connection ended: an operation that has no report is lost
+abbrev pub PartingAgrees : Type 0
+PartingAgrees =
+    (b : Beginning) → IsFair b → (moment : ℕ) → moment ≤ last_second
+    → (turns : List Turn) (between : Between) (server : Stand server_side) (client : Stand client_side)
+    → Did b turns between server client → (marks : List (List Mark)) × AreUnmarked marks
+    × Agrees (state_of b) (begun_in moment (client_deeds turns)) marks (Some (length marks))
+    (reports_in (client_deeds turns) ++ option_to_list (report_of (control_end client.owner.end.view))) server.owner.end.server.view.session.table
 
 -- where each operation has its report, they are those of the operations run directly
 abbrev pub DrivesAreTheDirectRun : Type 0

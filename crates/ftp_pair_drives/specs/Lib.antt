@@ -3,3 +3,4 @@ pub mod Between
 pub mod Alone
 pub mod Alike
 pub mod Claims
+pub mod Over

@@ -1,6 +1,7 @@
-//! Laws of two drives: functions that do nothing, whose contracts are the claims of `specs/Claims`, of the deeds that `Drives` of a server's and of
-//! a client's drive cites, in any order in which each can happen, where no data connection was wanted.
-ghost use Rattle.ftp_pair_drives.specs.Claims.{DrivesAreOfWorlds, EndsKeepTheMap};
+//! Laws of two drives: functions that do nothing, whose contracts are the claims of `specs/Claims` and `specs/Over`, of the deeds that `Drives` of a
+//! server's and of a client's drive cites, in any order in which each can happen, where no data connection was wanted.
+ghost use Rattle.ftp_pair_drives.specs.Claims.{DrivesAgree, DrivesAreOfWorlds, DrivesAreTheDirectRun, EndsKeepTheMap, PartingAgrees};
+ghost use Rattle.ftp_pair_drives.specs.Over.{DrivesLostAgree, DrivesOverAreTheDirectRun};
 
 /// One server's drive and drives of one client leave what a list of the world's events leads to from the beginning, but for the moment that the
 /// server was told last.
@@ -8,7 +9,26 @@ pub fn drives_are_of_worlds()
     ensures { DrivesAreOfWorlds }
 {}
 
-/// A server that is told that the control connection ended, and whose drive is over, keeps the map.
-pub fn ends_keep_the_map()
-    ensures { EndsKeepTheMap }
+/// At every moment reports and map agree with the operations that were begun, and so they do where the control connection ends then.
+pub fn drives_agree()
+    ensures standing { DrivesAgree }
+    ensures parting { PartingAgrees }
+{}
+
+/// Where each operation has its report, reports and map are those of the operations run directly; and a server that is told that the control
+/// connection ended keeps that map.
+pub fn drives_are_the_direct_run()
+    ensures direct { DrivesAreTheDirectRun }
+    ensures ends { EndsKeepTheMap }
+{}
+
+/// Where a server's drive is over since the client left, and each drive of the client gave the answer of the operation that was begun before it,
+/// these answers and the map that is left are those of the operations run directly.
+pub fn drives_over_are_the_direct_run()
+    ensures { DrivesOverAreTheDirectRun }
+{}
+
+/// Where both were told in the midst of the last operation that the control connection ended, answers and map agree with the operations begun.
+pub fn drives_lost_agree()
+    ensures { DrivesLostAgree }
 {}

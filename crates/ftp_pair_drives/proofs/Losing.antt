@@ -1,0 +1,156 @@
+-- The deeds of drives of which both were told that the control connection ended.
+use Rattle.std.proofs.Common.{◌≡◌, List, [], ◌∷◌, ◌++◌, length, Option, Some, option_to_list, refl, sym, ap, ap₂, subst, ◌∙◌, append-nil}
+use Rattle.ftp_control.specs.Asking.{Asked, Shut}
+use Rattle.ftp_control.specs.Deeds.{Deed, Done, Ended, Led, Other, Stand}
+use Rattle.ftp_control.specs.Machine.{Closed, Left}
+use Rattle.ftp_client_drive.specs.Side.{Begun, Report, client_machine, client_side}
+use Rattle.ftp_client_model.specs.Calls.{control_end, report_of}
+use Rattle.ftp_operation.specs.Answer.{Said}
+use Rattle.ftp_server_model.specs.Machine.{ReadingExists}
+use Rattle.ftp_tree.specs.Tree.{Table}
+use Rattle.ftp_pair_world.specs.Agreement.{Agrees, Order, Single}
+use Rattle.ftp_pair_world.specs.Claims.{AgreesAlways, state_of}
+use Rattle.ftp_pair_drives.specs.Alone.{ClientAttends, ClientIsCalm, IsAsking, IsServing, ServerAttends, ServerIsCalm, begun_in, reports_in}
+use Rattle.ftp_pair_drives.specs.Between.{Between, Can, Client, Happened, Near, Server, Turn, client_deeds, server_deeds}
+use Rattle.ftp_pair_drives.specs.Claims.{Did}
+use Rattle.ftp_pair_drives.specs.Over.{AreMidst, AskedToItsEnd, DrivesLostAgree, answers_of, deeds_in, deeds_of_server, orders_of}
+use Rattle.ftp_pair_drives.specs.Touches.{touch_in}
+use Rattle.ftp_pair_drives.proofs.Concluding.{parting_agrees_by}
+use Rattle.ftp_pair_drives.proofs.Ending.{Goes, answers_are, answers_go, goes_then, midst_begins, midst_reports, orders_are, served_before, starts_so}
+
+unasked : List Turn → List Turn
+unasked [] = []
+unasked (Client deed ∷ before) = before
+unasked (Server deed ∷ before) = Server deed ∷ unasked before
+
+rest_asked : List (Deed client_side) → List (Deed client_side)
+rest_asked [] = []
+rest_asked (deed ∷ before) = before
+
+IsStill : List (Deed client_side) → Type 0
+IsStill [] = Unit {0}
+IsStill (deed ∷ before) = (old new : Between) → Can Near (touch_in deed) old new → new ≡ old
+
+unasked_client : (turns : List Turn) → client_deeds (unasked turns) ≡ rest_asked (client_deeds turns)
+unfolding unasked rest_asked
+unasked_client [] = refl
+unasked_client (Client deed ∷ before) = refl
+unasked_client (Server deed ∷ before) = unasked_client before
+
+unasked_server : (turns : List Turn) → server_deeds (unasked turns) ≡ server_deeds turns
+unfolding unasked
+unasked_server [] = refl
+unasked_server (Client deed ∷ before) = refl
+unasked_server (Server deed ∷ before) = ap (λ l. deed ∷ l) (unasked_server before)
+
+unasked_happened : (turns : List Turn) (between : Between) → IsStill (client_deeds turns) → Happened turns between → Happened (unasked turns) between
+unfolding unasked IsStill
+unasked_happened [] between still happened = happened
+unasked_happened (Client deed ∷ before) between still happened = subst (Happened before) (sym (still happened.0 between happened.2)) happened.1
+unasked_happened (Server deed ∷ before) between still happened = (happened.0, unasked_happened before happened.0 still happened.1, happened.2)
+
+-- turns without some of the client's last deeds
+record Without (rest : List (Deed client_side)) (first : List Turn) (between : Between) : Type 0 where
+  pub turns : List Turn
+  pub servers : server_deeds turns ≡ server_deeds first
+  pub clients : client_deeds turns ≡ rest
+  pub happened : Happened turns between
+
+-- and without the next one
+without : (deed : Deed client_side) (rest : List (Deed client_side)) (first : List Turn) (between : Between)
+    → ((old new : Between) → Can Near (touch_in deed) old new → new ≡ old) → Without (deed ∷ rest) first between → Without rest first between
+unfolding rest_asked IsStill
+without deed rest first between still w = record {
+  turns = unasked w.turns;
+  servers = unasked_server w.turns ∙ w.servers;
+  clients = unasked_client w.turns ∙ ap rest_asked w.clients;
+  happened = unasked_happened w.turns between (subst IsStill (sym w.clients) still) w.happened;
+}
+
+-- what the client had done before it was told
+record Lost (rest : List (Deed client_side)) (turns : List Turn) (between : Between) (start told : Stand client_side) : Type 0 where
+  pub turns_before : List Turn
+  pub servers : server_deeds turns_before ≡ server_deeds turns
+  pub happened : Happened turns_before between
+  pub midst : List (Deed client_side)
+  pub clients : client_deeds turns_before ≡ midst ++ rest
+  pub is_midst : AreMidst midst
+  pub stand : Stand client_side
+  pub goes : Goes IsAsking ClientIsCalm ClientAttends midst start stand
+  pub ends : Done Ended stand told
+
+lost_before : (deeds : List (Deed client_side)) (asked : Asked) (said : Option Said) (rest : List (Deed client_side)) (turns : List Turn) (between : Between)
+    (start told : Stand client_side) (led : Led deeds start told) → AskedToItsEnd deeds start told led → asked ≡ Shut
+    → client_deeds turns ≡ (Other Closed ∷ Other (Left asked) ∷ Other (Report said) ∷ []) ++ deeds ++ rest → Happened turns between
+    → Lost rest turns between start told
+lost_before (Ended ∷ midst) asked said rest turns between start told led alone shut is happened =
+    let behind : List (Deed client_side) = midst ++ rest in
+    let all : Without (Other Closed ∷ Other (Left asked) ∷ Other (Report said) ∷ Ended ∷ behind) turns between =
+    record { turns = turns; servers = refl; clients = is; happened = happened } in
+    let still = subst (λ a. (old new : Between) → Can Near (touch_in {end = client_machine} (Other (Left a))) old new → new ≡ old)
+    (sym shut) (λ old new can. can) in
+    let one = without (Other Closed) (Other (Left asked) ∷ Other (Report said) ∷ Ended ∷ behind) turns between (λ old new can. can) all in
+    let two = without (Other (Left asked)) (Other (Report said) ∷ Ended ∷ behind) turns between still one in
+    let three = without (Other (Report said)) (Ended ∷ behind) turns between (λ old new can. can) two in
+    let four = without Ended behind turns between (λ old new can. can) three in
+    record {
+      turns_before = four.turns;
+      servers = four.servers;
+      happened = four.happened;
+      midst = midst;
+      clients = four.clients;
+      is_midst = alone.1;
+      stand = led.0;
+      goes = (led.1, alone.0);
+      ends = led.2;
+    }
+lost_before deeds asked said rest turns between start told led alone shut is happened = absurd alone
+
+pub drives_lost_agree_by : AgreesAlways → ReadingExists → DrivesLostAgree
+drives_lost_agree_by always reading b fair moment timed asked op answer server over =
+    let a = over.last in
+    let led = a.drove.did.sums.led in
+    let before = deeds_in asked over.client_start over.mid over.answered in
+    let rest : List (Deed client_side) = Other (Begun op) ∷ before in
+    let s = served_before (deeds_of_server over.drove) over.turns over.between over.server_start server over.drove.did.sums.led
+    over.served over.server_is over.happened in
+    let l = lost_before a.drove.did.deeds a.drove.asked (Some answer) rest s.turns_before over.between a.begun led.1.1.0 led.1.1.1
+    over.loses.asks over.loses.shut
+    (s.clients ∙ over.client_is) s.happened in
+    let attends = starts_so IsAsking ClientIsCalm ClientAttends l.midst a.begun l.stand l.goes in
+    let first = answers_go asked over.client_start over.mid over.answered in
+    let begun : Goes IsAsking ClientIsCalm ClientAttends rest over.client_start a.begun =
+    ((over.mid, first.0, a.begins), (first.1, tt, over.loses.calm, attends)) in
+    let all = goes_then IsAsking ClientIsCalm ClientAttends l.midst rest over.client_start a.begun l.stand l.goes begun in
+    let client = subst (λ d. Goes IsAsking ClientIsCalm ClientAttends d over.client_start l.stand) (sym l.clients) all in
+    let serves = subst (λ d. Goes IsServing ServerIsCalm ServerAttends d over.server_start s.served) (sym l.servers) s.goes in
+    let did : Did b l.turns_before over.between s.served l.stand = record {
+      server_start = over.server_start;
+      client_start = over.client_start;
+      begins = over.begins;
+      happened = l.happened;
+      server_led = serves.0;
+      client_led = client.0;
+      serves = serves.1;
+      asks = client.1;
+    } in
+    let agree = parting_agrees_by always reading b fair moment timed l.turns_before over.between s.served l.stand did in
+    let orders : begun_in moment (client_deeds l.turns_before) ≡ orders_of moment ((op, answer) ∷ asked) =
+    ap (begun_in moment) l.clients ∙ midst_begins moment l.midst rest l.is_midst
+    ∙ ap (λ o. o ++ Single op moment ∷ []) (orders_are moment asked over.client_start over.mid over.answered) in
+    let told : option_to_list (report_of (control_end l.stand.owner.end.view)) ≡ answer ∷ [] =
+    ap (λ v. option_to_list (report_of v)) (sym l.ends.cut.0.0) ∙ ap option_to_list (sym led.1.1.2.0.0.0) in
+    let answers : reports_in (client_deeds l.turns_before) ++ option_to_list (report_of (control_end l.stand.owner.end.view))
+    ≡ answers_of ((op, answer) ∷ asked) =
+    ap₂ (λ r o. r ++ o) (ap reports_in l.clients ∙ midst_reports l.midst rest l.is_midst ∙ append-nil (reports_in before)
+    ∙ answers_are asked over.client_start over.mid over.answered) told in
+    let orders_now : List Order = orders_of moment ((op, answer) ∷ asked) in
+    let answers_now : List Said = answers_of ((op, answer) ∷ asked) in
+    let said : List Said = reports_in (client_deeds l.turns_before) ++ option_to_list (report_of (control_end l.stand.owner.end.view)) in
+    let table : Table = s.served.owner.end.server.view.session.table in (
+      agree.0,
+      agree.1,
+      subst (λ (t : Table). Agrees (state_of b) orders_now agree.0 (Some (length agree.0)) answers_now t) (sym s.table)
+          (subst (λ (r : List Said). Agrees (state_of b) orders_now agree.0 (Some (length agree.0)) r table) answers
+          (subst (λ (o : List Order). Agrees (state_of b) o agree.0 (Some (length agree.0)) said table) orders agree.2)),
+    )
