@@ -10,3 +10,4 @@ pub mod Parting
 pub mod Ending
 pub mod Losing
 pub mod Theorems
+pub mod Delaying

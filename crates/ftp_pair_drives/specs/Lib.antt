@@ -4,3 +4,4 @@ pub mod Alone
 pub mod Alike
 pub mod Claims
 pub mod Over
+pub mod Delays

@@ -1,6 +1,7 @@
 //! Laws of two drives: functions that do nothing, whose contracts are the claims of `specs/Claims` and `specs/Over`, of the deeds that `Drives` of a
 //! server's and of a client's drive cites, in any order in which each can happen, where no data connection was wanted.
 ghost use Rattle.ftp_pair_drives.specs.Claims.{DrivesAgree, DrivesAreOfWorlds, DrivesAreTheDirectRun, EndsKeepTheMap, PartingAgrees};
+ghost use Rattle.ftp_pair_drives.specs.Delays.{DownBreaksCommute, EndForgetsBreak, EndForgetsLateBreak, OpeningCommutes, UnopenedIsBroken, UpBreaksCommute, UpRepliesCommute};
 ghost use Rattle.ftp_pair_drives.specs.Over.{DrivesLostAgree, DrivesOverAreTheDirectRun};
 
 /// One server's drive and drives of one client leave what a list of the world's events leads to from the beginning, but for the moment that the
@@ -31,4 +32,16 @@ pub fn drives_over_are_the_direct_run()
 /// Where both were told in the midst of the last operation that the control connection ended, answers and map agree with the operations begun.
 pub fn drives_lost_agree()
     ensures { DrivesLostAgree }
+{}
+
+/// A client holds the same whether the break of its data connection, an octet or the opening at its port comes before its final reply or after it;
+/// and after the end of the control connection the same whether it was told of a break or not.
+pub fn clients_hear_late()
+    ensures downloads { DownBreaksCommute }
+    ensures uploads { UpBreaksCommute }
+    ensures replies { UpRepliesCommute }
+    ensures openings { OpeningCommutes }
+    ensures unopened { UnopenedIsBroken }
+    ensures lost { EndForgetsBreak }
+    ensures lost_late { EndForgetsLateBreak }
 {}
