@@ -11,3 +11,5 @@ pub mod Ending
 pub mod Losing
 pub mod Theorems
 pub mod Delaying
+pub mod Breaking
+pub mod BothBroken

@@ -23,7 +23,7 @@ use Rattle.ftp_pair_drives.proofs.ServerSteps.{Goes, server_aside, server_heard,
 use Rattle.ftp_pair_drives.proofs.Worlds.{LeadsOn, leads_none, leads_then}
 
 -- what holds of the end after deeds
-ends_so : {side : Side} (Is : Deed side → Type 0) (Keeps : (old new : side.End) → Type 0) (Stands : side.End → Type 0)
+pub ends_so : {side : Side} (Is : Deed side → Type 0) (Keeps : (old new : side.End) → Type 0) (Stands : side.End → Type 0)
     → (deeds : List (Deed side)) (start now : Stand side) (led : Led deeds start now) → Throughout Is Keeps Stands deeds start now led → Stands now.owner
 ends_so Is Keeps Stands [] start now led held = held
 ends_so Is Keeps Stands (deed ∷ before) start now led held = held.3

@@ -1,8 +1,10 @@
 -- The claims, by agreement of a world's sessions.
 use Rattle.ftp_pair_agreement.proofs.Theorems.{agrees-always}
 use Rattle.ftp_server_model.proofs.LinesDecided.{reading_exists}
+use Rattle.ftp_pair_drives.specs.Broken.{DrivesBrokenAgree}
 use Rattle.ftp_pair_drives.specs.Claims.{DrivesAgree, DrivesAreTheDirectRun, PartingAgrees}
 use Rattle.ftp_pair_drives.specs.Over.{DrivesLostAgree, DrivesOverAreTheDirectRun}
+use Rattle.ftp_pair_drives.proofs.BothBroken.{drives_broken_agree_by}
 use Rattle.ftp_pair_drives.proofs.Concluding.{drives_agree_by, drives_are_the_direct_run_by, parting_agrees_by}
 use Rattle.ftp_pair_drives.proofs.Ending.{drives_over_are_the_direct_run_by}
 use Rattle.ftp_pair_drives.proofs.Losing.{drives_lost_agree_by}
@@ -26,3 +28,7 @@ drives_over_are_the_direct_run = drives_over_are_the_direct_run_by agrees-always
 -- and those that were lost agree
 pub drives_lost_agree : DrivesLostAgree
 drives_lost_agree = drives_lost_agree_by agrees-always reading_exists
+
+-- so do those that broke off
+pub drives_broken_agree : DrivesBrokenAgree
+drives_broken_agree = drives_broken_agree_by agrees-always reading_exists

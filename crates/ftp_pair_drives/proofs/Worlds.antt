@@ -65,7 +65,7 @@ wants_none v still running =
     ∙ ap (λ l. if far.is_done l v.owed then Want.CloseAll else wants_of v.session.connection) running ∙ still.wants
 
 -- what a client owes is of no matter
-wants_owed : (owed : List ℕ) (v : Near) → near.wants (record v { owed = owed }) ≡ near.wants v
+pub wants_owed : (owed : List ℕ) (v : Near) → near.wants (record v { owed = owed }) ≡ near.wants v
 unfolding near.wants
 wants_owed owed v = by v.connection
   where

@@ -5,3 +5,4 @@ pub mod Alike
 pub mod Claims
 pub mod Over
 pub mod Delays
+pub mod Broken

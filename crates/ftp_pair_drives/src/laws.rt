@@ -1,5 +1,6 @@
 //! Laws of two drives: functions that do nothing, whose contracts are the claims of `specs/Claims` and `specs/Over`, of the deeds that `Drives` of a
 //! server's and of a client's drive cites, in any order in which each can happen, where no data connection was wanted.
+ghost use Rattle.ftp_pair_drives.specs.Broken.{ClientsAreCut, DrivesBrokenAgree, ServersAreCut};
 ghost use Rattle.ftp_pair_drives.specs.Claims.{DrivesAgree, DrivesAreOfWorlds, DrivesAreTheDirectRun, EndsKeepTheMap, PartingAgrees};
 ghost use Rattle.ftp_pair_drives.specs.Delays.{DownBreaksCommute, EndForgetsBreak, EndForgetsLateBreak, OpeningCommutes, UnopenedIsBroken, UpBreaksCommute, UpRepliesCommute};
 ghost use Rattle.ftp_pair_drives.specs.Over.{DrivesLostAgree, DrivesOverAreTheDirectRun};
@@ -32,6 +33,18 @@ pub fn drives_over_are_the_direct_run()
 /// Where both were told in the midst of the last operation that the control connection ended, answers and map agree with the operations begun.
 pub fn drives_lost_agree()
     ensures { DrivesLostAgree }
+{}
+
+/// Where both broke off in the midst of the last operation, answers and map agree with the operations begun.
+pub fn drives_broken_agree()
+    ensures { DrivesBrokenAgree }
+{}
+
+/// A drive that broke off did its deeds and said a beginning of what it said last, and was told then that the control connection ended: so
+/// `drives_agree` has it (`parting`).
+pub fn drives_that_broke_off_are_cut()
+    ensures servers { ServersAreCut }
+    ensures clients { ClientsAreCut }
 {}
 
 /// A client holds the same whether the break of its data connection, an octet or the opening at its port comes before its final reply or after it;
