@@ -24,6 +24,7 @@ end_keeps : (v : Far) → (far.control_end v).session.table ≡ v.session.table
 unfolding far.control_end
 end_keeps v = refl
 
+-- by agreement of a world, where the control connection ends for both
 pub drives_broken_agree_by : AgreesAlways → ReadingExists → DrivesBrokenAgree
 drives_broken_agree_by always reading b fair moment timed asked op answer server over =
     let s = servers_are_cut over.server_cause over.server_failed over.server_start server over.server_broke over.serves over.server_calm in

@@ -43,6 +43,7 @@ record Front (front : List ℕ) (v told : Far) : Type 0 where
   pub is : front ≡ take count v.owed
   pub cut : far.control_end told ≡ far.control_end (control_step count v)
 
+-- what a server gave last, of which a beginning was written
 server_front : (n : ℕ) (last : List ℕ) (old given : Held Timed) → ServerAttends old → given.end.server.counts ≡ old.end.server.counts
     → ((last ≡ []) × (given ≡ old)) ⊎ Gives server_machine last old given → Front (take n last) old.end.server.view given.end.server.view
 unfolding far.control_end
@@ -62,6 +63,7 @@ server_front n last old given attends calm (inr gives) =
 server_there : (count : ℕ) → Held Timed → Held Timed
 server_there count old = record old { end = record old.end { server = record old.end.server { view = control_step count old.end.server.view } } }
 
+-- it attends as before
 server_attends : (count : ℕ) (old : Held Timed) → ServerAttends old → ServerAttends (server_there count old)
 unfolding server_there
 server_attends count old attends =
@@ -73,6 +75,7 @@ server_attends count old attends =
       none_waits = attends.none_waits;
     }
 
+-- that beginning is said by a deed
 server_says : (front : List ℕ) (count : ℕ) (old : Stand server_side) (written : Option (List ℕ)) → ServerAttends old.owner
     → front ≡ take count old.owner.end.server.view.owed
     → Appends old.written written front → SaysNext front old (record old { owner = server_there count old.owner; written = written })
@@ -98,6 +101,7 @@ server_says front count old written attends is wrote =
       unheard = refl;
     }
 
+-- a server that broke off is told of the end after that
 pub servers_are_cut : ServersAreCut
 unfolding server_there
 servers_are_cut cause failed start now broke alone calm =
@@ -132,6 +136,7 @@ owed_report owed v = by v.standing
     by (Stands.Failed before) = refl
     by standing = refl
 
+-- the same of a client
 client_front : (n : ℕ) (last : List ℕ) (old given : Held Client) → ((last ≡ []) × (given ≡ old)) ⊎ Gives client_machine last old given
     → NearFront (take n last) old.end.view given.end.view
 client_front n last old given (inl none) = record {
@@ -149,9 +154,11 @@ client_front n last old given (inr gives) =
           ∙ sym (owed_report (drop first.0 v.owed) v);
     }
 
+-- what it holds then
 client_there : (count : ℕ) → Held Client → Held Client
 client_there count old = record old { end = record old.end { view = near.gives_control count old.end.view } }
 
+-- that beginning is said by a deed
 client_says : (front : List ℕ) (count : ℕ) (old : Stand client_side) (written : Option (List ℕ)) → front ≡ take count old.owner.end.view.owed
     → Appends old.written written front → SaysNext front old (record old { owner = client_there count old.owner; written = written })
 unfolding client_there
@@ -162,6 +169,7 @@ client_says front count old written is wrote = record {
   unheard = refl;
 }
 
+-- a client that broke off is told of the end after that
 pub clients_are_cut : ClientsAreCut
 unfolding client_there
 clients_are_cut cause failed start now said broke alone =

@@ -13,10 +13,12 @@ twice (suc more) first count =
     let sum : suc (first + more) ≡ first + suc more = omega arith in
     ap (λ n. (n + 1) % 2 ^ 64) (twice more first count) ∙ ap (λ n. moved_on n count) sum
 
+-- one that fits has moved by a sum, up to its wrap
 moved_sum : (more count : ℕ) → count < 2 ^ 64 → moved_on more count ≡ (count + more) % 2 ^ 64
 moved_sum zero count fits = omega (arith, fits)
 moved_sum (suc more) count fits = ap (λ n. (n + 1) % 2 ^ 64) (moved_sum more count fits) ∙ omega arith
 
+-- one that moved fits
 moved_less : (more count : ℕ) → moved_on (suc more) count < 2 ^ 64
 moved_less more count = by_rest (moved_on more count)
   where
@@ -30,6 +32,7 @@ stays_put (suc more) count few same =
     let fits : count < 2 ^ 64 = subst (λ n. n < 2 ^ 64) same (moved_less more count) in
     let is = sym (moved_sum (suc more) count fits) ∙ same in omega (arith, is, fits, few)
 
+-- one that moved twice and is what it was was so in between
 one_stays : (most old mid new : ℕ) → most ≤ 2 → MovesOn most old mid → MovesOn most mid new → new ≡ old → mid ≡ old
 one_stays most old mid new few first second same =
     let all : moved_on (first.0 + second.0) old ≡ old = sym (twice second.0 first.0 old) ∙ sym (ap (moved_on second.0) first.2) ∙ sym second.2 ∙ same in
@@ -37,6 +40,7 @@ one_stays most old mid new few first second same =
     let is : first.0 ≡ 0 = omega (arith, none) in
     first.2 ∙ ap (λ n. moved_on n old) is
 
+-- so it is of both
 pub first_is_calm : (old mid new : Counts) → CountsOn old mid → CountsOn mid new → new ≡ old → mid ≡ old
 first_is_calm old mid new first second same =
     let refusals : mid.refusals ≡ old.refusals =

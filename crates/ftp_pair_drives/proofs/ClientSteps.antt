@@ -59,6 +59,7 @@ module _ (read : Reading) (server : Stand server_side) (old new : Stand client_s
   client_keeps ways next alike is other queue =
       client_same ways next [] alike (ap taken is) (ap (λ (v : Near). option_to_list (near.report_of v)) (sym is)) other queue
 
+  -- octets are said
   pub client_said : (octets : List ℕ) (ways : Ways) → IsAlike ways server old reports w → SaysNext octets old new
       → Goes read [] (sent TheClient octets ways) server new (reports ++ []) w
   client_said octets ways alike says =
@@ -87,6 +88,7 @@ module _ (read : Reading) (server : Stand server_side) (old new : Stand client_s
         };
       }
 
+  -- octets are read: no event
   pub client_read : (octets : List ℕ) (ways next : Ways) → IsAlike ways server old reports w → ReadsNext octets old new
       → ways.to_client ≡ octets ++ next.to_client → next.to_server ≡ ways.to_server → Goes read [] next server new (reports ++ []) w
   client_read octets ways next alike did front other =
@@ -98,6 +100,7 @@ module _ (read : Reading) (server : Stand server_side) (old new : Stand client_s
   heard_is octets did =
       (did.hears.0.0.0 calm).0 ∙ ap (λ o. near.hears old.owner.end.view o) (ap (take (length octets)) did.next ∙ take_front octets new.unheard)
 
+  -- octets are heard
   pub client_heard : (octets : List ℕ) (ways : Ways) → IsAlike ways server old reports w → HearsNext octets old new
       → Goes read [] ways server new (reports ++ []) w
   client_heard [] ways alike did = client_keeps ways ways alike (heard_is [] did) refl (ap (λ u. u ++ ways.to_client) did.next)
@@ -137,6 +140,7 @@ module _ (read : Reading) (server : Stand server_side) (old new : Stand client_s
       enough : (k : ℕ) → k < length (octet ∷ octets) → k ≤ length old.unheard
       enough k less = subst (λ u. k ≤ length u) (sym did.next) (omega (arith, less, length-append (octet ∷ octets) new.unheard))
 
+  -- the report is taken: no event
   pub client_reports : (said : Option Said) (ways : Ways) → IsAlike ways server old reports w → Calls {side = client_side} (Aside (Reporting said)) old new
       → Goes read [] ways server new (reports ++ option_to_list said) w
   client_reports said ways alike did =
@@ -148,6 +152,7 @@ module _ (read : Reading) (server : Stand server_side) (old new : Stand client_s
       (ap option_to_list (sym did.0.0.0) ∙ sym (append-nil (option_to_list said)) ∙ ap (λ l. option_to_list said ++ l) (sym none)) refl
       (ap (λ (s : Stand client_side). s.unheard ++ ways.to_client) (sym did.1))
 
+  -- an operation begins
   pub client_begins : (op : Op (List ℕ)) (moment : ℕ) → moment ≤ last_second → (ways : Ways) → IsAlike ways server old reports w
       → Calls {side = client_side} (Aside (Starting op)) old new → Goes read (Single op moment ∷ []) ways server new (reports ++ []) w
   client_begins op moment timed ways alike did =
@@ -174,11 +179,13 @@ module _ (read : Reading) (server : Stand server_side) (old new : Stand client_s
         };
       }
 
+  -- the port is shut: no event
   pub client_shuts : (ways : Ways) → IsAlike ways server old reports w → Calls {side = client_side} (Left Shut) old new
       → Goes read [] ways server new (reports ++ []) w
   client_shuts ways alike did =
       client_keeps ways ways alike (ap (λ c. c.view) did.0.0) refl (ap (λ (s : Stand client_side). s.unheard ++ ways.to_client) (sym did.1))
 
+  -- it is told so: no event
   pub client_closed : (ways : Ways) → IsAlike ways server old reports w → Calls {side = client_side} Closed old new
       → Goes read [] ways server new (reports ++ []) w
   client_closed ways alike did =

@@ -23,6 +23,7 @@ use Rattle.ftp_pair_drives.proofs.Parting.{parts}
 use Rattle.ftp_pair_drives.proofs.Taken.{cut_alike, free_none, reports_is, taken}
 use Rattle.ftp_pair_drives.proofs.Worlds.{LeadsOn, leads_then}
 
+-- a world that is alike both drives agrees, and so do they
 pub drives_agree_by : AgreesAlways → ReadingExists → DrivesAgree
 drives_agree_by always reading b fair moment timed turns between server client did =
     let of_world = drives_are_of_worlds reading.0 reading.1 b moment timed turns between server client did in
@@ -44,15 +45,18 @@ by_single : (moment : ℕ) (deed : Deed client_side) → AreSingle (begun_by mom
 by_single moment (Other (Aside (Starting op))) = tt
 by_single moment deed = tt
 
+-- orders after orders
 both_single : (front given : List Order) → AreSingle front → AreSingle given → AreSingle (front ++ given)
 both_single [] given one other = other
 both_single (Single op moment ∷ front) given one other = both_single front given one other
 both_single (Tries upload moment ∷ front) given one other = absurd one
 
+-- none of all deeds does
 in_single : (moment : ℕ) (deeds : List (Deed client_side)) → AreSingle (begun_in moment deeds)
 in_single moment [] = tt
 in_single moment (deed ∷ before) = both_single (begun_in moment before) (begun_by moment deed) (in_single moment before) (by_single moment deed)
 
+-- agreement without marks is the direct run, where all is reported
 pub drives_are_the_direct_run_by : AgreesAlways → ReadingExists → DrivesAreTheDirectRun
 drives_are_the_direct_run_by always reading b fair moment timed turns between server client did free told =
     let agree = drives_agree_by always reading b fair moment timed turns between server client did in
@@ -65,10 +69,12 @@ drives_are_the_direct_run_by always reading b fair moment timed turns between se
 
 -- ---- the end of a server
 
+-- being told keeps the map
 cut_keeps : (at : Timed) → (ended at).server.view.session.table ≡ at.server.view.session.table
 unfolding far.control_end
 cut_keeps at = refl
 
+-- so does leaving after it
 pub ends_keep_the_map : EndsKeepTheMap
 ends_keep_the_map asked old new led =
     let table : Timed → Table = λ at. at.server.view.session.table in
@@ -77,6 +83,7 @@ ends_keep_the_map asked old new led =
 
 -- ---- where the control connection ends
 
+-- one more event ends the control connection for both
 pub parting_agrees_by : AgreesAlways → ReadingExists → PartingAgrees
 parting_agrees_by always reading b fair moment timed turns between server client did =
     let o = drives_are_of_worlds reading.0 reading.1 b moment timed turns between server client did in

@@ -29,6 +29,7 @@ module _ {side : Side} (Is : Deed side → Type 0) (Keeps : (old new : side.End)
   abbrev pub Goes : (deeds : List (Deed side)) (start now : Stand side) → Type 0
   Goes deeds start now = (led : Led deeds start now) × Throughout Is Keeps Stands deeds start now led
 
+  -- one list after another
   pub goes_then : (later before : List (Deed side)) (start mid now : Stand side) → Goes later mid now → Goes before start mid
       → Goes (later ++ before) start now
   goes_then [] before start mid now second first = subst (λ n. Goes before start n) (sym second.0) first
@@ -57,6 +58,7 @@ answers_go (asked ∷ before) start now answered =
 
 -- ---- what they began and reported
 
+-- deeds in the midst of a drive begin none
 pub midst_begins : (moment : ℕ) (deeds before : List (Deed client_side)) → AreMidst deeds → begun_in moment (deeds ++ before) ≡ begun_in moment before
 midst_begins moment [] before midst = refl
 midst_begins moment (Heard octets ∷ deeds) before midst = append-nil _ ∙ midst_begins moment deeds before midst.0
@@ -65,6 +67,7 @@ midst_begins moment (Read octets ∷ deeds) before midst = append-nil _ ∙ mids
 midst_begins moment (Other (Aside (Reporting None)) ∷ deeds) before midst = append-nil _ ∙ midst_begins moment deeds before midst.0
 midst_begins moment (deed ∷ deeds) before midst = absurd midst.1
 
+-- and report none
 pub midst_reports : (deeds before : List (Deed client_side)) → AreMidst deeds → reports_in (deeds ++ before) ≡ reports_in before
 midst_reports [] before midst = refl
 midst_reports (Heard octets ∷ deeds) before midst = append-nil _ ∙ midst_reports deeds before midst.0
@@ -73,6 +76,7 @@ midst_reports (Read octets ∷ deeds) before midst = append-nil _ ∙ midst_repo
 midst_reports (Other (Aside (Reporting None)) ∷ deeds) before midst = append-nil _ ∙ midst_reports deeds before midst.0
 midst_reports (deed ∷ deeds) before midst = absurd midst.1
 
+-- so the drives begin the operations
 pub orders_are : (moment : ℕ) (asked : List (Op (List ℕ) × Said)) (start now : Stand client_side) (answered : AreAnswered asked start now)
     → begun_in moment (deeds_in asked start now answered) ≡ orders_of moment asked
 orders_are moment [] start now answered = refl
@@ -81,6 +85,7 @@ orders_are moment (asked ∷ before) start now answered =
     append-nil _ ∙ append-nil _ ∙ append-nil _ ∙ midst_begins moment answered.2.drove.did.deeds rest answered.3.midst
     ∙ ap (λ l. l ++ Single asked.0 moment ∷ []) (orders_are moment before start answered.0 answered.1)
 
+-- and report their answers
 pub answers_are : (asked : List (Op (List ℕ) × Said)) (start now : Stand client_side) (answered : AreAnswered asked start now)
     → reports_in (deeds_in asked start now answered) ≡ answers_of asked
 answers_are [] start now answered = refl
@@ -89,6 +94,7 @@ answers_are (asked ∷ before) start now answered =
     append-nil _ ∙ append-nil _ ∙ ap (λ l. l ++ asked.1 ∷ []) (midst_reports answered.2.drove.did.deeds rest answered.3.midst ∙ append-nil _)
     ∙ ap (λ l. l ++ asked.1 ∷ []) (answers_are before start answered.0 answered.1)
 
+-- as many as operations
 as_many : (moment : ℕ) (asked : List (Op (List ℕ) × Said)) → length (answers_of asked) ≡ length (orders_of moment asked)
 as_many moment [] = refl
 as_many moment (asked ∷ before) =
@@ -104,6 +110,7 @@ reported_free v answer e = by v.job e
     by (Told said) e = refl
     by job e = absurd (true≢false (ap is_some e))
 
+-- a client whose drives are over is not busy
 answered_free : (b : Beginning) (server : Stand server_side) (asked : List (Op (List ℕ) × Said)) (start now : Stand client_side) → Begins b server start
     → AreAnswered asked start now → is_busy now.owner.end.view ≡ false
 answered_free b server [] start now begins answered = ap (λ (s : Stand client_side). is_busy s.owner.end.view) answered.0 ∙ ap is_busy begins.client_view
@@ -115,11 +122,13 @@ answered_free b server (asked ∷ before) start now begins answered =
 
 -- ---- without the server's last deed
 
+-- all but the last deed of the server
 unturned : List Turn → List Turn
 unturned [] = []
 unturned (Server deed ∷ before) = before
 unturned (Client deed ∷ before) = Client deed ∷ unturned before
 
+-- of its deeds
 rest_of : List (Deed server_side) → List (Deed server_side)
 rest_of [] = []
 rest_of (deed ∷ before) = before
@@ -129,18 +138,21 @@ IsIdle : List (Deed server_side) → Type 0
 IsIdle [] = Unit {0}
 IsIdle (deed ∷ before) = (old new : Between) → Can Far (touch_in deed) old new → new ≡ old
 
+-- the server did the rest
 unturned_server : (turns : List Turn) → server_deeds (unturned turns) ≡ rest_of (server_deeds turns)
 unfolding unturned rest_of
 unturned_server [] = refl
 unturned_server (Server deed ∷ before) = refl
 unturned_server (Client deed ∷ before) = unturned_server before
 
+-- the client did the same
 unturned_client : (turns : List Turn) → client_deeds (unturned turns) ≡ client_deeds turns
 unfolding unturned
 unturned_client [] = refl
 unturned_client (Server deed ∷ before) = refl
 unturned_client (Client deed ∷ before) = ap (λ l. deed ∷ l) (unturned_client before)
 
+-- where it did nothing between, they happened without it
 unturned_happened : (turns : List Turn) (between : Between) → IsIdle (server_deeds turns) → Happened turns between → Happened (unturned turns) between
 unfolding unturned IsIdle
 unturned_happened [] between idle happened = happened
@@ -158,6 +170,7 @@ pub record Served (deeds : List (Deed server_side)) (turns : List Turn) (between
   pub goes : Goes IsServing ServerIsCalm ServerAttends (server_deeds turns_before) start served
   pub table : now.owner.end.server.view.session.table ≡ served.owner.end.server.view.session.table
 
+-- its end is left out of the order
 pub served_before : (deeds : List (Deed server_side)) (turns : List Turn) (between : Between) (start now : Stand server_side) (led : Led deeds start now)
     → ServedToItsEnd deeds start now led → server_deeds turns ≡ deeds → Happened turns between → Served deeds turns between start now
 unfolding unturned rest_of IsIdle
@@ -179,6 +192,7 @@ served_before deeds turns between start now led alone is happened = absurd alone
 
 -- ---- both
 
+-- what both did before the end is the direct run
 pub drives_over_are_the_direct_run_by : AgreesAlways → ReadingExists → DrivesOverAreTheDirectRun
 drives_over_are_the_direct_run_by always reading b fair moment timed asked server over =
     let s = served_before (deeds_of_server over.drove) over.turns over.between over.server_start server over.drove.did.sums.led

@@ -18,31 +18,37 @@ use Rattle.ftp_pair_drives.specs.Touches.{touch_in}
 use Rattle.ftp_pair_drives.proofs.Concluding.{parting_agrees_by}
 use Rattle.ftp_pair_drives.proofs.Ending.{Goes, answers_are, answers_go, goes_then, midst_begins, midst_reports, orders_are, served_before, starts_so}
 
+-- all but the last deed of the client
 unasked : List Turn → List Turn
 unasked [] = []
 unasked (Client deed ∷ before) = before
 unasked (Server deed ∷ before) = Server deed ∷ unasked before
 
+-- of its deeds
 rest_asked : List (Deed client_side) → List (Deed client_side)
 rest_asked [] = []
 rest_asked (deed ∷ before) = before
 
+-- the last deed does nothing between the ends
 IsStill : List (Deed client_side) → Type 0
 IsStill [] = Unit {0}
 IsStill (deed ∷ before) = (old new : Between) → Can Near (touch_in deed) old new → new ≡ old
 
+-- the client did the rest
 unasked_client : (turns : List Turn) → client_deeds (unasked turns) ≡ rest_asked (client_deeds turns)
 unfolding unasked rest_asked
 unasked_client [] = refl
 unasked_client (Client deed ∷ before) = refl
 unasked_client (Server deed ∷ before) = unasked_client before
 
+-- the server did the same
 unasked_server : (turns : List Turn) → server_deeds (unasked turns) ≡ server_deeds turns
 unfolding unasked
 unasked_server [] = refl
 unasked_server (Client deed ∷ before) = refl
 unasked_server (Server deed ∷ before) = ap (λ l. deed ∷ l) (unasked_server before)
 
+-- where it did nothing between, they happened without it
 unasked_happened : (turns : List Turn) (between : Between) → IsStill (client_deeds turns) → Happened turns between → Happened (unasked turns) between
 unfolding unasked IsStill
 unasked_happened [] between still happened = happened
@@ -79,6 +85,7 @@ record Lost (rest : List (Deed client_side)) (turns : List Turn) (between : Betw
   pub goes : Goes IsAsking ClientIsCalm ClientAttends midst start stand
   pub ends : Done Ended stand told
 
+-- the end of the client is left out of the order
 lost_before : (deeds : List (Deed client_side)) (asked : Asked) (said : Option Said) (rest : List (Deed client_side)) (turns : List Turn) (between : Between)
     (start told : Stand client_side) (led : Led deeds start told) → AskedToItsEnd deeds start told led → asked ≡ Shut
     → client_deeds turns ≡ (Other Closed ∷ Other (Left asked) ∷ Other (Report said) ∷ []) ++ deeds ++ rest → Happened turns between
@@ -106,6 +113,7 @@ lost_before (Ended ∷ midst) asked said rest turns between start told led alone
     }
 lost_before deeds asked said rest turns between start told led alone shut is happened = absurd alone
 
+-- what both did before they were told agrees, and so does what the end makes of it
 pub drives_lost_agree_by : AgreesAlways → ReadingExists → DrivesLostAgree
 drives_lost_agree_by always reading b fair moment timed asked op answer server over =
     let a = over.last in

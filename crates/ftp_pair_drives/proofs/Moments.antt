@@ -85,6 +85,7 @@ line_moment heard moment v none = by_abort (is_abort heard v) (and_right (is_abo
     by_abort true e = absurd (true≢false e)
     by_abort false e = waited_moment (Some heard) moment (record v { waiting = Some heard })
 
+-- nor what an octet says
 event_moment : (read : Reading) (event : NvtEvent) (moment : ℕ) (v : View) → is_transferring v.session.connection ≡ false
     → heard_event read event (clock_step moment v) ≡ clock_step moment (heard_event read event v)
 event_moment read (line text) moment v none = line_moment (read text) moment v none
@@ -105,6 +106,7 @@ octet_moment read octet moment v none =
 
 -- ---- a server that wants nothing
 
+-- nothing is wanted
 is_nothing : Wants → Bool
 is_nothing Want.Nothing = true
 is_nothing wants = false
@@ -115,6 +117,7 @@ pub record IsStill (v : View) : Type 0 where
   pub wants : wants_of v.session.connection ≡ Want.Nothing
   pub closing : v.session.closing ≡ false
 
+-- a server that wants nothing is still
 pub still_is : (v : View) → wants v ≡ Want.Nothing → IsStill v
 unfolding is_nothing
 still_is v e = by v.session.closing (is_done v.session.life v.owed) v.session.connection e

@@ -29,9 +29,11 @@ record IsParted (w : World) : Type 0 where
 closed_near : World → World
 closed_near w = record w { near = record w.near { closing = false } }
 
+-- so of the server
 closed_far : World → World
 closed_far w = record w { far = close_step w.far }
 
+-- a client that was told is served so
 near_parts : (w : World) → IsParted w → near_served w ≡ closed_near w
 unfolding closed_near near.wants
 near_parts w parted = by w.near.closing
@@ -44,6 +46,7 @@ near_parts w parted = by w.near.closing
     by false = ap (λ s. near_served_by (if s then near.link_wants w.near.connection (at false).near else Want.CloseAll) (at false)) parted.near_failed
         ∙ ap (λ c. left_by_near c (at false)) parted.control
 
+-- and a server
 far_parts : (w : World) → IsParted w → far_served w ≡ closed_far w
 unfolding closed_far far.data_closed
 far_parts w parted = by w.far.session.closing
@@ -57,10 +60,12 @@ far_parts w parted = by w.far.session.closing
     by false = ap (λ l. far_served_by (if far.is_done l w.far.owed then Want.CloseAll else far.wants_of w.far.session.connection) (at false)) parted.far_cut
         ∙ ap (λ c. left_by_far c (at false)) parted.control
 
+-- that keeps what was told
 near_keeps : (w : World) → IsParted w → IsParted (closed_near w)
 unfolding closed_near
 near_keeps w p = record { near_failed = p.near_failed; far_cut = p.far_cut; none_waits = p.none_waits; control = p.control; link = p.link }
 
+-- so does this
 far_keeps : (w : World) → IsParted w → IsParted (closed_far w)
 unfolding closed_far
 far_keeps w p = record { near_failed = p.near_failed; far_cut = p.far_cut; none_waits = p.none_waits; control = p.control; link = p.link }
@@ -87,14 +92,17 @@ cut_failed v = by v.standing
     by (Stands.Failed before) = refl
     by standing = refl
 
+-- a server that was told is cut
 cut_far : (v : Far) → (far.control_end v).session.life ≡ Lives.Cut
 unfolding far.control_end
 cut_far v = refl
 
+-- no line of it waits
 cut_waits : (v : Far) → (far.control_end v).waiting ≡ None
 unfolding far.control_end
 cut_waits v = refl
 
+-- and its map stays
 cut_table : (v : Far) → (far.control_end v).session.table ≡ v.session.table
 unfolding far.control_end
 cut_table v = refl
@@ -108,6 +116,7 @@ pub record HasParted (read : Reading) (w : World) : Type 0 where
   pub marks : new.marks ≡ w.marks
   pub cutoff : new.cutoff ≡ Some (length w.marks)
 
+-- the control connection of a world ends
 pub parts : (read : Reading) (w : World) → w.link ≡ Gone → is_parted w.control ≡ false → HasParted read w
 unfolding closed_near closed_far
 parts read w link stands =

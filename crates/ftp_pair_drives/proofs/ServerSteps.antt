@@ -55,6 +55,7 @@ record HearsAt (read : Reading) (octets : List ℕ) (old new : Far) : Type 0 whe
   pub is : new ≡ hears read (clock_step moment old) octets
 
 module _ (read : Reading) (reads : IsReading read) where
+  -- so it is whether the octet ends a line or not
   hears_at : (ends : Bool) (octets : List ℕ) (old new : Timed) → HearsBy ends octets old new → new.server.counts ≡ old.server.counts
       → old.server.view.waiting ≡ None
       → HearsAt read octets old.server.view new.server.view
@@ -94,6 +95,7 @@ module _ (read : Reading) (reads : IsReading read) where
       cutoff = alike.cutoff;
     })
 
+    -- octets are said
     pub server_said : (octets : List ℕ) (ways : Ways) → IsAlike ways old client reports w → SaysNext octets old new
         → Goes read [] (sent TheServer octets ways) new client reports w
     server_said octets ways alike says =
@@ -121,18 +123,21 @@ module _ (read : Reading) (reads : IsReading read) where
           };
         }
 
+    -- octets are read: no event
     pub server_read : (octets : List ℕ) (ways next : Ways) → IsAlike ways old client reports w → ReadsNext octets old new
         → ways.to_server ≡ octets ++ next.to_server → next.to_client ≡ ways.to_client → Goes read [] next new client reports w
     server_read octets ways next alike did front other =
         server_same ways next old.owner.end.server.view.footing.moment alike (ap (λ o. o.end.server.view) did.owner)
         (ap₂ (λ u q. u ++ q) did.heard front ∙ ap (λ u. u ++ next.to_server) (sym did.unheard)) other
 
+    -- it is asked whether it is done: no event
     pub server_aside : (ways : Ways) → IsAlike ways old client reports w → Calls {side = server_side} (Aside tt) old new
         → Goes read [] ways new client reports w
     server_aside ways alike did =
         server_same ways ways old.owner.end.server.view.footing.moment alike (ap (λ (at : Timed). at.server.view) did.0.0.0)
         (ap (λ (s : Stand server_side). s.unheard ++ ways.to_server) (sym did.1)) refl
 
+    -- an octet is heard
     pub server_heard : (octets : List ℕ) (ways : Ways) → IsAlike ways old client reports w → HearsNext octets old new → Goes read [] ways new client reports w
     server_heard [] ways alike did =
         let heard = hears_at (ends_line old.unheard) [] old.owner.end new.owner.end did.hears.0.1 calm before.none_waits in

@@ -104,6 +104,7 @@ module _ (read : Reading) (reads : IsReading read) (moment : ℕ) (timed : momen
       cutoff = refl;
     }
 
+    -- deed by deed
     reaches : (turns : List Turn) (between : Between) → Happened turns between
         → (server_start server : Stand server_side) (client_start client : Stand client_side) → Begins b server_start client_start
         → (server_led : Led (server_deeds turns) server_start server) (client_led : Led (client_deeds turns) client_start client)

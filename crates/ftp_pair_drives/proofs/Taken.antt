@@ -30,6 +30,7 @@ idle_of job = job
 abbrev pub taken : View → View
 taken v = record v { job = idle_of v.job }
 
+-- taking it is that
 pub reports_is : (v : View) → reports v ≡ taken v
 reports_is v = by_job v.job
   where
@@ -69,10 +70,12 @@ abbrev Goes : Said → (View → View) → View → Type 0
 Goes answer does v = Both answer (does (record v { job = Told answer })) (does (record v { job = Idle }))
 
 module _ (answer : Said) where
+  -- one thing after another
   goes_then : (does next : View → View) (v : View) → Goes answer does v → ((u : View) → Goes answer next u) → Goes answer (λ u. next (does u)) v
   goes_then does next v first rest = let second = rest first.both in
       record { both = second.both; told_is = ap next first.told_is ∙ second.told_is; idle_is = ap next first.idle_is ∙ second.idle_is }
 
+  -- a failure
   fails_goes : (failure : Failure) (v : View) → Goes answer (fails failure) v
   fails_goes failure v = by v.standing
     where
@@ -81,9 +84,11 @@ module _ (answer : Said) where
       by (Stands.Failed before) = record { both = v; told_is = refl; idle_is = refl }
       by standing = record { both = record (silent (dropped v)) { standing = Stands.Failed failure; run = None }; told_is = refl; idle_is = refl }
 
+  -- the end of the login
   login_goes : (v : View) → Goes answer login_ends v
   login_goes v = record { both = record v { standing = Stands.Entered }; told_is = refl; idle_is = refl }
 
+  -- the greeting
   greeted_goes : (verdict : Verdict) (code : ℕ) (v : View) → Goes answer (greeted verdict code) v
   greeted_goes Completion code v = record { both = sends (Commands.User v.user) (record v { standing = Stands.User }); told_is = refl; idle_is = refl }
   greeted_goes Preliminary code v = by (code == 120)
@@ -93,17 +98,20 @@ module _ (answer : Said) where
       by false = fails_goes Failures.Strange v
   greeted_goes verdict code v = fails_goes Failures.Strange v
 
+  -- the answer to USER
   user_goes : (verdict : Verdict) (v : View) → Goes answer (user_answered verdict) v
   user_goes Intermediate v = record { both = sends (Commands.Pass v.pass) (record v { standing = Stands.Pass }); told_is = refl; idle_is = refl }
   user_goes Completion v = login_goes v
   user_goes Negative v = login_goes v
   user_goes verdict v = fails_goes Failures.Strange v
 
+  -- the answer to PASS
   pass_goes : (verdict : Verdict) (v : View) → Goes answer (pass_answered verdict) v
   pass_goes Completion v = login_goes v
   pass_goes Negative v = login_goes v
   pass_goes verdict v = fails_goes Failures.Strange v
 
+  -- a reply, by how far the client has come
   stand_goes : (standing : Standing) (verdict : Verdict) (code : ℕ) (texts : List Text) (v : View)
       → Goes answer (stand_answered standing verdict code texts) v
   stand_goes Stands.Greeting verdict code texts v = greeted_goes verdict code v
@@ -112,32 +120,39 @@ module _ (answer : Said) where
   stand_goes Stands.Entered verdict code texts v = fails_goes Failures.Strange v
   stand_goes (Stands.Failed failure) verdict code texts v = record { both = v; told_is = refl; idle_is = refl }
 
+  -- a reply, by its first digit
   judged_goes : (verdict : Verdict) (code : ℕ) (texts : List Text) (v : View) → Goes answer (judged_reply verdict code texts) v
   judged_goes Closing code texts v = fails_goes Failures.Lost v
   judged_goes Displaced code texts v = fails_goes Failures.Strange v
   judged_goes verdict code texts v = stand_goes v.standing verdict code texts v
 
+  -- a reply
   answered_goes : (code : ℕ) (texts : List Text) (v : View) → Goes answer (answered code texts) v
   unfolding answered
   answered_goes code texts v = judged_goes (verdict_of code) code texts v
 
+  -- a line
   line_goes : (heard : Heard) (v : View) → Goes answer (line_taken heard) v
   line_goes (GoesOn gathered) v = record { both = record v { gathered = gathered }; told_is = refl; idle_is = refl }
   line_goes (Says code texts) v = answered_goes code texts (record v { gathered = Between })
   line_goes (Faulty fault) v = fails_goes Failures.Strange v
 
+  -- what an octet says
   event_goes : (event : NvtEvent) (v : View) → Goes answer (event_taken event) v
   event_goes (line text) v = line_goes (line_heard v.gathered text) v
   event_goes too_long v = fails_goes Failures.Strange v
   event_goes (owed octets) v = record { both = record v { owed = v.owed ++ octets }; told_is = refl; idle_is = refl }
 
+  -- all that it says
   events_goes : (events : List NvtEvent) (v : View) → Goes answer (events_taken events) v
   events_goes [] v = record { both = v; told_is = refl; idle_is = refl }
   events_goes (event ∷ events) v = goes_then (event_taken event) (events_taken events) v (event_goes event v) (events_goes events)
 
+  -- an octet
   octet_goes : (octet : ℕ) (v : View) → Goes answer (λ u. hears_octet u octet) v
   octet_goes octet v = events_goes ((ear reply_limit).out v.ear octet) (record v { ear = (ear reply_limit).step v.ear octet })
 
+  -- octets
   hears_goes : (octets : List ℕ) (v : View) → Goes answer (λ u. hears u octets) v
   hears_goes [] v = record { both = v; told_is = refl; idle_is = refl }
   hears_goes (octet ∷ octets) v = goes_then (λ u. hears_octet u octet) (λ u. hears u octets) v (octet_goes octet v) (hears_goes octets)
@@ -151,6 +166,7 @@ pub record HearsAlike (octets : List ℕ) (v : View) : Type 0 where
   pub report : option_to_list (report_of v) ++ option_to_list (report_of (hears (taken v) octets)) ≡ option_to_list (report_of (hears v octets))
   pub wants : wants (hears (taken v) octets) ≡ wants (hears v octets)
 
+-- so octets are heard alike before and after it is taken
 pub hears_alike : (octets : List ℕ) (v : View) → HearsAlike octets v
 hears_alike octets v = by_job v.job
   where
@@ -184,6 +200,7 @@ free_same v free = by_job v.job free
     by_job (Told answer) e = absurd (true≢false e)
     by_job job e = refl
 
+-- nor anything to report
 pub free_none : (v : View) → is_busy v ≡ false → report_of v ≡ None
 free_none v free = by_job v.job free
   where

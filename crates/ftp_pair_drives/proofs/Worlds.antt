@@ -47,6 +47,7 @@ collected_is w = by_job w.near.job
     by_job (Told answer) = refl
     by_job job = ap (λ r. record (with_job job) { reports = r }) (sym (append-nil w.reports))
 
+-- so a world is after an event, where its ends want nothing
 pub after_is : (w : World) → near.wants w.near ≡ Want.Nothing → far.wants w.far ≡ Want.Nothing
     → after_event w ≡ record w { near = taken w.near; reports = w.reports ++ option_to_list (near.report_of w.near) }
 after_is w none none_too = ap collected (served_is w none none_too) ∙ collected_is w
@@ -89,9 +90,11 @@ pub record LeadsOn (read : Reading) (begun : List Order) (old new : World) : Typ
   pub timed : AreTimed events
   pub leads : Leads read old events begun new
 
+-- none lead nowhere
 pub leads_none : (read : Reading) (w : World) → LeadsOn read [] w w
 leads_none read w = record { events = []; timed = tt; leads = (refl, refl) }
 
+-- events after events
 append_leads : (read : Reading) (front given : List Event) (begun more : List Order) (old mid new : World) → Leads read old front begun mid
     → Leads read mid given more new
     → Leads read old (front ++ given) (begun ++ more) new
@@ -106,10 +109,12 @@ append_leads read (event ∷ front) given begun more old mid new leads rest = (
   append_leads read front given leads.2 more leads.1 mid new leads.5 rest,
 )
 
+-- each of them is timed
 append_timed : (front given : List Event) → AreTimed front → AreTimed given → AreTimed (front ++ given)
 append_timed [] given one other = other
 append_timed (event ∷ front) given one other = (one.0, append_timed front given one.1 other)
 
+-- so lead one after another
 pub leads_then : (read : Reading) (begun more : List Order) (old mid new : World) → LeadsOn read begun old mid → LeadsOn read more mid new
     → LeadsOn read (begun ++ more) old new
 leads_then read begun more old mid new first second = record {
@@ -136,6 +141,7 @@ one_given octet octets due is = subst (λ d. Gives 4096 d 1) (sym is) (record {
   some = λ room has. omega arith;
 })
 
+-- then octets can be moved
 can_say : (count : ℕ) (octet : ℕ) (octets due : List ℕ) → due ≡ octet ∷ octets → (taking : Bool)
     → IsTrue ((has_octets due && ((0 == 0) || nat_lt count 0)) || taking)
 can_say count octet octets due is taking = ap (λ d. (has_octets d && ((0 == 0) || nat_lt count 0)) || taking) is
@@ -145,6 +151,7 @@ abbrev pub lent_behind : (said lent : List ℕ) → List ℕ
 lent_behind [] lent = lent
 lent_behind (octet ∷ octets) lent = []
 
+-- after none was lent, none is
 lent_none : (said : List ℕ) → lent_behind said [] ≡ []
 lent_none [] = refl
 lent_none (octet ∷ octets) = refl
@@ -155,6 +162,7 @@ module _ (read : Reading) where
   far_saying octets rest w =
       record w { far = record w.far { owed = rest }; control_to_client = w.control_to_client ++ octets; taken = lent_behind octets w.taken }
 
+  -- the server says an octet
   far_says_one : (octet : ℕ) (rest : List ℕ) (w : World) → Ready w → w.far.owed ≡ octet ∷ rest → LeadsOn read [] w (far_saying (octet ∷ []) rest w)
   unfolding far.gives_control
   far_says_one octet rest w ready owed =
@@ -178,6 +186,7 @@ module _ (read : Reading) where
         moves,
       )
 
+  -- and all of them
   pub far_says : (octets rest : List ℕ) (w : World) → Ready w → w.far.owed ≡ octets ++ rest → LeadsOn read [] w (far_saying octets rest w)
   far_says [] rest w ready owed =
       subst (λ u. LeadsOn read [] w u) (ap₂ (λ o q. record w { far = record w.far { owed = o }; control_to_client = q }) owed (sym
@@ -202,6 +211,7 @@ module _ (read : Reading) where
   near_saying octets rest w =
       record w { near = record w.near { owed = rest }; control_to_server = w.control_to_server ++ octets; taken = lent_behind octets w.taken }
 
+  -- the client says an octet
   near_says_one : (octet : ℕ) (rest : List ℕ) (w : World) → Ready w → w.near.owed ≡ octet ∷ rest → LeadsOn read [] w (near_saying (octet ∷ []) rest w)
   near_says_one octet rest w ready owed =
       let new : World = near_saying (octet ∷ []) rest w in
@@ -218,6 +228,7 @@ module _ (read : Reading) where
         moves,
       )
 
+  -- and all of them
   pub near_says : (octets rest : List ℕ) (w : World) → Ready w → w.near.owed ≡ octets ++ rest → LeadsOn read [] w (near_saying octets rest w)
   near_says [] rest w ready owed =
       subst (λ u. LeadsOn read [] w u) (ap₂ (λ o q. record w { near = record w.near { owed = o }; control_to_server = q }) owed (sym
@@ -322,6 +333,7 @@ module _ (read : Reading) where
 
   -- ---- an operation begins
 
+  -- it is an event of its own
   pub begins : (op : Op (List ℕ)) (moment : ℕ) → moment ≤ last_second → (w : World) → Ready w → w.link ≡ Gone → near.is_busy w.near ≡ false
       → near.wants (near.starts op w.near) ≡ Want.Nothing
       → LeadsOn read (Single op moment ∷ []) w (record w {
