@@ -1,5 +1,5 @@
 -- One event after the other.
-use Rattle.std.proofs.Common.{◌≡◌, ◌∙◌, ◌+◌, ◌<◌, ℕ, Bool, List, [], ◌∷◌, ◌++◌, map, take, length, get_or, refl, sym, ap, subst, Ok, Err}
+use Rattle.std.proofs.Common.{◌≡◌, ◌∙◌, ◌+◌, ◌<◌, ℕ, zero, suc, Bool, false, List, [], ◌∷◌, ◌++◌, map, take, length, get_or, refl, sym, ap, subst, arith, Ok, Err}
 use Rattle.std.specs.Prelude.{OnErr}
 use Rattle.std.proofs.lemmas.List.{map-append, take_more}
 use Rattle.std.specs.declared.result.Result.{Result}
@@ -8,10 +8,10 @@ use Rattle.std.specs.Vec.Iter.{into_iter_items, into_iter_steps}
 use Rattle.std.specs.declared.vec.IntoIter.{IntoIter}
 use Rattle.ftp_server_model.specs.Machine.{Reading}
 use Rattle.ftp_pair_world.specs.Agreement.{Leads, Order, begun_by}
-use Rattle.ftp_pair_world.specs.Events.{Event, Happens}
+use Rattle.ftp_pair_world.specs.Events.{Event, Happens, can_happen}
 use Rattle.ftp_pair_world.specs.World.{World}
 use Rattle.ftp_pair_parts.specs.Shown.{Steps}
-use Rattle.ftp_pair.specs.Session.{Seen, LeadsCalmly, LeadsPartly}
+use Rattle.ftp_pair.specs.Session.{AreIdle, Seen, LeadsCalmly, LeadsPartly}
 
 -- one event more
 pub leads_last : (read : Reading) (given : List Event) (event : Event) (begun : List Order) (possible : Bool) (old mid new : World) → Leads read old given begun mid → Happens read event mid possible new
@@ -55,6 +55,23 @@ pub led_on : {S : Type 0} (f : S → Event) (events : List S) (i : ℕ) (d next 
     → LeadsCalmly (map f (take (i + 1) events)) old new
 led_on f events i d next own possible old mid new inside is same leads steps =
     subst (λ l. LeadsCalmly (map f l) old new) (front_more events i d next own inside is same) (one_more_of f (take i events) own possible old mid new leads steps)
+
+-- where none of these events is possible, one of them is not
+idle_at : {S : Type 0} (f : S → Event) (events : List S) (i : ℕ) (d : S) (w : World) → i < length events → AreIdle (map f events) w → can_happen (f (get_or events i d)) w ≡ false
+idle_at f [] i d w inside idle = absurd (omega (arith, inside))
+idle_at f (event ∷ events) zero d w inside idle = idle.0
+idle_at f (event ∷ events) (suc i) d w inside idle = idle_at f events i d w (omega (arith, inside)) idle.1
+
+-- so nothing has changed after the next, which was tried as a copy of its own
+pub idle_on : {S : Type 0} (f : S → Event) (events : List S) (i : ℕ) (d next own : S) (possible : Bool) (old mid new : Seen) → i < length events → next ≡ get_or events i d → own ≡ next
+    → (AreIdle (map f events) old.world → (mid.world ≡ old.world) × (mid.calm ≡ old.calm)) → possible ≡ can_happen (f own) mid.world
+    → (possible ≡ false → (new.world ≡ mid.world) × (new.calm ≡ mid.calm)) → AreIdle (map f events) old.world → (new.world ≡ old.world) × (new.calm ≡ old.calm)
+idle_on f events i d next own possible old mid new inside is same so told idle all =
+    let before = so all in
+    let none : can_happen (f own) mid.world ≡ false =
+    ap (λ e. can_happen (f e) mid.world) (same ∙ is) ∙ ap (can_happen (f (get_or events i d))) before.0 ∙ idle_at f events i d old.world inside all in
+    let after = idle (told ∙ none) in
+    (after.0 ∙ before.0, after.1 ∙ before.1)
 
 -- the names of a front are the front of the names
 take_front : {S R : Type 0} (f : S → R) (front rest : List S) → take (length front) (map f (front ++ rest)) ≡ map f front

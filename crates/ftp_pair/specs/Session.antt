@@ -1,11 +1,11 @@
 -- What a session in a world of two ends has come to: from which ends, by which events, and what is known of it then.
-use Rattle.std.specs.Prelude.{◌≡◌, ℕ, ◌+◌, ◌<◌, ◌^◌, Bool, true, ◌&&◌, nat_eq, List, [], ◌∷◌, ◌++◌, take}
+use Rattle.std.specs.Prelude.{◌≡◌, ℕ, ◌+◌, ◌<◌, ◌^◌, Bool, true, false, ◌&&◌, nat_eq, List, [], ◌∷◌, ◌++◌, take}
 use Rattle.ftp_client_model.specs.Failing.{Client}
 use Rattle.ftp_server_model.specs.Far.{Server}
 use Rattle.ftp_server_model.specs.Machine.{Reading, IsReading}
 use Rattle.ftp_pair_world.specs.Agreement.{AreHonest, AreSingle, IsDirect, Leads, Order, WorldAgrees}
 use Rattle.ftp_pair_world.specs.Claims.{Beginning, IsAnswered, IsFair, AreTimed, state_of, world_of}
-use Rattle.ftp_pair_world.specs.Events.{Event, IsQuiet}
+use Rattle.ftp_pair_world.specs.Events.{Event, IsQuiet, can_happen}
 use Rattle.ftp_pair_world.specs.World.{World}
 use Rattle.ftp_pair_parts.specs.Calm.{Keeps, Tally, most_in, tally_of}
 use Rattle.ftp_pair_parts.specs.Happening.{IsSmall}
@@ -58,6 +58,11 @@ LeadsCalmly given old new = new.calm ≡ true → (old.calm ≡ true) × ((read 
 -- the first of them do
 abbrev pub LeadsPartly : List Event → Seen → Seen → Type 0
 LeadsPartly given old new = (count : ℕ) × LeadsCalmly (take count given) old new
+
+-- none of these is possible here
+abbrev pub AreIdle : List Event → World → Type 0
+AreIdle [] w = Unit {0}
+AreIdle (event ∷ events) w = (can_happen event w ≡ false) × AreIdle events w
 
 -- each of these is a delivery of at most 4,096 octets, an opening or an end
 abbrev pub AreSmall : List Event → Type 0

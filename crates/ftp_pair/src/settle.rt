@@ -30,6 +30,7 @@ impl<A: Allocator + Copy, T: Tree<A>, N: Near<A>, F: Far<A, T>> World<A, T, N, F
         ensures leads { LeadsSmall self.old self.new }
         ensures still { self.new.calm ≡ true → IsStill self.new.world }
         ensures settles { SettlesAfter self.old self.new }
+        ensures idle { IsStill self.old.world → self.new ≡ self.old }
         ensures calm { KeepsCalm self.old self.new }
     {
         let mut left = TURNS;
@@ -45,6 +46,7 @@ impl<A: Allocator + Copy, T: Tree<A>, N: Near<A>, F: Far<A, T>> World<A, T, N, F
     fn turn(&mut self) -> bool
         ensures does { result ≡ true → Stirs self.old.calm self.new.calm self.old.world self.new.world }
         ensures still { result ≡ false → IsStill self.old.world }
+        ensures stirs { result ≡ true → ¬ IsStill self.old.world }
         ensures same { result ≡ false → self.new ≡ self.old }
         ensures counted { Counted 12312 self.old self.new }
         ensures steady { self.old.calm ≡ true → ∥ IsSteady self.old.world ∥₁ }

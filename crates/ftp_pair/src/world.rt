@@ -1,15 +1,15 @@
 // A world of two ends.
-ghost use Rattle.std.specs.Prelude.{◌≡◌, ◌∷◌, [], true, length, map, nat_eq, option_map, IfErr, IfOk, OnErr, OnOk};
+ghost use Rattle.std.specs.Prelude.{◌≡◌, ◌∷◌, [], true, false, length, map, nat_eq, option_map, IfErr, IfOk, OnErr, OnOk};
 ghost use Rattle.std.specs.List.{slice_get};
 ghost use Rattle.ftp_operation.specs.Answer.{said_of};
 ghost use Rattle.ftp_pair_world.specs.Agreement.{begun_by};
 ghost use Rattle.ftp_pair_world.specs.Claims.{Beginning, IsFair, world_of};
-ghost use Rattle.ftp_pair_world.specs.Events.{Happens, IsQuiet};
+ghost use Rattle.ftp_pair_world.specs.Events.{Happens, IsQuiet, can_happen};
 ghost use Rattle.ftp_pair_world.specs.World.{world};
 ghost use Rattle.ftp_pair_parts.specs.Calm.{most_in};
 ghost use Rattle.ftp_pair_parts.specs.Happening.{event_of};
 ghost use Rattle.ftp_pair_parts.specs.Shown.{HasRoom, Steps, mark_of};
-ghost use Rattle.ftp_pair.specs.Session.{AgreesAfter, AgreesBy, AgreesHere, Counted, IsReached, KeepsCalmBy, LeadsCalmly, LeadsPartly, Reached, seen};
+ghost use Rattle.ftp_pair.specs.Session.{AgreesAfter, AgreesBy, AgreesHere, AreIdle, Counted, IsReached, KeepsCalmBy, LeadsCalmly, LeadsPartly, Reached, seen};
 
 use ftp_client_model::Near;
 use ftp_operation::Answer;
@@ -73,6 +73,8 @@ impl<A: Allocator + Copy, T: Tree<A>, N: Near<A>, F: Far<A, T>> World<A, T, N, F
     /// it has changed nothing.
     pub fn step(&mut self, event: Event<A>) -> Result<bool, AllocError>
         ensures does { IfOk result (λ possible. Steps self.old.calm self.new.calm (λ read. Happens read (event_of event) self.old.world possible self.new.world)) }
+        ensures possible { IfOk result (λ possible. possible ≡ can_happen (event_of event) self.old.world) }
+        ensures idle { IfOk result (λ possible. possible ≡ false → (self.new.world ≡ self.old.world) × (self.new.calm ≡ self.old.calm)) }
         ensures agrees { IfOk result (λ possible. AgreesBy (event_of event) (begun_by (event_of event) possible) self.old self.new) }
         ensures calm { KeepsCalmBy (event_of event ∷ []) self.old self.new }
         ensures counted { Counted (most_in (event_of event)) self.old self.new }
@@ -87,6 +89,7 @@ impl<A: Allocator + Copy, T: Tree<A>, N: Near<A>, F: Far<A, T>> World<A, T, N, F
         ensures leads { OnOk result (LeadsCalmly (map event_of events.now) self.old self.new) }
         ensures agrees { OnOk result (AgreesAfter (map event_of events.now) self.old self.new) }
         ensures partly { OnErr result (LeadsPartly (map event_of events.now) self.old self.new) }
+        ensures idle { AreIdle (map event_of events.now) self.old.world → (self.new.world ≡ self.old.world) × (self.new.calm ≡ self.old.calm) }
         ensures calm { KeepsCalmBy (map event_of events.now) self.old self.new }
     {
         for event in events {

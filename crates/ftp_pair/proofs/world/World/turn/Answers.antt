@@ -15,6 +15,9 @@ returns-clause-does g c =
 pub returns-clause-still : goal.returns-clause-still
 returns-clause-still g c = subst (λ (s : Seen). c.turn.result ≡ false → IsStill s.world) c.self.view_is c.turn.ensures.still
 
+pub returns-clause-stirs : goal.returns-clause-stirs
+returns-clause-stirs g c = subst (λ (s : Seen). c.turn.result ≡ true → ¬ IsStill s.world) c.self.view_is c.turn.ensures.stirs
+
 pub returns-clause-same : goal.returns-clause-same
 returns-clause-same g c is = ap (seen g.N.Near.client g.F.Far.server) (c.turn.ensures.same is) ∙ c.self.view_is
 
