@@ -1,8 +1,8 @@
 -- What makes a beginning fair, and what does not.
-use Rattle.std.proofs.Common.{◌≡◌, ◌∙◌, ℕ, Bool, true, false, List, [], Option, Some, None, nat_le, sym, ap, subst}
+use Rattle.std.proofs.Common.{◌≡◌, ◌∙◌, ◌<◌, ℕ, Bool, true, false, List, [], Option, Some, None, nat_le, sym, ap, subst}
 use Rattle.std.specs.Prelude.{IsTrue}
 use Rattle.std.specs.List.{list_all}
-use Rattle.std.proofs.lemmas.Bool.{leb-true, le-leb, false≢true}
+use Rattle.std.proofs.lemmas.Bool.{leb-false, leb-true, le-leb, false≢true}
 use Rattle.ftp_direct.specs.Direct.{part, start}
 use Rattle.ftp_endpoint.specs.Written.{IsTypedHost}
 use Rattle.ftp_endpoint.specs.declared.host.Host.{Host}
@@ -59,3 +59,10 @@ pub not_full : (user pass : List ℕ) (accounts list : List Account) (table : Ta
 not_full user pass accounts list table near_host far_host same over fair =
     let all : is_within user pass list table ≡ true = le-leb (octets_in (part (start table (login_account list user pass)))) total_limit fair.octets in
     absurd (false≢true (sym over ∙ ap (λ l. is_within user pass l table) same ∙ all))
+
+-- ---- and why
+
+pub is_over : (user pass : List ℕ) (accounts list : List Account) (table : Table) → accounts ≡ list → is_within user pass accounts table ≡ false
+    → total_limit < octets_in (part (start table (login_account list user pass)))
+is_over user pass accounts list table same over =
+    leb-false (octets_in (part (start table (login_account list user pass)))) total_limit (sym (ap (λ l. is_within user pass l table) same) ∙ over)

@@ -78,14 +78,15 @@ pub plays_from : {E : Type 0} (A : Type 0) (wanted : Bool) (from own : Beginning
 plays_from A wanted from own orders old new r is plays = subst (λ b. IfOk r (λ status. Plays A wanted b orders old new status)) is plays
 
 -- there is no script
-pub tells_none : {A : Type 0} (wanted roots : Bool) (known left old new : Option (List ℕ)) (fault : NoScript) (status : Status) → ReadsScript {A = A} known left (Err fault)
-    → status ≡ status_without fault → new ≡ old → Tells A wanted roots known left old new status
-tells_none wanted roots known left old new (Nones.Line number) status reads is same =
+pub tells_none : {A : Type 0} (wanted roots : Bool) (known left old new earlier later : Option (List ℕ)) (fault : NoScript) (status : Status) → ReadsScript {A = A} known left (Err fault)
+    → status ≡ status_without fault → new ≡ old → Tells A wanted roots known left old new earlier later status
+tells_none wanted roots known left old new earlier later (Nones.Line number) status reads is same =
     inr (inl (record { text = reads.0; gave = reads.1; line = number; fault = reads.2; same = same; told = is }))
-tells_none wanted roots known left old new (Nones.Failed error) status reads is same = inr (inr is)
+tells_none wanted roots known left old new earlier later (Nones.Failed error) status reads is same = inr (inr is)
 
 -- there is one
-pub tells_script : {A : Type 0} (wanted roots : Bool) (known left old new : Option (List ℕ)) (script : Script A) (status : Status) → ReadsScript known left (Ok script)
-    → Plays A wanted (own_beginning roots (script.login.user, script.login.pass)) script.orders.items old new status → Tells A wanted roots known left old new status
-tells_script wanted roots known left old new script status reads plays =
-    inl (record { text = reads.0; gave = reads.1; login = (script.login.user, script.login.pass); orders = script.orders.items; said = reads.2; plays = plays })
+pub tells_script : {A : Type 0} (wanted roots : Bool) (known left old new earlier later : Option (List ℕ)) (script : Script A) (status : Status) → ReadsScript known left (Ok script)
+    → Plays A wanted (own_beginning roots (script.login.user, script.login.pass)) script.orders.items old new status → later ≡ earlier
+    → Tells A wanted roots known left old new earlier later status
+tells_script wanted roots known left old new earlier later script status reads plays silent =
+    inl (record { text = reads.0; gave = reads.1; login = (script.login.user, script.login.pass); orders = script.orders.items; said = reads.2; plays = plays }, silent)

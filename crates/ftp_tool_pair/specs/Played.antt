@@ -56,6 +56,7 @@ pub record IsUnfit (known left old new : Option (List ℕ)) (status : Status) : 
   pub same : new ≡ old
   pub told : status ≡ BadWords
 
--- a script was played; or it is none; or something failed, or was refused memory
-abbrev pub Tells : (A : Type 0) (wanted roots : Bool) (known left old new : Option (List ℕ)) (status : Status) → Type 0
-Tells A wanted roots known left old new status = PlaysAll A wanted roots known left old new status ⊎ (IsUnfit known left old new status ⊎ (status ≡ Failed))
+-- a script was played, and no fault told of; or it is none; or something failed, or was refused memory
+abbrev pub Tells : (A : Type 0) (wanted roots : Bool) (known left old new : Option (List ℕ)) (earlier later : Option (List ℕ)) (status : Status) → Type 0
+Tells A wanted roots known left old new earlier later status =
+    (PlaysAll A wanted roots known left old new status × (later ≡ earlier)) ⊎ (IsUnfit known left old new status ⊎ (status ≡ Failed))

@@ -57,7 +57,8 @@ where
     R: Read,
     W: Write,
     F: Write,
-    ensures { Tells A settings.transcript settings.roots (R.remaining reader.old) (R.remaining reader.new) (W.contents writer.old) (W.contents writer.new) result }
+    ensures { Tells A settings.transcript settings.roots (R.remaining reader.old) (R.remaining reader.new) (W.contents writer.old) (W.contents writer.new)
+        (F.contents faults.old) (F.contents faults.new) result }
 {
     let script = match read_script(alloc, reader) {
         Ok(script) => script,

@@ -1,0 +1,15 @@
+-- Why no session begins so.
+use Rattle.std.specs.Prelude.{◌≡◌, ◌<◌, None, Some}
+use Rattle.ftp_direct.specs.Direct.{part}
+use Rattle.ftp_operation.specs.Account.{accounts_refusal}
+use Rattle.ftp_tree.specs.Tree.{octets_in, total_limit}
+use Rattle.ftp_pair_world.specs.Claims.{AreRelated, Beginning, state_of}
+use Rattle.ftp_tool_pair.specs.declared.beginning.Unfair.{Unfair}
+use Rattle.ftp_tool_pair.specs.declared.beginning.Unfair.TheVariants.{Accounts, Full, Hosts}
+
+-- the first of these that holds: the hosts are of two families; the accounts are refused; the tree is over its limit where the login sees it
+abbrev pub IsWhy : Unfair → Beginning → Type 0
+IsWhy Hosts from = ¬ AreRelated from.near_host from.far_host
+IsWhy (Accounts fault) from = AreRelated from.near_host from.far_host × (accounts_refusal from.accounts ≡ Some fault)
+IsWhy Full from =
+    AreRelated from.near_host from.far_host × (accounts_refusal from.accounts ≡ None) × (total_limit < octets_in (part (state_of from)))
