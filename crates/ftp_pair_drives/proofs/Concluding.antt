@@ -52,7 +52,7 @@ both_single (Single op moment ∷ front) given one other = both_single front giv
 both_single (Tries upload moment ∷ front) given one other = absurd one
 
 -- none of all deeds does
-in_single : (moment : ℕ) (deeds : List (Deed client_side)) → AreSingle (begun_in moment deeds)
+pub in_single : (moment : ℕ) (deeds : List (Deed client_side)) → AreSingle (begun_in moment deeds)
 in_single moment [] = tt
 in_single moment (deed ∷ before) = both_single (begun_in moment before) (begun_by moment deed) (in_single moment before) (by_single moment deed)
 

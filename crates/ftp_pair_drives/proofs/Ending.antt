@@ -95,7 +95,7 @@ answers_are (asked ∷ before) start now answered =
     ∙ ap (λ l. l ++ asked.1 ∷ []) (answers_are before start answered.0 answered.1)
 
 -- as many as operations
-as_many : (moment : ℕ) (asked : List (Op (List ℕ) × Said)) → length (answers_of asked) ≡ length (orders_of moment asked)
+pub as_many : (moment : ℕ) (asked : List (Op (List ℕ) × Said)) → length (answers_of asked) ≡ length (orders_of moment asked)
 as_many moment [] = refl
 as_many moment (asked ∷ before) =
     let one = length-append (answers_of before) (asked.1 ∷ []) in
@@ -111,7 +111,7 @@ reported_free v answer e = by v.job e
     by job e = absurd (true≢false (ap is_some e))
 
 -- a client whose drives are over is not busy
-answered_free : (b : Beginning) (server : Stand server_side) (asked : List (Op (List ℕ) × Said)) (start now : Stand client_side) → Begins b server start
+pub answered_free : (b : Beginning) (server : Stand server_side) (asked : List (Op (List ℕ) × Said)) (start now : Stand client_side) → Begins b server start
     → AreAnswered asked start now → is_busy now.owner.end.view ≡ false
 answered_free b server [] start now begins answered = ap (λ (s : Stand client_side). is_busy s.owner.end.view) answered.0 ∙ ap is_busy begins.client_view
 answered_free b server (asked ∷ before) start now begins answered =

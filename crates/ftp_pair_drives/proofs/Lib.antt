@@ -8,6 +8,8 @@ pub mod Simulating
 pub mod Concluding
 pub mod Parting
 pub mod Ending
+pub mod Quitting
+pub mod Leaving
 pub mod Losing
 pub mod Theorems
 pub mod Delaying

@@ -49,14 +49,14 @@ is_ready ways server client reports w alike serves asks =
     }
 
 -- octets were heard, whatever moment was told before
-record HearsAt (read : Reading) (octets : List ℕ) (old new : Far) : Type 0 where
+pub record HearsAt (read : Reading) (octets : List ℕ) (old new : Far) : Type 0 where
   pub moment : ℕ
   pub may : MayHear read (clock_step moment old) octets
   pub is : new ≡ hears read (clock_step moment old) octets
 
 module _ (read : Reading) (reads : IsReading read) where
   -- so it is whether the octet ends a line or not
-  hears_at : (ends : Bool) (octets : List ℕ) (old new : Timed) → HearsBy ends octets old new → new.server.counts ≡ old.server.counts
+  pub hears_at : (ends : Bool) (octets : List ℕ) (old new : Timed) → HearsBy ends octets old new → new.server.counts ≡ old.server.counts
       → old.server.view.waiting ≡ None
       → HearsAt read octets old.server.view new.server.view
   hears_at true octets old new heard calm none =

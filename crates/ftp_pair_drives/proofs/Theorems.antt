@@ -4,9 +4,11 @@ use Rattle.ftp_server_model.proofs.LinesDecided.{reading_exists}
 use Rattle.ftp_pair_drives.specs.Broken.{DrivesBrokenAgree}
 use Rattle.ftp_pair_drives.specs.Claims.{DrivesAgree, DrivesAreTheDirectRun, PartingAgrees}
 use Rattle.ftp_pair_drives.specs.Over.{DrivesLostAgree, DrivesOverAreTheDirectRun}
+use Rattle.ftp_pair_drives.specs.Quitting.{DrivesThatQuitAreTheDirectRun}
 use Rattle.ftp_pair_drives.proofs.BothBroken.{drives_broken_agree_by}
 use Rattle.ftp_pair_drives.proofs.Concluding.{drives_agree_by, drives_are_the_direct_run_by, parting_agrees_by}
 use Rattle.ftp_pair_drives.proofs.Ending.{drives_over_are_the_direct_run_by}
+use Rattle.ftp_pair_drives.proofs.Leaving.{drives_that_quit_are_the_direct_run_by}
 use Rattle.ftp_pair_drives.proofs.Losing.{drives_lost_agree_by}
 
 -- reports and map agree with what was begun
@@ -24,6 +26,10 @@ drives_are_the_direct_run = drives_are_the_direct_run_by agrees-always reading_e
 -- so it is of drives that are over
 pub drives_over_are_the_direct_run : DrivesOverAreTheDirectRun
 drives_over_are_the_direct_run = drives_over_are_the_direct_run_by agrees-always reading_exists
+
+-- and of those that end by QUIT
+pub drives_that_quit_are_the_direct_run : DrivesThatQuitAreTheDirectRun
+drives_that_quit_are_the_direct_run = drives_that_quit_are_the_direct_run_by agrees-always reading_exists
 
 -- and those that were lost agree
 pub drives_lost_agree : DrivesLostAgree

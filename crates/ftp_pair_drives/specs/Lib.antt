@@ -6,3 +6,4 @@ pub mod Claims
 pub mod Over
 pub mod Delays
 pub mod Broken
+pub mod Quitting

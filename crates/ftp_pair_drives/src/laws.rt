@@ -4,6 +4,7 @@ ghost use Rattle.ftp_pair_drives.specs.Broken.{ClientsAreCut, DrivesBrokenAgree,
 ghost use Rattle.ftp_pair_drives.specs.Claims.{DrivesAgree, DrivesAreOfWorlds, DrivesAreTheDirectRun, EndsKeepTheMap, PartingAgrees};
 ghost use Rattle.ftp_pair_drives.specs.Delays.{DownBreaksCommute, EndForgetsBreak, EndForgetsLateBreak, OpeningCommutes, UnopenedIsBroken, UpBreaksCommute, UpRepliesCommute};
 ghost use Rattle.ftp_pair_drives.specs.Over.{DrivesLostAgree, DrivesOverAreTheDirectRun};
+ghost use Rattle.ftp_pair_drives.specs.Quitting.{DrivesThatQuitAreTheDirectRun};
 
 /// One server's drive and drives of one client leave what a list of the world's events leads to from the beginning, but for the moment that the
 /// server was told last.
@@ -28,6 +29,11 @@ pub fn drives_are_the_direct_run()
 /// these answers and the map that is left are those of the operations run directly.
 pub fn drives_over_are_the_direct_run()
     ensures { DrivesOverAreTheDirectRun }
+{}
+
+/// So it is where the client's program wrote QUIT after all of the client's deeds, and the server's drive is over since it heard that.
+pub fn drives_that_quit_are_the_direct_run()
+    ensures { DrivesThatQuitAreTheDirectRun }
 {}
 
 /// Where both were told in the midst of the last operation that the control connection ended, answers and map agree with the operations begun.
