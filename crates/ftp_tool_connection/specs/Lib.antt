@@ -4,3 +4,5 @@ pub mod Answering
 pub mod Again
 -- What is heard of a server's lines, and how much a data connection may bring.
 pub mod Course
+-- By which commands a data connection is asked for, and when by the others.
+pub mod Opening

@@ -1,0 +1,28 @@
+-- By which commands a data connection is asked for, and when by the others (RFC 959, section 4.1.2; RFC 2428, sections 2 and 3).
+use Rattle.std.specs.Prelude.{ℕ, ◌==◌, ◌||◌, Bool, true, false, if◌then◌else◌}
+use Rattle.ftp_operation.specs.declared.answer.Answer.{Answer}
+use Rattle.ftp_operation.specs.declared.answer.Answer.TheVariants as Answers
+use Rattle.ftp_tool_connection.specs.declared.opening.Opening.{Opening}
+use Rattle.ftp_tool_connection.specs.declared.opening.Opening.TheVariants as Openings
+
+-- the codes of a server that does not know a command, or not with this argument (RFC 959, section 4.2.2), or not this protocol of the network (RFC 2428)
+abbrev pub means_unknown : ℕ → Bool
+means_unknown code = code == 500 || code == 501 || code == 502 || code == 522
+
+-- an answer that says so
+abbrev pub says_unknown : {A : Type 0} → Answer A → Bool
+says_unknown (Answers.Refused code) = means_unknown code
+says_unknown answer = false
+
+-- by EPSV or EPRT, and not by PASV or PORT
+abbrev pub asks_extended : Opening → Bool
+asks_extended Openings.ExtendedFirst = true
+asks_extended Openings.Extended = true
+asks_extended Openings.Plain = false
+
+-- what is asked after an operation was answered so, with a data connection or without: PASV or PORT where that was not asked for yet, no data connection
+-- was opened, and the answer says that something is not known; else the same as before
+abbrev pub opening_by : {A : Type 0} → Opening → Answer A → (is_opened : Bool) → Opening
+opening_by Openings.ExtendedFirst answer is_opened =
+    if is_opened then Openings.ExtendedFirst else if says_unknown answer then Openings.Plain else Openings.ExtendedFirst
+opening_by opening answer is_opened = opening

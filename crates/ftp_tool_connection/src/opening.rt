@@ -1,0 +1,100 @@
+// By which commands data connections are asked for: what a server does not know is asked otherwise, from then on.
+ghost use Rattle.std.specs.Prelude.{◌≡◌};
+ghost use Rattle.ftp_tool_connection.specs.Opening.{asks_extended, opening_by, says_unknown};
+
+use ftp_operation::{Answer, How};
+use std::alloc::Global;
+use std::cell::Cell;
+
+/// The codes of a server that does not know a command, not its argument, or has not implemented it (RFC 959, section 4.2.2).
+const UNKNOWN: u16 = 500;
+
+const UNKNOWN_ARGUMENT: u16 = 501;
+
+const NOT_IMPLEMENTED: u16 = 502;
+
+/// The code of a server that does not know the protocol of the network (RFC 2428, section 2).
+const UNKNOWN_PROTOCOL: u16 = 522;
+
+/// By which commands a data connection is asked for over IPv4 (RFC 959, section 4.1.2; RFC 2428, sections 2 and 3); over IPv6 there are EPSV and EPRT alone.
+#[derive(Clone, Copy)]
+pub enum Opening {
+    /// By EPSV or EPRT, until the server says that it does not know them.
+    ExtendedFirst,
+    /// By EPSV or EPRT alone.
+    Extended,
+    /// By PASV or PORT alone.
+    Plain,
+}
+
+impl Opening {
+    /// Whether it is by EPSV or EPRT.
+    fn asks_extended(self) -> bool
+        ensures { result ≡ asks_extended self }
+    {
+        match self {
+            Opening::ExtendedFirst | Opening::Extended => true,
+            Opening::Plain => false,
+        }
+    }
+}
+
+/// How a program asks for its data connections: what a server said of that counts for all that it asks afterwards, over each control connection.
+#[derive(Drop)]
+pub struct Openings {
+    now: Cell<Opening>,
+}
+
+impl Openings {
+    /// By these commands.
+    pub fn new(first: Opening) -> Openings {
+        Openings {
+            now: Cell::new(first),
+        }
+    }
+
+    /// How a transfer goes now.
+    pub fn how(&self, how: How) -> How {
+        How {
+            extended: self.now.get().asks_extended(),
+            ..how
+        }
+    }
+
+    /// Takes in what was answered, with a data connection or without. Says whether the same is to be asked again, as `how` then says.
+    pub fn hear(&self, answer: &Answer<Global>, is_opened: bool) -> bool {
+        let before = self.now.get();
+        let after = opening_after(before, answer, is_opened);
+        self.now.set(after);
+        before.asks_extended() && !after.asks_extended()
+    }
+}
+
+/// By which commands it is asked after such an answer, with a data connection or without.
+fn opening_after(opening: Opening, answer: &Answer<Global>, is_opened: bool) -> Opening
+    ensures { result ≡ opening_by opening answer.now is_opened }
+{
+    match opening {
+        Opening::ExtendedFirst => {
+            if is_opened {
+                Opening::ExtendedFirst
+            } else if says_unknown(answer) {
+                Opening::Plain
+            } else {
+                Opening::ExtendedFirst
+            }
+        }
+        Opening::Extended => Opening::Extended,
+        Opening::Plain => Opening::Plain,
+    }
+}
+
+/// Whether an answer says that something is not known (RFC 959, section 4.2.2; RFC 2428, section 2).
+fn says_unknown(answer: &Answer<Global>) -> bool
+    ensures { result ≡ says_unknown answer.now }
+{
+    match answer {
+        Answer::Refused(UNKNOWN | UNKNOWN_ARGUMENT | NOT_IMPLEMENTED | UNKNOWN_PROTOCOL) => true,
+        _ => false,
+    }
+}
