@@ -8,10 +8,10 @@ mod several;
 use clap::{ArgMatches, Error};
 use ftp_tool_command::{
     BadValue, PLACE_OPTION, Program, Refusal, asked_of, command, download_of, fetch_task_of,
-    mirror_of, program_of, rounds_of, script_server_of, script_user_of, serving_of, settings_of,
-    task_of, url_in, urls_in,
+    mirror_of, openings_of, program_of, rounds_of, script_server_of, script_user_of, serving_of,
+    settings_of, task_of, url_in, urls_in,
 };
-use ftp_tool_fetch::{Target, Task};
+use ftp_tool_fetch::{Openings, Target, Task};
 use ftp_tool_shown::Shown;
 use ftp_tool_status::Status;
 use ftp_tool_words::{Location, UrlPlace, place_for, says_directory};
@@ -153,8 +153,9 @@ fn mirror_from<R: Programs + Eprint>(
     words: &ArgMatches<'_>,
     from: Option<&UrlPlace>,
 ) -> io::Result<u8> {
+    let openings = openings_of(words);
     match url_in(alloc, "<TARGET>", words.get_str("target").unwrap_or("")) {
-        Ok(to) => mirror_between(rt, words, from, to.as_ref()),
+        Ok(to) => mirror_between(rt, words, from, to.as_ref(), &openings),
         Err(refusal) => refuse(rt, refusal),
     }
 }
@@ -165,8 +166,9 @@ fn mirror_between<'a, R: Programs + Eprint>(
     words: &'a ArgMatches<'_>,
     from: Option<&'a UrlPlace>,
     to: Option<&'a UrlPlace>,
+    openings: &'a Openings,
 ) -> io::Result<u8> {
-    match mirror_of(words, from, to) {
+    match mirror_of(words, from, to, openings) {
         Ok(asked) => number_of(rt.mirror(asked)),
         Err(refusal) => refuse(rt, refusal),
     }
@@ -178,7 +180,9 @@ where
     R: Programs + Eprint,
 {
     let (places, target) = sources_of(words.get_strs("places").unwrap_or(&[]));
+    let openings = openings_of(words);
     let goal = Goal {
+        openings: &openings,
         target,
         into: places.len() > 1 || says_directory(target) || rt.is_folder(target),
         is_terminal,
@@ -196,17 +200,18 @@ fn get_where<'a, R: Programs + Eprint>(
     words: &'a ArgMatches<'_>,
     places: &[&'a str],
     urls: &'a [Option<UrlPlace>],
-    goal: Goal<'_>,
+    goal: Goal<'a>,
 ) -> io::Result<u8> {
-    match check_places(words, places, urls, goal.into) {
+    match check_places(words, places, urls, goal.openings, goal.into) {
         Ok(()) => number_of(get_all(rt, alloc, words, places, urls, goal)),
         Err(refusal) => refuse(rt, refusal),
     }
 }
 
-/// Where files go that are fetched.
+/// Where files go that are fetched, and by which commands data connections are asked for.
 #[derive(Clone, Copy)]
 struct Goal<'a> {
+    openings: &'a Openings,
     target: &'a str,
     /// Whether they go into the target.
     into: bool,
@@ -220,11 +225,12 @@ fn get_all<'a, R: Programs + Eprint>(
     words: &'a ArgMatches<'_>,
     places: &[&'a str],
     urls: &'a [Option<UrlPlace>],
-    goal: Goal<'_>,
+    goal: Goal<'a>,
 ) -> io::Result<Status> {
     let mut worst = Status::Done;
     for (place, url) in places.iter().zip(urls.iter()) {
-        let Ok(asked) = asked_of(words, *place, url.as_ref(), goal.is_terminal) else {
+        let Ok(asked) = asked_of(words, *place, url.as_ref(), goal.openings, goal.is_terminal)
+        else {
             return Ok(Status::BadWords);
         };
         let status = get_one(rt, alloc, words, &asked, goal)?;
@@ -255,8 +261,9 @@ where
         Ok(said) => said,
         Err(refusal) => return refuse(rt, refusal),
     };
+    let openings = openings_of(words);
     match url_in(alloc, PLACE_OPTION, place) {
-        Ok(url) => match asked_of(words, place, url.as_ref(), is_terminal) {
+        Ok(url) => match asked_of(words, place, url.as_ref(), &openings, is_terminal) {
             Ok(asked) => put_where(rt, alloc, files, &asked),
             Err(refusal) => refuse(rt, refusal),
         },
@@ -332,8 +339,9 @@ where
     R: Programs + Eprint,
 {
     let place = words.get_str("place").unwrap_or("");
+    let openings = openings_of(words);
     match url_in(alloc, PLACE_OPTION, place) {
-        Ok(url) => match asked_of(words, place, url.as_ref(), is_terminal) {
+        Ok(url) => match asked_of(words, place, url.as_ref(), &openings, is_terminal) {
             Ok(asked) => ask_at(rt, name, words, &asked),
             Err(refusal) => refuse(rt, refusal),
         },

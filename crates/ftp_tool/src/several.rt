@@ -4,6 +4,7 @@ ghost use Rattle.ftp_tool_words.specs.Placing.{says_directory};
 
 use clap::ArgMatches;
 use ftp_tool_command::{BadValue, PLACE_OPTION, Refusal, asked_of};
+use ftp_tool_fetch::Openings;
 use ftp_tool_words::{Location, UrlPlace, is_url, last_part, says_directory};
 
 /// The places that `get` fetches, and where they go: the last of several words says it, if it is no URL. Where none does, each goes into the folder
@@ -36,10 +37,11 @@ pub(crate) fn check_places<'a>(
     words: &'a ArgMatches<'_>,
     places: &[&'a str],
     urls: &'a [Option<UrlPlace>],
+    openings: &'a Openings,
     into: bool,
 ) -> Result<(), Refusal<'a>> {
     for (place, url) in places.iter().zip(urls.iter()) {
-        let asked = asked_of(words, *place, url.as_ref(), false)?;
+        let asked = asked_of(words, *place, url.as_ref(), openings, false)?;
         if into {
             check_name(*place, asked.place)?;
         }

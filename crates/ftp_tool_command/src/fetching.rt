@@ -3,11 +3,12 @@ use crate::help;
 use crate::place::{location_in, user_in, wanted_of};
 use crate::refusal::Refusal;
 use crate::words::{
-    ACTIVE, EXTENDED, Form, LIMIT, MODE, PASSWORD_FILE, STRU, Subcommand, TIMEOUT, TYPE, USER,
-    Value, Word, chosen, how_of, limit_in, representation_in, text_in, timeout_in,
+    ACTIVE, EXTENDED, Form, LIMIT, MODE, NO_EXTENDED, PASSWORD_FILE, STRU, Subcommand, TIMEOUT,
+    TYPE, USER, Value, Word, chosen, how_of, limit_in, representation_in, text_in, timeout_in,
 };
 use clap::ArgMatches;
 use ftp_operation::How;
+use ftp_tool_connection::Openings;
 use ftp_tool_fetch::{Download, Lines, Parts, Simple, Target, Task};
 use ftp_tool_words::{Location, UrlPlace};
 
@@ -141,6 +142,7 @@ const OPTIONS: &[Word<'static>] = &[
     PASSWORD_FILE,
     ACTIVE,
     EXTENDED,
+    NO_EXTENDED,
     Word {
         name: "progress",
         form: Form::Flag,
@@ -165,11 +167,12 @@ const OPTIONS: &[Word<'static>] = &[
     },
 ];
 
-/// What is asked at a place, which is this URL, if it is one. At a terminal progress is told.
+/// What is asked at a place, which is this URL, if it is one, by data connections that are asked for so. At a terminal progress is told.
 pub fn asked_of<'a>(
     words: &'a ArgMatches<'_>,
     place: &'a str,
     url: Option<&'a UrlPlace>,
+    openings: &'a Openings,
     is_terminal: bool,
 ) -> Result<Target<'a>, Refusal<'a>> {
     let location = asked_at(place, url)?;
@@ -180,6 +183,7 @@ pub fn asked_of<'a>(
         place: location,
         user: user_in(words, url),
         how,
+        openings,
         timeout,
         progress: is_terminal || words.get_flag("progress"),
         limit,

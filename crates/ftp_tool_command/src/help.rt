@@ -121,6 +121,8 @@ standard error is a terminal, it has the octets of a transfer that takes more th
 Where the control connection ends, another one is made, at most four times, behind 1, 2, 4 and 8 seconds; each is told on standard error.
 The download goes on there where size and moment are those of before, and else begins anew. A server that says, takes and sends nothing for
 the seconds of --timeout counts as one that ended it.
+Over IPv4 too a data connection is asked for by EPSV, with --active by EPRT, and from the first answer 500, 501, 502 or 522 on by PASV or
+PORT; with --extended by EPSV or EPRT alone, with --no-extended by PASV or PORT alone.
 Who logs in is the user of --user, else that of a URL, else that of the first entry that .netrc has for HOST, else anonymous. The password
 of anonymous is none; that of another user is the first of: that of a URL that names the same user or where --user names none; the file that
 --password-file names; the first entry that .netrc has for HOST and the user; FTP_PASSWORD in the environment, which is not sent for a user
@@ -136,8 +138,8 @@ Example:
 
 pub const PUT: &str = "\
 FILE is - for standard input. A PATH that is empty or ends in / is a directory: each file goes into it by its own name, over a control
-connection of its own; one that fails does not stop the others, and the status is the worst. HOST, PATH, passwords, status, progress and
-what is done where the control connection ends are as with get; an upload begins anew then. A file of more octets than --limit is refused,
+connection of its own; one that fails does not stop the others, and the status is the worst. HOST, PATH, passwords, status, progress, data
+connections and what is done where the control connection ends are as with get; an upload begins anew then. A file of more octets than --limit is refused,
 with status 1. Behind an upload in type I and file structure the server is asked for the size of what it has, where it tells that; where
 that is a part, or the data connection alone broke, it goes on there, by at most 16 tries in all, and is done only once the size is that of
 FILE. More than one try are told on standard error; status 1 where the server has another size in the end, or says that there is no such
@@ -148,8 +150,8 @@ Example:
   FTP_PASSWORD=secret ftp_tool put a.txt b.txt 127.0.0.1:2121/in/ --user guest";
 
 pub const LS: &str = "\
-HOST, PATH, passwords, status, progress and what is done where the control connection ends are as with get; no PATH is the directory
-of the login.
+HOST, PATH, passwords, status, progress, data connections and what is done where the control connection ends are as with get; no PATH is
+the directory of the login.
 Output: the entries of the directory, as a machine listing has them (RFC 3659, section 7.2); where the server knows no MLSD, the names that
 NLST gives. With --long kind (-, d or ?), size, moment in UTC and name stand in columns. Each has LF at its end. Of characters that a
 terminal obeys (C0, C1, marks of direction) each octet is \\xHH, and a backslash is two. What is named by none but a single file's name, as

@@ -2,11 +2,11 @@
 use crate::place::{location_in, user_in};
 use crate::refusal::Refusal;
 use crate::words::{
-    ACTIVE, EXTENDED, Form, LIMIT, PASSWORD_FILE, Subcommand, TIMEOUT, USER, Value, Word, chosen,
-    how_of, limit_in, text_in, timeout_in,
+    ACTIVE, EXTENDED, Form, LIMIT, NO_EXTENDED, PASSWORD_FILE, Subcommand, TIMEOUT, USER, Value,
+    Word, chosen, how_of, limit_in, text_in, timeout_in,
 };
 use clap::ArgMatches;
-use ftp_tool_connection::ServerAddress;
+use ftp_tool_connection::{Openings, ServerAddress};
 use ftp_tool_files::representation_of;
 use ftp_tool_local::Flush;
 use ftp_tool_mirror::{Check, Doing, Extra, Mirror, Rules, Way};
@@ -24,8 +24,8 @@ slash, ? is one; a GLOB with a slash is of a path below SOURCE, and any other is
 --dry-run changes nothing, and writes what would be done on standard output. A file that fails does not stop the others.
 One control connection is used; where it ends, the rest is done over another one, as with get. The server has to know MLSD.
 A file of this machine is written beside its name, and moved over it once it is whole and on the disk, as with get. With --no-flush it is moved
-before it is on the disk, which is faster: after a power cut a file may be cut, and another run mends that. Passwords and --timeout are as with
-get.
+before it is on the disk, which is faster: after a power cut a file may be cut, and another run mends that. Passwords, --timeout and data
+connections are as with get.
 Output: on standard error why something was not done, and at the end how much was.
 Status: 0 done; 1 something was refused or failed; 2 bad command line or login; 3 the control connection or a device failed, or memory was
 refused.
@@ -89,6 +89,7 @@ const OPTIONS: &[Word<'static>] = &[
     LIMIT,
     ACTIVE,
     EXTENDED,
+    NO_EXTENDED,
     Word {
         name: "no-flush",
         form: Form::Flag,
@@ -102,18 +103,22 @@ const OPTIONS: &[Word<'static>] = &[
     TIMEOUT,
 ];
 
-/// What is mirrored, where these are the URLs that both places are; exactly one is a server's.
+/// What is mirrored, where these are the URLs that both places are, by data connections that are asked for so; exactly one is a server's.
 pub fn mirror_of<'a>(
     words: &'a ArgMatches<'_>,
     from: Option<&'a UrlPlace>,
     to: Option<&'a UrlPlace>,
+    openings: &'a Openings,
 ) -> Result<Mirror<'a>, Refusal<'a>> {
-    let timeout = timeout_in(words)?;
+    let settings = Settings {
+        openings,
+        timeout: timeout_in(words)?,
+    };
     let source = text_in(words, "source");
     let target = text_in(words, "target");
     match (server_of(source, from), server_of(target, to)) {
-        (Some(place), None) => mirrored(words, place, from, target, timeout, Way::Down),
-        (None, Some(place)) => mirrored(words, place, to, source, timeout, Way::Up),
+        (Some(place), None) => mirrored(words, place, from, target, settings, Way::Down),
+        (None, Some(place)) => mirrored(words, place, to, source, settings, Way::Up),
         _ => Err(bad_target(target)),
     }
 }
@@ -126,12 +131,19 @@ fn server_of<'a>(word: &'a str, url: Option<&'a UrlPlace>) -> Option<Location<'a
     location_in(word, url)
 }
 
+/// How a server is asked, whichever way is mirrored.
+#[derive(Clone, Copy)]
+struct Settings<'a> {
+    openings: &'a Openings,
+    timeout: u32,
+}
+
 fn mirrored<'a>(
     words: &'a ArgMatches<'_>,
     place: Location<'a>,
     url: Option<&'a UrlPlace>,
     folder: &'a str,
-    timeout: u32,
+    settings: Settings<'a>,
     way: Way,
 ) -> Result<Mirror<'a>, Refusal<'a>> {
     let limit = limit_in(words)?;
@@ -142,13 +154,14 @@ fn mirrored<'a>(
         server: ServerAddress {
             host: place.host,
             port: place.port,
-            timeout,
+            timeout: settings.timeout,
             progress: words.get_flag("progress"),
         },
         user: user_in(words, url),
         path: place.path,
         folder,
         how: how_of(words, form),
+        openings: settings.openings,
         rules: rules_of(words, way),
         excluded: words.get_strs("exclude").unwrap_or(&[]),
         flush: chosen(words, "no-flush", Flush::Later, Flush::First),

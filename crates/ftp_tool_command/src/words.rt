@@ -7,6 +7,7 @@ use crate::refusal::Refusal;
 use clap::builder::{ValueParser, ValueRange};
 use clap::{Arg, ArgAction, ArgMatches, Command};
 use ftp_operation::How;
+use ftp_tool_connection::{Opening, Openings};
 use ftp_tool_files::{Representation, number_of, representation_of};
 use std::alloc::{AllocError, Global};
 
@@ -50,7 +51,13 @@ pub const ACTIVE: Word<'static> = Word {
 pub const EXTENDED: Word<'static> = Word {
     name: "extended",
     form: Form::Flag,
-    help: "EPSV and EPRT over IPv4 too",
+    help: "data connections by EPSV and EPRT alone; else by PASV and PORT where the server does not know them",
+};
+
+pub const NO_EXTENDED: Word<'static> = Word {
+    name: "no-extended",
+    form: Form::Flag,
+    help: "data connections over IPv4 by PASV and PORT alone",
 };
 
 /// The most octets of a file that is held in memory.
@@ -249,14 +256,25 @@ pub fn timeout_in<'a>(matches: &'a ArgMatches<'_>) -> Result<u32, Refusal<'a>> {
     }
 }
 
-/// How a transfer of this representation goes.
+/// How a transfer of this representation goes; by which commands its data connection is asked for is said by `openings_of`.
 pub fn how_of(matches: &ArgMatches<'_>, representation: Representation) -> How {
     How {
         representation,
         marks: false,
         active: matches.get_flag("active"),
-        extended: matches.get_flag("extended"),
+        extended: false,
     }
+}
+
+/// By which commands data connections are asked for.
+pub fn openings_of(matches: &ArgMatches<'_>) -> Openings {
+    let other = chosen(
+        matches,
+        "no-extended",
+        Opening::Plain,
+        Opening::ExtendedFirst,
+    );
+    Openings::new(chosen(matches, "extended", Opening::Extended, other))
 }
 
 /// The most octets that a file may have, as `--limit` says; refused where they are no number.

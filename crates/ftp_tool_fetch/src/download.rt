@@ -86,10 +86,11 @@ where
 fn begun<'a, R: Eprint>(
     rt: &'a R,
     alloc: Global,
-    asked: &Target<'_>,
+    asked: &Target<'a>,
     download: Download<'_>,
 ) -> io::Result<Downloading<'a, R>> {
-    let mut downloading = Downloading::new(rt, alloc, asked.place.path, asked.how)?;
+    let path = asked.place.path;
+    let mut downloading = Downloading::new(rt, alloc, path, asked.how, asked.openings)?;
     downloading.put_terms(asked.limit, stamp_of(asked.how, download));
     Ok(downloading)
 }

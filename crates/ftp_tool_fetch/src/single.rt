@@ -4,8 +4,8 @@ use crate::target::Target;
 use ftp_facts::Text;
 use ftp_operation::{Answer, How, Op};
 use ftp_tool_connection::{
-    ClientSession, Converses, Ending, LastReply, Logins, Phase, Request, SessionFault, SessionTask,
-    ask, at, converse_as,
+    ClientSession, Converses, Ending, LastReply, Logins, Openings, Phase, Request, SessionFault,
+    SessionTask, ask, at, converse_as,
 };
 use std::alloc::{AllocError, Global};
 use std::io::{Eprint, Error, ErrorKind};
@@ -17,6 +17,13 @@ pub(crate) enum Wish<'a> {
     Entries,
     Names,
     Simple(Simple<'a>),
+}
+
+impl<'a> Wish<'a> {
+    /// Whether it needs no data connection.
+    fn is_simple(self) -> bool {
+        matches!(self, Wish::Simple(_))
+    }
 }
 
 /// Asks for one thing over one control connection alone: what changes something is not asked twice.
@@ -34,6 +41,7 @@ where
         alloc,
         path: asked.place.path,
         how: asked.how,
+        openings: asked.openings,
         wish: Wish::Simple(simple),
     };
     converse_as(rt, asked.server(), asked.user, noticed, &mut single)
@@ -54,6 +62,7 @@ where
         alloc,
         path: asked.place.path,
         how: asked.how,
+        openings: asked.openings,
         wish,
     };
     ask_at(rt, asked, noticed, &mut single)
@@ -79,15 +88,40 @@ struct Single<'a> {
     alloc: Global,
     path: &'a str,
     how: How,
+    openings: &'a Openings,
     wish: Wish<'a>,
+}
+
+impl<'a> Single<'a> {
+    /// What the server answers; where it does not know how the data connection of a listing is asked for, to the same asked for otherwise.
+    fn asked<S: ClientSession>(&self, seat: &mut S) -> Result<Answer<Global>, AllocError> {
+        let opened = seat.opened();
+        let answer = seat.answer(self.request()?);
+        if self.wish.is_simple() || !self.openings.hear(&answer, seat.opened() > opened) {
+            return Ok(answer);
+        }
+        drop(answer);
+        Ok(seat.answer(self.request()?))
+    }
+
+    /// The request of a wish.
+    fn request(&self) -> Result<Request, AllocError> {
+        let path = Text::copy_of(self.alloc, self.path.as_bytes())?;
+        let how = self.openings.how(self.how);
+        let op = match self.wish {
+            Wish::Entries => Op::List(path, how),
+            Wish::Names => Op::Names(path, how),
+            Wish::Simple(simple) => op_of(self.alloc, simple, path, how)?,
+        };
+        Ok(Request::One(Some(op)))
+    }
 }
 
 impl<'a> SessionTask<Result<Answer<Global>, SessionFault>> for Single<'a> {
     fn play<S: ClientSession>(&mut self, seat: &mut S) -> Result<Answer<Global>, SessionFault> {
-        let Ok(request) = request_of(self.alloc, self.path, self.how, self.wish) else {
+        let Ok(answer) = self.asked(seat) else {
             return Ok(Answer::Memory);
         };
-        let answer = seat.answer(request);
         if seat.ending() != Ending::PastLimit {
             return Ok(answer);
         }
@@ -97,15 +131,4 @@ impl<'a> SessionTask<Result<Answer<Global>, SessionFault>> for Single<'a> {
             Err(Error::new(ErrorKind::InvalidData, "it has more than 1,000,000 entries")),
         )
     }
-}
-
-/// The request of a wish.
-fn request_of(alloc: Global, path: &str, how: How, wish: Wish<'_>) -> Result<Request, AllocError> {
-    let path = Text::copy_of(alloc, path.as_bytes())?;
-    let op = match wish {
-        Wish::Entries => Op::List(path, how),
-        Wish::Names => Op::Names(path, how),
-        Wish::Simple(simple) => op_of(alloc, simple, path, how)?,
-    };
-    Ok(Request::One(Some(op)))
 }

@@ -1,6 +1,6 @@
 // Which file of which server is meant, and who asks.
 use ftp_operation::How;
-use ftp_tool_connection::{ServerAddress, Subject};
+use ftp_tool_connection::{Openings, ServerAddress, Subject};
 use ftp_tool_words::{Location, User};
 
 /// What is asked of which server, by whom.
@@ -9,6 +9,8 @@ pub struct Target<'a> {
     pub place: Location<'a>,
     pub user: User<'a>,
     pub how: How,
+    /// By which commands its data connections are asked for.
+    pub openings: &'a Openings,
     /// For how many seconds the server may be silent; 0: without a limit.
     pub timeout: u32,
     /// Whether a transfer that takes more than a second is told of, each second at most.

@@ -31,7 +31,8 @@ where
             tell_too_large(rt, file, size, asked.limit),
         ),
     };
-    let mut uploading = Uploading::new(rt, alloc, source, asked.place.path, asked.how);
+    let path = asked.place.path;
+    let mut uploading = Uploading::new(rt, alloc, source, path, asked.how, asked.openings);
     put_by(rt, asked, &mut uploading, noticed)
 }
 

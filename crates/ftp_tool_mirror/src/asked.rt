@@ -1,7 +1,7 @@
 // What is mirrored, and how.
 use ftp_facts::Text;
 use ftp_operation::How;
-use ftp_tool_connection::ServerAddress;
+use ftp_tool_connection::{Openings, ServerAddress};
 use ftp_tool_listing::Rules;
 use ftp_tool_local::Flush;
 use ftp_tool_words::{User, joined};
@@ -26,6 +26,8 @@ pub struct Mirror<'a> {
     /// The folder of this machine.
     pub folder: &'a str,
     pub how: How,
+    /// By which commands its data connections are asked for.
+    pub openings: &'a Openings,
     pub rules: Rules,
     /// Patterns of what is left alone.
     pub excluded: &'a [&'a str],

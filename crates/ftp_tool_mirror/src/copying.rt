@@ -40,12 +40,12 @@ fn moment_of(facts: Facts) -> Option<Moment> {
 pub(crate) fn begun<'a, R: Eprint>(
     rt: &'a R,
     alloc: Global,
-    mirror: &Mirror<'_>,
+    mirror: &Mirror<'a>,
     below: &str,
     facts: Facts,
 ) -> Result<Downloading<'a, R>, AllocError> {
     let there = mirror.there(alloc, below)?;
-    let mut downloading = Downloading::new(rt, alloc, there.as_str(), mirror.how)?;
+    let mut downloading = Downloading::new(rt, alloc, there.as_str(), mirror.how, mirror.openings)?;
     put_terms(&mut downloading, alloc, mirror, below, facts)?;
     Ok(downloading)
 }
@@ -149,9 +149,7 @@ where
     R: Places,
     S: ClientSession,
 {
-    let octets = octets_of(rt, mirror, below)?;
-    let count = octets.as_slice().len() as u64;
-    upload(seat, mirror.path(alloc, to)?, octets, mirror.how)?;
+    let count = uploaded(rt, alloc, seat, mirror, below, to)?;
     check_size(seat, mirror.path(alloc, to)?, mirror.how, count)?;
     Ok(count)
 }
@@ -164,15 +162,58 @@ fn octets_of<R: Places>(rt: &R, mirror: &Mirror<'_>, below: &str) -> Result<Text
     }
 }
 
-fn upload<S: ClientSession>(
+/// Uploads a file, and gives how many octets it has. Where the server does not know how the data connection is asked for, the file is read once more, and the
+/// same is asked for otherwise.
+fn uploaded<R, S>(
+    rt: &R,
+    alloc: Global,
     seat: &mut S,
-    path: Text<Global>,
-    octets: Text<Global>,
-    how: How,
-) -> Result<(), Trouble> {
-    match &seat.answer(Request::Upload(Some((path, octets)), how)) {
-        Answer::Done => Ok(()),
-        answer => Err(Trouble::of(answer)),
+    mirror: &Mirror<'_>,
+    below: &str,
+    to: &str,
+) -> Result<u64, Trouble>
+where
+    R: Places,
+    S: ClientSession,
+{
+    let opened = seat.opened();
+    let (answer, count) = upload(rt, alloc, seat, mirror, below, to)?;
+    if !mirror.openings.hear(&answer, seat.opened() > opened) {
+        return done(&answer, count);
+    }
+    drop(answer);
+    let (answer, count) = upload(rt, alloc, seat, mirror, below, to)?;
+    done(&answer, count)
+}
+
+/// What the server answers to an upload of a file, and how many octets that has.
+fn upload<R, S>(
+    rt: &R,
+    alloc: Global,
+    seat: &mut S,
+    mirror: &Mirror<'_>,
+    below: &str,
+    to: &str,
+) -> Result<(Answer<Global>, u64), Trouble>
+where
+    R: Places,
+    S: ClientSession,
+{
+    let octets = octets_of(rt, mirror, below)?;
+    let count = octets.as_slice().len() as u64;
+    let path = mirror.path(alloc, to)?;
+    let how = mirror.openings.how(mirror.how);
+    Ok((
+        seat.answer(Request::Upload(Some((path, octets)), how)),
+        count,
+    ))
+}
+
+/// So many octets, where the answer is that they are done.
+fn done(answer: &Answer<Global>, count: u64) -> Result<u64, Trouble> {
+    match answer {
+        Answer::Done => Ok(count),
+        _ => Err(Trouble::of(answer)),
     }
 }
 

@@ -1,4 +1,5 @@
 // What stands in a directory of a server, and what is asked of it.
+use crate::asked::Mirror;
 use crate::folder::{MOST_ENTRIES, put_item};
 use crate::trouble::Trouble;
 use ftp_facts::{Entry, EntryKind, Text};
@@ -39,21 +40,47 @@ pub(crate) fn stands_there<S: ClientSession>(
 pub(crate) fn entries_there<S: ClientSession>(
     alloc: Global,
     seat: &mut S,
-    op: Op<Text<Global>>,
+    mirror: &Mirror<'_>,
     below: &str,
-    excluded: &[&str],
 ) -> Result<Listing<Global>, Trouble> {
-    let answer = seat.answer(Request::One(Some(op)));
+    let answer = listed(alloc, seat, mirror, below)?;
     if seat.ending() == Ending::PastLimit {
         return Ok(Listing::CutOff);
     }
     match &answer {
-        Answer::Entries(entries) => Ok(items_of(alloc, entries.as_slice(), below, excluded)?),
+        Answer::Entries(entries) => Ok(items_of(
+            alloc,
+            entries.as_slice(),
+            below,
+            mirror.excluded,
+        )?),
         Answer::Refused(code) if *code == UNKNOWN || *code == NOT_IMPLEMENTED => {
             Err(Trouble::NoListing(*code))
         }
         _ => Err(Trouble::of(&answer)),
     }
+}
+
+/// What the server answers to the question for them; where it does not know how the data connection is asked for, to the same asked for otherwise.
+fn listed<S: ClientSession>(
+    alloc: Global,
+    seat: &mut S,
+    mirror: &Mirror<'_>,
+    below: &str,
+) -> Result<Answer<Global>, AllocError> {
+    let opened = seat.opened();
+    let answer = seat.answer(listing_request(alloc, mirror, below)?);
+    if !mirror.openings.hear(&answer, seat.opened() > opened) {
+        return Ok(answer);
+    }
+    drop(answer);
+    Ok(seat.answer(listing_request(alloc, mirror, below)?))
+}
+
+fn listing_request(alloc: Global, mirror: &Mirror<'_>, below: &str) -> Result<Request, AllocError> {
+    let path = mirror.path(alloc, below)?;
+    let how = mirror.openings.how(mirror.how);
+    Ok(Request::One(Some(Op::List(path, how))))
 }
 
 fn items_of(

@@ -11,7 +11,7 @@ use crate::tally::{Progress, Tally};
 use crate::telling::{shown, tell, tell_no_text, tell_too_many, tell_trouble};
 use crate::todo::{Chore, Todo, Work};
 use crate::trouble::Trouble;
-use ftp_operation::{Answer, Op};
+use ftp_operation::Answer;
 use ftp_tool_connection::{ClientSession, SessionFault, SessionTask};
 use ftp_tool_listing::{Deed, Extra, Facts, Listing, Rules, Way};
 use ftp_tool_local::Change;
@@ -429,10 +429,7 @@ impl<'a, R: Machine> Walk<'a, R> {
     ) -> Result<Listing<Global>, Trouble> {
         let mirror = self.mirror;
         match way {
-            Way::Down => {
-                let op = Op::List(mirror.path(self.alloc, below)?, mirror.how);
-                entries_there(self.alloc, seat, op, below, mirror.excluded)
-            }
+            Way::Down => entries_there(self.alloc, seat, mirror, below),
             Way::Up => {
                 let folder = mirror.folder;
                 Ok(entries_here(self.rt, self.alloc, folder, below, mirror.excluded)?)

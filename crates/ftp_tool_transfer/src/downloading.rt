@@ -6,7 +6,9 @@ use crate::trying::{ended_of, is_counted, moment_request, size_request};
 use ftp_client_steps::MOST_TRIES;
 use ftp_facts::{Moment, Text};
 use ftp_operation::{Answer, How, Op};
-use ftp_tool_connection::{ClientSession, Ending, Request, SessionFault, SessionTask, Terms, say};
+use ftp_tool_connection::{
+    ClientSession, Ending, Openings, Request, SessionFault, SessionTask, Terms, say,
+};
 use ftp_tool_status::{
     Arrival, Ended, Size, Step, Version, arrived, follows_download, is_too_large, resumes,
 };
@@ -45,6 +47,7 @@ pub struct Downloading<'a, R> {
     head: String<Global>,
     path: String<Global>,
     how: How,
+    openings: &'a Openings,
     /// The most octets that the file may have.
     limit: u64,
     /// What came so far.
@@ -68,6 +71,7 @@ impl<'a, R> Drop for Downloading<'a, R> {
             head: _,
             path: _,
             how: _,
+            openings: _,
             limit: _,
             came: _,
             left: _,
@@ -86,6 +90,7 @@ impl<'a, R: Eprint> Downloading<'a, R> {
         alloc: Global,
         path: &str,
         how: How,
+        openings: &'a Openings,
     ) -> Result<Downloading<'a, R>, AllocError> {
         let head = String::from_str(alloc, "note: ")?;
         let path = String::from_str(alloc, path)?;
@@ -100,6 +105,7 @@ impl<'a, R: Eprint> Downloading<'a, R> {
             head,
             path,
             how,
+            openings,
             limit: u64::MAX,
             came: Came::new(alloc),
             left: MOST_TRIES,
@@ -291,12 +297,12 @@ impl<'a, R: Eprint> Downloading<'a, R> {
 
     /// One try, behind what came so far.
     fn turn<S: ClientSession>(&mut self, seat: &mut S) -> Turn {
-        let Ok(request) = self.request() else {
-            return Turn::Over(Answer::Memory);
-        };
         let opened = seat.opened();
         self.left = self.left.saturating_sub(1);
-        let answer = self.take(seat.answer(request));
+        let Ok(asked) = self.asked(seat) else {
+            return Turn::Over(Answer::Memory);
+        };
+        let answer = self.take(asked);
         if seat.ending() == Ending::PastLimit {
             drop(answer);
             self.size = Size::Past;
@@ -306,12 +312,24 @@ impl<'a, R: Eprint> Downloading<'a, R> {
         self.follow(answer, step)
     }
 
+    /// What the server answers to a try; where it does not know how its data connection is asked for, to the same asked for otherwise.
+    fn asked<S: ClientSession>(&self, seat: &mut S) -> Result<Answer<Global>, AllocError> {
+        let opened = seat.opened();
+        let answer = seat.answer(self.request()?);
+        if !self.openings.hear(&answer, seat.opened() > opened) {
+            return Ok(answer);
+        }
+        drop(answer);
+        Ok(seat.answer(self.request()?))
+    }
+
     /// What is asked for a try. Where the size is known, what came is kept where the control connection ends.
     fn request(&self) -> Result<Request, AllocError> {
         let path = Text::copy_of(self.alloc, self.path.as_bytes())?;
+        let how = self.openings.how(self.how);
         let op = match self.came.count() {
-            0 => Op::Get(path, self.how),
-            from => Op::GetFrom(path, from, self.how),
+            0 => Op::Get(path, how),
+            from => Op::GetFrom(path, from, how),
         };
         let total = match self.size {
             Size::Told(total) => Some(total),

@@ -6,7 +6,7 @@ use ftp_client_steps::MOST_TRIES;
 use ftp_facts::Text;
 use ftp_operation::{Answer, How, Op};
 use ftp_tool_connection::{
-    ClientSession, LastReply, Phase, Request, SessionFault, SessionTask, at, say, told,
+    ClientSession, LastReply, Openings, Phase, Request, SessionFault, SessionTask, at, say, told,
 };
 use ftp_tool_local::LocalFiles;
 use ftp_tool_status::{Ended, Status, Step, There, Transfer, follows};
@@ -21,6 +21,7 @@ pub struct Uploading<'a, R> {
     source: Source<'a>,
     path: &'a str,
     how: How,
+    openings: &'a Openings,
     upload: Transfer,
     /// Whether a control connection ended behind the question for the size of what stands there.
     is_blind: bool,
@@ -37,6 +38,7 @@ impl<'a, R> Drop for Uploading<'a, R> {
             source: _,
             path: _,
             how: _,
+            openings: _,
             upload: _,
             is_blind: _,
             wrong: _,
@@ -52,6 +54,7 @@ impl<'a, R: LocalFiles + Eprint> Uploading<'a, R> {
         source: Source<'a>,
         path: &'a str,
         how: How,
+        openings: &'a Openings,
     ) -> Uploading<'a, R> {
         Uploading {
             rt,
@@ -64,6 +67,7 @@ impl<'a, R: LocalFiles + Eprint> Uploading<'a, R> {
             source,
             path,
             how,
+            openings,
             is_blind: false,
             wrong: None,
         }
@@ -98,22 +102,33 @@ impl<'a, R: LocalFiles + Eprint> Uploading<'a, R> {
 
     /// One try, from an octet of the file on: where the next one begins, or the answer where there is none.
     fn turn<S: ClientSession>(&mut self, seat: &mut S, from: u64) -> Result<Turn, SessionFault> {
-        let request = at(Phase::Reading, self.request(from))?;
         let opened = seat.opened();
         self.upload.left = self.upload.left.saturating_sub(1);
-        let answer = seat.answer(request);
+        let answer = at(Phase::Reading, self.asked(seat, from))?;
         let step = self.step_behind(seat, &answer, seat.opened() > opened);
         Ok(self.follow(answer, step, from))
+    }
+
+    /// What the server answers to a try; where it does not know how its data connection is asked for, to the same asked for otherwise.
+    fn asked<S: ClientSession>(&mut self, seat: &mut S, from: u64) -> io::Result<Answer<Global>> {
+        let opened = seat.opened();
+        let answer = seat.answer(self.request(from)?);
+        if !self.openings.hear(&answer, seat.opened() > opened) {
+            return Ok(answer);
+        }
+        drop(answer);
+        Ok(seat.answer(self.request(from)?))
     }
 
     /// What is asked for a try.
     fn request(&mut self, from: u64) -> io::Result<Request> {
         let path = self.path()?;
         let octets = Text::from_vec(self.source.octets_from(self.rt, self.alloc, from)?);
+        let how = self.openings.how(self.how);
         Ok(Request::One(Some(if from == 0 {
-            Op::Put(path, octets, self.how)
+            Op::Put(path, octets, how)
         } else {
-            Op::PutFrom(path, from, octets, self.how)
+            Op::PutFrom(path, from, octets, how)
         })))
     }
 

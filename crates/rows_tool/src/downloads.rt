@@ -3,7 +3,7 @@ use crate::seat::played;
 use crate::tries::Row;
 use ftp_facts::{Moment, Text};
 use ftp_operation::Answer;
-use ftp_tool_connection::SessionFault;
+use ftp_tool_connection::{Openings, SessionFault};
 use ftp_tool_status::Arrival;
 use ftp_tool_transfer::{Downloading, Stamp};
 use rows_base::Paper;
@@ -60,7 +60,8 @@ pub(crate) fn put(
     row: Row<'_>,
     known: Known,
 ) -> io::Result<()> {
-    let mut downloading = Downloading::new(rt, rt.alloc(), "a", row.how)?;
+    let openings = Openings::new(row.opening);
+    let mut downloading = Downloading::new(rt, rt.alloc(), "a", row.how, &openings)?;
     downloading.put_terms(LIMIT, stamp_of(known));
     tell(rt, &mut downloading, known)?;
     let answer = played(rt.alloc(), paper, row, &mut downloading);

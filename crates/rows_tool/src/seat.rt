@@ -1,7 +1,7 @@
 // Somebody who answers what a row says, and writes what was asked.
 use crate::tries::Row;
 use ftp_facts::{Moment, Text};
-use ftp_operation::{Answer, Op};
+use ftp_operation::{Answer, How, Op};
 use ftp_tool_connection::{ClientSession, Ending, Request, SessionFault, SessionTask};
 use rows_base::{Paper, cut, found, number, split};
 use std::alloc::Global;
@@ -201,23 +201,33 @@ fn octets(alloc: Global, from: u64, count: u64) -> Text<Global> {
 /// Puts what is asked.
 fn put(paper: &mut Paper, request: &Request) {
     match request {
-        Request::One(Some(Op::Put(_, octets, _))) => put_octets(paper, 0, octets.as_slice()),
-        Request::One(Some(Op::PutFrom(_, from, octets, _))) => {
-            put_octets(paper, *from, octets.as_slice())
+        Request::One(Some(Op::Put(_, octets, how))) => {
+            put_octets(paper, *how, 0, octets.as_slice())
+        }
+        Request::One(Some(Op::PutFrom(_, from, octets, how))) => {
+            put_octets(paper, *how, *from, octets.as_slice())
         }
         Request::One(Some(Op::Size(_, _))) => paper.put(b" size"),
         Request::One(Some(Op::Modified(_))) => paper.put(b" moment"),
-        Request::Download(_, _) => {
-            paper.put(b" from ");
-            paper.number(start_of(request));
+        Request::Download(Some(Op::Get(_, how) | Op::GetFrom(_, _, how)), _) => {
+            paper.put(b" from");
+            put_place(paper, *how, start_of(request));
         }
         _ => paper.put(b" another"),
     }
 }
 
-fn put_octets(paper: &mut Paper, from: u64, octets: &[u8]) {
+/// Puts a place in a file, after an e where the data connection is asked for by EPSV or EPRT.
+fn put_place(paper: &mut Paper, how: How, from: u64) {
     paper.put(b" ");
+    if how.extended {
+        paper.put(b"e");
+    }
     paper.number(from);
+}
+
+fn put_octets(paper: &mut Paper, how: How, from: u64, octets: &[u8]) {
+    put_place(paper, how, from);
     paper.put(b":");
     paper.put(octets);
 }

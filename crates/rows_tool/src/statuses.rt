@@ -2,7 +2,9 @@
 use crate::handle::Handle;
 use ftp_operation::How;
 use ftp_settings::{Kind, Mode, Representation, Structure};
-use ftp_tool_fetch::{Download, Lines, Parts, ServerAddress, Target, Task, fetch, run};
+use ftp_tool_fetch::{
+    Download, Lines, Opening, Openings, Parts, ServerAddress, Target, Task, fetch, run,
+};
 use ftp_tool_status::Status;
 use ftp_tool_words::{Location, User};
 use rows_base::Paper;
@@ -37,7 +39,7 @@ pub(crate) const HOW: How = How {
 };
 
 /// What is asked where nobody listens, by `anonymous` or by a user whose password is in a file that is not there.
-fn asked(has_password: bool) -> Target<'static> {
+fn asked(has_password: bool, openings: &Openings) -> Target<'_> {
     Target {
         place: Location {
             host: HERE,
@@ -51,6 +53,7 @@ fn asked(has_password: bool) -> Target<'static> {
             is_of_url: false,
         },
         how: HOW,
+        openings,
         timeout: 60,
         progress: false,
         limit: 1_000,
@@ -89,8 +92,9 @@ pub(crate) fn rows(rt: &HostRuntime, paper: &mut Paper) -> io::Result<()> {
     }
     let status = ftp_tool_loop::play(&Handle::typing(rt, b"login a b\nwhere"))?;
     put(paper, "loop, a last line without its end", status);
+    let openings = Openings::new(Opening::ExtendedFirst);
     for (what, has_password, task) in TASKS {
-        let status = fetch(rt, &asked(*has_password), *task)?;
+        let status = fetch(rt, &asked(*has_password, &openings), *task)?;
         put(paper, what, status);
     }
     paper.holds("no file is left", !fs::exists(rt, NONE)?);

@@ -4,6 +4,7 @@ use crate::statuses::HOW;
 use crate::{downloads, uploads};
 use ftp_operation::How;
 use ftp_settings::{Kind, Representation};
+use ftp_tool_connection::Opening;
 use rows_base::{Paper, cut, found, split};
 use std::io;
 
@@ -11,6 +12,7 @@ use std::io;
 #[derive(Clone, Copy)]
 pub(crate) struct Row<'a> {
     pub(crate) how: How,
+    pub(crate) opening: Opening,
     /// What the server answers, a word each.
     pub(crate) told: &'a [u8],
     /// What it answers anew, again and again, behind the last of these.
@@ -46,6 +48,7 @@ fn put(rt: &HostRuntime, paper: &mut Paper, line: &[u8]) -> io::Result<()> {
     let (told, again) = cut(words, b'|');
     let row = Row {
         how: how_of(kind),
+        opening: opening_of(kind),
         told,
         again,
     };
@@ -58,9 +61,18 @@ fn put(rt: &HostRuntime, paper: &mut Paper, line: &[u8]) -> io::Result<()> {
     }
 }
 
+/// By which commands data connections are asked for: after the letter of a type `f` is EPSV first, `e` EPSV alone, and no letter PASV alone.
+fn opening_of(kind: &[u8]) -> Opening {
+    match kind.get(1) {
+        Some(b'f') => Opening::ExtendedFirst,
+        Some(b'e') => Opening::Extended,
+        _ => Opening::Plain,
+    }
+}
+
 /// How octets go in type A, or in type I.
 fn how_of(kind: &[u8]) -> How {
-    if kind != b"A".as_slice() {
+    if !matches!(kind.first(), Some(b'A')) {
         return HOW;
     }
     How {

@@ -2,7 +2,7 @@
 use crate::seat::played;
 use crate::tries::Row;
 use ftp_operation::Answer;
-use ftp_tool_connection::{LastReply, SessionFault};
+use ftp_tool_connection::{LastReply, Openings, SessionFault};
 use ftp_tool_local::{Reading, read_from};
 use ftp_tool_transfer::{Source, Uploading};
 use rows_base::Paper;
@@ -20,7 +20,9 @@ pub(crate) fn put(rt: &HostRuntime, paper: &mut Paper, row: Row<'_>) -> io::Resu
     let Reading::Content(content) = read_from(rt, FILE, 0, LIMIT)? else {
         return Err(Error::from(ErrorKind::InvalidInput));
     };
-    let mut uploading = Uploading::new(rt, rt.alloc(), Source::file(FILE, content), "a", row.how);
+    let source = Source::file(FILE, content);
+    let openings = Openings::new(row.opening);
+    let mut uploading = Uploading::new(rt, rt.alloc(), source, "a", row.how, &openings);
     let answer = played(rt.alloc(), paper, row, &mut uploading);
     paper.put(b"; ");
     put_end(paper, &uploading, &answer)?;
