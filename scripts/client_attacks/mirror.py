@@ -147,11 +147,15 @@ def up(rows, served, local, place):
 
 
 def missing(rows, served, place):
-    """A source that is not there: nothing is made at the other end."""
+    """A source that is not there: nothing is made at the other end. What is not there is named, a target too."""
     status, _, told = rows.tool("mirror", place + "no/such/", "./neither")
     rows.row("down from a path that is not there: no folder is made", (status, (rows.folder / "neither").exists()) == (1, False) and b"0 directories made" in told, (status, told))
+    rows.row("and its path is named", b"error: no/such/: " in told, told)
     status, _, told = rows.tool("mirror", "./neither", place + "neither/")
     rows.row("up from a folder that is not there: no directory is made", (status, (served / "neither").exists()) == (1, False) and b"0 directories made" in told, (status, told))
+    for words, name in (((place, "./no/such"), b"./no/such"), (("./local", place + "no/such/"), b"no/such/")):
+        status, _, told = rows.tool("mirror", *words)
+        rows.row(f"a target whose parent is not there is named: {name}", status == 1 and b"error: " + name + b": " in told, (status, told))
 
 
 def killed(rows, served, place):

@@ -96,11 +96,12 @@ impl<'a, R: Machine> Walk<'a, R> {
         }
     }
 
-    /// Tells why something was not done.
+    /// Tells why something was not done; of a root by the path that was asked for.
     fn fail(&mut self, below: &str, trouble: Trouble) {
         self.tally.add_failed();
         let place = match trouble {
             Trouble::Here(_) if below.is_empty() => self.mirror.folder,
+            Trouble::Refused(_) if below.is_empty() => self.mirror.path,
             _ => below,
         };
         let _told = tell_trouble(self.rt, self.alloc, place, trouble);
