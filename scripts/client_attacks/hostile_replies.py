@@ -14,7 +14,7 @@ def main():
     rows = Rows()
     (rows.folder / "in").write_bytes(b"1")
     evil = "x".join(HIDDEN) + "end"
-    for verb, code in (("PASS", "530"), ("RETR", "550"), ("USER", "999"), ("PASV", "227"), ("MLSD", "550"), ("SIZE", "213"), ("MKD", "550"), ("DELE", "550")):
+    for verb, code in (("PASS", "530"), ("RETR", "550"), ("USER", "999"), ("EPSV", "229"), ("MLSD", "550"), ("SIZE", "213"), ("MKD", "550"), ("DELE", "550")):
         for program in ("get", "ls", "put", "rm", "mkdir"):
             server = FakeServer({"RETR": lambda session, _: session.send(b"1"), verb: lambda session, _: raw(session, code, evil)})
             place = f"127.0.0.1:{server.port}/f"

@@ -116,7 +116,7 @@ def main():
         ("get, no greeting", no_greeting(), get, 3, silent),
         ("get, silent behind USER", FakeServer({"USER": hang}).port, get, 3, silent),
         ("get, silent behind SIZE", FakeServer({"SIZE": hang}).port, get, 3, silent),
-        ("get, silent behind PASV", FakeServer({"SIZE": size, "PASV": hang}).port, get, 3, silent),
+        ("get, silent behind EPSV", FakeServer({"SIZE": size, "EPSV": hang}).port, get, 3, silent),
         ("get, silent behind RETR", FakeServer({"SIZE": size, "RETR": hang}).port, get, 3, silent),
         ("get, silent behind 1,000 octets", FakeServer({"SIZE": size, "RETR": hang_in_data}).port, get, 3, silent),
         ("get, 226 and the data connection stays open: all came that SIZE tells", FakeServer({"SIZE": size, "RETR": open_behind("226 done")}).port, get, 0, b""),
