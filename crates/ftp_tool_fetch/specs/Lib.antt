@@ -1,2 +1,3 @@
 -- What is asked of a server without a data connection.
+pub mod Parents
 pub mod Simple

@@ -1,6 +1,7 @@
 // What the subcommands that ask at one place do.
 use crate::download::{Download, get};
 use crate::listing::{Lines, Listing, listing_of};
+use crate::parents::make_all;
 use crate::simple::{Simple, do_simple};
 use crate::single::{Wish, ask_for};
 use crate::target::Target;
@@ -35,6 +36,8 @@ pub enum Task<'a> {
     List(Lines),
     /// What needs no data connection.
     Simple(Simple<'a>),
+    /// The directory is made, and those above it; one that stands is as well.
+    MakeDirectories,
 }
 
 /// Does a task, and gives the exit status: 0; 1 where it was refused or broke; 2 for a bad login or path; 3 where a connection or a device failed, or
@@ -64,6 +67,7 @@ where
         Task::Put(file) => put(rt, alloc, asked, file, &mut noticed),
         Task::List(lines) => list(rt, alloc, asked, lines, &mut noticed),
         Task::Simple(simple) => do_simple(rt, alloc, asked, simple, &mut noticed),
+        Task::MakeDirectories => make_all(rt, alloc, asked, &mut noticed),
     };
     match done {
         Ok(status) => Ok(status),
@@ -76,7 +80,7 @@ fn file_of(task: Task<'_>) -> &str {
     match task {
         Task::Get(download) => download.file,
         Task::Put(file) => file,
-        Task::List(_) | Task::Simple(_) => "-",
+        Task::List(_) | Task::Simple(_) | Task::MakeDirectories => "-",
     }
 }
 

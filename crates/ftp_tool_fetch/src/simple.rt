@@ -63,7 +63,7 @@ where
 }
 
 /// Tells an answer at a path: a size on standard output, what was done not at all, and anything else as `tell` does.
-fn report<R: Print + Eprint>(
+pub(crate) fn report<R: Print + Eprint>(
     rt: &R,
     path: &str,
     answer: &Answer<Global>,
