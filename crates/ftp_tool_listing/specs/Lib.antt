@@ -2,6 +2,7 @@
 pub mod Name
 pub mod Lines
 pub mod Long
+pub mod Json
 pub mod ShownRows
 pub mod Pattern
 pub mod Deeds

@@ -1,5 +1,6 @@
--- Worked rows: which texts are names, and the columns of a listing for people. Each is a theorem that computes.
-use Rattle.std.specs.Prelude.{◌≡◌, true, false, codes, [], None}
+-- Worked rows: which texts are names, the columns of a listing for people, and JSON. Each is a theorem that computes.
+use Rattle.std.specs.Prelude.{◌≡◌, true, false, codes, [], ◌∷◌, Some, None}
+use Rattle.ftp_tool_listing.specs.Json.{deed_json, name_json, perm_member, size_member, stamped, string}
 use Rattle.ftp_tool_listing.specs.Lines.{is_listed}
 use Rattle.ftp_tool_listing.specs.Long.{column, dated, size_text}
 use Rattle.ftp_tool_listing.specs.Name.{is_name}
@@ -27,3 +28,16 @@ ColumnsShown =
     × (column (codes "      ") (codes "1234567") ≡ codes "1234567")
     × (column (codes "   ") (size_text None) ≡ codes "  -")
     × (dated (codes "20000229235959") ≡ codes "2000-02-29 23:59:59")
+
+-- lines for programs
+abbrev pub JsonWritten : Type 0
+JsonWritten =
+    (string (codes "a \"b\" \\c") ≡ codes "\"a \\\"b\\\" \\\\c\"")
+    × (string (9 ∷ 10 ∷ 27 ∷ []) ≡ codes "\"\\u0009\\u000a\\u001b\"")
+    × (string (0xC3 ∷ 0xA9 ∷ 0x7F ∷ []) ≡ 34 ∷ 0xC3 ∷ 0xA9 ∷ 0x7F ∷ 34 ∷ [])
+    × (stamped (codes "20000229235959") ≡ codes "2000-02-29T23:59:59Z")
+    × (size_member None ≡ [])
+    × (perm_member (Some (codes "elr")) ≡ codes ",\"perm\":\"elr\"")
+    × (name_json (codes "pub") (codes "pub/a") ≡ codes "{\"name\":\"pub/a\"}\n")
+    × (name_json [] (codes "..") ≡ [])
+    × (deed_json (codes "copy") (codes "d/a") ≡ codes "{\"deed\":\"copy\",\"path\":\"d/a\"}\n")

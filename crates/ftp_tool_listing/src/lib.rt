@@ -5,6 +5,7 @@
 mod deeds;
 mod index;
 mod item;
+mod json;
 mod lines;
 mod long;
 mod name;
@@ -16,6 +17,7 @@ pub use deeds::{
     Check, Deed, Deeds, Extra, Reason, Rules, Way, deeds_for, may_remove, removal_for,
 };
 pub use item::{Facts, Item, Kind, Listing};
+pub use json::{put_json_deed, put_json_entries, put_json_names};
 pub use lines::{put_entries, put_names, strange_entries, strange_names};
 pub use long::put_long;
 pub use name::is_name;

@@ -121,7 +121,7 @@ pub fn strange_names(path: &[u8], names: &[Text<Global>]) -> usize
 }
 
 /// Whether a name is one of a single file, alone or behind the path of the directory that is listed.
-fn is_listed(path: &[u8], name: &[u8]) -> bool
+pub(crate) fn is_listed(path: &[u8], name: &[u8]) -> bool
     ensures { result ≡ is_listed path.now name.now }
 {
     is_name(name) || is_below(path, name)

@@ -1,6 +1,6 @@
 //! Worked rows: functions that do nothing, whose contracts are rows of `specs/ShownRows` and `specs/PlanRows`.
 ghost use Rattle.ftp_tool_listing.specs.PlanRows.{DirsPlanned, FilesPlanned, OthersPlanned, PatternsMet};
-ghost use Rattle.ftp_tool_listing.specs.ShownRows.{ColumnsShown, NamesListed};
+ghost use Rattle.ftp_tool_listing.specs.ShownRows.{ColumnsShown, JsonWritten, NamesListed};
 
 /// Which texts are names of single files.
 pub fn names()
@@ -10,6 +10,11 @@ pub fn names()
 /// The columns of a listing for people.
 pub fn columns()
     ensures { ColumnsShown }
+{}
+
+/// Lines for programs.
+pub fn json()
+    ensures { JsonWritten }
 {}
 
 /// What is done of files where nothing, or a file, stands.
