@@ -71,6 +71,7 @@ where
         Program::Get => get(rt, alloc, inner, faults.is_terminal()),
         Program::Put => put(rt, alloc, inner, faults.is_terminal()),
         Program::Ask => ask(rt, alloc, name, inner, faults.is_terminal()),
+        Program::AskEach => ask_each(rt, alloc, name, inner),
         Program::Task => perform_task(rt, words, faults),
     }
 }
@@ -234,7 +235,7 @@ fn get_all<'a, R: Programs + Eprint>(
             return Ok(Status::BadWords);
         };
         let status = get_one(rt, alloc, words, &asked, goal)?;
-        tell_undone(rt, status, places.len(), asked.place.path)?;
+        tell_undone(rt, status, places.len(), "copied", asked.place.path)?;
         worst = worst.worse(status);
     }
     Ok(worst)
@@ -293,7 +294,7 @@ fn put_all<R: Programs + Eprint>(
     let mut worst = Status::Done;
     for file in files {
         let status = put_one(rt, alloc, asked, into, *file)?;
-        tell_undone(rt, status, files.len(), *file)?;
+        tell_undone(rt, status, files.len(), "copied", *file)?;
         worst = worst.worse(status);
     }
     Ok(worst)
@@ -318,11 +319,17 @@ fn put_one<R: Programs>(
     rt.fetch(&asked, Task::Put(file))
 }
 
-/// Tells which of several files it is that was not copied, as its sentence does not say.
-fn tell_undone<R: Eprint>(rt: &R, status: Status, count: usize, file: &str) -> io::Result<()> {
+/// Tells which of several it is with which something was not done, as its sentence does not say.
+fn tell_undone<R: Eprint>(
+    rt: &R,
+    status: Status,
+    count: usize,
+    done: &str,
+    file: &str,
+) -> io::Result<()> {
     if count > 1 && status != Status::Done {
         let file = Shown(file.as_bytes());
-        eprintln!(rt; "note: not copied: {file}")?;
+        eprintln!(rt; "note: not {done}: {file}")?;
     }
     Ok(())
 }
@@ -360,6 +367,55 @@ fn ask_at<R: Programs + Eprint>(
         Some(task) => number_of(rt.fetch(asked, task)),
         None => refuse(rt, Refusal::Number),
     }
+}
+
+/// Does what a subcommand asks for at each of several places.
+fn ask_each<R>(rt: &R, alloc: Global, name: &str, words: &ArgMatches<'_>) -> io::Result<u8>
+where
+    R: Programs + Eprint,
+{
+    let places = words.get_strs("places").unwrap_or(&[]);
+    match urls_in(alloc, PLACE_OPTION, places) {
+        Ok(urls) => ask_where(rt, name, words, places, urls.as_slice()),
+        Err(refusal) => refuse(rt, refusal),
+    }
+}
+
+/// The same at places of which these are URLs, where all of them can be asked at.
+fn ask_where<'a, R: Programs + Eprint>(
+    rt: &R,
+    name: &str,
+    words: &'a ArgMatches<'_>,
+    places: &[&'a str],
+    urls: &'a [Option<UrlPlace>],
+) -> io::Result<u8> {
+    if let Err(refusal) = check_places(words, places, urls, false) {
+        return refuse(rt, refusal);
+    }
+    match fetch_task_of(name, words) {
+        Some(task) => number_of(ask_all(rt, words, places, urls, task)),
+        None => refuse(rt, Refusal::Number),
+    }
+}
+
+/// Does a task at places one after another, each over a control connection of its own, and gives the worst status.
+fn ask_all<'a, R: Programs + Eprint>(
+    rt: &R,
+    words: &'a ArgMatches<'_>,
+    places: &[&'a str],
+    urls: &'a [Option<UrlPlace>],
+    task: Task<'_>,
+) -> io::Result<Status> {
+    let mut worst = Status::Done;
+    for (place, url) in places.iter().zip(urls.iter()) {
+        let Ok(asked) = asked_of(words, *place, url.as_ref(), false) else {
+            return Ok(Status::BadWords);
+        };
+        let status = rt.fetch(&asked, task)?;
+        tell_undone(rt, status, places.len(), "done", asked.place.path)?;
+        worst = worst.worse(status);
+    }
+    Ok(worst)
 }
 
 /// Tells why the words of a command line ask for nothing.

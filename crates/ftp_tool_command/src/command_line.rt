@@ -85,6 +85,8 @@ pub enum Program {
     Put,
     /// Something else at one place of a server.
     Ask,
+    /// The same at each of several places.
+    AskEach,
     /// What goes between the standard streams.
     Task,
 }
@@ -100,6 +102,7 @@ pub fn program_of(name: &str) -> Program {
         "mirror" => Program::Mirror,
         "get" => Program::Get,
         "put" => Program::Put,
+        "rm" | "mkdir" | "rmdir" => Program::AskEach,
         "dialogue" | "facts" | "frame" => Program::Task,
         _ => Program::Ask,
     }

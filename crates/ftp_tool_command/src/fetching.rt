@@ -86,26 +86,33 @@ pub const SIZE: Subcommand<'static> = Subcommand {
 
 pub const RM: Subcommand<'static> = Subcommand {
     name: "rm",
-    about: "removes a file of a server",
+    about: "removes files of a server",
     usage: None,
     help: help::RM,
-    words: &[PLACE],
+    words: &[PLACES],
 };
 
 pub const MKDIR: Subcommand<'static> = Subcommand {
     name: "mkdir",
-    about: "makes a directory of a server",
+    about: "makes directories of a server",
     usage: None,
     help: help::MKDIR,
-    words: &[PLACE],
+    words: &[
+        PLACES,
+        Word {
+            name: "parents",
+            form: Form::Letter('p'),
+            help: "makes those above it too; one that stands is as well",
+        },
+    ],
 };
 
 pub const RMDIR: Subcommand<'static> = Subcommand {
     name: "rmdir",
-    about: "removes an empty directory of a server",
+    about: "removes empty directories of a server",
     usage: None,
     help: help::RMDIR,
-    words: &[PLACE],
+    words: &[PLACES],
 };
 
 pub const MV: Subcommand<'static> = Subcommand {
@@ -126,6 +133,12 @@ pub const MV: Subcommand<'static> = Subcommand {
 const PLACE: Word<'static> = Word {
     name: "place",
     form: Form::NeededPlace(Value::Text("HOST:PORT/PATH")),
+    help: "the server, its port (21 where none is written), and the path there; or ftp://USER@HOST:PORT/PATH",
+};
+
+const PLACES: Word<'static> = Word {
+    name: "places",
+    form: Form::NeededPlaces(Value::Text("HOST:PORT/PATH")),
     help: "the server, its port (21 where none is written), and the path there; or ftp://USER@HOST:PORT/PATH",
 };
 
@@ -206,14 +219,19 @@ fn how_in<'a>(words: &ArgMatches<'_>) -> Result<How, Refusal<'a>> {
     }
 }
 
-/// What is done at the one place that a subcommand of this name asks at.
+/// What is done at a place that a subcommand of this name asks at.
 pub fn fetch_task_of<'a>(name: &str, words: &'a ArgMatches<'_>) -> Option<Task<'a>> {
     match name {
         "ls" => Some(Task::List(chosen(words, "long", Lines::Long, Lines::Facts))),
         "cat" => Some(Task::Get(SHOWN)),
         "size" => Some(Task::Simple(Simple::Size)),
         "rm" => Some(Task::Simple(Simple::Remove)),
-        "mkdir" => Some(Task::Simple(Simple::MakeDirectory)),
+        "mkdir" => Some(chosen(
+            words,
+            "parents",
+            Task::MakeDirectories,
+            Task::Simple(Simple::MakeDirectory),
+        )),
         "rmdir" => Some(Task::Simple(Simple::RemoveDirectory)),
         "mv" => Some(Task::Simple(Simple::Move(text_in(words, "path")))),
         _ => None,

@@ -174,25 +174,27 @@ Example:
   ftp_tool size 127.0.0.1:2121/pub/a.txt";
 
 pub const RM: &str = "\
-By DELE, asked once, over one control connection: where that ends before the reply, the file may be gone, and the status is 3. HOST, PATH,
-passwords and status are as with get.
+By DELE, each file asked once, over a control connection of its own: where that ends before the reply, the file may be gone, and the status
+is 3. One that fails does not stop the others, and the status is the worst. HOST, PATH, passwords and status are as with get.
 
 Example:
-  ftp_tool rm 127.0.0.1:2121/a.txt";
+  ftp_tool rm 127.0.0.1:2121/a.txt 127.0.0.1:2121/b.txt";
 
 pub const MKDIR: &str = "\
-By MKD, asked once, over one control connection: where that ends before the reply, the directory may stand, and the status is 3. HOST, PATH,
-passwords and status are as with get.
+By MKD, each directory asked once, over a control connection of its own: where that ends before the reply, it may stand, and the status is 3.
+One that fails does not stop the others, and the status is the worst. With --parents, or -p, CWD asks first whether it stands, which is as
+well; else MKD is asked of each directory above it, and one that is refused may stand. HOST, PATH, passwords and status are as with get.
 
 Example:
-  ftp_tool mkdir 127.0.0.1:2121/in";
+  ftp_tool mkdir 127.0.0.1:2121/in 127.0.0.1:2121/out
+  ftp_tool mkdir -p 127.0.0.1:2121/in/2026/11";
 
 pub const RMDIR: &str = "\
-By RMD, asked once, over one control connection: where that ends before the reply, the directory may be gone, and the status is 3. HOST, PATH,
-passwords and status are as with get.
+By RMD, each directory asked once, over a control connection of its own: where that ends before the reply, it may be gone, and the status is 3.
+One that fails does not stop the others, and the status is the worst. HOST, PATH, passwords and status are as with get.
 
 Example:
-  ftp_tool rmdir 127.0.0.1:2121/in";
+  ftp_tool rmdir 127.0.0.1:2121/in 127.0.0.1:2121/out";
 
 pub const MV: &str = "\
 By RNFR and RNTO, asked once, over one control connection: where that ends before the reply, it may be done, and the status is 3. PATH is

@@ -107,6 +107,8 @@ impl<'a> Value<'a> {
 pub enum Form<'a> {
     /// An option without a value.
     Flag,
+    /// The same, which one letter says too.
+    Letter(char),
     /// An option with a value.
     Given(Value<'a>),
     /// An option with a value, which may be there several times.
@@ -192,6 +194,7 @@ fn put_args<'a>(
 fn arg_of<'a>(alloc: Global, word: Word<'a>) -> Arg<'a> {
     match word.form {
         Form::Flag => flag(alloc, word),
+        Form::Letter(letter) => flag(alloc, word).short(letter),
         Form::Given(value) | Form::Many(value) | Form::Needed(value) => option(alloc, word, value),
         Form::Else(value, other) => option(alloc, word, value).default_value(other),
         Form::NeededPlace(value) => place(alloc, word, value),
