@@ -6,14 +6,14 @@ _ftp_tool_options() {
     case $1 in
         get) echo "--keep --continue --moment $place" ;;
         put) echo "$place" ;;
-        ls) echo "--long $place" ;;
+        ls) echo "--long --json $place" ;;
         cat) echo "$place" ;;
         size) echo "$place" ;;
         rm) echo "$place" ;;
         mkdir) echo "--parents $place" ;;
         rmdir) echo "$place" ;;
         mv) echo "$place" ;;
-        mirror) echo "--delete --delete-any --dry-run --checksum --exclude --user --password-file --limit --active --extended --no-flush --progress --timeout --help" ;;
+        mirror) echo "--delete --delete-any --dry-run --json --checksum --exclude --user --password-file --limit --active --extended --no-flush --progress --timeout --help" ;;
         run) echo "--host --port --user --password-file --timeout --help" ;;
         serve) echo "--port --dir --sessions --host --accounts --log --keep --login --idle --idle-while-waited --session-while-waited --login-while-waited --passive-ports --passive-address --skip --help" ;;
         password) echo "--rounds --help" ;;

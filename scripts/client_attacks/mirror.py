@@ -2,6 +2,7 @@
 """A mirror ends with both trees the same, changes nothing where nothing differs, keeps to its folder whatever a server names, and leaves whole
 files of this machine alone where it is killed; another run finishes.
 """
+import json
 import os
 import random
 import shutil
@@ -51,7 +52,14 @@ def honest(rows):
     place = f"127.0.0.1:{server.port}/"
     status, out, told = rows.tool("mirror", place, "./fresh", "--dry-run")
     rows.row("a dry run makes nothing", status == 0 and not (rows.folder / "fresh").exists() and b"copy d0/e/f0\n" in out, (status, told))
-    status, _, told = rows.tool("mirror", place, "./fresh")
+    status, out, told = rows.tool("mirror", place, "./fresh", "--dry-run", "--json")
+    wanted = [{"deed": "make", "path": "."}, {"deed": "copy", "path": "d0/e/f0"}]
+    deeds = [json.loads(line) for line in out.splitlines()]
+    rows.row("a dry run in JSON", status == 0 and not (rows.folder / "fresh").exists() and all(it in deeds for it in wanted), (status, out, told))
+    status, out, told = rows.tool("mirror", place, "./fresh", "--json")
+    copied = [it["path"] for it in map(json.loads, out.splitlines()) if it["deed"] == "copy"]
+    files = [path for path, octets in tree_at(served).items() if octets is not None]
+    rows.row("each copy in JSON", sorted(copied) == sorted(files), (out, told))
     rows.row("down into a folder that does not stand", (status, tree_at(rows.folder / "fresh")) == (0, tree_at(served)), (status, told))
     status, _, told = rows.tool("mirror", place, "./local")
     rows.row("down", (status, tree_at(local)) == (0, tree_at(served)), (status, told))

@@ -1,11 +1,16 @@
 #!/usr/bin/env python3
-"""Several files of one `get` or `put`, and where they go; the words that ask one thing of a server; `ls --long`; and `run --user`."""
+"""Several files of one `get` or `put`, and where they go; the words that ask one thing of a server; `ls --long` and `--json`; and `run --user`."""
+import json
 import os
 
 from hostile import FakeServer, OwnServer, Rows
 from mirror import fill, tree_at
 
 MOMENT = 951_868_799
+JSON = [
+    {"name": "a", "type": "file", "size": 3, "modified": "2000-02-29T23:59:59Z", "perm": "adfrw"},
+    {"name": "d", "type": "dir", "perm": "cdeflmp"},
+]
 LONG = b"-              3  2000-02-29 23:59:59  a\nd              -                    -  d\n"
 
 
@@ -140,6 +145,8 @@ def main():
     at = f"127.0.0.1:{server.port}"
     status, out, told = rows.tool("ls", "--long", f"{at}/")
     rows.row("ls --long", (status, out) == (0, LONG), (status, out, told))
+    status, out, told = rows.tool("ls", "--json", f"{at}/")
+    rows.row("ls --json", (status, [json.loads(line) for line in out.splitlines()]) == (0, JSON), (status, out, told))
     get_rows(rows, at, local)
     put_rows(rows, at, served)
     word_rows(rows, at, served)

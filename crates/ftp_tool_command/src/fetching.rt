@@ -65,6 +65,11 @@ pub const LS: Subcommand<'static> = Subcommand {
             form: Form::Flag,
             help: "writes kind, size, moment and name in columns",
         },
+        Word {
+            name: "json",
+            form: Form::Flag,
+            help: "writes an object of JSON for each entry, in a line",
+        },
     ],
 };
 
@@ -222,7 +227,7 @@ fn how_in<'a>(words: &ArgMatches<'_>) -> Result<How, Refusal<'a>> {
 /// What is done at a place that a subcommand of this name asks at.
 pub fn fetch_task_of<'a>(name: &str, words: &'a ArgMatches<'_>) -> Option<Task<'a>> {
     match name {
-        "ls" => Some(Task::List(chosen(words, "long", Lines::Long, Lines::Facts))),
+        "ls" => Some(Task::List(lines_of(words))),
         "cat" => Some(Task::Get(SHOWN)),
         "size" => Some(Task::Simple(Simple::Size)),
         "rm" => Some(Task::Simple(Simple::Remove)),
@@ -236,6 +241,12 @@ pub fn fetch_task_of<'a>(name: &str, words: &'a ArgMatches<'_>) -> Option<Task<'
         "mv" => Some(Task::Simple(Simple::Move(text_in(words, "path")))),
         _ => None,
     }
+}
+
+/// What the lines of a listing are: of two options --json is meant.
+fn lines_of(words: &ArgMatches<'_>) -> Lines {
+    let other = chosen(words, "long", Lines::Long, Lines::Facts);
+    chosen(words, "json", Lines::Json, other)
 }
 
 /// A download that goes to standard output.

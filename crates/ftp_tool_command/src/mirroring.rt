@@ -9,7 +9,7 @@ use clap::ArgMatches;
 use ftp_tool_connection::{Openings, ServerAddress};
 use ftp_tool_files::representation_of;
 use ftp_tool_local::Flush;
-use ftp_tool_mirror::{Check, Doing, Extra, Mirror, Rules, Way};
+use ftp_tool_mirror::{Check, Deeds, Doing, Extra, Mirror, Rules, Way};
 use ftp_tool_words::{Location, UrlPlace};
 
 const HELP: &str = "\
@@ -21,7 +21,9 @@ A file that is cut on its way down goes on, as with get; one of more octets than
 from TARGET, here once the server says of it alone that it has none (MLST), and so is what stands there as a file where SOURCE has a
 directory, or the other way round; without it that is refused. --exclude leaves alone what meets GLOB, at both ends: * is any octets but a
 slash, ? is one; a GLOB with a slash is of a path below SOURCE, and any other is of a name. Links of this machine are not followed.
---dry-run changes nothing, and writes what would be done on standard output. A file that fails does not stop the others.
+--dry-run changes nothing, and writes what would be done on standard output. With --json each copy, each directory that is made and each
+removal is an object there, {\"deed\":\"copy\",\"path\":\"d/a\"}, make or remove, once it is done; what gave way is removed as NAME.ftp-old.
+A file that fails does not stop the others.
 One control connection is used; where it ends, the rest is done over another one, as with get. The server has to know MLSD.
 A file of this machine is written beside its name, and moved over it once it is whole and on the disk, as with get. With --no-flush it is moved
 before it is on the disk, which is faster: after a power cut a file may be cut, and another run mends that. Passwords, --timeout and data
@@ -64,6 +66,11 @@ pub const MIRROR: Subcommand<'static> = Subcommand {
             name: "dry-run",
             form: Form::Flag,
             help: "writes what would be done, and changes nothing",
+        },
+        Word {
+            name: "json",
+            form: Form::Flag,
+            help: "writes an object of JSON for each copy, making and removal, in a line",
         },
         Word {
             name: "checksum",
@@ -167,6 +174,7 @@ fn mirrored<'a>(
         flush: chosen(words, "no-flush", Flush::Later, Flush::First),
         limit,
         doing: chosen(words, "dry-run", Doing::Nothing, Doing::All),
+        deeds: chosen(words, "json", Deeds::Json, Deeds::Words),
     })
 }
 

@@ -1,6 +1,9 @@
 // A listing, as it goes to standard output.
 use ftp_operation::Answer;
-use ftp_tool_listing::{put_entries, put_long, put_names, strange_entries, strange_names};
+use ftp_tool_listing::{
+    put_entries, put_json_entries, put_json_names, put_long, put_names, strange_entries,
+    strange_names,
+};
 use std::alloc::{AllocError, Global};
 
 /// What the lines of entries are.
@@ -10,6 +13,8 @@ pub enum Lines {
     Facts,
     /// Kind, size, moment and name, in columns.
     Long,
+    /// An object of JSON each, also of a name.
+    Json,
 }
 
 /// The lines of a listing.
@@ -33,11 +38,15 @@ pub(crate) fn listing_of(
             match shape {
                 Lines::Facts => put_entries(alloc, entries.as_slice(), &mut lines)?,
                 Lines::Long => put_long(entries.as_slice(), &mut lines)?,
+                Lines::Json => put_json_entries(entries.as_slice(), &mut lines)?,
             }
             strange_entries(entries.as_slice())
         }
         Answer::Names(names) => {
-            put_names(path.as_bytes(), names.as_slice(), &mut lines)?;
+            match shape {
+                Lines::Json => put_json_names(path.as_bytes(), names.as_slice(), &mut lines)?,
+                _ => put_names(path.as_bytes(), names.as_slice(), &mut lines)?,
+            }
             strange_names(path.as_bytes(), names.as_slice())
         }
         _ => return Ok(None),

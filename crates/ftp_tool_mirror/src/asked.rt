@@ -16,6 +16,15 @@ pub enum Doing {
     Nothing,
 }
 
+/// What of the deeds goes to standard output.
+#[derive(Clone, Copy)]
+pub enum Deeds {
+    /// Where nothing is done, what would be, in words.
+    Words,
+    /// An object of JSON for each that is done, or would be.
+    Json,
+}
+
 /// What is mirrored, and how.
 #[derive(Clone, Copy)]
 pub struct Mirror<'a> {
@@ -36,6 +45,7 @@ pub struct Mirror<'a> {
     /// The most octets of a file, which is held in memory.
     pub limit: u64,
     pub doing: Doing,
+    pub deeds: Deeds,
 }
 
 impl<'a> Mirror<'a> {

@@ -18,6 +18,6 @@ mod todo;
 mod trouble;
 mod walk;
 
-pub use asked::{Doing, Mirror};
+pub use asked::{Deeds, Doing, Mirror};
 pub use ftp_tool_listing::{Check, Extra, Rules, Way};
 pub use mirroring::mirror;

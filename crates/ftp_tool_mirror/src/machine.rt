@@ -3,16 +3,23 @@ use ftp_tool_local::LocalFiles;
 use ftp_tool_places::Places;
 use std::fs::Files;
 use std::io;
-use std::io::{Eprint, Print};
+use std::io::{Eprint, Print, Write};
 
 /// Who has files and folders, and tells what is done.
 pub(crate) trait Machine: LocalFiles + Places + Eprint {
     /// Tells on standard output what would be done of what is shown so.
     fn tell_would(&self, what: &str, name: &str) -> io::Result<()>;
+
+    /// Writes a line, which has its LF, to standard output.
+    fn tell_line(&self, line: &[u8]) -> io::Result<()>;
 }
 
 impl<R: Files + Print + Eprint + AllocGlobal + Clone + Drop> Machine for R {
     fn tell_would(&self, what: &str, name: &str) -> io::Result<()> {
         println!(self; "{what} {name}")
+    }
+
+    fn tell_line(&self, line: &[u8]) -> io::Result<()> {
+        io::writer(self).write_all(line)
     }
 }

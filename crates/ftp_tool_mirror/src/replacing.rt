@@ -39,7 +39,9 @@ impl<'a, R: Machine> Walk<'a, R> {
             (Doing::All, Deed::Copy(facts)) => {
                 let coming = self.free_beside(seat, below, COMING)?;
                 self.copy_to(seat, below, facts, coming.as_str())?;
-                self.exchange(seat, removal, coming.as_str(), below)
+                self.exchange(seat, removal, coming.as_str(), below)?;
+                self.tell_done("copy", below);
+                Ok(())
             }
             (Doing::All, _) => self.replace_by_dir(seat, removal, below),
         }
@@ -55,8 +57,9 @@ impl<'a, R: Machine> Walk<'a, R> {
         let rules = self.mirror.rules;
         let source = self.listed_from(seat, below, rules.way)?;
         let coming = self.free_beside(seat, below, COMING)?;
-        self.change(seat, Change::MakeDir, coming.as_str())?;
+        self.change_untold(seat, Change::MakeDir, coming.as_str())?;
         self.exchange(seat, removal, coming.as_str(), below)?;
+        self.tell_done("make", below);
         let nothing = Listing::Whole(Vec::new(self.alloc));
         self.todo.plan(rules, below, &source, &nothing)
     }

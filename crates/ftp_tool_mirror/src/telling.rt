@@ -2,6 +2,7 @@
 use crate::removals::Counts;
 use crate::sentence::sentence_of;
 use crate::trouble::Trouble;
+use ftp_tool_listing::put_json_deed;
 use ftp_tool_shown::put_shown;
 use std::alloc::{AllocError, Global};
 use std::fmt::Display;
@@ -31,6 +32,18 @@ pub(crate) fn shown_below(
     }
     put_shown(name, &mut octets)?;
     String::from_str(alloc, std::str::from_utf8(octets.as_slice()).unwrap_or("?"))
+}
+
+/// The line of what is done of a path, as JSON; the path of the root is a point.
+pub(crate) fn deed_line(
+    alloc: Global,
+    what: &str,
+    below: &str,
+) -> Result<Vec<u8, Global>, AllocError> {
+    let path = if below.is_empty() { "." } else { below };
+    let mut line = Vec::new(alloc);
+    put_json_deed(what.as_bytes(), path.as_bytes(), &mut line)?;
+    Ok(line)
 }
 
 /// Tells that an entry, whose path is shown so, has a name that is no text.

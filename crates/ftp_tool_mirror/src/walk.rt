@@ -1,5 +1,5 @@
 // The way through a tree, one thing after another.
-use crate::asked::{Doing, Mirror};
+use crate::asked::{Deeds, Doing, Mirror};
 use crate::changing::{change_there, word_of};
 use crate::copying::{begun, copy_up, download, is_current, is_same, leave};
 use crate::folder::entries_here;
@@ -8,7 +8,7 @@ use crate::removals::Settled;
 use crate::sentence::reason_told;
 use crate::server::{MISSING, entries_there, stands_there};
 use crate::tally::{Progress, Tally};
-use crate::telling::{shown, tell, tell_no_text, tell_too_many, tell_trouble};
+use crate::telling::{deed_line, shown, tell, tell_no_text, tell_too_many, tell_trouble};
 use crate::todo::{Chore, Todo, Work};
 use crate::trouble::Trouble;
 use ftp_operation::Answer;
@@ -264,7 +264,9 @@ impl<'a, R: Machine> Walk<'a, R> {
             self.tally.add_file(facts.size.unwrap_or(0));
             return Ok(());
         }
-        self.copy_to(seat, below, facts, below)
+        self.copy_to(seat, below, facts, below)?;
+        self.tell_done("copy", below);
+        Ok(())
     }
 
     /// Copies a file to a place of the target.
@@ -461,11 +463,25 @@ impl<'a, R: Machine> Walk<'a, R> {
         change: Change,
         below: &str,
     ) -> Result<(), Trouble> {
-        if !self.is_told_only(word_of(change), below)? {
-            match self.mirror.rules.way {
-                Way::Down => self.rt.change_below(change, self.mirror.folder, below)?,
-                Way::Up => change_there(self.alloc, seat, self.mirror, change, below)?,
-            }
+        if self.is_told_only(word_of(change), below)? {
+            self.tally.add_change(change);
+            return Ok(());
+        }
+        self.change_untold(seat, change, below)?;
+        self.tell_done(word_of(change), below);
+        Ok(())
+    }
+
+    /// The same, of which nothing is told.
+    pub(crate) fn change_untold<S: ClientSession>(
+        &mut self,
+        seat: &mut S,
+        change: Change,
+        below: &str,
+    ) -> Result<(), Trouble> {
+        match self.mirror.rules.way {
+            Way::Down => self.rt.change_below(change, self.mirror.folder, below)?,
+            Way::Up => change_there(self.alloc, seat, self.mirror, change, below)?,
         }
         self.tally.add_change(change);
         Ok(())
@@ -473,12 +489,31 @@ impl<'a, R: Machine> Walk<'a, R> {
 
     /// Tells what would be done, where nothing is; says whether that is so.
     fn is_told_only(&self, what: &str, below: &str) -> Result<bool, Trouble> {
-        if self.mirror.doing == Doing::Nothing {
-            let name = shown(self.alloc, below)?;
-            self.rt.tell_would(what, name.as_str())?;
-            return Ok(true);
+        if self.mirror.doing != Doing::Nothing {
+            return Ok(false);
         }
-        Ok(false)
+        match self.mirror.deeds {
+            Deeds::Json => self.tell_json(what, below)?,
+            Deeds::Words => {
+                let name = shown(self.alloc, below)?;
+                self.rt.tell_would(what, name.as_str())?;
+            }
+        }
+        Ok(true)
+    }
+
+    /// Tells what was done, where each deed is told; where that fails, it counts as a failure.
+    pub(crate) fn tell_done(&mut self, what: &str, below: &str) {
+        if matches!(self.mirror.deeds, Deeds::Json) {
+            if let Err(trouble) = self.tell_json(what, below) {
+                self.fail(below, trouble);
+            }
+        }
+    }
+
+    fn tell_json(&self, what: &str, below: &str) -> Result<(), Trouble> {
+        let line = deed_line(self.alloc, what, below)?;
+        Ok(self.rt.tell_line(line.as_slice())?)
     }
 
     /// Tells how far the mirror is, where that is asked for.
