@@ -10,6 +10,8 @@ pub mod Parting
 pub mod Ending
 pub mod Quitting
 pub mod Leaving
+pub mod Playing
+pub mod Example
 pub mod Losing
 pub mod Theorems
 pub mod Delaying

@@ -7,3 +7,4 @@ pub mod Over
 pub mod Delays
 pub mod Broken
 pub mod Quitting
+pub mod Example

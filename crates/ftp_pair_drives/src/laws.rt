@@ -3,6 +3,7 @@
 ghost use Rattle.ftp_pair_drives.specs.Broken.{ClientsAreCut, DrivesBrokenAgree, ServersAreCut};
 ghost use Rattle.ftp_pair_drives.specs.Claims.{DrivesAgree, DrivesAreOfWorlds, DrivesAreTheDirectRun, EndsKeepTheMap, PartingAgrees};
 ghost use Rattle.ftp_pair_drives.specs.Delays.{DownBreaksCommute, EndForgetsBreak, EndForgetsLateBreak, OpeningCommutes, UnopenedIsBroken, UpBreaksCommute, UpRepliesCommute};
+ghost use Rattle.ftp_pair_drives.specs.Example.{ExampleIsPlayed};
 ghost use Rattle.ftp_pair_drives.specs.Over.{DrivesLostAgree, DrivesOverAreTheDirectRun};
 ghost use Rattle.ftp_pair_drives.specs.Quitting.{DrivesThatQuitAreTheDirectRun};
 
@@ -34,6 +35,11 @@ pub fn drives_over_are_the_direct_run()
 /// So it is where the client's program wrote QUIT after all of the client's deeds, and the server's drive is over since it heard that.
 pub fn drives_that_quit_are_the_direct_run()
     ensures { DrivesThatQuitAreTheDirectRun }
+{}
+
+/// The premises can be met: of every map that has a root both drives did a login and one operation, which has its report.
+pub fn an_example_is_played()
+    ensures { ExampleIsPlayed }
 {}
 
 /// Where both were told in the midst of the last operation that the control connection ended, answers and map agree with the operations begun.
