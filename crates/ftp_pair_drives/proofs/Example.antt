@@ -141,7 +141,8 @@ module _ (table : Table) where
   -- the answer is said, heard and reported
   ends : node_at table [] ≡ Some Dir
       → Plays (example table) (Single Ops.Where 0 ∷ []) (Path (47 ∷ []) ∷ []) [] (record far_told { owed = [] }) [] [] (near.reports near_told) []
-  unfolding near.starts near.wants answered line_heard can_hear is_nothing path_value quoted_value path_on_literals text_of obeyed far_first near_first near_greeted far_logged near_logged far_told near_told
+  unfolding near.starts near.wants answered line_heard can_hear is_nothing path_value quoted_value path_on_literals text_of obeyed
+      far_first near_first near_greeted far_logged near_logged far_told near_told
   ends root =
       let b = example table in
       let begun = Single Ops.Where 0 ∷ [] in
@@ -154,7 +155,8 @@ module _ (table : Table) where
 
 -- so it is played
 pub example_is_played : ExampleIsPlayed
-unfolding near.starts answered line_heard path_value quoted_value path_on_literals text_of obeyed far_first near_first near_greeted far_logged near_logged far_told near_told
+unfolding near.starts answered line_heard path_value quoted_value path_on_literals text_of obeyed
+    far_first near_first near_greeted far_logged near_logged far_told near_told
 example_is_played table root =
     let p = ends table root in
     record {
