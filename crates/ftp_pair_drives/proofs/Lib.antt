@@ -15,5 +15,6 @@ pub mod Example
 pub mod Losing
 pub mod Theorems
 pub mod Delaying
+pub mod Swapping
 pub mod Breaking
 pub mod BothBroken

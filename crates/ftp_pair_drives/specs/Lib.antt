@@ -5,6 +5,7 @@ pub mod Alike
 pub mod Claims
 pub mod Over
 pub mod Delays
+pub mod Swaps
 pub mod Broken
 pub mod Quitting
 pub mod Example

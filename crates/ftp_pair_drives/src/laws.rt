@@ -6,6 +6,7 @@ ghost use Rattle.ftp_pair_drives.specs.Delays.{DownBreaksCommute, EndForgetsBrea
 ghost use Rattle.ftp_pair_drives.specs.Example.{ExampleIsPlayed};
 ghost use Rattle.ftp_pair_drives.specs.Over.{DrivesLostAgree, DrivesOverAreTheDirectRun};
 ghost use Rattle.ftp_pair_drives.specs.Quitting.{DrivesThatQuitAreTheDirectRun};
+ghost use Rattle.ftp_pair_drives.specs.Swaps.{DeedsChangePlaces};
 
 /// One server's drive and drives of one client leave what a list of the world's events leads to from the beginning, but for the moment that the
 /// server was told last.
@@ -57,6 +58,11 @@ pub fn drives_broken_agree()
 pub fn drives_that_broke_off_are_cut()
     ensures servers { ServersAreCut }
     ensures clients { ClientsAreCut }
+{}
+
+/// A deed beside the control connection can come before one of the other end that was done first, where it reads nothing that this wrote.
+pub fn deeds_change_places()
+    ensures { DeedsChangePlaces }
 {}
 
 /// A client holds the same whether the break of its data connection, an octet or the opening at its port comes before its final reply or after it;
