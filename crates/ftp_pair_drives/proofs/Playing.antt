@@ -190,7 +190,11 @@ module _ (b : Beginning) (begun : List Order) (reports : List Said) where
       record {
         turns = Server (Says v.owed) ∷ p.turns;
         did = server_turn b p.turns (Says v.owed) tt (far_at v u) (far_at new u) (near_at n w) refl
-            (record { wants = wants_none (record v { owed = [] }) (still_owed v (still_is v at.wants)) at.running; running = at.running; none_waits = at.none_waits })
+            (record {
+              wants = wants_none (record v { owed = [] }) (still_owed v (still_is v at.wants)) at.running;
+              running = at.running;
+              none_waits = at.none_waits;
+            })
             says (between up down) (between up (down ++ v.owed)) refl p.did;
         begun_is = p.begun_is;
         reports_are = p.reports_are;

@@ -97,7 +97,8 @@ reads_then_reads Far read more old mid new one two =
 pub deeds_change_places : DeedsChangePlaces
 deeds_change_places who None_of_it second is also old mid new one two written =
     (new, subst (λ (m : Between). Can (peer who) second m new) one two, refl)
-deeds_change_places who (Says said) None_of_it is also old mid new one two written = (old, refl, subst (λ (m : Between). Can who (Says said) old m) (sym two) one)
+deeds_change_places who (Says said) None_of_it is also old mid new one two written =
+    (old, refl, subst (λ (m : Between). Can who (Says said) old m) (sym two) one)
 deeds_change_places who (Says said) (Says more) is also old mid new one two written = says_then_says who said more old mid new one two
 deeds_change_places who (Says said) (Reads read) is also old mid new one two written = says_then_reads who said read old mid new one two written
 deeds_change_places who (Reads read) None_of_it is also old mid new one two written =
