@@ -375,8 +375,9 @@ where
     R: Programs + Eprint,
 {
     let places = words.get_strs("places").unwrap_or(&[]);
+    let openings = openings_of(words);
     match urls_in(alloc, PLACE_OPTION, places) {
-        Ok(urls) => ask_where(rt, name, words, places, urls.as_slice()),
+        Ok(urls) => ask_where(rt, name, words, places, urls.as_slice(), &openings),
         Err(refusal) => refuse(rt, refusal),
     }
 }
@@ -388,12 +389,13 @@ fn ask_where<'a, R: Programs + Eprint>(
     words: &'a ArgMatches<'_>,
     places: &[&'a str],
     urls: &'a [Option<UrlPlace>],
+    openings: &'a Openings,
 ) -> io::Result<u8> {
-    if let Err(refusal) = check_places(words, places, urls, false) {
+    if let Err(refusal) = check_places(words, places, urls, openings, false) {
         return refuse(rt, refusal);
     }
     match fetch_task_of(name, words) {
-        Some(task) => number_of(ask_all(rt, words, places, urls, task)),
+        Some(task) => number_of(ask_all(rt, words, places, urls, openings, task)),
         None => refuse(rt, Refusal::Number),
     }
 }
@@ -404,11 +406,12 @@ fn ask_all<'a, R: Programs + Eprint>(
     words: &'a ArgMatches<'_>,
     places: &[&'a str],
     urls: &'a [Option<UrlPlace>],
+    openings: &'a Openings,
     task: Task<'_>,
 ) -> io::Result<Status> {
     let mut worst = Status::Done;
     for (place, url) in places.iter().zip(urls.iter()) {
-        let Ok(asked) = asked_of(words, *place, url.as_ref(), false) else {
+        let Ok(asked) = asked_of(words, *place, url.as_ref(), openings, false) else {
             return Ok(Status::BadWords);
         };
         let status = rt.fetch(&asked, task)?;
