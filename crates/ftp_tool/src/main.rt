@@ -376,26 +376,36 @@ where
 {
     let places = words.get_strs("places").unwrap_or(&[]);
     let openings = openings_of(words);
+    let errand = Errand {
+        name,
+        openings: &openings,
+    };
     match urls_in(alloc, PLACE_OPTION, places) {
-        Ok(urls) => ask_where(rt, name, words, places, urls.as_slice(), &openings),
+        Ok(urls) => ask_where(rt, words, places, urls.as_slice(), errand),
         Err(refusal) => refuse(rt, refusal),
     }
+}
+
+/// What is asked for at each place, as its subcommand is called, and by which commands data connections are asked for.
+#[derive(Clone, Copy)]
+struct Errand<'a> {
+    name: &'a str,
+    openings: &'a Openings,
 }
 
 /// The same at places of which these are URLs, where all of them can be asked at.
 fn ask_where<'a, R: Programs + Eprint>(
     rt: &R,
-    name: &str,
     words: &'a ArgMatches<'_>,
     places: &[&'a str],
     urls: &'a [Option<UrlPlace>],
-    openings: &'a Openings,
+    errand: Errand<'a>,
 ) -> io::Result<u8> {
-    if let Err(refusal) = check_places(words, places, urls, openings, false) {
+    if let Err(refusal) = check_places(words, places, urls, errand.openings, false) {
         return refuse(rt, refusal);
     }
-    match fetch_task_of(name, words) {
-        Some(task) => number_of(ask_all(rt, words, places, urls, openings, task)),
+    match fetch_task_of(errand.name, words) {
+        Some(task) => number_of(ask_all(rt, words, places, urls, errand.openings, task)),
         None => refuse(rt, Refusal::Number),
     }
 }
