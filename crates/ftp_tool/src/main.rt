@@ -377,8 +377,8 @@ where
     let places = words.get_strs("places").unwrap_or(&[]);
     let openings = openings_of(words);
     let errand = Errand {
-        name,
         openings: &openings,
+        name,
     };
     match urls_in(alloc, PLACE_OPTION, places) {
         Ok(urls) => ask_where(rt, words, places, urls.as_slice(), errand),
@@ -386,11 +386,11 @@ where
     }
 }
 
-/// What is asked for at each place, as its subcommand is called, and by which commands data connections are asked for.
+/// By which commands data connections are asked for, and what is asked for at each place, as its subcommand is called.
 #[derive(Clone, Copy)]
 struct Errand<'a> {
-    name: &'a str,
     openings: &'a Openings,
+    name: &'a str,
 }
 
 /// The same at places of which these are URLs, where all of them can be asked at.
