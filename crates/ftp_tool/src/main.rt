@@ -374,38 +374,31 @@ fn ask_each<R>(rt: &R, alloc: Global, name: &str, words: &ArgMatches<'_>) -> io:
 where
     R: Programs + Eprint,
 {
-    let places = words.get_strs("places").unwrap_or(&[]);
     let openings = openings_of(words);
-    let errand = Errand {
-        openings: &openings,
-        name,
-    };
-    match urls_in(alloc, PLACE_OPTION, places) {
-        Ok(urls) => ask_where(rt, words, places, urls.as_slice(), errand),
+    match urls_in(alloc, PLACE_OPTION, places_of(words)) {
+        Ok(urls) => ask_where(rt, name, words, urls.as_slice(), &openings),
         Err(refusal) => refuse(rt, refusal),
     }
 }
 
-/// By which commands data connections are asked for, and what is asked for at each place, as its subcommand is called.
-#[derive(Clone, Copy)]
-struct Errand<'a> {
-    openings: &'a Openings,
-    name: &'a str,
+/// The places that a command line names.
+fn places_of<'a>(words: &'a ArgMatches<'_>) -> &'a [&'a str] {
+    words.get_strs("places").unwrap_or(&[])
 }
 
 /// The same at places of which these are URLs, where all of them can be asked at.
 fn ask_where<'a, R: Programs + Eprint>(
     rt: &R,
+    name: &str,
     words: &'a ArgMatches<'_>,
-    places: &[&'a str],
     urls: &'a [Option<UrlPlace>],
-    errand: Errand<'a>,
+    openings: &'a Openings,
 ) -> io::Result<u8> {
-    if let Err(refusal) = check_places(words, places, urls, errand.openings, false) {
+    if let Err(refusal) = check_places(words, places_of(words), urls, openings, false) {
         return refuse(rt, refusal);
     }
-    match fetch_task_of(errand.name, words) {
-        Some(task) => number_of(ask_all(rt, words, places, urls, errand.openings, task)),
+    match fetch_task_of(name, words) {
+        Some(task) => number_of(ask_all(rt, words, urls, openings, task)),
         None => refuse(rt, Refusal::Number),
     }
 }
@@ -414,12 +407,12 @@ fn ask_where<'a, R: Programs + Eprint>(
 fn ask_all<'a, R: Programs + Eprint>(
     rt: &R,
     words: &'a ArgMatches<'_>,
-    places: &[&'a str],
     urls: &'a [Option<UrlPlace>],
     openings: &'a Openings,
     task: Task<'_>,
 ) -> io::Result<Status> {
     let mut worst = Status::Done;
+    let places = places_of(words);
     for (place, url) in places.iter().zip(urls.iter()) {
         let Ok(asked) = asked_of(words, *place, url.as_ref(), openings, false) else {
             return Ok(Status::BadWords);
