@@ -2,6 +2,7 @@
 """A download goes on behind what came: where its control connection ended, and with --continue behind a part that was kept. It never goes on behind
 octets of another file, whatever note stands beside them; and no file, listing or transfer takes more memory or time than it may.
 """
+import os
 import socket
 import struct
 import time
@@ -17,12 +18,14 @@ NOTE = "out.ftp-part.note"
 def drop(connection, by):
     """Ends a connection, by FIN or by RST."""
     if by == "RST":
+        # (closed while a file over it is open, a socket would stay)
         connection.setsockopt(socket.SOL_SOCKET, socket.SO_LINGER, struct.pack("ii", 1, 0))
-    else:
-        try:
-            connection.shutdown(socket.SHUT_RDWR)
-        except OSError:
-            pass
+        os.close(connection.detach())
+        return
+    try:
+        connection.shutdown(socket.SHUT_RDWR)
+    except OSError:
+        pass
     connection.close()
 
 
