@@ -1,5 +1,5 @@
-//! Laws of two drives: functions that do nothing, whose contracts are the claims of `specs/Claims` and `specs/Over`, of the deeds that `Drives` of a
-//! server's and of a client's drive cites, in any order in which each can happen, where no data connection was wanted.
+//! Laws of two drives: functions that do nothing, whose contracts are the claims of `specs/`, of the deeds that `Drives` of a server's and of a
+//! client's drive cites, in any order in which each can happen, where no data connection was wanted; the last two are what transfers will need.
 ghost use Rattle.ftp_pair_drives.specs.Broken.{ClientsAreCut, DrivesBrokenAgree, ServersAreCut};
 ghost use Rattle.ftp_pair_drives.specs.Claims.{DrivesAgree, DrivesAreOfWorlds, DrivesAreTheDirectRun, EndsKeepTheMap, PartingAgrees};
 ghost use Rattle.ftp_pair_drives.specs.Delays.{DownBreaksCommute, EndForgetsBreak, EndForgetsLateBreak, OpeningCommutes, UnopenedIsBroken, UpBreaksCommute, UpRepliesCommute};
