@@ -5,7 +5,7 @@ use Rattle.std.specs.Prelude.{ℕ, ◌+◌, ◌==◌, ◌&&◌, ◌||◌, Bool, 
 use Rattle.std.specs.Option.{is_some, option_map, option_or, unwrap_or}
 use Rattle.std.specs.List.{filter_map, find, ends_with, range_with_len}
 use Rattle.ftp_path.specs.Path.{parent, fits, resolved, text_of, Names, is_within}
-use Rattle.ftp_tree.specs.Tree.{Node, Dir, File, Table, node_at, octets_or_none, stamp_at, children, or_else, whenever, directory_refusal, made, removed, installed, moved, under, with_part, make_refusal, remove_refusal, delete_refusal, file_refusal, source_refusal, target_refusal, room_refusal, octets_refusal}
+use Rattle.ftp_tree.specs.Tree.{Node, Dir, File, Table, node_at, octets_or_none, stamp_at, children, or_else, whenever, directory_refusal, made, removed, installed, moved, freed, under, with_part, make_refusal, remove_refusal, delete_refusal, file_refusal, source_refusal, target_refusal, room_refusal, octets_refusal}
 use Rattle.ftp_tree.specs.declared.fault.TreeFault.{TreeFault}
 use Rattle.ftp_tree.specs.declared.fault.TreeFault.TheVariants as Faults
 use Rattle.ftp_repr.specs.Ascii.{asc}
@@ -122,6 +122,11 @@ barred_put state path = barred (may_put state.rights (fits path && is_file (node
 abbrev pub busy_refusal : State → Names → Option TreeFault
 busy_refusal state path = whenever (is_within path state.cwd) Faults.Busy
 
+-- what is looked at as something is renamed: the part without a file whose place is taken by a file, where the account may rename onto files (own
+-- choice)
+abbrev pub target_part : State → List ℕ → List ℕ → Table
+target_part state text new = freed state.rights.onto (part state) (named state text) (named state new)
+
 -- nothing stands there
 abbrev pub absent_refusal : Option Node → Option TreeFault
 absent_refusal None = Some Faults.Absent
@@ -190,7 +195,7 @@ refusal state (Ops.Delete text) = or_refused (barred state.rights.delete) (refus
 refusal state (Ops.Rename text new) =
     or_refused (barred state.rights.rename)
     (or_refused (refused_there (limited (named state text) (or_else (source_refusal (part state) (named state text)) (busy_refusal state (named state text)))))
-    (refused_name (limited (named state new) (target_refusal (part state) (named state text) (named state new)))))
+    (refused_name (limited (named state new) (target_refusal (target_part state text new) (named state text) (named state new)))))
 refusal state (Ops.Put text octets how) = or_refused (barred_put state (named state text)) (put_refusal state (named state text) (length octets))
 refusal state (Ops.Append text octets how) =
     or_refused (barred_put state (named state text)) (put_refusal state (named state text) (length (file_of state text) + length octets))
@@ -265,7 +270,7 @@ done state Ops.Up moment = (Done, record state { cwd = parent state.cwd })
 done state (Ops.MakeDir text) moment = (Path (text_of (named state text)), changed state (made (part state) (named state text)))
 done state (Ops.RemoveDir text) moment = (Done, changed state (removed (part state) (named state text)))
 done state (Ops.Delete text) moment = (Done, changed state (removed (part state) (named state text)))
-done state (Ops.Rename text new) moment = (Done, changed state (moved (part state) (named state text) (named state new)))
+done state (Ops.Rename text new) moment = (Done, changed state (moved (target_part state text new) (named state text) (named state new)))
 done state (Ops.Put text octets how) moment = put state (named state text) [] octets moment
 done state (Ops.Append text octets how) moment = put state (named state text) (file_of state text) octets moment
 done state (Ops.PutFrom text offset octets how) moment = put state (named state text) (take (skipped state (named state text) how offset) (file_of state text)) octets moment

@@ -19,9 +19,9 @@ barring state (Ops.Append text octets how) = barred_put state (named state text)
 barring state (Ops.PutFrom text offset octets how) = if is_none (offset_refusal offset how) then barred_put state (named state text) else None
 barring state other = None
 
--- the state of an account with all rights
+-- the state of an account with all rights, of which renaming onto files is had as it is here
 abbrev pub free : State → State
-free state = record state { rights = all_rights }
+free state = record state { rights = record all_rights { onto = state.rights.onto } }
 
 -- so an operation is refused for want of a right, or as that of an account with all rights
 abbrev pub RightsComeFirst : Type 0

@@ -4,6 +4,7 @@ use Rattle.std.specs.List.{find, list_all, list_any}
 use Rattle.std.specs.Cmp.Lexicographic.{pointwise}
 pub use Rattle.ftp_path.specs.Login.{is_user, is_password}
 use Rattle.ftp_path.specs.Path.{Names, is_within}
+use Rattle.ftp_operation.specs.Rights.{may_change}
 use Rattle.ftp_operation_secret.specs.Secret.{opens}
 use Rattle.ftp_operation_secret.specs.declared.secret.Secret.{Secret}
 use Rattle.ftp_operation.specs.declared.account.Account.{Account as Held}
@@ -28,14 +29,18 @@ are_distinct (account ∷ accounts) = not (list_any (has_user account.user) acco
 abbrev pub is_below : Names → Names → Bool
 is_below above path = is_within above path && not (is_within path above)
 
--- an account's root is below this one, or above it
-abbrev pub has_nested : Names → Account → Bool
-has_nested root account = is_below root account.root || is_below account.root root
+-- an account may change something, and the root of another is below its own
+abbrev pub changes_above : Account → Account → Bool
+changes_above above account = may_change above.rights && is_below above.root account.root
 
--- no account's root is below another's; equal ones are allowed
+-- one of two accounts may change something above the root of the other
+abbrev pub has_nested : Account → Account → Bool
+has_nested one other = changes_above one other || changes_above other one
+
+-- no account's root is below that of another that may change something; equal ones are allowed
 abbrev pub are_apart : List Account → Bool
 are_apart [] = true
-are_apart (account ∷ accounts) = not (list_any (has_nested account.root) accounts) && are_apart accounts
+are_apart (account ∷ accounts) = not (list_any (has_nested account) accounts) && are_apart accounts
 
 -- the first reason why these can't be the accounts
 abbrev pub accounts_refusal : List Account → Option AccountsFault

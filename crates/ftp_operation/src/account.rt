@@ -2,7 +2,7 @@
 ghost use Rattle.std.specs.Prelude.{◌≡◌, ◌&&◌, ◌↔◌, None, Some, IfOk, IfErr, IfSome, IsSome, IsTrue, drop};
 ghost use Rattle.std.specs.List.{list_all, list_any};
 ghost use Rattle.std.specs.Option.{option_map};
-ghost use Rattle.ftp_operation.specs.Account.{accounts_refusal, are_apart, are_distinct, has_nested, has_user, is_below, is_open, is_password, is_user, knows, login_account, open_account, passes};
+ghost use Rattle.ftp_operation.specs.Account.{accounts_refusal, are_apart, are_distinct, changes_above, has_nested, has_user, is_below, is_open, is_password, is_user, knows, login_account, open_account, passes};
 
 use crate::rights::Rights;
 use ftp_facts::Text;
@@ -63,7 +63,7 @@ impl<A: Allocator + Copy> Login<A> {
     }
 }
 
-/// Accounts of which no two have one user name, and no root is below another.
+/// Accounts of which no two have one user name, and no root is below that of another that may change something.
 #[derive(Drop)]
 pub struct Accounts<A: Allocator + Copy> {
     list: Vec<Account<Text<A>, Path<A>>, A>,
@@ -83,8 +83,8 @@ impl<A: Allocator + Copy> Model for Accounts<A> {
 pub enum AccountsFault {
     #[error("two accounts have one user name")]
     SameUser,
-    /// Equal roots are allowed.
-    #[error("an account's root is below another's")]
+    /// Equal roots are allowed, and a root below that of an account that may only look.
+    #[error("an account's root is below that of another that may change something")]
     NestedRoots,
 }
 
@@ -174,23 +174,37 @@ fn is_taken<A: Allocator + Copy>(list: &[Account<Text<A>, Path<A>>], user: &[u8]
     list.iter().any(|account| account.user.as_slice() == user)
 }
 
-/// Whether no account's root is below another's.
+/// Whether no account's root is below that of another that may change something.
 fn are_apart<A: Allocator + Copy>(list: &[Account<Text<A>, Path<A>>]) -> bool
     ensures { result ≡ are_apart list.now }
 {
     for at in 0..list.len() {
-        if is_nested(&list[at + 1..], &list[at].root) {
+        if is_nested(&list[at + 1..], &list[at]) {
             return false;
         }
     }
     true
 }
 
-/// Whether an account's root is below this one, or above it.
-fn is_nested<A: Allocator + Copy>(list: &[Account<Text<A>, Path<A>>], root: &Path<A>) -> bool
-    ensures { result ≡ list_any (has_nested root.now) list.now }
+/// Whether one of these accounts may change something above the root of this one, or this one above theirs.
+fn is_nested<A: Allocator + Copy>(
+    list: &[Account<Text<A>, Path<A>>],
+    account: &Account<Text<A>, Path<A>>,
+) -> bool
+    ensures { result ≡ list_any (has_nested account.now) list.now }
 {
-    list.iter().any(|account| is_below(root, &account.root) || is_below(&account.root, root))
+    list.iter()
+        .any(|other| changes_above(account, other) || changes_above(other, account))
+}
+
+/// Whether an account may change something, and the root of another is below its own.
+fn changes_above<A: Allocator + Copy>(
+    above: &Account<Text<A>, Path<A>>,
+    account: &Account<Text<A>, Path<A>>,
+) -> bool
+    ensures { result ≡ changes_above above.now account.now }
+{
+    above.rights.may_change() && is_below(&above.root, &account.root)
 }
 
 /// Whether the second path is below the first, and not the first.

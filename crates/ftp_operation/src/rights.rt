@@ -1,6 +1,6 @@
 // What an account may change of what it sees of the tree.
 ghost use Rattle.std.specs.Prelude.{◌≡◌};
-ghost use Rattle.ftp_operation.specs.Rights.{adding_rights, all_rights, joined, may_put, no_rights};
+ghost use Rattle.ftp_operation.specs.Rights.{adding_rights, all_rights, joined, may_change, may_put, no_rights};
 
 /// What an account may change of what it sees of the tree, each by itself. Whoever is logged in may look and fetch.
 #[derive(Clone, Copy, Debug, PartialEq, Eq)]
@@ -17,10 +17,12 @@ pub struct Rights {
     pub remove_dir: bool,
     /// Rename files and directories.
     pub rename: bool,
+    /// Rename a file onto another, which is replaced.
+    pub onto: bool,
 }
 
 impl Rights {
-    /// All of them.
+    /// All of them but to rename onto a file: RNTO onto what stands is refused to whoever has these.
     pub fn all() -> Rights
         ensures { result ≡ all_rights }
     {
@@ -31,6 +33,7 @@ impl Rights {
             make_dir: true,
             remove_dir: true,
             rename: true,
+            onto: false,
         }
     }
 
@@ -45,6 +48,7 @@ impl Rights {
             make_dir: false,
             remove_dir: false,
             rename: false,
+            onto: false,
         }
     }
 
@@ -59,6 +63,7 @@ impl Rights {
             make_dir: true,
             remove_dir: false,
             rename: false,
+            onto: false,
         }
     }
 
@@ -73,6 +78,15 @@ impl Rights {
         }
     }
 
+    /// Whether any of them is had: whoever has none may look and fetch alone.
+    pub fn may_change(self) -> bool
+        ensures { result ≡ may_change self }
+    {
+        let of_files = self.put || self.replace || self.delete;
+        let of_dirs = self.make_dir || self.remove_dir;
+        of_files || of_dirs || self.rename || self.onto
+    }
+
     /// These and those.
     pub fn joined(self, other: Rights) -> Rights
         ensures { result ≡ joined self other }
@@ -84,6 +98,7 @@ impl Rights {
             make_dir: self.make_dir || other.make_dir,
             remove_dir: self.remove_dir || other.remove_dir,
             rename: self.rename || other.rename,
+            onto: self.onto || other.onto,
         }
     }
 }

@@ -13,7 +13,7 @@ use Rattle.ftp_direct.specs.Direct.{State, start as direct_start, answer, answer
 use Rattle.std.specs.List.{list_all}
 use Rattle.ftp_cutting.specs.Machine.{IsFront}
 use Rattle.ftp_tree.specs.Sound.{IsSoundTable, last_second}
-use Rattle.ftp_tree.specs.Tree.{Table, IsTree, octets_in, total_limit, installed}
+use Rattle.ftp_tree.specs.Tree.{Table, IsTree, installed}
 use Rattle.ftp_operation.specs.declared.op.How.{How}
 use Rattle.ftp_operation.specs.declared.op.Op.{Op}
 use Rattle.ftp_operation.specs.declared.op.Op.TheVariants as Ops
@@ -22,6 +22,7 @@ use Rattle.ftp_client_model.specs.Tries.{OverBreaks, most_tries}
 use Rattle.ftp_client_model.specs.View.{client}
 use Rattle.ftp_server_model.specs.Calls.{start}
 use Rattle.ftp_server_model.specs.Machine.{Reading, IsReading}
+use Rattle.ftp_server_model.specs.Held.{HasShortFiles}
 use Rattle.ftp_server_model.specs.Told.{is_path}
 use Rattle.ftp_server_model.specs.View.{Accounts}
 use Rattle.ftp_pair_world.specs.Agreement.{AttemptHolds, Order, Tries, tries_in, Item, IsItemOf, item_did, ItemHolds}
@@ -52,15 +53,15 @@ AreRelated one other = ⊥
 abbrev pub state_of : Beginning → State
 state_of b = direct_start b.table (login_account b.accounts b.user b.pass)
 
--- a login of the type; accounts of which no two have one user name and no root is below another; a map of names and moments,
--- within the limits where the login sees it; hosts of one family
+-- a login of the type; accounts of which no two have one user name and no root is below that of another that may change something; a map of
+-- names and moments, each of its files within the limit of a file where the login sees it; hosts of one family
 pub record IsFair (b : Beginning) : Type 0 where
   pub user : IsTrue (is_user b.user)
   pub pass : IsTrue (is_password b.pass)
   pub accounts : accounts_refusal b.accounts ≡ None
   pub roots : IsTrue (list_all (λ account. is_path account.root) b.accounts)
   pub tree : IsTree b.table
-  pub octets : octets_in (part (state_of b)) ≤ total_limit
+  pub files : HasShortFiles (part (state_of b))
   pub entries : IsSoundTable b.table
   pub near_typed : IsTypedHost b.near_host
   pub far_typed : IsTypedHost b.far_host

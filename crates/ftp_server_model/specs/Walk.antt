@@ -2,7 +2,7 @@
 -- what it changes are the words of the direct run (`ftp_direct`).
 use Rattle.std.specs.Prelude.{ℕ, List, Option, Some, None}
 use Rattle.ftp_path.specs.Path.{resolved, Names}
-use Rattle.ftp_tree.specs.Tree.{or_else, moved, source_refusal, rename_refusal}
+use Rattle.ftp_tree.specs.Tree.{Table, or_else, moved, freed, source_refusal, rename_refusal}
 use Rattle.ftp_direct.specs.declared.refusal.Refusal.{Refusal}
 use Rattle.ftp_direct.specs.declared.refusal.Refusal.TheVariants as Refusals
 use Rattle.ftp_direct.specs.Direct.{refusal, done, barred, or_refused, refused_there, refused_name, limited, busy_refusal}
@@ -72,12 +72,16 @@ refused_source s from =
 abbrev pub rnfr : List ℕ → Session → Turn
 rnfr text s = unless (refused_source s (path_of s text)) s (tells Texts.NewName (record s { pending = Pendings.Rename (path_of s text) }))
 
+-- what RNTO looks at: what the account sees, without a file whose place is taken by a file where it may rename onto files (own choice)
+abbrev pub target_seen : Session → Names → Names → Table
+target_seen s from to = freed s.rights.onto (seen s) from to
+
 -- RNTO, the second half, right after it, of an account that may rename
 abbrev pub refused_target : Session → Names → Names → Option Refusal
-refused_target s from to = or_refused (barred s.rights.rename) (refused_name (limited to (rename_refusal (seen s) from to)))
+refused_target s from to = or_refused (barred s.rights.rename) (refused_name (limited to (rename_refusal (target_seen s from to) from to)))
 
 abbrev pub renames : Names → Names → Session → Turn
-renames from to s = unless (refused_target s from to) s (tells Texts.Done (with_seen (moved (seen s) from to) s))
+renames from to s = unless (refused_target s from to) s (tells Texts.Done (with_seen (moved (target_seen s from to) from to) s))
 
 -- RNTO: 503 where no RNFR stood right before it
 abbrev pub rnto : Pending Names → List ℕ → Session → Turn

@@ -1,6 +1,6 @@
 -- The tree of a server, as a finite map from paths (lists of names) to directories and files; what may be changed, and what
 -- is refused. No command and no reply stands here (RFC 959, section 4.1.3; the limits are own choices).
-use Rattle.std.specs.Prelude.{◌≡◌, ℕ, ◌-◌, ◌||◌, not, min, List, [], ◌∷◌, ◌++◌, length, drop, map, Bool, Option, Some, None, IsSome, is_some, nat_le, if◌then◌else◌}
+use Rattle.std.specs.Prelude.{◌≡◌, ℕ, ◌-◌, ◌||◌, ◌&&◌, not, min, List, [], ◌∷◌, ◌++◌, length, drop, map, Bool, Option, Some, None, IsSome, is_none, is_some, nat_le, if◌then◌else◌}
 use Rattle.std.specs.Option.{option_map, option_or, unwrap_or}
 use Rattle.std.specs.List.{filter, filter_map, list_all, sum_by}
 use Rattle.std.specs.FinMap as fin
@@ -201,6 +201,18 @@ target_refusal table from to =
 
 unfoldable pub rename_refusal : Table → Names → Names → Option TreeFault
 rename_refusal table from to = or_else (source_refusal table from) (target_refusal table from to)
+
+-- a file may take the place of another: files stand at both paths, and the second is not the first
+unfoldable pub takes_place : Table → Names → Names → Bool
+takes_place table from to = is_none (file_refusal (node_at table from)) && (is_none (file_refusal (node_at table to)) && not (is_within from to))
+
+-- a file is moved onto another
+unfoldable pub onto_refusal : Table → Names → Names → Option TreeFault
+onto_refusal table from to = whenever (not (takes_place table from to)) WrongKind
+
+-- where files may be replaced so, the map without the file whose place is taken; else the map
+unfoldable pub freed : (onto : Bool) → Table → Names → Names → Table
+freed onto table from to = if onto && takes_place table from to then removed table to else table
 
 -- a file is put where a file stands, or anew in a directory, within the limits of paths and nodes
 abbrev pub room_answer : Option Node → Table → Names → Option TreeFault

@@ -1,7 +1,7 @@
 // What a tree answers, as what its clauses say of one map, however the tree is kept.
 ghost use Rattle.std.specs.Prelude.{◌≡◌, ◌≤◌, ◌<◌, ◌∷◌, ◌++◌, ℕ, [], Some, None, IfOk, IfErr, IfSome, OnOk, OnErr, length, nat_le, take, drop, option_map};
 ghost use Rattle.std.specs.List.{slice_get};
-ghost use Rattle.ftp_tree.specs.Tree.{Table, children, delete_refusal, install_refusal, installed, kind_at, made, make_refusal, moved, node_at, octets_in, octets_or_none, remove_refusal, removed, rename_refusal, room_at, room_refusal, shown_of, size_at, stamp_at, total_limit, under, with_part};
+ghost use Rattle.ftp_tree.specs.Tree.{Table, children, delete_refusal, install_refusal, installed, kind_at, made, make_refusal, freed, moved, node_at, octets_in, octets_or_none, onto_refusal, remove_refusal, removed, rename_refusal, room_at, room_refusal, shown_of, size_at, stamp_at, total_limit, under, with_part};
 ghost use Rattle.ftp_tree.specs.Change.{IsDone, IsRefused};
 ghost use Rattle.ftp_tree.specs.Sound.{IsSoundTree};
 
@@ -166,6 +166,18 @@ pub trait Tree<A: Allocator + Copy>: Drop {
     ) -> Result<(), TreeFault>
         ensures done { OnOk result (let part = under (table self.old) root.now in IsDone (rename_refusal part from.now to.now) (with_part (table self.old) root.now (moved part from.now to.now)) (table self.new) (failures self.old) (failures self.new)) }
         ensures refused { IfErr result (λ fault. IsRefused (rename_refusal (under (table self.old) root.now) from.now to.now) fault (table self.old) (table self.new) (failures self.old) (failures self.new)) };
+
+    /// Moves a file into the place of another, in one change.
+    ///
+    /// Refused: `WrongKind` where not both are files, or where both are one.
+    fn rename_onto<B: Allocator + Copy, C: Allocator + Copy, D: Allocator + Copy>(
+        &mut self,
+        root: &Path<B>,
+        from: &Path<C>,
+        to: &Path<D>,
+    ) -> Result<(), TreeFault>
+        ensures done { OnOk result (let part = under (table self.old) root.now in IsDone (onto_refusal part from.now to.now) (with_part (table self.old) root.now (moved (freed true part from.now to.now) from.now to.now)) (table self.new) (failures self.old) (failures self.new)) }
+        ensures refused { IfErr result (λ fault. IsRefused (onto_refusal (under (table self.old) root.now) from.now to.now) fault (table self.old) (table self.new) (failures self.old) (failures self.new)) };
 
     /// Puts a file at a path, in the place of one that stands there. Its octets are taken out of the content.
     ///
