@@ -1,0 +1,100 @@
+-- A file in the place of another: what is freed for it is free, and nothing refuses the move.
+use Rattle.std.proofs.Common.{ℕ, ◌≡◌, ◌⊎◌, inl, Bool, true, false, not, ◌||◌, Option, Some, None, is_some, List, [], ◌∷◌, ◌++◌, length, drop, refl, sym, ap, ◌∙◌, subst}
+use Rattle.std.specs.Prelude.{map}
+use Rattle.std.specs.List.{AllByRecursion, list_all}
+use Rattle.std.specs.FinMap as fin
+use Rattle.std.specs.FinMap.Entries.{find}
+use Rattle.std.specs.Ordering.{eq_by_cmp}
+use Rattle.std.proofs.lemmas.Bool.{and_from, cond-true, cond-false, true≢false}
+use Rattle.std.proofs.lemmas.List.{append-nil}
+use Rattle.ftp_path.specs.Path.{Names, fits, is_within, moved_path, parent, path_cmp}
+use Rattle.ftp_path.proofs.KeyLemmas.{within-parts}
+use Rattle.ftp_tree.specs.Laws.{MovesAll, OntoMovesAll}
+use Rattle.ftp_tree.specs.Store.{Rows}
+use Rattle.ftp_tree.specs.Tree.{Node, Dir, File, IsTree, Table, delete_refusal, directory_refusal, file_refusal, freed, moved, moves_fit, node_at, onto_refusal, or_else, removed, rename_refusal, source_answer, source_refusal, takes_place, target_refusal, under, whenever}
+use Rattle.ftp_tree.specs.declared.fault.TreeFault.{TreeFault}
+use Rattle.ftp_tree.specs.declared.fault.TreeFault.TheVariants.{Exists, TooBig, WrongKind}
+use Rattle.ftp_tree.proofs.KeepLaws.{at-remove, beside-other, file-below, file-stands, onto-takes, takes-freed, takes-parts, vacant}
+use Rattle.ftp_tree.proofs.LawLemmas.{each-found, get-node, moves-where}
+use Rattle.ftp_tree.proofs.LeafLemmas.{IsLeaf, none-file, outside}
+
+-- ---- what is refused of no file that is moved onto another
+
+-- two reasons of which neither applies
+both-of : (first second : Option TreeFault) → first ≡ None → second ≡ None → or_else first second ≡ None
+both-of first second none one = ap (λ f. or_else f second) none ∙ one
+
+source-of : (node : Option Node) (path : Names) → is_some node ≡ true → (path ≡ [] → ⊥) → source_answer node path ≡ None
+source-of None path some below = absurd (true≢false (sym some))
+source-of (Some node) [] some below = absurd (below refl)
+source-of (Some node) (name ∷ rest) some below = refl
+
+-- nothing stands below a file
+file-leaf : (table : Table) (path : Names) (node : Option Node) → IsTree table → node_at table path ≡ node → file_refusal node ≡ None → IsLeaf table path
+file-leaf table path None tree there none = cc
+file-leaf table path (Some Dir) tree there none = cc
+file-leaf table path (Some (File octets moment)) tree there none = none-file table path octets moment tree there
+
+-- another path is as before
+removed-node : (table : Table) (path other : Names) → eq_by_cmp path_cmp other path ≡ false → node_at (removed table path) other ≡ node_at table other
+unfolding removed
+removed-node table path other apart = at-remove table path other ∙ cond-false (eq_by_cmp path_cmp other path) None (node_at table other) apart
+
+all-keys : (f : Names → Bool) (es : Rows) → AllByRecursion (λ e. f e.0 ≡ true) es → list_all f (map (λ e. e.0) es) ≡ true
+all-keys f [] all = refl
+all-keys f (e ∷ es) all = and_from (f e.0) (list_all f (map (λ e. e.0) es)) all.0 (all-keys f es all.1)
+
+-- a path that has nothing below it is moved alone, and fits where the new path does
+leaf-fits : (table : Table) (from to : Names) → IsLeaf table from → fits to ≡ true → moves_fit table from to ≡ true
+unfolding moves_fit
+leaf-fits table from to leaf fit =
+    all-keys (λ path. not (is_within from path) || fits (moved_path from to path)) (fin.entries table)
+    (each-found (λ path. (not (is_within from path) || fits (moved_path from to path)) ≡ true) (fin.entries table) (λ path found. by path (ap is_some (sym (get-node table path)) ∙ found)))
+  where
+    within : (path rest : Names) → path ≡ from ++ rest → is_some (node_at table path) ≡ true → fits (to ++ rest) ≡ true
+    within path [] is some = ap fits (append-nil to) ∙ fit
+    within path (name ∷ rest) is some = absurd (true≢false (sym some ∙ ap (λ p. is_some (node_at table p)) is ∙ ap is_some (leaf name rest)))
+
+    goes : (path : Names) → is_within from path ≡ true → moved_path from to path ≡ to ++ drop (length from) path
+    unfolding moved_path
+    goes path inside = cond-true (is_within from path) (to ++ drop (length from) path) path inside
+
+    by : (path : Names) → is_some (node_at table path) ≡ true → (not (is_within from path) || fits (moved_path from to path)) ≡ true
+    by path some =
+        elim (is_within from path) as (λ b. is_within from path ≡ b → (not b || fits (moved_path from to path)) ≡ true) [
+          | true ↦ λ inside. ap fits (goes path inside) ∙ within path (drop (length from) path) (within-parts from path inside) some
+          | false ↦ λ _. refl
+        ] refl
+
+-- A file that takes the place of another is refused nothing once that is gone, if the path of the other is within the limits.
+pub free-onto : (table : Table) (from to : Names) → IsTree table → fits to ≡ true → takes_place table from to ≡ true → rename_refusal (removed table to) from to ≡ None
+unfolding rename_refusal source_refusal target_refusal
+free-onto table from to tree fit takes =
+    let parts = takes-parts table from to takes in
+    let free = vacant table to tree parts.target in
+    let new = removed table to in
+    let same : node_at new from ≡ node_at table from = removed-node table to from (ap (λ p. eq_by_cmp path_cmp p to) (sym (append-nil from)) ∙ beside-other from to [] parts.beside) in
+    let leaf = file-leaf new from (node_at new from) free.tree refl (ap file_refusal same ∙ parts.source) in
+    both-of (source_answer (node_at new from) from) _ (source-of (node_at new from) from (ap is_some same ∙ file-stands (node_at table from) parts.source) (file-below table from tree parts.source))
+    (both-of (whenever (is_some (node_at new to)) Exists) _ (ap (λ node. whenever (is_some node) Exists) free.absent)
+    (both-of (whenever (is_within from to) WrongKind) _ (ap (λ b. whenever b WrongKind) parts.beside)
+    (both-of (directory_refusal (node_at new (parent to))) _ (ap directory_refusal free.above)
+    (ap (λ b. whenever (not b) TooBig) (leaf-fits new from to leaf fit)))))
+
+pub free-freed : (table : Table) (from to : Names) → IsTree table → fits to ≡ true → takes_place table from to ≡ true → rename_refusal (freed true table from to) from to ≡ None
+free-freed table from to tree fit takes = ap (λ t. rename_refusal t from to) (takes-freed table from to takes) ∙ free-onto table from to tree fit takes
+
+-- ---- what is moved onto a file
+
+pub onto-moves : OntoMovesAll
+onto-moves table from to tree none =
+    let takes = onto-takes table from to none in
+    let parts = takes-parts table from to takes in
+    let free = vacant table to tree parts.target in
+    let all = moves-where (removed table to) from to free.tree (ap is_some free.absent) parts.beside in
+    subst (λ t. MovesAll table (moved t from to) from to) (sym (takes-freed table from to takes))
+    (record {
+      comes = λ rest. all.comes rest ∙ removed-node table to (from ++ rest) (beside-other from to rest parts.beside);
+      goes = all.goes;
+      stays = λ path out_from out_to. all.stays path out_from out_to ∙ removed-node table to path (outside to path out_to);
+    })
