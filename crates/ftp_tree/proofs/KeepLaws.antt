@@ -182,7 +182,7 @@ root-outside : (name : List ℕ) (names : Names) → is_within (name ∷ names) 
 unfolding is_within
 root-outside name names = refl
 
-root-inside : (path : Names) → is_within [] path ≡ true
+pub root-inside : (path : Names) → is_within [] path ≡ true
 unfolding is_within
 root-inside path = refl
 
@@ -259,8 +259,8 @@ no-fault None none = refl
 no-fault (Some fault) none = absurd (true≢false (sym none))
 
 no-true : (b : Bool) → not b ≡ true → b ≡ false
-no-true true no = absurd (true≢false (sym no))
-no-true false no = refl
+no-true true held_not = absurd (true≢false (sym held_not))
+no-true false held_not = refl
 
 pub takes-parts : (table : Table) (from to : Names) → takes_place table from to ≡ true → TakesPlace table from to
 unfolding takes_place

@@ -14,9 +14,10 @@ use Rattle.ftp_tree.specs.Store.{Rows}
 use Rattle.ftp_tree.specs.Tree.{Node, Dir, File, IsTree, Table, delete_refusal, directory_refusal, file_refusal, freed, moved, moves_fit, node_at, onto_refusal, or_else, removed, rename_refusal, source_answer, source_refusal, takes_place, target_refusal, under, whenever}
 use Rattle.ftp_tree.specs.declared.fault.TreeFault.{TreeFault}
 use Rattle.ftp_tree.specs.declared.fault.TreeFault.TheVariants.{Exists, TooBig, WrongKind}
-use Rattle.ftp_tree.proofs.KeepLaws.{at-remove, beside-other, file-below, file-stands, onto-takes, takes-freed, takes-parts, vacant}
-use Rattle.ftp_tree.proofs.LawLemmas.{each-found, get-node, moves-where}
-use Rattle.ftp_tree.proofs.LeafLemmas.{IsLeaf, none-file, outside}
+use Rattle.ftp_tree.proofs.KeepLaws.{at-remove, beside-other, file-below, file-stands, onto-takes, root-inside, takes-freed, takes-parts, vacant}
+use Rattle.ftp_tree.proofs.LawLemmas.{each-found, get-node, moves-where, under-stands}
+use Rattle.ftp_tree.proofs.LeafLemmas.{IsLeaf, none-file, outside, root-dir}
+use Rattle.ftp_tree.proofs.PartLemmas.{parts-trees}
 
 -- ---- what is refused of no file that is moved onto another
 
@@ -44,6 +45,10 @@ all-keys : (f : Names → Bool) (es : Rows) → AllByRecursion (λ e. f e.0 ≡ 
 all-keys f [] all = refl
 all-keys f (e ∷ es) all = and_from (f e.0) (list_all f (map (λ e. e.0) es)) all.0 (all-keys f es all.1)
 
+goes : (from to path : Names) → is_within from path ≡ true → moved_path from to path ≡ to ++ drop (length from) path
+unfolding moved_path
+goes from to path inside = cond-true (is_within from path) (to ++ drop (length from) path) path inside
+
 -- a path that has nothing below it is moved alone, and fits where the new path does
 leaf-fits : (table : Table) (from to : Names) → IsLeaf table from → fits to ≡ true → moves_fit table from to ≡ true
 unfolding moves_fit
@@ -55,14 +60,10 @@ leaf-fits table from to leaf fit =
     within path [] is some = ap fits (append-nil to) ∙ fit
     within path (name ∷ rest) is some = absurd (true≢false (sym some ∙ ap (λ p. is_some (node_at table p)) is ∙ ap is_some (leaf name rest)))
 
-    goes : (path : Names) → is_within from path ≡ true → moved_path from to path ≡ to ++ drop (length from) path
-    unfolding moved_path
-    goes path inside = cond-true (is_within from path) (to ++ drop (length from) path) path inside
-
     by : (path : Names) → is_some (node_at table path) ≡ true → (not (is_within from path) || fits (moved_path from to path)) ≡ true
     by path some =
         elim (is_within from path) as (λ b. is_within from path ≡ b → (not b || fits (moved_path from to path)) ≡ true) [
-          | true ↦ λ inside. ap fits (goes path inside) ∙ within path (drop (length from) path) (within-parts from path inside) some
+          | true ↦ λ inside. ap fits (goes from to path inside) ∙ within path (drop (length from) path) (within-parts from path inside) some
           | false ↦ λ _. refl
         ] refl
 
@@ -83,6 +84,24 @@ free-onto table from to tree fit takes =
 
 pub free-freed : (table : Table) (from to : Names) → IsTree table → fits to ≡ true → takes_place table from to ≡ true → rename_refusal (freed true table from to) from to ≡ None
 free-freed table from to tree fit takes = ap (λ t. rename_refusal t from to) (takes-freed table from to takes) ∙ free-onto table from to tree fit takes
+
+-- ---- the same below a root
+
+-- where files stand below a root, one of them not at it, the part there is a tree
+pub part-tree : (table : Table) (root from to : Names) → IsTree table → takes_place (under table root) from to ≡ true → IsTree (under table root)
+part-tree table root from to tree takes =
+    let parts = takes-parts (under table root) from to takes in
+    let some : from ≡ [] → ⊥ = λ none. true≢false (sym (root-inside to) ∙ ap (λ p. is_within p to) (sym none) ∙ parts.beside) in
+    parts-trees.taking table root tree (root-dir table root from tree some (ap is_some (sym (under-stands table root from)) ∙ file-stands (node_at (under table root) from) parts.source))
+
+pub onto-loose : (table : Table) (from to : Names) → onto_refusal table from to ≡ None → delete_refusal table to ≡ None
+unfolding delete_refusal
+onto-loose table from to none = (takes-parts table from to (onto-takes table from to none)).target
+
+pub onto-free : (table : Table) (root from to : Names) → IsTree table → fits to ≡ true → onto_refusal (under table root) from to ≡ None → rename_refusal (removed (under table root) to) from to ≡ None
+onto-free table root from to tree fit none =
+    let takes = onto-takes (under table root) from to none in
+    free-onto (under table root) from to (part-tree table root from to tree takes) fit takes
 
 -- ---- what is moved onto a file
 

@@ -127,6 +127,9 @@ impl<A: Allocator + Copy> MemTree<A> {
         requires { onto_refusal (under self.old root.now) from.now to.now ≡ None }
         ensures { let part = under self.old root.now in self.new ≡ with_part self.old root.now (moved (freed true part from.now to.now) from.now to.now) }
     {
+        // Both are read for what is known of them: the map is a tree, and the path is within the limits of a path.
+        let _all = self.root.count();
+        let _key = to.key();
         self.move_over(root, from, to);
     }
 }
