@@ -1,23 +1,26 @@
 -- A file in the place of another: what is freed for it is free, and nothing refuses the move.
-use Rattle.std.proofs.Common.{ℕ, ◌≡◌, ◌⊎◌, inl, Bool, true, false, not, ◌||◌, Option, Some, None, is_some, List, [], ◌∷◌, ◌++◌, length, drop, refl, sym, ap, ◌∙◌, subst}
+use Rattle.std.proofs.Common.{ℕ, ◌≡◌, ◌≤◌, Bool, true, false, not, ◌||◌, cond, Option, Some, None, is_some, List, [], ◌∷◌, ◌++◌, length, drop, refl, sym, ap, ◌∙◌, subst, arith}
 use Rattle.std.specs.Prelude.{map}
 use Rattle.std.specs.List.{AllByRecursion, list_all}
 use Rattle.std.specs.FinMap as fin
+use Rattle.std.specs.Option.{unwrap_or}
 use Rattle.std.specs.FinMap.Entries.{find}
 use Rattle.std.specs.Ordering.{eq_by_cmp}
-use Rattle.std.proofs.lemmas.Bool.{and_from, cond-true, cond-false, true≢false}
+use Rattle.std.proofs.lemmas.Bool.{and_from, and_parts, cond-true, cond-false, true≢false}
 use Rattle.std.proofs.lemmas.List.{append-nil}
-use Rattle.ftp_path.specs.Path.{Names, fits, is_within, moved_path, parent, path_cmp}
+use Rattle.ftp_path.specs.Path.{Names, fits, is_name, is_within, moved_path, parent, path_cmp}
 use Rattle.ftp_path.proofs.KeyLemmas.{within-parts}
 use Rattle.ftp_tree.specs.Laws.{MovesAll, OntoMovesAll}
+use Rattle.ftp_tree.specs.Sound.{IsSoundTable, IsSoundTree, is_sound_entry, is_sound_node}
 use Rattle.ftp_tree.specs.Store.{Rows}
-use Rattle.ftp_tree.specs.Tree.{Node, Dir, File, IsTree, Table, delete_refusal, directory_refusal, file_refusal, freed, moved, moves_fit, node_at, onto_refusal, or_else, removed, rename_refusal, source_answer, source_refusal, takes_place, target_refusal, under, whenever}
+use Rattle.ftp_tree.specs.Tree.{Node, Dir, File, IsTree, Table, delete_refusal, directory_refusal, file_refusal, freed, moved, moves_fit, node_at, octets_at, octets_of, octets_or_none, of_node, onto_refusal, or_else, removed, rename_refusal, source_answer, source_refusal, takes_place, target_refusal, under, whenever}
 use Rattle.ftp_tree.specs.declared.fault.TreeFault.{TreeFault}
 use Rattle.ftp_tree.specs.declared.fault.TreeFault.TheVariants.{Exists, TooBig, WrongKind}
-use Rattle.ftp_tree.proofs.KeepLaws.{at-remove, beside-other, file-below, file-stands, onto-takes, root-inside, takes-freed, takes-parts, vacant}
-use Rattle.ftp_tree.proofs.LawLemmas.{each-found, get-node, moves-where, under-stands}
-use Rattle.ftp_tree.proofs.LeafLemmas.{IsLeaf, none-file, outside, root-dir}
+use Rattle.ftp_tree.proofs.KeepLaws.{at-remove, beside-other, by-freed, file-below, file-stands, onto-takes, root-inside, takes-freed, takes-parts, vacant}
+use Rattle.ftp_tree.proofs.LawLemmas.{each-found, get-node, moves-where, same, under-stands}
+use Rattle.ftp_tree.proofs.LeafLemmas.{IsLeaf, none-file, outside, root-dir, take-leaf}
 use Rattle.ftp_tree.proofs.PartLemmas.{parts-trees}
+use Rattle.ftp_tree.proofs.SoundLemmas.{sound-empty, sound-part}
 
 -- ---- what is refused of no file that is moved onto another
 
@@ -117,3 +120,40 @@ onto-moves table from to tree none =
       goes = all.goes;
       stays = λ path out_from out_to. all.stays path out_from out_to ∙ removed-node table to path (outside to path out_to);
     })
+
+-- ---- what stands stays sound
+
+-- the names of a path at which something stands are names
+named-found : (path : Names) (rows : Rows) → list_all is_sound_entry rows ≡ true → is_some (find path_cmp path rows) ≡ true → list_all is_name path ≡ true
+named-found path [] all some = absurd (true≢false (sym some))
+named-found path (row ∷ rows) all some =
+    let both = and_parts (is_sound_entry row) (list_all is_sound_entry rows) all in
+    elim (eq_by_cmp path_cmp path row.0) as (λ b. eq_by_cmp path_cmp path row.0 ≡ b → is_some (cond b (Some row.1) (find path_cmp path rows)) ≡ true → list_all is_name path ≡ true) [
+      | true ↦ λ equal _. ap (list_all is_name) (same path row.0 equal) ∙ (and_parts (list_all is_name row.0) (is_sound_node row.1) both.0).0
+      | false ↦ λ _ some. named-found path rows both.1 some
+    ] refl some
+
+pub freed-sound : (onto : Bool) (table : Table) (from to : Names) → IsSoundTree table → IsSoundTree (freed onto table from to)
+unfolding removed
+freed-sound onto table from to sound =
+    by-freed IsSoundTree onto table from to sound (λ takes.
+    let target = (takes-parts table from to takes).target in
+    let named = named-found to (fin.entries table) sound.entries (ap is_some (get-node table to) ∙ file-stands (node_at table to) target) in
+    record {
+      tree = (vacant table to sound.tree target).tree;
+      entries = subst IsSoundTable (take-leaf table to (file-leaf table to (node_at table to) sound.tree refl target)) (sound-part table to fin.empty named sound.entries sound-empty);
+    })
+
+-- no file gets longer
+pub freed-octets : (onto : Bool) (table : Table) (from to path : Names) → length (octets_or_none (freed onto table from to) path) ≤ length (octets_or_none table path)
+unfolding removed octets_or_none octets_at
+freed-octets onto table from to path =
+    by-freed (λ t. length (octets_or_none t path) ≤ length (octets_or_none table path)) onto table from to (omega arith) (λ _.
+    elim (eq_by_cmp path_cmp path to) as (λ b. eq_by_cmp path_cmp path to ≡ b → length (octets_or_none (removed table to) path) ≤ length (octets_or_none table path)) [
+      | true ↦ λ equal.
+          let none : octets_or_none (removed table to) path ≡ [] = ap (λ node. unwrap_or (of_node octets_of node) []) (at-remove table to path ∙ cond-true (eq_by_cmp path_cmp path to) None (node_at table path) equal) in
+          let count = ap length none in omega (arith, count)
+      | false ↦ λ other.
+          let kept : octets_or_none (removed table to) path ≡ octets_or_none table path = ap (λ node. unwrap_or (of_node octets_of node) []) (removed-node table to path other) in
+          let count = ap length kept in omega (arith, count)
+    ] refl)
