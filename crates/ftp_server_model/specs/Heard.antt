@@ -1,5 +1,5 @@
 -- What a server tells of the line that its last call acted on: its verb, what it names, and the code of the reply that it made at once.
-use Rattle.std.specs.Prelude.{◌≡◌, ℕ, ◌+◌, ◌*◌, ◌-◌, true, false, ◌&&◌, List, [], ◌∷◌, take, Option, Some, None, option_map, if◌then◌else◌}
+use Rattle.std.specs.Prelude.{◌≡◌, ℕ, ◌+◌, ◌*◌, ◌-◌, true, false, ◌&&◌, List, [], ◌∷◌, length, take, Option, Some, None, option_map, if◌then◌else◌}
 use Rattle.std.specs.Char.{is_ascii_digit}
 use Rattle.ftp_nvt.specs.Lines.{NvtEvent, line, too_long, owed}
 use Rattle.ftp_command.specs.Command.{verb_of}
@@ -85,9 +85,13 @@ code_if_any (Some reply) = Some reply.code
 abbrev pub code_said : Turn → Option ℕ
 code_said turn = code_if_any (reply_said turn.0 turn.1)
 
+-- a line as it is told before it is acted on
+abbrev pub unanswered : HeardLine (List ℕ) → Heard
+unanswered heard = record { verb = verb_told heard; text = take TOLD_LIMIT (text_told heard); code = None }
+
 -- a line as it is told where a view acts on it
 abbrev pub told_of : HeardLine (List ℕ) → View → Heard
-told_of heard v = record { verb = verb_told heard; text = take TOLD_LIMIT (text_told heard); code = code_said (turn_of heard v) }
+told_of heard v = record (unanswered heard) { code = code_said (turn_of heard v) }
 
 -- an ABOR that comes during a transfer
 abbrev pub abort_told : Heard
@@ -129,11 +133,16 @@ abbrev pub heard_by : Reading → Option Heard → View → List ℕ → Option 
 heard_by read told v [] = told
 heard_by read told v (octet ∷ octets) = heard_by read (heard_by_octet read v octet) (hears_octet read v octet) octets
 
--- what the last of some data octets acts on; before them it was this
+-- the later of two lines that were acted on
+abbrev pub latest : Option Heard → Option Heard → Option Heard
+latest before None = before
+latest before (Some heard) = Some heard
+
+-- what the last of some data octets acts on that acts on a line; before them it was this
 abbrev pub heard_received : Option Heard → View → List ℕ → Option Heard
 heard_received told v [] = told
 heard_received told v (octet ∷ octets) =
-    heard_received (later_heard (takes_data (connection_of v.session) octet v)) (receives_octet v octet) octets
+    heard_received (latest told (later_heard (takes_data (connection_of v.session) octet v))) (receives_octet v octet) octets
 
 -- ---- the clauses of `Far`
 
@@ -145,13 +154,18 @@ Tells step heard old new = new.counts ≡ old.counts → heard ≡ later_heard (
 abbrev pub TellsHeard : List ℕ → Option Heard → (old new : Server) → Type 0
 TellsHeard octets heard old new = (read : Reading) → IsReading read → new.counts ≡ old.counts → heard ≡ heard_by read None old.view octets
 
--- so do data octets
+-- data octets tell what the last of them acts on that acts on a line
 abbrev pub TellsReceived : List ℕ → Option Heard → (old new : Server) → Type 0
 TellsReceived octets heard old new = new.counts ≡ old.counts → heard ≡ heard_received None old.view octets
 
 -- a line as a server lends it
 abbrev pub lent : Answered → Heard
 lent answered = record { verb = answered.verb; text = answered.text.now; code = answered.code }
+
+-- how many octets of what it names are kept
+abbrev pub heard_len : Option Heard → ℕ
+heard_len None = 0
+heard_len (Some heard) = length heard.text
 
 -- ---- what is told of the view alone
 
