@@ -221,5 +221,5 @@ idle_room v e = leb-true _ _ (idle_parts (is_connection_busy v.session.connectio
 
 -- so less is owed where the data connection is busy now
 pub said_room : (turn by : Turn) (old new : ℕ) → turn ≡ by → Short by → (is_short turn.1 ≡ true → new ≤ old + 64) → old ≤ 4096
-    → is_connection_busy turn.0.connection ≡ true → new ≤ 5120
+    → is_connection_busy turn.0.connection ≡ true → new ≤ 4672
 said_room turn by old new e short room had busy = let few = room (subst Short (sym e) short busy) in omega (arith, few, had)

@@ -1,5 +1,6 @@
 use Rattle.std.proofs.Common.{◌∙◌, sym}
 use Rattle.ftp_server.proofs.HearLemmas.{abort_fails, line_aborts, line_waits, on_err, on_ok}
+use Rattle.ftp_server.proofs.ToldLemmas.{line_told}
 use Rattle.ftp_server.specs.Server.{view_of}
 use Rattle.ftp_server.proofs.server.Server.hear_line.Goals as goal
 
@@ -17,3 +18,8 @@ pub returns-clause-done : goal.returns-clause-done
 returns-clause-done g c =
     let v = view_of g.T.Tree.table g.J.ServerTransfer.view c.args.self.now in
     on_ok c.later.result (λ e. e ∙ line_waits c.args.heard v (sym c.is_abort.ensures.is ∙ c.if-is_abort.false)) c.later.ensures.done
+
+pub returns-clause-told : goal.returns-clause-told
+returns-clause-told g c =
+    let v = view_of g.T.Tree.table g.J.ServerTransfer.view c.args.self.now in
+    on_ok c.later.result (λ e. line_told c.args.heard v c.later.new.self.heard (sym c.is_abort.ensures.is ∙ c.if-is_abort.false) e) c.later.ensures.told

@@ -2,7 +2,10 @@ use Rattle.std.proofs.Common.{Some, sym, subst, ◌∙◌}
 use Rattle.std.proofs.Math.Logic.{∥∥₁_elim}
 use Rattle.ftp_server.specs.Busy.{MayWait}
 use Rattle.ftp_server.proofs.NameLemmas.{name_if_waits}
+use Rattle.ftp_server.proofs.HearLemmas.{on_ok}
 use Rattle.ftp_server.proofs.PathLemmas.{paths_once}
+use Rattle.ftp_server.proofs.ToldLemmas.{busy_later, idle_later, none_later}
+use Rattle.ftp_server.specs.Server.{view_of}
 use Rattle.ftp_server.proofs.server.Server.later.Goals as goal
 
 pub obey-requires-clause-paths : goal.obey-requires-clause-paths
@@ -11,3 +14,18 @@ obey-requires-clause-paths g c =
 
 pub obey-requires-clause-named : goal.obey-requires-clause-named
 obey-requires-clause-named g c = name_if_waits c.in-Some.heard c.args.self.now.waiting (sym c.replace.ensures.value ∙ c.in-Some.is) c.args.self.now.paths
+
+pub returns-then-not-is_idle-clause-told : goal.returns-then-not-is_idle-clause-told
+returns-then-not-is_idle-clause-told g c =
+    let v = view_of g.T.Tree.table g.J.ServerTransfer.view c.args.self.now in
+    sym (busy_later v (sym c.is_idle.ensures ∙ c.if-not-is_idle.true)).1
+
+pub returns-in-Some-clause-told : goal.returns-in-Some-clause-told
+returns-in-Some-clause-told g c =
+    let v = view_of g.T.Tree.table g.J.ServerTransfer.view c.args.self.now in
+    on_ok c.obey.result (λ e. e ∙ sym (idle_later v c.in-Some.heard (sym c.replace.ensures.value ∙ c.in-Some.is) (sym c.is_idle.ensures ∙ c.if-not-is_idle.false)).1) c.obey.ensures.told
+
+pub returns-in-None-clause-told : goal.returns-in-None-clause-told
+returns-in-None-clause-told g c =
+    let v = view_of g.T.Tree.table g.J.ServerTransfer.view c.args.self.now in
+    sym (none_later v (sym c.replace.ensures.value ∙ c.in-None.is)).1
