@@ -3,15 +3,14 @@
 
 mod accounts;
 mod connection;
+mod connections;
 mod goodbye;
-mod heard;
 mod journal;
 mod line;
 mod manner;
 mod named;
 mod serving;
 mod starting;
-mod talk;
 mod telling;
 mod tells;
 
