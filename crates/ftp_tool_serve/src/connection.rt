@@ -4,6 +4,7 @@ ghost use Rattle.ftp_tool_serve.specs.Listening.{told_host};
 
 use crate::connections::{CountedPorts, SaidWriter};
 use crate::journal::{Journal, Log};
+use crate::watched::Watched;
 use ftp_control::Failed;
 use ftp_endpoint::Host;
 use ftp_operation::Accounts;
@@ -234,11 +235,12 @@ where
     };
     let mut control = Control::new(reader, writer);
     let mut clocked = Clocked {
-        server,
+        server: Watched { server, journal },
         watch: SystemWatch::new(rt),
     };
     let ended = drive_server(&mut clocked, &mut control, &mut ports).is_ok();
     let Clocked { server, watch: _ } = clocked;
+    let Watched { server, journal: _ } = server;
     ports.inner.finish();
     let last = journal.last_reply();
     if let Some(last) = last {

@@ -150,7 +150,7 @@ impl<'a, R: Tells> Journal<'a, R> {
     /// Why the folder failed in the call, if it did.
     fn why<'b, T, F>(&self, server: &'b F) -> Option<&'b io::Error>
     where
-        T: Tree<Global> + Explains,
+        T: Tree<Global> + Explains + 'b,
         F: Far<Global, T>,
     {
         if server.counts().failures == self.before.get().failures {
@@ -291,9 +291,10 @@ impl<'a, R: Tells> Journal<'a, R> {
         if self.service.log == Log::Silent {
             return;
         }
+        let user = self.user.get();
         let entry = Entry {
             peer: self.peer,
-            user: self.user.get().octets(),
+            user: user.octets(),
             verb: closed.asked.verb,
             names: closed.asked.names.octets(),
             moved: self.moved.replace(0),

@@ -13,6 +13,7 @@ mod serving;
 mod starting;
 mod telling;
 mod tells;
+mod watched;
 
 pub use accounts::accounts_of;
 pub use connection::{Service, session};
