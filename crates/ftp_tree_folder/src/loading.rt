@@ -7,7 +7,6 @@ use crate::folder::DiskFolder;
 use crate::look::{Look, Seen};
 use crate::place::place_of;
 use crate::reading::{is_left, leave, moment_of, path_in};
-use crate::reasons::Reasons;
 use crate::reloading::LeftOut;
 use crate::{Disk, Entries, Mirror};
 use ftp_path::Path;
@@ -22,19 +21,18 @@ const DIR_TURNS: u64 = 1_099_511_627_776;
 /// How many octets of a file are read at once.
 const PIECE: usize = 65_536;
 
-/// Loads the folder below a directory, and mirrors it: the changes of the tree that it gives go there. What fails of them is told by `reasons`.
+/// Loads the folder below a directory, and mirrors it: the changes of the tree that it gives go there.
 /// Limits are counted as `load` says.
 pub fn open<'a, R: Disk>(
     files: &'a R,
     dir: &str,
     roots: &[Path<Global>],
-    reasons: &'a Reasons,
 ) -> Result<Mirror<Global, DiskFolder<'a, R>>, LoadFault>
     ensures dir { IfOk result (λ mirror. string_bytes mirror.folder.dir ≡ folder_text dir.now) }
     ensures failures { IfOk result (λ mirror. mirror.folder.failures ≡ 0) }
 {
     let tree = load(files, dir, roots)?;
-    match DiskFolder::new(files, dir, reasons) {
+    match DiskFolder::new(files, dir) {
         Ok(folder) => Ok(Mirror::new(tree, folder)),
         Err(_) => Err(LoadFault::Memory),
     }

@@ -3,7 +3,7 @@ use crate::handle::Handle;
 use crate::made::{deep, file};
 use crate::statuses::put;
 use ftp_tool_serve::{Limits, Log, Odd, Others, Serving, Sessions, accounts_of, serve};
-use ftp_tree_folder::{LoadFault, Reasons, open};
+use ftp_tree_folder::{LoadFault, open};
 use rows_base::Paper;
 use std::net::{IpAddr, Ipv4Addr, Net, SocketAddr, TcpListener};
 use std::os::unix::fs::symlink;
@@ -133,7 +133,7 @@ fn tell(rt: &HostRuntime, fault: &LoadFault) -> io::Result<()> {
 
 /// Writes why a folder is refused, if it is.
 fn tell_folder(rt: &HostRuntime, dir: &str) -> io::Result<()> {
-    match &open(rt, dir, &[], &Reasons::new()) {
+    match &open(rt, dir, &[]) {
         Ok(_) => Ok(()),
         Err(fault) => tell(rt, fault),
     }
