@@ -4,7 +4,7 @@ ghost use Rattle.ftp_tree.specs.Change.{next_count};
 ghost use Rattle.ftp_tree_folder.specs.Place.{folder_text};
 
 use crate::loading::dir_text;
-use crate::place::{check_free, check_way, place_of};
+use crate::place::{check_free, check_two, check_way, place_of};
 use crate::reasons::Reasons;
 use crate::{Disk, Folder, FolderFault};
 use ftp_facts::Moment;
@@ -85,6 +85,17 @@ impl<'a, R: Disk> DiskFolder<'a, R> {
         let from = self.place(root, from)?;
         let to = self.place(root, to)?;
         move_at(self.files, from.as_str(), to.as_str())
+    }
+
+    fn renamed_onto<B: Allocator + Copy, C: Allocator + Copy, D: Allocator + Copy>(
+        &self,
+        root: &Path<B>,
+        from: &Path<C>,
+        to: &Path<D>,
+    ) -> io::Result<()> {
+        let from = self.place(root, from)?;
+        let to = self.place(root, to)?;
+        move_onto(self.files, from.as_str(), to.as_str())
     }
 
     fn written<A: Allocator + Copy, B: Allocator + Copy, C: Allocator + Copy>(
@@ -171,6 +182,16 @@ impl<'a, R: Disk> Folder for DiskFolder<'a, R> {
         self.counted(done)
     }
 
+    fn rename_onto<B: Allocator + Copy, C: Allocator + Copy, D: Allocator + Copy>(
+        &mut self,
+        root: &Path<B>,
+        from: &Path<C>,
+        to: &Path<D>,
+    ) -> Result<(), FolderFault> {
+        let done = self.renamed_onto(root, from, to);
+        self.counted(done)
+    }
+
     fn write<A: Allocator + Copy, B: Allocator + Copy, C: Allocator + Copy>(
         &mut self,
         root: &Path<B>,
@@ -230,6 +251,14 @@ fn move_at<R: Disk>(files: &R, from: &str, to: &str) -> io::Result<()> {
         let _back = files.move_to(to, from);
     }
     synced
+}
+
+/// Moves a file into the place of another, in one call of the system, or not at all. What stands at both places is still what a tree has there: two files.
+/// Where the names can't be flushed then, it is not moved back, since the file whose place it took is gone.
+fn move_onto<R: Disk>(files: &R, from: &str, to: &str) -> io::Result<()> {
+    check_two(&files.found(from)?, &files.found(to)?)?;
+    files.move_to(from, to)?;
+    sync_both(files, from, to)
 }
 
 /// Both names of a move are on the disk: the new one first, so that the file never has none there.
