@@ -28,6 +28,9 @@ pub trait ClientSession {
     fn answer(&mut self, request: Request) -> Answer<Global>
         ensures { answers request result self.old self.new };
 
+    /// What came of the download that was asked for last, where its control connection ended in its middle; else nothing.
+    fn came(&self) -> &[u8];
+
     /// How many data connections were opened so far.
     fn opened(&self) -> u32;
 
@@ -73,10 +76,16 @@ where
         self.course.begin(&request);
         begin(&mut self.client, &mut request);
         let Driven { report, off: _ } = drive_client(&mut self.client, self.control, self.ports);
-        match report {
+        let answer = match report {
             Some(answer) => answer,
             None => Answer::Lost,
-        }
+        };
+        self.course.answered(&answer, self.client.last_reply());
+        answer
+    }
+
+    fn came(&self) -> &[u8] {
+        self.client.came()
     }
 
     fn opened(&self) -> u32 {

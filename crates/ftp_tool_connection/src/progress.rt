@@ -107,13 +107,7 @@ where
     }
 
     fn wait(&mut self, stream: &mut MeteredLink<'a, R>, what: For, hears: bool) -> Ready {
-        if self.course.is_cut() {
-            return Ready::Lost;
-        }
         let ready = self.ports.wait(&mut stream.link, what, hears);
-        if ready == Ready::Control && self.course.ends_with(self.ports.spoken()) {
-            return Ready::Lost;
-        }
         self.course.waited(ready);
         ready
     }
@@ -209,9 +203,6 @@ impl<'a, R: Clock + Eprint> MeteredLink<'a, R> {
 
 impl<'a, R: Clock + Eprint> Read for MeteredLink<'a, R> {
     fn read(&mut self, room: &mut [u8]) -> io::Result<usize> {
-        if self.course.is_cut() {
-            return Err(Error::from(ErrorKind::ConnectionAborted));
-        }
         let count = self.link.read(room)?;
         self.add(count);
         self.add_lines(room.get(..count).unwrap_or(&[]));
