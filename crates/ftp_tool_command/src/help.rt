@@ -118,9 +118,9 @@ it is. With --continue a download goes on behind such a part, where the server t
 begins anew, and a note says so. With --moment FILE has the moment at which PATH was changed last; where the server does not know it,
 standard error has a note. A file of more octets than --limit is refused, with status 1. With --progress, and where
 standard error is a terminal, it has the octets of a transfer that takes more than a second, each second at most.
-Where the control connection ends, another one is made, at most four times, behind 1, 2, 4 and 8 seconds; each is told on standard error.
-The download goes on there where size and moment are those of before, and else begins anew. A server that says, takes and sends nothing for
-the seconds of --timeout counts as one that ended it.
+Where the control connection ends, another one is made, at most four times, behind 1, 2, 4 and 8 seconds, but once alone where the server
+never said a line; each is told on standard error. The download goes on there where size and moment are those of before, and else begins
+anew. A server that says, takes and sends nothing for the seconds of --timeout counts as one that ended it.
 Over IPv4 too a data connection is asked for by EPSV, with --active by EPRT, and from the first answer 500, 501, 502 or 522 on by PASV or
 PORT; with --extended by EPSV or EPRT alone, with --no-extended by PASV or PORT alone.
 Who logs in is the user of --user, else that of a URL, else that of the first entry that .netrc has for HOST, else anonymous. The password
