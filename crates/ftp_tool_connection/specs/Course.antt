@@ -9,11 +9,11 @@ abbrev pub says_done : List ℕ → Bool
 says_done [] = false
 says_done (octet ∷ line) = octet == 50
 
--- a data connection did not end although the server said that all is done: what it brought is answered as broken off, and nothing more came of it for
+-- a data connection did not end although the server said that all is done: what it brought is reported as broken off, and nothing more came of it for
 -- as long as a server may be silent
-abbrev pub is_unended : {A : Type 0} → (is_silent : Bool) → Answer A → (line : List ℕ) → Bool
-is_unended is_silent (Answers.Broken got mark) line = is_silent && says_done line
-is_unended is_silent answer line = false
+abbrev pub is_unended : {A : Type 0} → (is_silent : Bool) → Option (Answer A) → (line : List ℕ) → Bool
+is_unended is_silent (Some (Answers.Broken got mark)) line = is_silent && says_done line
+is_unended is_silent report line = false
 
 -- more lines than may come, where they are counted
 abbrev pub are_past : Option ℕ → ℕ → Bool

@@ -73,9 +73,9 @@ impl Course {
         }
     }
 
-    /// This is answered, and the server said this line last.
-    pub(crate) fn answered(&self, answer: &Answer<Global>, line: &[u8]) {
-        if is_unended(self.is_silent.get(), answer, line) {
+    /// This is reported, and the server said this line last.
+    pub(crate) fn reported(&self, report: &Option<Answer<Global>>, line: &[u8]) {
+        if is_unended(self.is_silent.get(), report, line) {
             self.ending.set(Ending::Unended);
         }
     }
@@ -105,13 +105,13 @@ impl Course {
     }
 }
 
-/// Whether a data connection did not end although the server says that all is done: what it brought is answered as broken off, since a wait for more
+/// Whether a data connection did not end although the server says that all is done: what it brought is reported as broken off, since a wait for more
 /// found no end.
-fn is_unended(is_silent: bool, answer: &Answer<Global>, line: &[u8]) -> bool
-    ensures { result ≡ is_unended is_silent answer.now line.now }
+fn is_unended(is_silent: bool, report: &Option<Answer<Global>>, line: &[u8]) -> bool
+    ensures { result ≡ is_unended is_silent report.now line.now }
 {
-    match answer {
-        Answer::Broken { got: _, mark: _ } => is_silent && says_done(line),
+    match report {
+        Some(Answer::Broken { got: _, mark: _ }) => is_silent && says_done(line),
         _ => false,
     }
 }
