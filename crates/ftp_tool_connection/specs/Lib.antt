@@ -4,5 +4,7 @@ pub mod Answering
 pub mod Again
 -- When a data connection did not end, and how much it may bring.
 pub mod Course
+-- How long a data connection waits before it moves more.
+pub mod Rate
 -- By which commands a data connection is asked for, and when by the others.
 pub mod Opening

@@ -10,6 +10,7 @@ mod last_reply;
 mod live;
 mod opening;
 mod progress;
+mod rate;
 mod request;
 mod saying;
 mod server;

@@ -56,7 +56,7 @@ where
 {
     let patience = Patience::of_client(server.timeout);
     let course = Course::new();
-    let ports = MeteredPorts::hearing(rt, stream, &patience, &course, server.progress);
+    let ports = MeteredPorts::hearing(rt, stream, &patience, &course, server);
     let mut ports = at(Phase::Talking, ports)?;
     let link = ControlLink {
         stream,
