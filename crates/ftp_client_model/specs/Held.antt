@@ -1,5 +1,6 @@
 -- How many octets a client holds, beside the texts of an operation and what its report brings (own choice of the limits): the sum of the
--- lengths of all else that it stores. What an upload is still to give is the operation's; what came of a download is its report's.
+-- lengths of all else that it stores. What an upload is still to give is the operation's; what came of a download is its report's, and so is what
+-- came of one amid which the control connection ended.
 use Rattle.std.specs.Prelude.{ℕ, ◌+◌, ◌<◌, ◌≤◌, List, [], ◌∷◌, length, IsTrue, if◌then◌else◌}
 use Rattle.ftp_endpoint.specs.declared.host.Host.{Host}
 use Rattle.ftp_endpoint.specs.Written.{IsTypedHost}
@@ -12,6 +13,7 @@ use Rattle.ftp_reply.specs.Reader.{Gathered, Between, Begun}
 use Rattle.ftp_client_model.specs.Calls.{starts, uploads, is_busy, reports, hears_octet, may_hear, gives_control, control_end, listening}
 use Rattle.ftp_client_model.specs.Calls.{listen_refused, data_opened, data_refused, data_end, data_fault, data_closed, receives_octet, may_receive, gives_data}
 use Rattle.ftp_client_model.specs.Failing.{short, starts_short, uploads_short, listening_short, data_opened_short, data_end_short}
+use Rattle.ftp_client_model.specs.Telling.{kept_limit}
 use Rattle.ftp_client_model.specs.Tries.{OverBreaks}
 use Rattle.ftp_client_model.specs.View.{View, client}
 
@@ -33,9 +35,9 @@ talk_len v = length v.user + length v.pass + (length v.ear.line.text + (gathered
 abbrev pub stored_limit : ℕ
 stored_limit = encoder_limit
 
--- all of it, where so many octets are stored of a transfer
+-- all of it, where so many octets are stored of a transfer; the line that the server said last has its room at any time
 abbrev pub held : ℕ → View → ℕ
-held stored v = stored + talk_len v
+held stored v = stored + (talk_len v + kept_limit)
 
 -- ---- after every list of calls
 

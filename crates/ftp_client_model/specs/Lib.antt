@@ -11,6 +11,7 @@ pub mod InFlight
 pub mod Failing
 pub mod Counting
 pub mod Growing
+pub mod Telling
 pub mod Most
 pub mod Bounds
 pub mod Busy

@@ -7,6 +7,7 @@ ghost use Rattle.ftp_client_model.specs.Counting.{CountsOn};
 ghost use Rattle.ftp_client_model.specs.Failing.{Client, Holds, HoldsIfRoom, HearsIfRoom, ReceivesIfRoom, starts_short, uploads_short, short, listening_short, listen_refused_short, data_opened_short, data_refused_short, data_end_short, data_fault_short};
 ghost use Rattle.ftp_client_model.specs.Growing.{giving_grows};
 ghost use Rattle.ftp_client_model.specs.Most.{IsMostHeard, IsMostReceived};
+ghost use Rattle.ftp_client_model.specs.Telling.{Told, anew, begins_told, ends_told, hears_told};
 ghost use Rattle.ftp_client_model.specs.Tries.{over_breaks};
 ghost use Rattle.ftp_ends.specs.Octets.{has_octets};
 ghost use Rattle.std.specs.Option.{option_map};
@@ -24,6 +25,9 @@ pub trait Near<A: Allocator + Copy>: Drop {
     /// What it holds, and how many growths were refused to it.
     ghost client: { Self → Client };
 
+    /// What it tells beside its reports.
+    ghost told: { Self → Told };
+
     /// Begins the operation that `op` has, and takes it out of there. Where one is begun whose report was not taken, and where `op` has
     /// none, nothing changes. An end has this call; who owns one has `start`.
     fn begin(&mut self, op: &mut Option<Op<Text<A>>>)
@@ -32,6 +36,7 @@ pub trait Near<A: Allocator + Copy>: Drop {
         ensures left { op.new ≡ handed_back (is_busy (client self.old).view) op.old }
         ensures busy { IsTrue (is_busy (client self.old).view) → Holds (client self.old) (client self.new) (client self.old).view }
         ensures none { op.old ≡ None → Holds (client self.old) (client self.new) (client self.old).view }
+        ensures told { told self.new ≡ begins_told (is_busy (client self.old).view) op.old (told self.old) }
         ensures counted { CountsOn (client self.old).refusals (client self.new).refusals };
 
     /// Begins an upload that goes on after breaks, and has one report (own choice: at most 16 tries). `texts` has the path and the octets; they are
@@ -43,12 +48,14 @@ pub trait Near<A: Allocator + Copy>: Drop {
         ensures left { texts.new ≡ handed_back (is_busy (client self.old).view) texts.old }
         ensures busy { IsTrue (is_busy (client self.old).view) → Holds (client self.old) (client self.new) (client self.old).view }
         ensures none { texts.old ≡ None → Holds (client self.old) (client self.new) (client self.old).view }
+        ensures told { told self.new ≡ begins_told (is_busy (client self.old).view) texts.old (told self.old) }
         ensures counted { CountsOn (client self.old).refusals (client self.new).refusals };
 
     /// The report of the operation, if it is done; it is given once.
     fn report(&mut self) -> Option<Answer<A>>
         ensures answer { option_map said_of result ≡ report_of (client self.old).view }
-        ensures taken { Holds (client self.old) (client self.new) (reports (client self.old).view) };
+        ensures taken { Holds (client self.old) (client self.new) (reports (client self.old).view) }
+        ensures told { told self.new ≡ told self.old };
 
     /// Takes octets of the control connection, and says how many.
     fn hear(&mut self, piece: &[u8]) -> usize
@@ -58,6 +65,9 @@ pub trait Near<A: Allocator + Copy>: Drop {
 
         // Where no growth was refused it takes all of them, or as many as it may.
         ensures most { (client self.new).refusals ≡ (client self.old).refusals → IsMostHeard result piece.now (client self.new).view }
+
+        // The line is that of the last one that these octets ended, where a growth was refused too.
+        ensures told { told self.new ≡ hears_told (client self.old).view (take result piece.now) (told self.old) }
         ensures counted { CountsOn (client self.old).refusals (client self.new).refusals };
 
     /// Gives octets of the control connection, and says how many. Takes no memory.
@@ -68,30 +78,36 @@ pub trait Near<A: Allocator + Copy>: Drop {
         ensures some { 0 < length room.old → 0 < length (client self.old).view.owed → 0 < result }
 
         // It gives all that is owed, or fills the room.
-        ensures most { result ≡ min (length room.old) (length (client self.old).view.owed) };
+        ensures most { result ≡ min (length room.old) (length (client self.old).view.owed) }
+        ensures told { told self.new ≡ told self.old };
 
-    /// The control connection ended.
+    /// The control connection ended. What came of a download of a file by then can be had by `came` (RFC 959, sections 3.4 and 5.4).
     fn control_end(&mut self)
-        ensures { Holds (client self.old) (client self.new) (control_end (client self.old).view) };
+        ensures now { Holds (client self.old) (client self.new) (control_end (client self.old).view) }
+        ensures told { told self.new ≡ ends_told (client self.old).view (told self.old) };
 
     /// A port is listened at.
     fn listening(&mut self, port: u16)
         ensures moved { HoldsIfRoom (client self.old) (client self.new) (listening port (client self.old).view) (listening_short port (client self.old).view) }
+        ensures told { told self.new ≡ told self.old }
         ensures counted { CountsOn (client self.old).refusals (client self.new).refusals };
 
     /// No port was had.
     fn listen_refused(&mut self)
         ensures moved { HoldsIfRoom (client self.old) (client self.new) (listen_refused (client self.old).view) (listen_refused_short (client self.old).view) }
+        ensures told { told self.new ≡ told self.old }
         ensures counted { CountsOn (client self.old).refusals (client self.new).refusals };
 
     /// The link is open; this host is at its other end.
     fn data_opened(&mut self, host: Host)
         ensures moved { HoldsIfRoom (client self.old) (client self.new) (data_opened host (client self.old).view) (data_opened_short (client self.old).view) }
+        ensures told { told self.new ≡ told self.old }
         ensures counted { CountsOn (client self.old).refusals (client self.new).refusals };
 
     /// The link was not had.
     fn data_refused(&mut self)
         ensures moved { HoldsIfRoom (client self.old) (client self.new) (data_refused (client self.old).view) (data_refused_short (client self.old).view) }
+        ensures told { told self.new ≡ told self.old }
         ensures counted { CountsOn (client self.old).refusals (client self.new).refusals };
 
     /// Takes octets of the link, and says how many.
@@ -102,16 +118,19 @@ pub trait Near<A: Allocator + Copy>: Drop {
 
         // Where no growth was refused it takes all of them, or as many as it may.
         ensures most { (client self.new).refusals ≡ (client self.old).refusals → IsMostReceived result piece.now (client self.new).view }
+        ensures told { told self.new ≡ told self.old }
         ensures counted { CountsOn (client self.old).refusals (client self.new).refusals };
 
     /// The other end closed the link.
     fn data_end(&mut self)
         ensures moved { HoldsIfRoom (client self.old) (client self.new) (data_end (client self.old).view) (data_end_short (client self.old).view) }
+        ensures told { told self.new ≡ told self.old }
         ensures counted { CountsOn (client self.old).refusals (client self.new).refusals };
 
     /// The link broke.
     fn data_fault(&mut self)
         ensures moved { HoldsIfRoom (client self.old) (client self.new) (data_fault (client self.old).view) (data_fault_short (client self.old).view) }
+        ensures told { told self.new ≡ told self.old }
         ensures counted { CountsOn (client self.old).refusals (client self.new).refusals };
 
     /// Gives octets of the link, and says how many.
@@ -126,15 +145,27 @@ pub trait Near<A: Allocator + Copy>: Drop {
 
         // It takes memory at most for the next operation of an upload over breaks.
         ensures spare { giving_grows result (client self.old).view ≡ false → (client self.new).refusals ≡ (client self.old).refusals }
+        ensures told { told self.new ≡ told self.old }
         ensures counted { CountsOn (client self.old).refusals (client self.new).refusals };
 
     /// A close that it wanted is done.
     fn data_closed(&mut self)
-        ensures { Holds (client self.old) (client self.new) (data_closed (client self.old).view) };
+        ensures now { Holds (client self.old) (client self.new) (data_closed (client self.old).view) }
+        ensures told { told self.new ≡ told self.old };
 
     /// What it wants of the connections. Takes no memory.
     fn wants(&self) -> Wants
         ensures { result ≡ wants (client self.now).view };
+
+    /// The line that the server said last on the control connection, without its end and at most its first 320 octets; empty before any. One that
+    /// is too long says nothing (RFC 959, section 4.2; own choices). Takes no memory.
+    fn last_reply(&self) -> &[u8]
+        ensures { result.now ≡ (told self.now).line };
+
+    /// The octets that came of a Get, GetFrom or Peek during which the control connection ended, as the answer of one that was cut would have them;
+    /// else none. They stay until another operation is begun. Takes no memory.
+    fn came(&self) -> &[u8]
+        ensures { result.now ≡ (told self.now).came };
 
     /// The host that it stands on.
     fn here(&self) -> Host
@@ -165,7 +196,9 @@ pub trait Near<A: Allocator + Copy>: Drop {
         ensures busy { is_err result ≡ is_busy (client self.old).view }
         ensures begun { OnOk result (HoldsIfRoom (client self.old) (client self.new)
             (starts op (client self.old).view) (starts_short op (client self.old).view)) }
+        ensures told { OnOk result (told self.new ≡ anew (told self.old)) }
         ensures back { IfErr result (λ busy. busy.back ≡ op) }
+        ensures silent { OnErr result (told self.new ≡ told self.old) }
         ensures same { OnErr result (Holds (client self.old) (client self.new) (client self.old).view) }
     {
         let mut given = Some(op);
@@ -187,7 +220,9 @@ pub trait Near<A: Allocator + Copy>: Drop {
         ensures busy { is_err result ≡ is_busy (client self.old).view }
         ensures begun { OnOk result (HoldsIfRoom (client self.old) (client self.new)
             (uploads (over_breaks path octets how) (client self.old).view) (uploads_short (over_breaks path octets how) (client self.old).view)) }
+        ensures told { OnOk result (told self.new ≡ anew (told self.old)) }
         ensures back { IfErr result (λ busy. busy.back ≡ (path, octets)) }
+        ensures silent { OnErr result (told self.new ≡ told self.old) }
         ensures same { OnErr result (Holds (client self.old) (client self.new) (client self.old).view) }
     {
         let mut given = Some((path, octets));
