@@ -16,6 +16,7 @@ use Rattle.ftp_reply.specs.Reader.{Gathered, Between, GoesOn, Says, Faulty, Stan
 use Rattle.ftp_reply.specs.Reader.{Heard as LineHeard}
 use Rattle.ftp_client_model.specs.Calls.{hears_octet, events_taken, line_taken, is_sound}
 use Rattle.ftp_client_model.specs.Dialogue.{answered}
+use Rattle.ftp_client_model.specs.Telling.{line_behind, line_with}
 use Rattle.ftp_client_model.specs.View.{View, fails_by}
 use Rattle.ftp_client_model.specs.declared.client.Failure.TheVariants as Failures
 use Rattle.ftp_client_model.specs.declared.client.Standing.{Standing as Standings}
@@ -111,3 +112,13 @@ pub octet_comes : {A : Type 0} (old new : Reader A) (reader : Standing) (count :
 octet_comes old new reader count event octet n v held some most hears is =
     let step = fed old new reader count event octet n held some most hears in
     taken v (ear_of old) (ear_of new) octet (event_list event (line_of new)) is (sym step.ear) step.says
+
+-- what an octet that was fed does to the line that was said last
+pub line_comes : {A : Type 0} (old new : Reader A) (reader : Standing) (count : Option ℕ) (event : Event) (octet n : ℕ) (e : Ear) (last : List ℕ)
+    → CanBeHeld old reader count → 0 < n → n ≤ 1 → Hears old (take n (octet ∷ [])) (event_list event (line_of new)) new
+    → e ≡ ear_of old
+    → line_with e octet last ≡ line_behind (event_list event (line_of new)) last
+line_comes old new reader count event octet n e last held some most hears is =
+    let step = fed old new reader count event octet n held some most hears in
+    ap (λ x. line_behind (ear_out reply_limit x octet) last) is
+    ∙ ap (λ events. line_behind events last) step.says

@@ -5,6 +5,7 @@ ghost use Rattle.ftp_reply.specs.Reader.{Between};
 ghost use Rattle.ftp_ends.specs.Reply.{reply_limit};
 ghost use Rattle.ftp_client_model.specs.Held.{gathered_len};
 
+use crate::last::LastLine;
 use crate::line::{Spoken, take_line};
 use ftp_nvt::{Ear, Event};
 use ftp_reply::Reader;
@@ -36,6 +37,7 @@ impl<A: Allocator + Copy> Model for Hearing<A> {
 }
 
 impl<A: Allocator + Copy> Hearing<A> {
+    ghost use Rattle.ftp_client_model.specs.Telling.{line_with};
     ghost use Rattle.ftp_client_steps.specs.Comes.{Comes};
 
     /// Nothing was heard. All memory for lines is taken now.
@@ -55,21 +57,21 @@ impl<A: Allocator + Copy> Hearing<A> {
         })
     }
 
-    /// Takes an octet of the control connection.
-    pub fn octet(&mut self, octet: u8) -> Result<Spoken<A>, AllocError>
-        ensures { IfOk result (λ heard. Comes self.old octet heard self.new) }
+    /// Takes an octet of the control connection. The line that it ends is kept in `last`, where memory for it is refused too.
+    pub fn octet(&mut self, octet: u8, last: &mut LastLine) -> Result<Spoken<A>, AllocError>
+        ensures comes { IfOk result (λ heard. Comes self.old octet heard self.new) }
+        ensures told { last.new ≡ line_with self.old.ear octet last.old }
     {
         let heard = self.ear.feed(&[octet]);
         match heard.event {
             Event::More => Ok(Spoken::Nothing),
             Event::Owed(answer) => Ok(Spoken::Owed(answer)),
             Event::TooLong => Ok(Spoken::Misplaced),
-            Event::Line => take_line(
-                &mut self.reader,
-                &mut self.gathered,
-                self.ear.line(),
-                &self.alloc,
-            ),
+            Event::Line => {
+                let line = self.ear.line();
+                last.keep(line);
+                take_line(&mut self.reader, &mut self.gathered, line, &self.alloc)
+            }
         }
     }
 

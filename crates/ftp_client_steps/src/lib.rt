@@ -6,6 +6,7 @@ mod command;
 mod counted;
 mod hearing;
 mod judgement;
+mod last;
 mod line;
 mod output;
 mod request;
@@ -21,6 +22,7 @@ pub use command::{
 pub use counted::CountedTransfer;
 pub use hearing::Hearing;
 pub use judgement::judged;
+pub use last::{KEPT_LIMIT, LastLine};
 pub use line::Spoken;
 pub use output::{OUTPUT_ROOM, Output};
 pub use request::{asked_settings, count_of, how_of, listing_settings, offset_of};

@@ -5,6 +5,7 @@ ghost use Rattle.ftp_operation.specs.declared.op.Op.{Op as AnyOp};
 ghost use Rattle.ftp_client_model.specs.Calls.{is_down, left_of, went};
 ghost use Rattle.ftp_client_model.specs.Dialogue.{is_given, marked_flow};
 ghost use Rattle.ftp_client_model.specs.Octets.{content_answer, cut_answer, flow_of, has_enough, settled_of, whole_answer};
+ghost use Rattle.ftp_client_model.specs.Telling.{came_in};
 ghost use Rattle.ftp_client_model.specs.View.{Flow};
 ghost use Rattle.ftp_client_steps.specs.Hearing.{NotYet, heard_all};
 
@@ -51,6 +52,10 @@ pub trait ClientTransfer<A: Allocator + Copy>: Drop {
     fn cut(self, op: &Op<Text<A>>, alloc: &A) -> Result<Option<Answer<A>>, AllocError>
         ensures answer { IfOk result (λ answer. option_map said_of answer ≡ cut_answer op.now (flow op.now self)) }
         ensures down { OnErr result (IsTrue (is_down (flow op.now self))) };
+
+    /// What came of a download of a file, as its answer would have it where it was cut; of any other transfer nothing. Takes no memory.
+    fn came(self, op: &Op<Text<A>>, alloc: &A) -> Text<A>
+        ensures { result ≡ came_in op.now (flow op.now self) };
 
     /// Takes octets of a download, and says how many: all, or up to one behind which a Peek has enough. `Err` says behind how many of them
     /// memory was refused; it is of no use any more then. Only a download takes memory.
