@@ -30,6 +30,7 @@ complete -c ftp_tool -n '__fish_seen_subcommand_from get put ls cat size rm mkdi
 complete -c ftp_tool -n '__fish_seen_subcommand_from get put ls cat size rm mkdir rmdir mv mirror' -l progress -d 'tells how far it is'
 complete -c ftp_tool -n '__fish_seen_subcommand_from get put ls cat size rm mkdir rmdir mv mirror run' -l timeout -x -d 'seconds of silence that end a control connection'
 complete -c ftp_tool -n '__fish_seen_subcommand_from get put ls cat size rm mkdir rmdir mv mirror' -l limit -x -d 'the most octets of a file'
+complete -c ftp_tool -n '__fish_seen_subcommand_from get put mirror' -l limit-rate -x -d 'the most octets a second'
 complete -c ftp_tool -n '__fish_seen_subcommand_from get put ls cat size rm mkdir rmdir mv frame' -l type -x -a 'A I' -d 'ASCII or image'
 complete -c ftp_tool -n '__fish_seen_subcommand_from get put ls cat size rm mkdir rmdir mv frame' -l stru -x -a 'F R' -d 'file or record structure'
 complete -c ftp_tool -n '__fish_seen_subcommand_from get put ls cat size rm mkdir rmdir mv frame' -l mode -x -a 'S B' -d 'stream or block mode'

@@ -3,8 +3,9 @@ use crate::help;
 use crate::place::{location_in, user_in, wanted_of};
 use crate::refusal::Refusal;
 use crate::words::{
-    ACTIVE, EXTENDED, Form, LIMIT, MODE, NO_EXTENDED, PASSWORD_FILE, STRU, Subcommand, TIMEOUT,
-    TYPE, USER, Value, Word, chosen, how_of, limit_in, representation_in, text_in, timeout_in,
+    ACTIVE, EXTENDED, Form, LIMIT, LIMIT_RATE, MODE, NO_EXTENDED, PASSWORD_FILE, STRU, Subcommand,
+    TIMEOUT, TYPE, USER, Value, Word, chosen, how_of, limit_in, rate_in, representation_in,
+    text_in, timeout_in,
 };
 use clap::ArgMatches;
 use ftp_operation::How;
@@ -38,6 +39,7 @@ pub const GET: Subcommand<'static> = Subcommand {
             form: Form::Flag,
             help: "the last change of FILE is at the server's moment of it",
         },
+        LIMIT_RATE,
     ],
 };
 
@@ -46,11 +48,14 @@ pub const PUT: Subcommand<'static> = Subcommand {
     about: "uploads files to a server",
     usage: Some("ftp_tool put [OPTIONS] <FILE>... <HOST:PORT/PATH>"),
     help: help::PUT,
-    words: &[Word {
-        name: "files",
-        form: Form::NeededPlaces(Value::Name("FILE")),
-        help: "what is read, - is standard input; the last word is HOST:PORT/PATH or a URL, where it goes",
-    }],
+    words: &[
+        Word {
+            name: "files",
+            form: Form::NeededPlaces(Value::Name("FILE")),
+            help: "what is read, - is standard input; the last word is HOST:PORT/PATH or a URL, where it goes",
+        },
+        LIMIT_RATE,
+    ],
 };
 
 pub const LS: Subcommand<'static> = Subcommand {
@@ -197,6 +202,7 @@ pub fn asked_of<'a>(
     let timeout = timeout_in(words)?;
     let how = how_in(words)?;
     let limit = limit_in(words)?;
+    let rate = rate_in(words)?;
     Ok(Target {
         place: location,
         user: user_in(words, url),
@@ -204,6 +210,7 @@ pub fn asked_of<'a>(
         openings,
         timeout,
         progress: is_terminal || words.get_flag("progress"),
+        rate,
         limit,
     })
 }

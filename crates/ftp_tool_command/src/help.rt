@@ -117,10 +117,11 @@ With --keep what came of a file that is not whole stays beside it; standard erro
 it is. With --continue a download goes on behind such a part, where the server tells the size and the moment that stand there; else it
 begins anew, and a note says so. With --moment FILE has the moment at which PATH was changed last; where the server does not know it,
 standard error has a note. A file of more octets than --limit is refused, with status 1. With --progress, and where
-standard error is a terminal, it has the octets of a transfer that takes more than a second, each second at most.
-Where the control connection ends, another one is made, at most four times, behind 1, 2, 4 and 8 seconds; each is told on standard error.
-The download goes on there where size and moment are those of before, and else begins anew. A server that says, takes and sends nothing for
-the seconds of --timeout counts as one that ended it.
+standard error is a terminal, it has the octets of a transfer that takes more than a second, each second at most. With --limit-rate no more
+octets a second go over a data connection.
+Where the control connection ends, another one is made, at most four times, behind 1, 2, 4 and 8 seconds, but once alone where the server
+never said a line; each is told on standard error. The download goes on there where size and moment are those of before, and else begins
+anew. A server that says, takes and sends nothing for the seconds of --timeout counts as one that ended it.
 Over IPv4 too a data connection is asked for by EPSV, with --active by EPRT, and from the first answer 500, 501, 502 or 522 on by PASV or
 PORT; with --extended by EPSV or EPRT alone, with --no-extended by PASV or PORT alone.
 Who logs in is the user of --user, else that of a URL, else that of the first entry that .netrc has for HOST, else anonymous. The password
@@ -138,8 +139,8 @@ Example:
 
 pub const PUT: &str = "\
 FILE is - for standard input. A PATH that is empty or ends in / is a directory: each file goes into it by its own name, over a control
-connection of its own; one that fails does not stop the others, and the status is the worst. HOST, PATH, passwords, status, progress, data
-connections and what is done where the control connection ends are as with get; an upload begins anew then. A file of more octets than --limit is refused,
+connection of its own; one that fails does not stop the others, and the status is the worst. HOST, PATH, passwords, status, progress, --limit-rate,
+data connections and what is done where the control connection ends are as with get; an upload begins anew then. A file of more octets than --limit is refused,
 with status 1. Behind an upload in type I and file structure the server is asked for the size of what it has, where it tells that; where
 that is a part, or the data connection alone broke, it goes on there, by at most 16 tries in all, and is done only once the size is that of
 FILE. More than one try are told on standard error; status 1 where the server has another size in the end, or says that there is no such

@@ -67,6 +67,13 @@ pub const LIMIT: Word<'static> = Word {
     help: "the most octets of a file, which is held in memory",
 };
 
+/// How fast a transfer may be.
+pub const LIMIT_RATE: Word<'static> = Word {
+    name: "limit-rate",
+    form: Form::Given(Value::Name("OCTETS[K|M|G]")),
+    help: "the most octets a second over a data connection, K, M and G are powers of 1,024; 0, and without it: no limit",
+};
+
 /// The most octets that a file may be said to have.
 const MOST_OCTETS: u64 = 999_999_999_999_999_999;
 
@@ -288,6 +295,41 @@ pub fn limit_in<'a>(matches: &'a ArgMatches<'_>) -> Result<u64, Refusal<'a>> {
         None => Err(Refusal::of("--limit <OCTETS>", limit, "decimal digits alone are wanted")),
     }
 }
+
+/// The most octets a second, as `--limit-rate` says, and 0 where it is not there; refused where they are no number.
+pub fn rate_in<'a>(matches: &'a ArgMatches<'_>) -> Result<u64, Refusal<'a>> {
+    let text = text_in(matches, "limit-rate");
+    if text.is_empty() {
+        return Ok(0);
+    }
+    match rate_of(text) {
+        Some(rate) => Ok(rate),
+        None => Err(Refusal::of(
+            "--limit-rate <OCTETS[K|M|G]>",
+            text,
+            "decimal digits are wanted, and K, M or G behind them or nothing, less than 2^64 octets in all",
+        )),
+    }
+}
+
+/// A decimal number of octets, or of the power of 1,024 that the letter behind it says, below 2^64.
+fn rate_of(text: &str) -> Option<u64> {
+    let (digits, unit) = parted(text);
+    octets_of(digits)?.checked_mul(unit)
+}
+
+/// A text without the letter of a power of 1,024 at its end, and that power; 1 without one.
+fn parted(text: &str) -> (&str, u64) {
+    for (letter, unit) in UNITS {
+        if let Some(digits) = text.strip_suffix(*letter) {
+            return (digits, *unit);
+        }
+    }
+    (text, 1)
+}
+
+/// The letters of powers of 1,024.
+const UNITS: &[(char, u64)] = &[('K', 1_024), ('M', 1_048_576), ('G', 1_073_741_824)];
 
 /// A decimal number below 2^64, as it is written: digits alone, leading zeros read, no sign.
 fn octets_of(text: &str) -> Option<u64>
