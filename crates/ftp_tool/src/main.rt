@@ -9,16 +9,16 @@ use clap::{ArgMatches, Error};
 use ftp_tool_command::{
     BadValue, PLACE_OPTION, Program, Refusal, asked_of, command, download_of, fetch_task_of,
     mirror_of, openings_of, program_of, rounds_of, script_server_of, script_user_of, serving_of,
-    settings_of, task_of, url_in, urls_in,
+    settings_of, task_of, told_of, url_in, urls_in,
 };
 use ftp_tool_fetch::{Openings, Target, Task};
+use ftp_tool_quiet::Hushed;
 use ftp_tool_shown::Shown;
 use ftp_tool_status::Status;
 use ftp_tool_words::{Location, UrlPlace, place_for, says_directory};
-use programs::Programs;
+use programs::{Machine, Programs};
 use several::{check_places, goes_into, sources_of, uploads_of};
 use std::alloc::{AllocError, Global};
-use std::env::Env;
 use std::io::{Eprint, IsTerminal, Write};
 use std::process::ExitCode;
 use std::{env, io};
@@ -30,13 +30,16 @@ fn main(rt: HostRuntime) -> ExitCode {
 /// Does what the command line asks for, and tells the faults of a wire to `faults`.
 fn run<R, F>(rt: &R, faults: &mut F) -> io::Result<u8>
 where
-    R: Programs + Env + Print + Eprint + AllocGlobal,
+    R: Machine,
     F: Write + IsTerminal,
 {
     let alloc = rt.alloc();
     let words: Vec<String> = env::args(rt)?.collect(alloc)?;
     match matches_of(alloc, words.as_slice()) {
-        Ok(matches) => obey(rt, alloc, &matches, faults),
+        Ok(matches) => {
+            let told = told_of(&matches);
+            obey(&Hushed { rt, told }, alloc, &matches, faults)
+        }
         Err(error) => tell(rt, &error),
     }
 }

@@ -3,8 +3,9 @@ use crate::help;
 use crate::place::{location_in, user_in, wanted_of};
 use crate::refusal::Refusal;
 use crate::words::{
-    ACTIVE, EXTENDED, Form, LIMIT, MODE, NO_EXTENDED, PASSWORD_FILE, STRU, Subcommand, TIMEOUT,
-    TYPE, USER, Value, Word, chosen, how_of, limit_in, representation_in, text_in, timeout_in,
+    ACTIVE, EXTENDED, Form, LIMIT, MODE, NO_EXTENDED, PASSWORD_FILE, QUIET, STRU, Subcommand,
+    TIMEOUT, TYPE, USER, Value, Word, chosen, how_of, limit_in, representation_in, text_in,
+    timeout_in,
 };
 use clap::ArgMatches;
 use ftp_operation::How;
@@ -166,6 +167,7 @@ const OPTIONS: &[Word<'static>] = &[
         form: Form::Flag,
         help: "tells how far a transfer is, each second; without it where standard error is a terminal",
     },
+    QUIET,
     TIMEOUT,
     LIMIT,
     Word {

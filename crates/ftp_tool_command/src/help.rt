@@ -118,7 +118,8 @@ it is. With --continue a download goes on behind such a part, where the server t
 begins anew, and a note says so. With --moment FILE has the moment at which PATH was changed last; where the server does not know it,
 standard error has a note. A file of more octets than --limit is refused, with status 1. With --progress, and where
 standard error is a terminal, it tells how far a transfer is that takes more than a second, each second at most, as 5.2 of 20.0 MiB: a KiB is
-1,024 octets, a MiB 1,024 KiB.
+1,024 octets, a MiB 1,024 KiB. With --quiet standard error has errors alone, the lines that begin with error: - no progress and no notes,
+whatever --progress says; status and files are the same.
 Where the control connection ends, another one is made, at most four times, behind 1, 2, 4 and 8 seconds; each is told on standard error.
 The download goes on there where size and moment are those of before, and else begins anew. A server that says, takes and sends nothing for
 the seconds of --timeout counts as one that ended it.

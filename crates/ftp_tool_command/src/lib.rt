@@ -24,4 +24,4 @@ pub use refusal::{BadValue, Refusal};
 pub use running::{script_server_of, script_user_of};
 pub use serving::serving_of;
 pub use task::{Task, task_of};
-pub use words::openings_of;
+pub use words::{openings_of, told_of};
