@@ -56,7 +56,7 @@ pub const PUT: Subcommand<'static> = Subcommand {
 
 pub const LS: Subcommand<'static> = Subcommand {
     name: "ls",
-    about: "lists a directory of a server",
+    about: "lists a directory or a file of a server",
     usage: None,
     help: help::LS,
     words: &[

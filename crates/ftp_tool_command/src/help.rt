@@ -155,7 +155,7 @@ pub const LS: &str = "\
 HOST, PATH, passwords, status, progress, data connections and what is done where the control connection ends are as with get; no PATH is
 the directory of the login.
 Output: the entries of the directory, as a machine listing has them (RFC 3659, section 7.2); where the server knows no MLSD, the names that
-NLST gives. With --long kind (-, d or ?), size, moment in UTC and name stand in columns; with --json each is an object of JSON with name, type
+NLST gives. Where PATH is a file, by MLST, its own line alone. With --long kind (-, d or ?), size, moment in UTC and name stand in columns; with --json each is an object of JSON with name, type
 (file, dir, or the server's word), size, modified (as 2026-11-27T10:00:00Z) and perm, as far as they are told, and is escaped as JSON has it
 alone. Each has LF at its end. Of characters that a
 terminal obeys (C0, C1, marks of direction) each octet is \\xHH, and a backslash is two. What is named by none but a single file's name, as

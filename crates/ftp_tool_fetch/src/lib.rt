@@ -5,6 +5,7 @@
 mod download;
 mod fetching;
 mod listing;
+mod looking;
 mod parents;
 mod running;
 mod simple;
