@@ -4,7 +4,7 @@
 _ftp_tool_options() {
     local place='--user --password-file --active --extended --no-extended --progress --quiet --timeout --limit --type --stru --mode --help'
     case $1 in
-        get) echo "--keep --continue --moment $place" ;;
+        get) echo "--keep --continue --moment --no-glob $place" ;;
         put) echo "$place" ;;
         ls) echo "--long --json $place" ;;
         cat) echo "$place" ;;

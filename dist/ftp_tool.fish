@@ -37,6 +37,7 @@ complete -c ftp_tool -n '__fish_seen_subcommand_from get put ls cat size rm mkdi
 complete -c ftp_tool -n '__fish_seen_subcommand_from get' -l keep -d 'keeps what came of a file that is not whole'
 complete -c ftp_tool -n '__fish_seen_subcommand_from get' -l continue -d 'goes on after such a part'
 complete -c ftp_tool -n '__fish_seen_subcommand_from get' -l moment -d 'the file has the server\'s moment'
+complete -c ftp_tool -n '__fish_seen_subcommand_from get' -s g -l no-glob -d 'takes * and ? as they stand'
 complete -c ftp_tool -n '__fish_seen_subcommand_from ls' -l long -d 'kind, size, moment and name in columns'
 complete -c ftp_tool -n '__fish_seen_subcommand_from ls mirror' -l json -d 'objects of JSON, a line each'
 complete -c ftp_tool -n '__fish_seen_subcommand_from mkdir' -s p -l parents -d 'makes those above it too'

@@ -7,9 +7,9 @@ mod several;
 
 use clap::{ArgMatches, Error};
 use ftp_tool_command::{
-    BadValue, PLACE_OPTION, Program, Refusal, asked_of, command, download_of, fetch_task_of,
-    mirror_of, openings_of, program_of, rounds_of, script_server_of, script_user_of, serving_of,
-    settings_of, task_of, told_of, url_in, urls_in,
+    BadValue, PLACE_OPTION, Program, Refusal, asked_of, command, fetch_task_of, get_task_of,
+    is_matched, mirror_of, openings_of, program_of, rounds_of, script_server_of, script_user_of,
+    serving_of, settings_of, task_of, told_of, url_in, urls_in,
 };
 use ftp_tool_fetch::{Openings, Target, Task};
 use ftp_tool_quiet::Hushed;
@@ -17,7 +17,7 @@ use ftp_tool_shown::Shown;
 use ftp_tool_status::Status;
 use ftp_tool_words::{Location, UrlPlace, place_for, says_directory};
 use programs::{Machine, Programs};
-use several::{check_places, goes_into, sources_of, uploads_of};
+use several::{check_places, goes_into, is_any_matched, sources_of, uploads_of};
 use std::alloc::{AllocError, Global};
 use std::io::{Eprint, IsTerminal, Write};
 use std::process::ExitCode;
@@ -206,8 +206,9 @@ fn get_where<'a, R: Programs + Eprint>(
     urls: &'a [Option<UrlPlace>],
     goal: Goal<'a>,
 ) -> io::Result<u8> {
-    match check_places(words, places, urls, goal.openings, goal.into) {
-        Ok(()) => number_of(get_all(rt, alloc, words, places, urls, goal)),
+    let into = goal.into || is_any_matched(words, places, urls, goal.openings);
+    match check_places(words, places, urls, goal.openings, into) {
+        Ok(()) => number_of(get_all(rt, alloc, words, places, urls, Goal { into, ..goal })),
         Err(refusal) => refuse(rt, refusal),
     }
 }
@@ -244,7 +245,7 @@ fn get_all<'a, R: Programs + Eprint>(
     Ok(worst)
 }
 
-/// Downloads a file, into the target or to it.
+/// Downloads a file, into the target or to it; or the files of a pattern into the target.
 fn get_one<R: Programs>(
     rt: &R,
     alloc: Global,
@@ -252,8 +253,11 @@ fn get_one<R: Programs>(
     asked: &Target<'_>,
     goal: Goal<'_>,
 ) -> io::Result<Status> {
+    if is_matched(words, asked.place) {
+        return rt.fetch(asked, get_task_of(words, asked.place, goal.target));
+    }
     let file = place_for(alloc, goal.into, goal.target, asked.place.path)?;
-    rt.fetch(asked, Task::Get(download_of(words, file.as_str())))
+    rt.fetch(asked, get_task_of(words, asked.place, file.as_str()))
 }
 
 /// Does what `put` asks for, file by file, each over a control connection of its own; the status is the worst.

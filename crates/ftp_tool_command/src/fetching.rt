@@ -11,6 +11,7 @@ use clap::ArgMatches;
 use ftp_operation::How;
 use ftp_tool_connection::Openings;
 use ftp_tool_fetch::{Download, Lines, Parts, Simple, Target, Task};
+use ftp_tool_listing::is_pattern;
 use ftp_tool_words::{Location, UrlPlace};
 
 pub const GET: Subcommand<'static> = Subcommand {
@@ -38,6 +39,11 @@ pub const GET: Subcommand<'static> = Subcommand {
             name: "moment",
             form: Form::Flag,
             help: "the last change of FILE is at the server's moment of it",
+        },
+        Word {
+            name: "no-glob",
+            form: Form::Letter('g'),
+            help: "takes * and ? in the last name of PATH as they stand",
         },
     ],
 };
@@ -258,8 +264,23 @@ const SHOWN: Download<'static> = Download {
     moment: false,
 };
 
+/// Whether `get` fetches what the directory of a place has that is of a pattern: where the name that its path ends in is one, and `--no-glob` is not there.
+pub fn is_matched(words: &ArgMatches<'_>, place: Location<'_>) -> bool {
+    !words.get_flag("no-glob") && is_pattern(place.name().as_bytes())
+}
+
+/// What `get` does at a place, into a file; into a folder of that name, where files of a pattern are fetched.
+pub fn get_task_of<'a>(words: &ArgMatches<'_>, place: Location<'_>, file: &'a str) -> Task<'a> {
+    let download = download_of(words, file);
+    if is_matched(words, place) {
+        Task::GetMatching(download)
+    } else {
+        Task::Get(download)
+    }
+}
+
 /// The download of `get` into a file.
-pub fn download_of<'a>(words: &ArgMatches<'_>, file: &'a str) -> Download<'a> {
+fn download_of<'a>(words: &ArgMatches<'_>, file: &'a str) -> Download<'a> {
     Download {
         file,
         parts: parts_of(words),

@@ -6,6 +6,7 @@ mod download;
 mod fetching;
 mod listing;
 mod looking;
+mod matching;
 mod parents;
 mod running;
 mod simple;

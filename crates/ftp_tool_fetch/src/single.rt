@@ -86,12 +86,12 @@ where
 
 /// A wish at a path, whose request is made anew for each control connection.
 #[derive(Drop)]
-struct Single<'a> {
-    alloc: Global,
-    path: &'a str,
-    how: How,
-    openings: &'a Openings,
-    wish: Wish<'a>,
+pub(crate) struct Single<'a> {
+    pub(crate) alloc: Global,
+    pub(crate) path: &'a str,
+    pub(crate) how: How,
+    pub(crate) openings: &'a Openings,
+    pub(crate) wish: Wish<'a>,
 }
 
 impl<'a> Single<'a> {
@@ -123,7 +123,10 @@ impl<'a> Single<'a> {
     }
 
     /// What the server answers; where it does not know how the data connection of a listing is asked for, to the same asked for otherwise.
-    fn asked<S: ClientSession>(&self, seat: &mut S) -> Result<Answer<Global>, AllocError> {
+    pub(crate) fn asked<S: ClientSession>(
+        &self,
+        seat: &mut S,
+    ) -> Result<Answer<Global>, AllocError> {
         let opened = seat.opened();
         let answer = seat.answer(self.request()?);
         if self.wish.is_simple() || !self.openings.hear(&answer, seat.opened() > opened) {
