@@ -2,9 +2,9 @@
 
 # the options of a subcommand
 _ftp_tool_options() {
-    local place='--user --password-file --active --extended --no-extended --progress --timeout --limit --type --stru --mode --help'
+    local place='--user --password-file --active --extended --no-extended --progress --quiet --timeout --limit --type --stru --mode --help'
     case $1 in
-        get) echo "--keep --continue --moment --limit-rate $place" ;;
+        get) echo "--keep --continue --moment --no-glob --limit-rate $place" ;;
         put) echo "--limit-rate $place" ;;
         ls) echo "--long --json $place" ;;
         cat) echo "$place" ;;
@@ -13,7 +13,7 @@ _ftp_tool_options() {
         mkdir) echo "--parents $place" ;;
         rmdir) echo "$place" ;;
         mv) echo "$place" ;;
-        mirror) echo "--delete --delete-any --dry-run --json --checksum --exclude --user --password-file --limit --limit-rate --active --extended --no-extended --no-flush --progress --timeout --help" ;;
+        mirror) echo "--delete --delete-any --dry-run --json --checksum --exclude --user --password-file --limit --limit-rate --active --extended --no-extended --no-flush --progress --quiet --timeout --help" ;;
         run) echo "--host --port --user --password-file --timeout --help" ;;
         serve) echo "--port --dir --sessions --host --accounts --log --keep --login --idle --idle-while-waited --session-while-waited --login-while-waited --passive-ports --passive-address --skip --help" ;;
         password) echo "--rounds --help" ;;

@@ -3,14 +3,15 @@ use crate::help;
 use crate::place::{location_in, user_in, wanted_of};
 use crate::refusal::Refusal;
 use crate::words::{
-    ACTIVE, EXTENDED, Form, LIMIT, LIMIT_RATE, MODE, NO_EXTENDED, PASSWORD_FILE, STRU, Subcommand,
-    TIMEOUT, TYPE, USER, Value, Word, chosen, how_of, limit_in, rate_in, representation_in,
-    text_in, timeout_in,
+    ACTIVE, EXTENDED, Form, LIMIT, LIMIT_RATE, MODE, NO_EXTENDED, PASSWORD_FILE, QUIET, STRU,
+    Subcommand, TIMEOUT, TYPE, USER, Value, Word, chosen, how_of, limit_in, rate_in,
+    representation_in, text_in, timeout_in,
 };
 use clap::ArgMatches;
 use ftp_operation::How;
 use ftp_tool_connection::Openings;
 use ftp_tool_fetch::{Download, Lines, Parts, Simple, Target, Task};
+use ftp_tool_listing::is_pattern;
 use ftp_tool_words::{Location, UrlPlace};
 
 pub const GET: Subcommand<'static> = Subcommand {
@@ -40,6 +41,11 @@ pub const GET: Subcommand<'static> = Subcommand {
             help: "the last change of FILE is at the server's moment of it",
         },
         LIMIT_RATE,
+        Word {
+            name: "no-glob",
+            form: Form::Letter('g'),
+            help: "takes * and ? in the last name of PATH as they stand",
+        },
     ],
 };
 
@@ -60,7 +66,7 @@ pub const PUT: Subcommand<'static> = Subcommand {
 
 pub const LS: Subcommand<'static> = Subcommand {
     name: "ls",
-    about: "lists a directory of a server",
+    about: "lists a directory or a file of a server",
     usage: None,
     help: help::LS,
     words: &[
@@ -171,6 +177,7 @@ const OPTIONS: &[Word<'static>] = &[
         form: Form::Flag,
         help: "tells how far a transfer is, each second; without it where standard error is a terminal",
     },
+    QUIET,
     TIMEOUT,
     LIMIT,
     Word {
@@ -263,8 +270,23 @@ const SHOWN: Download<'static> = Download {
     moment: false,
 };
 
+/// Whether `get` fetches what the directory of a place has that is of a pattern: where the name that its path ends in is one, and `--no-glob` is not there.
+pub fn is_matched(words: &ArgMatches<'_>, place: Location<'_>) -> bool {
+    !words.get_flag("no-glob") && is_pattern(place.name().as_bytes())
+}
+
+/// What `get` does at a place, into a file; into a folder of that name, where files of a pattern are fetched.
+pub fn get_task_of<'a>(words: &ArgMatches<'_>, place: Location<'_>, file: &'a str) -> Task<'a> {
+    let download = download_of(words, file);
+    if is_matched(words, place) {
+        Task::GetMatching(download)
+    } else {
+        Task::Get(download)
+    }
+}
+
 /// The download of `get` into a file.
-pub fn download_of<'a>(words: &ArgMatches<'_>, file: &'a str) -> Download<'a> {
+fn download_of<'a>(words: &ArgMatches<'_>, file: &'a str) -> Download<'a> {
     Download {
         file,
         parts: parts_of(words),

@@ -2,8 +2,8 @@
 use crate::place::{location_in, user_in};
 use crate::refusal::Refusal;
 use crate::words::{
-    ACTIVE, EXTENDED, Form, LIMIT, LIMIT_RATE, NO_EXTENDED, PASSWORD_FILE, Subcommand, TIMEOUT,
-    USER, Value, Word, chosen, how_of, limit_in, rate_in, text_in, timeout_in,
+    ACTIVE, EXTENDED, Form, LIMIT, LIMIT_RATE, NO_EXTENDED, PASSWORD_FILE, QUIET, Subcommand,
+    TIMEOUT, USER, Value, Word, chosen, how_of, limit_in, rate_in, text_in, timeout_in,
 };
 use clap::ArgMatches;
 use ftp_tool_connection::{Openings, ServerAddress};
@@ -28,7 +28,7 @@ One control connection is used; where it ends, the rest is done over another one
 A file of this machine is written beside its name, and moved over it once it is whole and on the disk, as with get. With --no-flush it is moved
 before it is on the disk, which is faster: after a power cut a file may be cut, and another run mends that. Passwords, --timeout, --limit-rate and
 data connections are as with get.
-Output: on standard error why something was not done, and at the end how much was.
+Output: on standard error why something was not done, and at the end how much was; with --quiet the former alone.
 Status: 0 done; 1 something was refused or failed; 2 bad command line or login; 3 the control connection or a device failed, or memory was
 refused.
 
@@ -108,6 +108,7 @@ const OPTIONS: &[Word<'static>] = &[
         form: Form::Flag,
         help: "tells of each file that is copied",
     },
+    QUIET,
     TIMEOUT,
 ];
 

@@ -9,6 +9,7 @@ use clap::{Arg, ArgAction, ArgMatches, Command};
 use ftp_operation::How;
 use ftp_tool_connection::{Opening, Openings};
 use ftp_tool_files::{Representation, number_of, representation_of};
+use ftp_tool_quiet::Told;
 use std::alloc::{AllocError, Global};
 
 /// The letters of types, structures and modes (RFC 959, section 5.3.2), and the most that a number may be.
@@ -58,6 +59,13 @@ pub const NO_EXTENDED: Word<'static> = Word {
     name: "no-extended",
     form: Form::Flag,
     help: "data connections over IPv4 by PASV and PORT alone",
+};
+
+/// What of standard error is told, for all programs of a client that ask at a place.
+pub const QUIET: Word<'static> = Word {
+    name: "quiet",
+    form: Form::Letter('q'),
+    help: "tells errors alone: no progress, no notes, no summary",
 };
 
 /// The most octets of a file that is held in memory.
@@ -237,6 +245,14 @@ pub fn chosen<T: Copy>(matches: &ArgMatches<'_>, option: &str, given: T, other: 
         given
     } else {
         other
+    }
+}
+
+/// What of standard error is told by the subcommand of a command line: all, where it has no `--quiet`.
+pub fn told_of(matches: &ArgMatches<'_>) -> Told {
+    match matches.subcommand() {
+        Some((_, words)) => chosen(words, "quiet", Told::Errors, Told::All),
+        None => Told::All,
     }
 }
 
