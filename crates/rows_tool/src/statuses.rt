@@ -81,6 +81,15 @@ const TASKS: &[(&str, bool, Task<'static>)] = &[
             moment: true,
         }),
     ),
+    (
+        "get of a pattern",
+        true,
+        Task::GetMatching(Download {
+            file: NONE,
+            parts: Parts::Dropped,
+            moment: false,
+        }),
+    ),
     ("put, no file", true, Task::Put(NONE)),
     ("ls", true, Task::List(Lines::Facts)),
     ("ls, no password", false, Task::List(Lines::Facts)),
