@@ -243,9 +243,14 @@ where
     let mut clocked = Clocked {
         server,
         watch: SystemWatch::new(rt),
+        watcher: (),
     };
     let ended = drive_server(&mut clocked, &mut control, &mut ports).is_ok();
-    let Clocked { server, watch: _ } = clocked;
+    let Clocked {
+        server,
+        watch: _,
+        watcher: _,
+    } = clocked;
     ports.inner.finish();
     let last = journal.last_reply();
     if let Some(last) = last {
