@@ -13,9 +13,9 @@ use Rattle.ftp_server_model.specs.Calls.{MayReceive, connection_of, grown, is_up
 use Rattle.ftp_server_model.specs.Endpoint.{forgotten, is_standing}
 use Rattle.ftp_server_model.specs.Far.{Server}
 use Rattle.ftp_server_model.specs.Heard.{Heard, Tells, abort_told, heard_by, heard_by_event, heard_by_events, heard_by_line, heard_by_octet, heard_received, later_heard, latest, told_of, waited_heard}
-use Rattle.ftp_server_model.specs.Machine.{IsReading, Reading, completed, given_out, has_room, hears, hears_octet, is_abort, is_connection_busy, is_idle, is_over, later, obeyed, turned, waited}
+use Rattle.ftp_server_model.specs.Machine.{IsReading, Reading, given_out, has_room, hears, hears_octet, is_abort, is_connection_busy, is_idle, is_over, later, obeyed, turned, waited}
 use Rattle.ftp_server_model.specs.Act.{decided}
-use Rattle.ftp_server_model.specs.View.{Footing, Session, Transfer, View}
+use Rattle.ftp_server_model.specs.View.{Session, Transfer, View}
 use Rattle.ftp_server_model.specs.declared.heard.HeardLine.{HeardLine}
 use Rattle.ftp_server_model.specs.declared.session.ServerLink.{ServerLink}
 use Rattle.ftp_server_model.specs.declared.session.ServerLink.TheVariants as Data
@@ -54,11 +54,11 @@ obeyed_waits heard v =
     given_waits w.session.connection w
 
 -- where no line waits, nothing is acted on
-none_later : (v : View) → v.waiting ≡ None → (later v ≡ v) × (later_heard v ≡ None)
+pub none_later : (v : View) → v.waiting ≡ None → (later v ≡ v) × (later_heard v ≡ None)
 none_later v none = (ap (λ w. waited w v) none, ap (λ w. waited_heard w v) none)
 
 -- where the line that waits may not be acted on yet, neither
-busy_later : (v : View) → is_idle v ≡ false → (later v ≡ v) × (later_heard v ≡ None)
+pub busy_later : (v : View) → is_idle v ≡ false → (later v ≡ v) × (later_heard v ≡ None)
 busy_later v busy = by v.waiting
   where
     by : (w : Option (HeardLine (List ℕ))) → (waited w v ≡ v) × (waited_heard w v ≡ None)
@@ -66,11 +66,17 @@ busy_later v busy = by v.waiting
     by (Some heard) = (ap (λ b. if b then obeyed heard (record v { waiting = None }) else v) busy, ap (λ b. if b then Some (told_of heard v) else None) busy)
 
 -- where it may be, it is told, and waits no more
-idle_later : (v : View) (heard : HeardLine (List ℕ)) → v.waiting ≡ Some heard → is_idle v ≡ true → ((later v).waiting ≡ None) × (later_heard v ≡ Some (told_of heard v))
+pub idle_later : (v : View) (heard : HeardLine (List ℕ)) → v.waiting ≡ Some heard → is_idle v ≡ true → ((later v).waiting ≡ None) × (later_heard v ≡ Some (told_of heard v))
 idle_later v heard waits idle = (
   ap (λ w. w.waiting) (ap (λ w. waited w v) waits ∙ ap (λ b. if b then obeyed heard (record v { waiting = None }) else v) idle) ∙ obeyed_waits heard (record v { waiting = None }),
   ap (λ w. waited_heard w v) waits ∙ ap (λ b. if b then Some (told_of heard v) else None) idle,
 )
+
+-- the line that waited was acted on, as it stood then
+pub obeyed_told : {T E : Type 0} (r : Result T E) (heard : HeardLine (List ℕ)) (v : View) (told : Option Heard) → v.waiting ≡ Some heard → is_idle v ≡ true
+    → OnOk r (told ≡ Some (told_of heard (record v { waiting = None }))) → OnOk r (told ≡ later_heard v)
+obeyed_told (Ok x) heard v told waits idle is = is ∙ sym (idle_later v heard waits idle).1
+obeyed_told (Err x) heard v told waits idle is = tt
 
 pub latest_none : (told : Option Heard) → latest None told ≡ told
 latest_none None = refl
@@ -100,9 +106,9 @@ settles_told (Ok x) (Err y) failures old mid new heard after fine told same refu
     λ stood counts. absurd (moved (counts ∙ λ i. record { refusals = sym refusals i; failures = sym stood i }))
 
 -- nothing is told of a step that failed
-pub fault_told : {T E : Type 0} {P : Type 0} (step : Result T E) → is_err step ≡ true → OnOk step P
-fault_told (Ok x) failed = absurd (let wrong : false ≡ true = failed in cc)
-fault_told (Err x) failed = tt
+pub fault_told : {T E : Type 0} (P : Type 0) (step : Result T E) → is_err step ≡ true → OnOk step P
+fault_told P (Ok x) failed = absurd (let wrong : false ≡ true = failed in cc)
+fault_told P (Err x) failed = tt
 
 -- ---- control octets
 
@@ -209,20 +215,20 @@ none_received told v (c ∷ cs) none =
 -- where the line waits on behind all of them, none is told
 pub waits_on : (told : Option Heard) (v : View) (octets : List ℕ) (heard : HeardLine (List ℕ)) → v.waiting ≡ Some heard → (receives v octets).waiting ≡ Some heard → heard_received told v octets ≡ told
 waits_on told v [] heard waits on = refl
-waits_on told v (c ∷ cs) heard waits on = by (is_idle (by_octet v c)) refl
+waits_on told v (c ∷ cs) heard waits on = by (waits_on told (by_octet v c) cs heard (octet_waits v c ∙ waits)) (is_idle (by_octet v c)) refl
   where
     z : View
     z = by_octet v c
     still : z.waiting ≡ Some heard
     still = octet_waits v c ∙ waits
-    by : (b : Bool) → is_idle z ≡ b → heard_received told v (c ∷ cs) ≡ told
-    by true idle =
+    by : ((receives z cs).waiting ≡ Some heard → heard_received told z cs ≡ told) → (b : Bool) → is_idle z ≡ b → heard_received told v (c ∷ cs) ≡ told
+    by rest true idle =
         let acted = ap (λ w. w.waiting) (octet_later v c) ∙ (idle_later z heard still idle).0 in
         absurd (let wrong : Some heard ≡ None = sym on ∙ (none_received told (receives_octet v c) cs acted).1 in cc)
-    by false busy =
+    by rest false busy =
         let l = busy_later z busy in let same = octet_later v c ∙ l.0 in
         ap (λ t. heard_received (latest told t) (receives_octet v c) cs) l.1 ∙ ap (λ y. heard_received told y cs) same
-        ∙ waits_on told z cs heard still (ap (λ y. (receives y cs).waiting) (sym same) ∙ on)
+        ∙ rest (ap (λ y. (receives y cs).waiting) (sym same) ∙ on)
 
 pub no_line_acted_on : (told : Option Heard) (v : View) (octets : List ℕ) → (receives v octets).waiting ≡ v.waiting → heard_received told v octets ≡ told
 no_line_acted_on told v octets on = by v.waiting refl
@@ -253,14 +259,14 @@ standing Data.Passive is = absurd (let wrong : false ≡ true = is in cc)
 standing Data.Ready is = absurd (let wrong : false ≡ true = is in cc)
 standing (Data.Opening transfer way) is = absurd (let wrong : false ≡ true = is in cc)
 
-busy : (c : ServerLink Transfer) → is_upload c ≡ true → is_connection_busy c ≡ true
-busy (Data.Transferring transfer) is = refl
-busy Data.Free is = absurd (let wrong : false ≡ true = is in cc)
-busy (Data.Asked asked) is = absurd (let wrong : false ≡ true = is in cc)
-busy (Data.Active endpoint) is = absurd (let wrong : false ≡ true = is in cc)
-busy Data.Passive is = absurd (let wrong : false ≡ true = is in cc)
-busy Data.Ready is = absurd (let wrong : false ≡ true = is in cc)
-busy (Data.Opening transfer way) is = absurd (let wrong : false ≡ true = is in cc)
+upload_busy : (c : ServerLink Transfer) → is_upload c ≡ true → is_connection_busy c ≡ true
+upload_busy (Data.Transferring transfer) is = refl
+upload_busy Data.Free is = absurd (let wrong : false ≡ true = is in cc)
+upload_busy (Data.Asked asked) is = absurd (let wrong : false ≡ true = is in cc)
+upload_busy (Data.Active endpoint) is = absurd (let wrong : false ≡ true = is in cc)
+upload_busy Data.Passive is = absurd (let wrong : false ≡ true = is in cc)
+upload_busy Data.Ready is = absurd (let wrong : false ≡ true = is in cc)
+upload_busy (Data.Opening transfer way) is = absurd (let wrong : false ≡ true = is in cc)
 
 -- with another upload
 another : (c : ServerLink Transfer) (v x : View) → is_upload c ≡ true → GoesOn v x → GoesOn v (with_connection c x)
@@ -325,7 +331,7 @@ one_octet v octet may = octet_on v.session.closing v.session.connection octet v 
 
 -- while it goes on no line may be acted on
 upload_is_busy : (v : View) → is_upload v.session.connection ≡ true → is_idle v ≡ false
-upload_is_busy v is = ap (λ b. not b && has_room v) (busy v.session.connection is)
+upload_is_busy v is = ap (λ b. not b && has_room v) (upload_busy v.session.connection is)
 
 -- no octet may be taken where no endpoint is set
 free_takes_none : (v : View) (s : Session) → v.session ≡ forgotten s → may_receive v ≡ true → ⊥
@@ -364,7 +370,8 @@ acted_on Y heard waits on = by (is_idle Y) refl
 ended_told : (told : Option Heard) (v Y : View) (octets : List ℕ) (heard : HeardLine (List ℕ)) → v.waiting ≡ Some heard → Y.waiting ≡ Some heard → Y.session ≡ forgotten v.session
     → Y.footing ≡ v.footing → MayReceive v octets → receives v octets ≡ later Y → heard_received told v octets ≡ latest told (later_heard Y)
 ended_told told v Y [] heard waits there session footing may is = sym (ap (latest told) (not_idle Y heard there (ap (λ w. w.waiting) (sym is) ∙ waits)))
-ended_told told v Y (c ∷ cs) heard waits there session footing may is = by (one_octet v c may.0)
+ended_told told v Y (c ∷ cs) heard waits there session footing may is =
+    by (ended_told told (by_octet v c) Y cs heard (octet_waits v c ∙ waits) there) (one_octet v c may.0)
   where
     z : View
     z = by_octet v c
@@ -391,11 +398,12 @@ ended_told told v Y (c ∷ cs) heard waits there session footing may is = by (on
         on busy ∙ ap (heard_received told z) same
         ∙ sym (ap (latest told) (not_idle Y heard there (ap (λ w. w.waiting) (sym (there_on busy) ∙ ap (receives z) same) ∙ still)))
     over (o ∷ os) false same ended busy = absurd (free_takes_none z v.session ended.session (subst (MayReceive z) same (may_on busy)).0)
-    by : GoesOn v z ⊎ IsOver v z → heard_received told v (c ∷ cs) ≡ latest told (later_heard Y)
-    by (inl goes) =
+    by : (Y.session ≡ forgotten z.session → Y.footing ≡ z.footing → MayReceive z cs → receives z cs ≡ later Y → heard_received told z cs ≡ latest told (later_heard Y))
+        → GoesOn v z ⊎ IsOver v z → heard_received told v (c ∷ cs) ≡ latest told (later_heard Y)
+    by rest (inl goes) =
         let busy = upload_is_busy z goes.upload in
-        on busy ∙ ended_told told z Y cs heard still there (session ∙ sym goes.others) (footing ∙ sym goes.footing) (may_on busy) (there_on busy)
-    by (inr ended) = over cs (is_idle z) refl ended refl
+        on busy ∙ rest (session ∙ sym goes.others) (footing ∙ sym goes.footing) (may_on busy) (there_on busy)
+    by rest (inr ended) = over cs (is_idle z) refl ended refl
 
 pub fault_is_told : (told : Option Heard) (v Y : View) (octets : List ℕ) → Y.waiting ≡ v.waiting → Y.session ≡ forgotten v.session → Y.footing ≡ v.footing → MayReceive v octets
     → receives v octets ≡ later Y → heard_received told v octets ≡ latest told (later_heard Y)
@@ -410,7 +418,7 @@ pub said_told : {T E : Type 0} (told : Told) (octets : List ℕ) (v : View) (s :
     → (told ≡ Faulty → s ≡ forgotten v.session) → OnOk r (TellsSaid told (with_session s v) before after) → OnOk r (after ≡ heard_received before v octets)
 said_told told octets v s before after (Err e) comes over said = tt
 said_told Nothing octets v s before after (Ok x) comes over said = said ∙ sym (no_line_acted_on before v octets (ap (λ w. w.waiting) comes.1))
-said_told (Mark marker) octets v s before after (Ok x) comes over said = said ∙ sym (no_line_acted_on before v octets (ap (λ w. w.waiting) comes.1))
+said_told (Mark mark) octets v s before after (Ok x) comes over said = said ∙ sym (no_line_acted_on before v octets (ap (λ w. w.waiting) comes.1))
 said_told Faulty octets v s before after (Ok x) comes over said =
-    said ∙ sym (fault_is_told before v (refused (with_session s v)) octets refl (over refl) refl comes.0 comes.1.0)
+    said ∙ sym (fault_is_told before v (refused (with_session s v)) octets refl (over refl) refl comes.0 comes.1)
 said_told NoMemory octets v s before after (Ok x) comes over said = absurd said

@@ -67,7 +67,7 @@ impl<A: Allocator + Copy, T: Tree<A>, J: ServerTransfer<A, T>> Server<A, T, J> {
     }
 
     /// The moment in force from now on.
-    #[tactic(auto, using(crate::proofs::CallLemmas::acts, crate::proofs::CallLemmas::tells))]
+    #[tactic(auto, using(crate::proofs::CallLemmas::acts, crate::proofs::ToldLemmas::tells))]
     pub fn clock(&mut self, moment: Moment)
         ensures acts { Acts (clock_step moment.seconds) (server_of T.table T.failures J.view self.old) (server_of T.table T.failures J.view self.new) }
         ensures told { Tells (clock_step moment.seconds) self.new.heard (server_of T.table T.failures J.view self.old) (server_of T.table T.failures J.view self.new) }

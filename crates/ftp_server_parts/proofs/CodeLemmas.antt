@@ -3,7 +3,7 @@ use Rattle.std.proofs.Common.{◌≡◌, ℕ, zero, suc, ◌+◌, ◌-◌, ◌*�
 use Rattle.std.specs.Prelude.{if◌then◌else◌}
 use Rattle.std.specs.Char.{is_ascii_digit}
 use Rattle.std.specs.List.{slice_get}
-use Rattle.ftp_server_model.specs.Heard.{code_in, number_of_three}
+use Rattle.ftp_server_model.specs.Heard.{code_in}
 use Rattle.ftp_server_parts.specs.Codes.{digit_in, of_three}
 
 -- each of three octets is a digit, or one is not

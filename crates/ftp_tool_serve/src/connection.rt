@@ -4,7 +4,7 @@ ghost use Rattle.ftp_tool_serve.specs.Listening.{told_host};
 
 use crate::connections::{CountedPorts, SaidWriter};
 use crate::journal::{Journal, Log};
-use crate::watched::Watched;
+use crate::watching::Watching;
 use ftp_control::Failed;
 use ftp_endpoint::Host;
 use ftp_operation::Accounts;
@@ -234,13 +234,18 @@ where
         journal,
     };
     let mut control = Control::new(reader, writer);
+    journal.begin(&server);
     let mut clocked = Clocked {
-        server: Watched { server, journal },
+        server,
         watch: SystemWatch::new(rt),
+        watcher: Watching::new(journal),
     };
     let ended = drive_server(&mut clocked, &mut control, &mut ports).is_ok();
-    let Clocked { server, watch: _ } = clocked;
-    let Watched { server, journal: _ } = server;
+    let Clocked {
+        server,
+        watch: _,
+        watcher: _,
+    } = clocked;
     ports.inner.finish();
     let last = journal.last_reply();
     if let Some(last) = last {

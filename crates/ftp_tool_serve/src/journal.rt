@@ -117,8 +117,8 @@ impl<'a, R: Tells> Journal<'a, R> {
         self.note(ended);
     }
 
-    /// The server is about to be called.
-    pub(crate) fn before<T: Tree<Global>, F: Far<Global, T>>(&self, server: &F) {
+    /// A server is as it will be called next.
+    pub(crate) fn begin<T: Tree<Global>, F: Far<Global, T>>(&self, server: &F) {
         self.before.set(Before {
             owed: server.owed(),
             is_transferring: server.is_transferring(),
@@ -127,7 +127,7 @@ impl<'a, R: Tells> Journal<'a, R> {
     }
 
     /// The server was called: takes in which lines it answered for good, and tells them.
-    pub(crate) fn after<T, F>(&self, server: &F)
+    pub(crate) fn saw<T, F>(&self, server: &F)
     where
         T: Tree<Global> + Explains,
         F: Far<Global, T>,
@@ -145,6 +145,7 @@ impl<'a, R: Tells> Journal<'a, R> {
                 None => self.pending.set(Some(asked)),
             }
         }
+        self.begin(server);
     }
 
     /// Why the folder failed in the call, if it did.

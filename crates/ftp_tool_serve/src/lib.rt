@@ -13,7 +13,7 @@ mod serving;
 mod starting;
 mod telling;
 mod tells;
-mod watched;
+mod watching;
 
 pub use accounts::accounts_of;
 pub use connection::{Service, session};

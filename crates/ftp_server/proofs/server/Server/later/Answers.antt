@@ -2,9 +2,8 @@ use Rattle.std.proofs.Common.{Some, sym, subst, ◌∙◌}
 use Rattle.std.proofs.Math.Logic.{∥∥₁_elim}
 use Rattle.ftp_server.specs.Busy.{MayWait}
 use Rattle.ftp_server.proofs.NameLemmas.{name_if_waits}
-use Rattle.ftp_server.proofs.HearLemmas.{on_ok}
 use Rattle.ftp_server.proofs.PathLemmas.{paths_once}
-use Rattle.ftp_server.proofs.ToldLemmas.{busy_later, idle_later, none_later}
+use Rattle.ftp_server.proofs.ToldLemmas.{busy_later, none_later, obeyed_told}
 use Rattle.ftp_server.specs.Server.{view_of}
 use Rattle.ftp_server.proofs.server.Server.later.Goals as goal
 
@@ -23,7 +22,7 @@ returns-then-not-is_idle-clause-told g c =
 pub returns-in-Some-clause-told : goal.returns-in-Some-clause-told
 returns-in-Some-clause-told g c =
     let v = view_of g.T.Tree.table g.J.ServerTransfer.view c.args.self.now in
-    on_ok c.obey.result (λ e. e ∙ sym (idle_later v c.in-Some.heard (sym c.replace.ensures.value ∙ c.in-Some.is) (sym c.is_idle.ensures ∙ c.if-not-is_idle.false)).1) c.obey.ensures.told
+    obeyed_told c.obey.result c.in-Some.heard v c.obey.new.self.heard (sym c.replace.ensures.value ∙ c.in-Some.is) (sym c.is_idle.ensures ∙ c.if-not-is_idle.false) c.obey.ensures.told
 
 pub returns-in-None-clause-told : goal.returns-in-None-clause-told
 returns-in-None-clause-told g c =

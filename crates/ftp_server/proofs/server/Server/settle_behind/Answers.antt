@@ -22,7 +22,7 @@ returns-else-is_err-clause-settled g c =
     (by_octets (counts_of failures c.args.self.now) (counts_of failures l.new.self) (counts_of failures c.count-else-is_err.new.self) l.ensures.refusals l.ensures.few c.count-else-is_err.ensures.few c.count-else-is_err.ensures.device)
 
 pub returns-then-is_err-clause-told : goal.returns-then-is_err-clause-told
-returns-then-is_err-clause-told g c = fault_told c.args.step (sym c.is_err.ensures.value ∙ c.if-is_err.true)
+returns-then-is_err-clause-told g c = fault_told _ c.args.step (sym c.is_err.ensures.value ∙ c.if-is_err.true)
 
 pub returns-else-is_err-clause-told : goal.returns-else-is_err-clause-told
 returns-else-is_err-clause-told g c =

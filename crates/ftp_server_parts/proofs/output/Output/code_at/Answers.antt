@@ -1,4 +1,4 @@
-use Rattle.std.proofs.Common.{ℕ, ◌+◌, Option, sym, ap, ◌∙◌}
+use Rattle.std.proofs.Common.{◌+◌, ap, ◌∙◌}
 use Rattle.std.specs.List.{slice_get}
 use Rattle.ftp_server_parts.specs.Codes.{digit_in, of_three}
 use Rattle.ftp_server_parts.proofs.CodeLemmas.{code_at}
