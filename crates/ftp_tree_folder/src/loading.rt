@@ -386,7 +386,6 @@ pub(crate) fn are_nested(roots: &[Path<Global>]) -> bool {
 
 /// Whether one of the roots is below a path, and not that.
 fn is_above(above: &Path<Global>, roots: &[Path<Global>]) -> bool {
-    roots
-        .iter()
-        .any(|root| root.key().len() > above.key().len() && is_within(above.key(), root.key()))
+    roots.iter().any(|root| root.key().len() > above.key().len()
+        && is_within(above.key(), root.key()))
 }

@@ -90,7 +90,14 @@ fn loaded_anew<R: Disk>(
         return (new, left);
     }
     let nothing = Loaded::nothing(files.memory());
-    match Loading::new(files, dir_text(dir), roots, nothing, Some(LeftOut::nothing()), now) {
+    match Loading::new(
+        files,
+        dir_text(dir),
+        roots,
+        nothing,
+        Some(LeftOut::nothing()),
+        now,
+    ) {
         Ok(loading) => finished(loading),
         Err(_) => (new, left),
     }
