@@ -136,12 +136,26 @@ impl<'a, R: Tells> Journal<'a, R> {
         let is_in = server.login().is_some();
         let why = self.why(server);
         if let Some((asked, code)) = self.ended(server) {
-            self.close(is_in, Closed { asked, code: Some(code), why });
+            self.close(
+                is_in,
+                Closed {
+                    asked,
+                    code: Some(code),
+                    why,
+                },
+            );
         }
         if let Some(answered) = server.answered() {
             let asked = self.asked(&answered);
             match last_code(&answered, server.is_transferring()) {
-                Some(code) => self.close(is_in, Closed { asked, code: Some(code), why }),
+                Some(code) => self.close(
+                    is_in,
+                    Closed {
+                        asked,
+                        code: Some(code),
+                        why,
+                    },
+                ),
                 None => self.pending.set(Some(asked)),
             }
         }
@@ -185,7 +199,8 @@ impl<'a, R: Tells> Journal<'a, R> {
     /// A line was answered for good, and then somebody is logged in, or nobody: takes in how a login went, and tells the line, where it is one that
     /// is told.
     fn close(&self, is_in: bool, closed: Closed<'_>) {
-        self.user.set(if is_in { self.named.get() } else { Line::new() });
+        self.user
+            .set(if is_in { self.named.get() } else { Line::new() });
         let Some(code) = closed.code else {
             return;
         };

@@ -7,9 +7,7 @@ use ftp_path::Path;
 use ftp_tool_log::Lines;
 use ftp_tool_sockets::SystemWatch;
 use ftp_tree::{MemTree, NodeKind, Tree, TreeFault};
-use ftp_tree_folder::{
-    Disk, DiskFolder, LeftOut, LoadFault, Mirror, Reason, Seen, open, reloaded,
-};
+use ftp_tree_folder::{Disk, DiskFolder, LeftOut, LoadFault, Mirror, Reason, Seen, open, reloaded};
 use std::alloc::Global;
 use std::fmt::{Display, Formatter};
 use std::fs::Files;
