@@ -28,7 +28,7 @@ part_none table seen root is none = ap (λ s. part (start table s)) is ∙ ap (u
 -- ---- fair
 
 -- whether the map is within its limit where the login sees it
-abbrev is_within : (user pass : List ℕ) → List Account → Table → Bool
+abbrev pub is_within : (user pass : List ℕ) → List Account → Table → Bool
 is_within user pass accounts table = nat_le (octets_in (part (start table (login_account accounts user pass)))) total_limit
 
 pub can_begin : (user pass : List ℕ) (accounts list : List Account) (table : Table) (near_host far_host : Host) → IsTrue (is_user user) → IsTrue (is_password pass) → accounts ≡ list

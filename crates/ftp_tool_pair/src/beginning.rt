@@ -44,7 +44,7 @@ pub enum Unfair {
 impl<A: Allocator + Copy, T: Tree<A>> Beginning<A, T> {
     /// What a session can begin with, of a login, a list of accounts, a tree, and the hosts of client and server; or why none can: of the
     /// hosts first, then of the accounts, then of the tree.
-    #[tactic(auto, using(crate::proofs::Fairness::can_begin, crate::proofs::Fairness::not_related, crate::proofs::Fairness::not_accounts, crate::proofs::Fairness::not_full, crate::proofs::Fairness::is_over))]
+    #[tactic(auto, using(crate::proofs::Fairness::not_related, crate::proofs::Fairness::not_accounts, crate::proofs::Fairness::not_full, crate::proofs::Fairness::is_over))]
     pub fn new(
         alloc: A,
         login: Login<A>,
