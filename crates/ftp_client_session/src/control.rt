@@ -2,12 +2,13 @@
 ghost use Rattle.std.specs.Prelude.{◌≡◌, ◌<◌, ◌≤◌, IfOk, IfSome, IsTrue, OnErr, length, min, take};
 ghost use Rattle.ftp_ends.specs.Octets.{has_octets};
 ghost use Rattle.ftp_client_model.specs.Calls.{gives_control, hears_octet, is_sound, may_hear};
+ghost use Rattle.ftp_client_model.specs.Telling.{line_with};
 
 use crate::dialogue::Dialogue;
 use crate::finishing::is_sound;
 use crate::task::Task;
 use ftp_client_model::client::Standing;
-use ftp_client_steps::{ClientTransfer, Spoken};
+use ftp_client_steps::{ClientTransfer, LastLine, Spoken};
 use ftp_endpoint::Host;
 use ftp_reply::Reply;
 use std::alloc::{AllocError, Allocator};
@@ -21,16 +22,21 @@ impl<A: Allocator + Copy, F: ClientTransfer<A>> Dialogue<A, F> {
     ghost use Rattle.ftp_client_session.specs.Replies.{reply_answered};
 
     /// Takes an octet, and hands out the reply that ends with it, which is to be answered then. Refused memory, the client is short of it,
-    /// as it was before the octet.
-    pub(crate) fn hear(&mut self, octet: u8) -> Result<Option<Reply<A>>, AllocError>
+    /// as it was before the octet. The line that it ends is kept in `last` either way.
+    pub(crate) fn hear(
+        &mut self,
+        octet: u8,
+        last: &mut LastLine,
+    ) -> Result<Option<Reply<A>>, AllocError>
         requires { IsTrue (is_sound (view_of F.flow self.old).standing) }
         ensures ok { IfOk result (λ reply. reply_answered reply (view_of F.flow self.new) ≡ hears_octet (view_of F.flow self.old) octet) }
         ensures calm { IfOk result (λ reply. IfSome reply (λ some. IsTrue (is_sound (view_of F.flow self.new).standing))) }
         ensures kept { IfOk result (λ reply. IfSome reply (λ some. shorted (view_of F.flow self.new) ≡ shorted (view_of F.flow self.old))) }
         ensures err { OnErr result (shorted (view_of F.flow self.new) ≡ shorted (view_of F.flow self.old)) }
         ensures sound { OnErr result (IsTrue (is_sound (view_of F.flow self.new).standing)) }
+        ensures told { last.new ≡ line_with (view_of F.flow self.old).ear octet last.old }
     {
-        let Ok(heard) = self.hearing.octet(octet) else {
+        let Ok(heard) = self.hearing.octet(octet, last) else {
             return Err(AllocError);
         };
         match heard {

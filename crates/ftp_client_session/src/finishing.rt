@@ -5,16 +5,20 @@ ghost use Rattle.ftp_operation.specs.Answer.{said_of};
 ghost use Rattle.ftp_client_model.specs.Calls.{is_sound};
 ghost use Rattle.ftp_client_model.specs.Dialogue.{begins, finishes, finishes_by, finishes_read, next_with};
 ghost use Rattle.ftp_client_model.specs.Growing.{is_followed};
+ghost use Rattle.ftp_client_model.specs.Telling.{came_of};
 ghost use Rattle.ftp_client_model.specs.Tries.{run_at};
 ghost use Rattle.ftp_client_model.specs.View.{done_with, dropped, failure_said, fails, stands, strange};
+ghost use Rattle.ftp_client_model.specs.declared.client.Failure.TheVariants as Failures;
 
 use crate::dialogue::Dialogue;
 use crate::letting_go::let_go;
 use crate::task::Task;
 use ftp_client_model::client::{ClientLink, Failure, Standing, Step};
 use ftp_client_steps::{ClientTransfer, is_size, next_in};
+use ftp_facts::Text;
 use ftp_operation::Answer;
 use std::alloc::{AllocError, Allocator};
+use std::mem;
 
 impl<A: Allocator + Copy, F: ClientTransfer<A>> Dialogue<A, F> {
     ghost use Rattle.ftp_client_session.specs.Calm.{is_under_way};
@@ -161,6 +165,29 @@ impl<A: Allocator + Copy, F: ClientTransfer<A>> Dialogue<A, F> {
             self.place = Task::Told(failure_answer(failure));
         }
         self.standing = Standing::Failed(failure);
+    }
+
+    /// The control connection ended: the client has failed for good. Hands out what came of a transfer under way, as its answer would have it where
+    /// it was cut: of a download of a file. Takes no memory.
+    pub fn lose(&mut self) -> Option<Text<A>>
+        ensures lost { view_of F.flow self.new ≡ fails Failures.Lost (view_of F.flow self.old) }
+        ensures came { result ≡ came_of (view_of F.flow self.old).job }
+    {
+        let came = self.take_came();
+        self.fail(Failure::Lost);
+        came
+    }
+
+    /// Hands out what came of a transfer under way, whose answer is to be a failure's.
+    fn take_came(&mut self) -> Option<Text<A>>
+        ensures came { result ≡ came_of (view_of F.flow self.old).job }
+        ensures alike { fails Failures.Lost (view_of F.flow self.new) ≡ fails Failures.Lost (view_of F.flow self.old) }
+    {
+        let Task::Transferring(_) = &self.place else {
+            return None;
+        };
+        let place = mem::replace(&mut self.place, Task::Waiting);
+        place.into_came(&self.op, &self.alloc)
     }
 
     /// Whether an operation is under way.

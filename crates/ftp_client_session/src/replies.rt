@@ -2,6 +2,7 @@
 ghost use Rattle.std.specs.Prelude.{◌≡◌, IsTrue, OnErr, OnOk, false};
 ghost use Rattle.ftp_client_model.specs.Calls.{hears_octet, is_sound};
 ghost use Rattle.ftp_client_model.specs.Dialogue.{answered, job_answered, stand_answered};
+ghost use Rattle.ftp_client_model.specs.Telling.{line_with};
 ghost use Rattle.ftp_client_session.specs.Client.{shorted, view_of};
 ghost use Rattle.ftp_client_steps.specs.Verdict.{verdict_in};
 
@@ -12,7 +13,7 @@ mod transfer;
 use crate::dialogue::Dialogue;
 use crate::task::Task;
 use ftp_client_model::client::{Failure, Standing};
-use ftp_client_steps::{ClientTransfer, Verdict, verdict_of};
+use ftp_client_steps::{ClientTransfer, LastLine, Verdict, verdict_of};
 use ftp_reply::Reply;
 use login::{greeted, pass_answered, user_answered};
 use std::alloc::{AllocError, Allocator};
@@ -20,20 +21,22 @@ use steps::step_answered;
 use transfer::transfer_answered;
 
 /// Takes an octet of the control connection; a client that has failed hears none. Refused memory, the client is short of it, as it was before the
-/// octet.
+/// octet. The line that it ends is kept in `last` either way.
 pub fn hear_octet<A: Allocator + Copy, F: ClientTransfer<A>>(
     dialogue: &mut Dialogue<A, F>,
     octet: u8,
+    last: &mut LastLine,
 ) -> Result<(), AllocError>
     ensures ok { IsTrue (is_sound (view_of F.flow dialogue.old).standing) → OnOk result (view_of F.flow dialogue.new ≡ hears_octet (view_of F.flow dialogue.old) octet) }
     ensures failed { is_sound (view_of F.flow dialogue.old).standing ≡ false → view_of F.flow dialogue.new ≡ view_of F.flow dialogue.old }
     ensures err { OnErr result (shorted (view_of F.flow dialogue.new) ≡ shorted (view_of F.flow dialogue.old)) }
     ensures sound { OnErr result (IsTrue (is_sound (view_of F.flow dialogue.new).standing)) }
+    ensures told { IsTrue (is_sound (view_of F.flow dialogue.old).standing) → last.new ≡ line_with (view_of F.flow dialogue.old).ear octet last.old }
 {
     if let Standing::Failed(_) = dialogue.standing() {
         return Ok(());
     }
-    match dialogue.hear(octet) {
+    match dialogue.hear(octet, last) {
         Ok(None) => Ok(()),
         Ok(Some(reply)) => answered(dialogue, &reply),
         Err(error) => Err(error),

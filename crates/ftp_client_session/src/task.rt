@@ -4,6 +4,7 @@ ghost use Rattle.ftp_operation.specs.Answer.{Memory, said_of};
 ghost use Rattle.ftp_operation.specs.declared.op.Op.{Op};
 ghost use Rattle.ftp_ends.specs.Octets.{has_octets};
 ghost use Rattle.ftp_client_model.specs.Calls.{report_of_job};
+ghost use Rattle.ftp_client_model.specs.Telling.{came_of};
 ghost use Rattle.ftp_client_model.specs.View.{failed_job};
 
 use crate::letting_go::let_go;
@@ -109,6 +110,20 @@ impl<A: Allocator + Copy, F: ClientTransfer<A>> Task<A, F> {
         match self {
             Task::Told(answer) => Some(answer),
             Task::Idle | Task::Waiting | Task::Doing(_) | Task::Transferring(_) => None,
+        }
+    }
+
+    /// What came of a transfer under way, as its answer would have it where it was cut: of a download of a file. Takes no memory.
+    pub(crate) fn into_came(self, op: &Op<Text<A>>, alloc: &A) -> Option<Text<A>>
+        ensures { result ≡ came_of (job_of F.flow op.now self) }
+    {
+        match self {
+            Task::Transferring(transfer) => Some(transfer.flow.came(op, alloc)),
+            Task::Told(answer) => {
+                let_go(answer);
+                None
+            }
+            Task::Idle | Task::Waiting | Task::Doing(_) => None,
         }
     }
 

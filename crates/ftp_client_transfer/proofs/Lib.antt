@@ -1,3 +1,4 @@
 pub mod UploadLemmas
 pub mod DownloadLemmas
 pub mod ListingLemmas
+pub mod CameLemmas

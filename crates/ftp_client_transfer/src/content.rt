@@ -3,6 +3,7 @@ ghost use Rattle.std.specs.Prelude.{◌≡◌, ◌≤◌, [], IfOk, Some, length
 ghost use Rattle.ftp_operation.specs.Answer.{Entries, Names, said_of};
 ghost use Rattle.ftp_facts.specs.Listing.{entries_value, names_value};
 ghost use Rattle.ftp_client_model.specs.Octets.{content_answer};
+ghost use Rattle.ftp_client_transfer.specs.Octets.{cut_octets};
 
 use crate::listing::{entries_in, names_in};
 use ftp_facts::Text;
@@ -23,6 +24,21 @@ pub(crate) fn content_in<A: Allocator + Copy>(
         Op::Names(_, _) => names_answer(octets.as_slice(), alloc),
         Op::Peek(_, count, _) => Ok(Some(Answer::Octets(first(octets, *count)))),
         _ => Ok(Some(Answer::Octets(Text::from_vec(octets)))),
+    }
+}
+
+/// The octets that came of a download that is cut, where it is of a file; of a Peek no more than it asked for. None is copied.
+pub(crate) fn came_in<A: Allocator + Copy>(
+    op: &Op<Text<A>>,
+    octets: Vec<u8, A>,
+    alloc: &A,
+) -> Text<A>
+    ensures { result ≡ cut_octets op.now octets.items }
+{
+    match op {
+        Op::Get(_, _) | Op::GetFrom(_, _, _) => Text::from_vec(octets),
+        Op::Peek(_, count, _) => first(octets, *count),
+        _ => Text::from_vec(Vec::new(*alloc)),
     }
 }
 

@@ -2,7 +2,7 @@
 ghost use Rattle.std.specs.Prelude.{◌≡◌, ◌<◌, ◌≤◌, ◌⊎◌, None};
 ghost use Rattle.ftp_client_model.specs.Plan.{count_of};
 
-use crate::content::{content_in, nothing_in};
+use crate::content::{came_in, content_in, nothing_in};
 use crate::download::Download;
 use crate::upload::Upload;
 use ftp_client_steps::{ClientTransfer, count_of, listing_settings};
@@ -123,6 +123,18 @@ impl<A: Allocator + Copy> ClientTransfer<A> for OperationTransfer<A> {
                 got: Text::from_vec(download.decoder.into_sink()),
                 mark: download.mark,
             })),
+        }
+    }
+
+    #[tactic(auto, using(crate::proofs::CameLemmas::none_came))]
+    fn came(self, op: &Op<Text<A>>, alloc: &A) -> Text<A> {
+        match self {
+            OperationTransfer::Upload(_) => Text::from_vec(Vec::new(*alloc)),
+            OperationTransfer::Download(download) => came_in(
+                op,
+                download.decoder.into_sink(),
+                alloc,
+            ),
         }
     }
 

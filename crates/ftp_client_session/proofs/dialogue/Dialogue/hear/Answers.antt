@@ -13,7 +13,7 @@ returns-in-Nothing-clause-ok g c =
     let held = c.octet.new.self in
     seen d.standing c.requires held.ear held.gathered v
     ∙ ap (λ h. acts h held v) (sym c.in-Nothing.is)
-    ∙ sym (c.in-Ok.ensures v c.requires (ear_is d.standing c.requires d.hearing.ear) (gathered_is d.standing c.requires d.hearing.gathered))
+    ∙ sym (c.in-Ok.ensures.comes v c.requires (ear_is d.standing c.requires d.hearing.ear) (gathered_is d.standing c.requires d.hearing.gathered))
 
 pub returns-in-Ok-put-clause-ok : goal.returns-in-Ok-put-clause-ok
 returns-in-Ok-put-clause-ok g c =
@@ -23,7 +23,7 @@ returns-in-Ok-put-clause-ok g c =
     ap (λ o. let w : View = record (view_of g.F.ClientTransfer.flow (record d { hearing = held })) { owed = o } in w) c.in-Ok-put.ensures.ok
     ∙ seen d.standing c.requires held.ear held.gathered (record v { owed = d.output ++ c.in-Owed.answer })
     ∙ ap (λ h. acts h held v) (sym c.in-Owed.is)
-    ∙ sym (c.in-Ok.ensures v c.requires (ear_is d.standing c.requires d.hearing.ear) (gathered_is d.standing c.requires d.hearing.gathered))
+    ∙ sym (c.in-Ok.ensures.comes v c.requires (ear_is d.standing c.requires d.hearing.ear) (gathered_is d.standing c.requires d.hearing.gathered))
 
 pub returns-in-Reply-clause-ok : goal.returns-in-Reply-clause-ok
 returns-in-Reply-clause-ok g c =
@@ -32,7 +32,7 @@ returns-in-Reply-clause-ok g c =
     let held = c.octet.new.self in
     ap (λ w. answered c.in-Reply.reply.code c.in-Reply.reply.lines w) (seen d.standing c.requires held.ear held.gathered v)
     ∙ ap (λ h. acts h held v) (sym c.in-Reply.is)
-    ∙ sym (c.in-Ok.ensures v c.requires (ear_is d.standing c.requires d.hearing.ear) (gathered_is d.standing c.requires d.hearing.gathered))
+    ∙ sym (c.in-Ok.ensures.comes v c.requires (ear_is d.standing c.requires d.hearing.ear) (gathered_is d.standing c.requires d.hearing.gathered))
 
 pub returns-in-Misplaced-clause-ok : goal.returns-in-Misplaced-clause-ok
 returns-in-Misplaced-clause-ok g c =
@@ -42,4 +42,4 @@ returns-in-Misplaced-clause-ok g c =
     c.strange.ensures
     ∙ ap (λ w. strange w) (seen d.standing c.requires held.ear held.gathered v)
     ∙ ap (λ h. acts h held v) (sym c.in-Misplaced.is)
-    ∙ sym (c.in-Ok.ensures v c.requires (ear_is d.standing c.requires d.hearing.ear) (gathered_is d.standing c.requires d.hearing.gathered))
+    ∙ sym (c.in-Ok.ensures.comes v c.requires (ear_is d.standing c.requires d.hearing.ear) (gathered_is d.standing c.requires d.hearing.gathered))
