@@ -7,6 +7,7 @@ use Rattle.std.proofs.Math.Seq.{take-suc}
 use Rattle.std.proofs.lemmas.Grind.{common_steps}
 use Rattle.std.specs.Prelude.{IsTrue}
 use Rattle.ftp_client_model.specs.Calls.{hears, hears_octet, is_sound, may_hear, MayHear}
+use Rattle.ftp_client_model.specs.Telling.{last_line, line_with}
 use Rattle.ftp_client_model.specs.View.{View}
 
 -- a client that may hear has not failed
@@ -41,6 +42,29 @@ hears_next v piece n less =
     ap (λ k. hears v (take k piece)) (add-one n)
     ∙ ap (λ xs. hears v xs) (take-suc piece n 0 less)
     ∙ hears_one v (take n piece) (slice_index piece n)
+
+-- the line that was said last, by one octet more
+line_one : (v : View) (front : List ℕ) (octet : ℕ) (last : List ℕ)
+    → last_line v (front ++ octet ∷ []) last ≡ line_with (hears v front).ear octet (last_line v front last)
+line_one v [] octet last = refl
+line_one v (c ∷ front) octet last = line_one (hears_octet v c) front octet (line_with v.ear c last)
+
+pub line_next : (v : View) (piece : List ℕ) (n : ℕ) (last : List ℕ) → n < length piece
+    → last_line v (take (n + 1) piece) last ≡ line_with (hears v (take n piece)).ear (slice_index piece n) (last_line v (take n piece) last)
+line_next v piece n last less =
+    ap (λ k. last_line v (take k piece) last) (add-one n)
+    ∙ ap (λ xs. last_line v xs last) (take-suc piece n 0 less)
+    ∙ line_one v (take n piece) (slice_index piece n) last
+
+-- an octet that was heard behind a front of a piece leaves the line of a longer one
+pub line_goes : (v w : View) (piece : List ℕ) (n : ℕ) (first last new : List ℕ) → n < length piece
+    → w ≡ hears v (take n piece) → last ≡ last_line v (take n piece) first → new ≡ line_with w.ear (slice_index piece n) last
+    → new ≡ last_line v (take (n + 1) piece) first
+line_goes v w piece n first last new less now kept is =
+    is
+    ∙ ap (λ (u : View). line_with u.ear (slice_index piece n) last) now
+    ∙ ap (line_with (hears v (take n piece)).ear (slice_index piece n)) kept
+    ∙ sym (line_next v piece n first less)
 
 pub ok_at : {X E : Type 0} (result : Result X E) (P : Type 0) → is_err result ≡ false → OnOk result P → P
 ok_at (Ok x) P fine is = is

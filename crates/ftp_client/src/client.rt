@@ -4,18 +4,24 @@ ghost use Rattle.std.specs.List.{AllByRecursion};
 ghost use Rattle.ftp_endpoint.specs.Written.{IsTypedHost};
 ghost use Rattle.ftp_ends.specs.Limits.{held_limit};
 ghost use Rattle.ftp_client_model.specs.Held.{held, stored_limit};
+ghost use Rattle.ftp_client_model.specs.Telling.{untold};
 ghost use Rattle.ftp_client_model.specs.View as view;
 ghost use Rattle.ftp_client.specs.Counted.{StaysFit};
 
 use crate::counted::Counted;
-use ftp_client_steps::{ClientTransfer, CountedTransfer};
+use ftp_client_steps::{ClientTransfer, CountedTransfer, KEPT_LIMIT, LastLine};
 use ftp_endpoint::Host;
+use ftp_facts::Text;
 use ftp_operation::Login;
 use std::alloc::Allocator;
 
 /// A client. `F` is what a transfer carries; its calls are those of the trait `Near` of `ftp_client_model`.
 pub struct Client<A: Allocator + Copy, F: Drop> {
     pub(crate) counted: Counted<A, F>,
+    /// The line that the server said last.
+    pub(crate) line: LastLine,
+    /// What came of a transfer amid which the control connection ended, until another operation is begun.
+    pub(crate) came: Option<Text<A>>,
     /// It holds little, and goes on so.
     ghost fit: { ∥ StaysFit counted ∥₁ },
 }
@@ -23,21 +29,30 @@ pub struct Client<A: Allocator + Copy, F: Drop> {
 /// By hand: a derived drop is proved again, part by part, wherever a client is let go.
 impl<A: Allocator + Copy, F: Drop> Drop for Client<A, F> {
     fn drop(self) {
-        let Self { counted: _ } = self;
+        let Self {
+            counted: _,
+            line: _,
+            came: _,
+        } = self;
     }
 }
 
 impl<A: Allocator + Copy, F: ClientTransfer<A>> Client<A, F> {
-    ghost use Rattle.ftp_client.specs.Calls.{client_of};
+    ghost use Rattle.ftp_client.specs.Calls.{client_of, told_of};
 
     /// A client of this login, on this host, of the server on its peer's host. Refused memory, it hands the login back.
     pub fn new(alloc: A, login: Login<A>, here: Host, peer: Host) -> Result<Client<A, F>, Login<A>>
         ensures begun { IfOk result (λ client. (client_of F.flow client).view ≡ view.client login.user login.pass here peer) }
+        ensures told { IfOk result (λ client. told_of client ≡ untold) }
         ensures back { IfErr result (λ back. back ≡ login) }
     {
         is_typed(here);
         match Counted::new(alloc, login, here, peer) {
-            Ok(counted) => Ok(Client { counted }),
+            Ok(counted) => Ok(Client {
+                counted,
+                line: LastLine::new(),
+                came: None,
+            }),
             Err(login) => Err(login),
         }
     }
@@ -48,14 +63,14 @@ impl<A: Allocator + Copy, F: CountedTransfer<A>> Client<A, F> {
     ghost use Rattle.ftp_client_session.specs.Stored.{stored_in};
 
     /// How many octets it holds, beside the texts of an operation and what its report brings: the login, the line that is being read, the
-    /// reply that it is of, what is owed, and what its transfer stores; at most 24,576 (own choice of the limits). There is room in them for
-    /// all that a transfer may ever store.
+    /// reply that it is of, what is owed, what its transfer stores, and the room of the line that was said last; at most 24,576 (own choice of the
+    /// limits). There is room in them for all that a transfer may ever store.
     pub fn held(&self) -> usize
         ensures exact { result ≡ held (stored_in F.stored self.now.counted.dialogue.place) (client_of F.flow self.now).view }
         ensures little { result ≤ held_limit }
         ensures room { held stored_limit (client_of F.flow self.now).view ≤ held_limit }
     {
-        self.counted.stored_len() + self.counted.talk_len()
+        self.counted.stored_len() + (self.counted.talk_len() + KEPT_LIMIT)
     }
 }
 

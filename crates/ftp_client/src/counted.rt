@@ -1,5 +1,5 @@
 // A dialogue whose refused growths are counted: each call as the definitions of a client have it (RFC 959, sections 2.3 and 5.4).
-ghost use Rattle.std.specs.Prelude.{◌≡◌, ◌≢◌, ◌<◌, ◌≤◌, ℕ, List, None, Some, IfErr, IfOk, IsTrue, false, length, min, option_map, take};
+ghost use Rattle.std.specs.Prelude.{◌≡◌, ◌≢◌, ◌<◌, ◌≤◌, ℕ, List, None, Some, IfErr, IfOk, IsTrue, false, length, min, option_map, take, if◌then◌else◌};
 ghost use Rattle.ftp_operation.specs.Answer.{said_of};
 ghost use Rattle.ftp_operation.specs.declared.op.Op.{Op as AnyOp};
 ghost use Rattle.ftp_ends.specs.Limits.{held_limit};
@@ -10,6 +10,7 @@ ghost use Rattle.ftp_client_model.specs.Failing.{HearsIfRoom, Holds, HoldsIfRoom
 ghost use Rattle.ftp_client_model.specs.Growing.{giving_grows};
 ghost use Rattle.ftp_client_model.specs.Held.{stored_limit, talk_len};
 ghost use Rattle.ftp_client_model.specs.Most.{IsMostHeard, IsMostReceived};
+ghost use Rattle.ftp_client_model.specs.Telling.{Told, anew, begins_told, came_of, last_line};
 ghost use Rattle.ftp_client_model.specs.Tries.{over_breaks};
 ghost use Rattle.ftp_client_model.specs.View as view;
 
@@ -18,7 +19,7 @@ use ftp_client_session::{
     Dialogue, data_end, data_fault, data_opened, data_refused, hear_octet, listen_refused,
     listening,
 };
-use ftp_client_steps::{ClientTransfer, CountedTransfer};
+use ftp_client_steps::{ClientTransfer, CountedTransfer, LastLine};
 use ftp_endpoint::Host;
 use ftp_ends::Wants;
 use ftp_facts::Text;
@@ -55,46 +56,55 @@ impl<A: Allocator + Copy, F: ClientTransfer<A>> Counted<A, F> {
         }
     }
 
-    /// Begins the operation that `op` has, and takes it out of there.
-    pub(crate) fn begin(&mut self, op: &mut Option<Op<Text<A>>>)
+    /// Begins the operation that `op` has, and takes it out of there. Says whether one is begun.
+    pub(crate) fn begin(&mut self, op: &mut Option<Op<Text<A>>>) -> bool
         ensures begun { (given : AnyOp (List ℕ)) → op.old ≡ Some given → is_busy (counted_of F.flow self.old).view ≡ false
             → HoldsIfRoom (counted_of F.flow self.old) (counted_of F.flow self.new)
             (starts given (counted_of F.flow self.old).view) (starts_short given (counted_of F.flow self.old).view) }
         ensures left { op.new ≡ handed_back (is_busy (counted_of F.flow self.old).view) op.old }
         ensures busy { IsTrue (is_busy (counted_of F.flow self.old).view) → Holds (counted_of F.flow self.old) (counted_of F.flow self.new) (counted_of F.flow self.old).view }
         ensures none { op.old ≡ None → Holds (counted_of F.flow self.old) (counted_of F.flow self.new) (counted_of F.flow self.old).view }
+        ensures told { (t : Told) → begins_told (is_busy (counted_of F.flow self.old).view) op.old t ≡ (if result then anew t else t) }
         ensures counted { CountsOn self.old.refusals self.new.refusals }
     {
         if self.dialogue.is_busy() {
-            return;
+            return false;
         }
         let Some(given) = op.take() else {
-            return;
+            return false;
         };
         if self.dialogue.start(given).is_err() {
             self.shorten();
         }
+        true
     }
 
     /// Begins an upload that goes on after breaks, and has one report (at most 16 tries; own choice). `texts` has the path and the octets.
-    pub(crate) fn begin_upload(&mut self, texts: &mut Option<(Text<A>, Text<A>)>, how: How)
+    /// Says whether one is begun.
+    pub(crate) fn begin_upload(
+        &mut self,
+        texts: &mut Option<(Text<A>, Text<A>)>,
+        how: How,
+    ) -> bool
         ensures begun { (path octets : List ℕ) → texts.old ≡ Some (path, octets) → is_busy (counted_of F.flow self.old).view ≡ false
             → HoldsIfRoom (counted_of F.flow self.old) (counted_of F.flow self.new)
             (uploads (over_breaks path octets how) (counted_of F.flow self.old).view) (uploads_short (over_breaks path octets how) (counted_of F.flow self.old).view) }
         ensures left { texts.new ≡ handed_back (is_busy (counted_of F.flow self.old).view) texts.old }
         ensures busy { IsTrue (is_busy (counted_of F.flow self.old).view) → Holds (counted_of F.flow self.old) (counted_of F.flow self.new) (counted_of F.flow self.old).view }
         ensures none { texts.old ≡ None → Holds (counted_of F.flow self.old) (counted_of F.flow self.new) (counted_of F.flow self.old).view }
+        ensures told { (t : Told) → begins_told (is_busy (counted_of F.flow self.old).view) texts.old t ≡ (if result then anew t else t) }
         ensures counted { CountsOn self.old.refusals self.new.refusals }
     {
         if self.dialogue.is_busy() {
-            return;
+            return false;
         }
         let Some((path, octets)) = texts.take() else {
-            return;
+            return false;
         };
         if self.dialogue.upload(path, octets, how).is_err() {
             self.shorten();
         }
+        true
     }
 
     /// The report of the operation, if it is done; it is given once.
@@ -105,17 +115,18 @@ impl<A: Allocator + Copy, F: ClientTransfer<A>> Counted<A, F> {
         self.dialogue.report()
     }
 
-    /// Takes octets of the control connection, and says how many.
-    pub(crate) fn hear(&mut self, piece: &[u8]) -> usize
+    /// Takes octets of the control connection, and says how many. The line that the last of them ended is kept in `last`.
+    pub(crate) fn hear(&mut self, piece: &[u8], last: &mut LastLine) -> usize
         ensures within { result ≤ length piece.now }
         ensures took { HearsIfRoom (counted_of F.flow self.old) (counted_of F.flow self.new) piece.now result }
         ensures some { IsTrue (may_hear (counted_of F.flow self.old).view) → 0 < length piece.now → 0 < result }
         ensures most { self.new.refusals ≡ self.old.refusals → IsMostHeard result piece.now (counted_of F.flow self.new).view }
+        ensures told { last.new ≡ last_line (counted_of F.flow self.old).view (take result piece.now) last.old }
         ensures counted { CountsOn self.old.refusals self.new.refusals }
     {
         let mut taken = 0;
         while taken < piece.len() && self.dialogue.may_hear() {
-            if hear_octet(&mut self.dialogue, piece[taken]).is_err() {
+            if hear_octet(&mut self.dialogue, piece[taken], last).is_err() {
                 self.shorten();
                 return taken + 1;
             }
@@ -135,12 +146,14 @@ impl<A: Allocator + Copy, F: ClientTransfer<A>> Counted<A, F> {
         self.dialogue.control_out(room)
     }
 
-    /// The control connection ended.
+    /// The control connection ended. Hands out what came of a transfer under way, as its answer would have it where it was cut: of a download of a
+    /// file.
     #[tactic(auto, unfolding(ftp_client_model::specs::Calls::control_end))]
-    pub(crate) fn control_end(&mut self)
-        ensures { Holds (counted_of F.flow self.old) (counted_of F.flow self.new) (control_end (counted_of F.flow self.old).view) }
+    pub(crate) fn control_end(&mut self) -> Option<Text<A>>
+        ensures now { Holds (counted_of F.flow self.old) (counted_of F.flow self.new) (control_end (counted_of F.flow self.old).view) }
+        ensures came { result ≡ came_of (counted_of F.flow self.old).view.job }
     {
-        self.dialogue.fail(Failure::Lost);
+        self.dialogue.lose()
     }
 
     /// A port is listened at.

@@ -9,16 +9,22 @@ use ftp_operation::{Answer, How, Op};
 use std::alloc::Allocator;
 
 impl<A: Allocator + Copy, F: ClientTransfer<A>> Near<A> for Client<A, F> {
-    ghost use Rattle.ftp_client.specs.Calls.{client_of};
+    ghost use Rattle.ftp_client.specs.Calls.{client_of, told_of};
 
     ghost client = { client_of F.flow };
 
+    ghost told = { told_of };
+
     fn begin(&mut self, op: &mut Option<Op<Text<A>>>) {
-        self.counted.begin(op);
+        if self.counted.begin(op) {
+            self.came = None;
+        }
     }
 
     fn begin_upload(&mut self, texts: &mut Option<(Text<A>, Text<A>)>, how: How) {
-        self.counted.begin_upload(texts, how);
+        if self.counted.begin_upload(texts, how) {
+            self.came = None;
+        }
     }
 
     fn report(&mut self) -> Option<Answer<A>> {
@@ -26,7 +32,7 @@ impl<A: Allocator + Copy, F: ClientTransfer<A>> Near<A> for Client<A, F> {
     }
 
     fn hear(&mut self, piece: &[u8]) -> usize {
-        self.counted.hear(piece)
+        self.counted.hear(piece, &mut self.line)
     }
 
     fn control_out(&mut self, room: &mut [u8]) -> usize {
@@ -34,7 +40,9 @@ impl<A: Allocator + Copy, F: ClientTransfer<A>> Near<A> for Client<A, F> {
     }
 
     fn control_end(&mut self) {
-        self.counted.control_end();
+        if let Some(came) = self.counted.control_end() {
+            self.came = Some(came);
+        }
     }
 
     fn listening(&mut self, port: u16) {
@@ -75,6 +83,17 @@ impl<A: Allocator + Copy, F: ClientTransfer<A>> Near<A> for Client<A, F> {
 
     fn wants(&self) -> Wants {
         self.counted.wants()
+    }
+
+    fn last_reply(&self) -> &[u8] {
+        self.line.as_slice()
+    }
+
+    fn came(&self) -> &[u8] {
+        match &self.came {
+            Some(came) => came.as_slice(),
+            None => &[],
+        }
     }
 
     fn here(&self) -> Host {
