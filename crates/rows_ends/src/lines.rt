@@ -94,6 +94,7 @@ fn act<P: Plays>(end: &mut P, desk: &mut Desk, verb: Verb, line: &[u8], rest: &[
         Verb::Give => give(end, desk, number(rest), u64::MAX),
         Verb::Out => give(end, desk, u64::MAX, number(rest)),
         Verb::Tree => end.show_tree(desk.alloc, &mut desk.paper),
+        Verb::Told => end.show_told(&mut desk.paper),
         Verb::Held => desk.put_number(b"held ", end.held() as u64),
         Verb::Weigh => desk.weighs = true,
         Verb::Run => run(end, desk, Owner::Drive),

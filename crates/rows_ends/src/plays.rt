@@ -50,6 +50,9 @@ pub trait Plays: Drop {
     /// Writes a report, if it is there.
     fn report(&mut self, alloc: Global, paper: &mut Paper);
 
+    /// Writes what it tells beside its reports, if it tells something.
+    fn show_told(&self, paper: &mut Paper);
+
     /// Writes its tree, if it has one.
     fn show_tree(&self, alloc: Global, paper: &mut Paper);
 

@@ -23,6 +23,8 @@ pub enum Verb {
     /// Of calls by a list: control octets are given, this many at most.
     Owed,
     Tree,
+    /// What a client tells beside its reports.
+    Told,
     Held,
     /// From here on each line tells how much is held.
     Weigh,
@@ -73,6 +75,7 @@ const VERBS: &[(&'static [u8], Verb)] = &[
     (b"out", Verb::Out),
     (b"owed", Verb::Owed),
     (b"tree", Verb::Tree),
+    (b"told", Verb::Told),
     (b"held", Verb::Held),
     (b"weigh", Verb::Weigh),
     (b"drive", Verb::Drive),

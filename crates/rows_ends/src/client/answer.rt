@@ -12,6 +12,15 @@ pub fn show_answer<A: Allocator + Copy>(alloc: Global, answer: &Answer<A>, paper
     paper.put(b"\n");
 }
 
+/// What a client tells beside its reports: the line that the server said last, and what came of a download amid which the control connection ended.
+pub fn show_told(line: &[u8], came: &[u8], paper: &mut Paper) {
+    paper.put(b"said ");
+    paper.quote(line);
+    paper.put(b", came ");
+    paper.quote(came);
+    paper.put(b"\n");
+}
+
 fn name_of<A: Allocator + Copy>(answer: &Answer<A>) -> &'static [u8] {
     match answer {
         Answer::Done => b"done",

@@ -1,5 +1,5 @@
 // A client, as rows are played on it.
-use crate::client::answer::show_answer;
+use crate::client::answer::{show_answer, show_told};
 use crate::driven::Owner;
 use crate::embedded::client::perform;
 use crate::event::{Event, Told};
@@ -145,6 +145,10 @@ impl<A: Allocator + Copy, C: Near<A> + Holds> Plays for Played<A, C> {
             show_answer(alloc, &answer, paper);
             drop(answer);
         }
+    }
+
+    fn show_told(&self, paper: &mut Paper) {
+        show_told(self.client.last_reply(), self.client.came(), paper);
     }
 
     fn show_tree(&self, _alloc: Global, _paper: &mut Paper) {}

@@ -77,6 +77,8 @@ impl<A: Allocator + Copy, S: Far<A, MemTree<A>> + Holds> Plays for Played<A, S> 
 
     fn report(&mut self, _alloc: Global, _paper: &mut Paper) {}
 
+    fn show_told(&self, _paper: &mut Paper) {}
+
     fn show_tree(&self, alloc: Global, paper: &mut Paper) {
         show_tree(alloc, self.clocked.server.tree(), paper);
     }

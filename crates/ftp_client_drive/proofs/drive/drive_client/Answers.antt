@@ -61,7 +61,7 @@ returns-in-Ok g c =
     let ended = c.drive_end-data in
     let lane = lane_at g.P.Stream.Read.remaining g.P.Stream.Write.contents (g.P.Ports.history ended.new.ports) ended.result.0 [] in
     let off = beside g.R.Read.remaining g.W.Write.contents (held (g.N.Near.client ended.new.end) lane) ended.new.control in
-    drove _ off _ _ ended.result.1 c.in-Ok.answer c.finish.ensures.0 refl refl c.in-Ok.is ended.ensures.ends c.finish.ensures.1 c.finish.ensures.2 c.data_closed.ensures
+    drove _ off _ _ ended.result.1 c.in-Ok.answer c.finish.ensures.0 refl refl c.in-Ok.is ended.ensures.ends c.finish.ensures.1 c.finish.ensures.2 c.data_closed.ensures.now
 
 -- it was told that the control connection ended, its data connection was reset and the port closed, and it was asked for its report
 pub returns-in-Err : goal.returns-in-Err
@@ -79,7 +79,7 @@ returns-in-Err g c =
     let shut = no_lane (history c.finish-in-Err.new.ports) in
     let left = c.finish-in-Err.ensures.1 in
     let is_cut = ((c.cut.ensures (history ended.new.ports)).0).0 in
-    let closes = c.data_closed-in-Err.ensures in
+    let closes = c.data_closed-in-Err.ensures.now in
     record {
       off = old;
       breaks = breaks_off client_machine _ refl refl Reports false ended.new.control.failed off ended.result.1 c.in-Err.cause c.in-Err.is ended.ensures.ends ended.ensures.why;

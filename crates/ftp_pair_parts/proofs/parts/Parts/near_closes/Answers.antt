@@ -3,10 +3,10 @@ use Rattle.ftp_pair_parts.proofs.Keeping.{held, after}
 use Rattle.ftp_pair_parts.proofs.parts.Parts.near_closes.Goals as goal
 
 pub returns-in-Opened-clause-counted : goal.returns-in-Opened-clause-counted
-returns-in-Opened-clause-counted g c = held 3 c.data_closed.ensures.1 refl
+returns-in-Opened-clause-counted g c = held 3 c.data_closed.ensures.now.1 refl
 
 pub returns-in-ClosedByFar-clause-counted : goal.returns-in-ClosedByFar-clause-counted
-returns-in-ClosedByFar-clause-counted g c = after c.lose_link.ensures.counted (held 3 c.data_closed.ensures.1 refl) (omega arith)
+returns-in-ClosedByFar-clause-counted g c = after c.lose_link.ensures.counted (held 3 c.data_closed.ensures.now.1 refl) (omega arith)
 
 pub returns-in_default-clause-counted : goal.returns-in_default-clause-counted
-returns-in_default-clause-counted g c = held 3 c.data_closed.ensures.1 refl
+returns-in_default-clause-counted g c = held 3 c.data_closed.ensures.now.1 refl

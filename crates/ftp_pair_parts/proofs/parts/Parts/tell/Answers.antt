@@ -6,7 +6,7 @@ pub returns-in-ControlToServer-clause-counted : goal.returns-in-ControlToServer-
 returns-in-ControlToServer-clause-counted g c = held 3 refl (ap (λ s. s.counts) c.control_end.ensures)
 
 pub returns-in-ControlToClient-clause-counted : goal.returns-in-ControlToClient-clause-counted
-returns-in-ControlToClient-clause-counted g c = held 3 c.control_end-in-ControlToClient.ensures.1 refl
+returns-in-ControlToClient-clause-counted g c = held 3 c.control_end-in-ControlToClient.ensures.now.1 refl
 
 pub returns-in-DataToServer-clause-counted : goal.returns-in-DataToServer-clause-counted
 returns-in-DataToServer-clause-counted g c = c.tell_data_to_server.ensures.counted
