@@ -118,10 +118,10 @@ the server tells no size, a cut that looks like the end of the file is not notic
 With --keep what came of a file that is not whole stays beside it; standard error has its name, and FILE.ftp-part.note says of which file
 it is. With --continue a download goes on behind such a part, where the server tells the size and the moment that stand there; else it
 begins anew, and a note says so. With --moment FILE has the moment at which PATH was changed last; where the server does not know it,
-standard error has a note. A file of more octets than --limit is refused, with status 1. With --progress, and where
-standard error is a terminal, it tells how far a transfer is that takes more than a second, each second at most, as 5.2 of 20.0 MiB: a KiB is
-1,024 octets, a MiB 1,024 KiB. With --quiet standard error has errors alone, the lines that begin with error: - no progress and no notes,
-whatever --progress says; status and files are the same. With --limit-rate no more octets a second go over a data connection.
+standard error has a note. A file of more octets than --limit is refused, with status 1. With --progress, and where standard error is a
+terminal, it tells how far a transfer is that takes more than a second, each second at most, as 5.2 of 20.0 MiB: a KiB is 1,024 octets, a
+MiB 1,024 KiB. With --quiet standard error has errors alone, the lines that begin with error: - no progress and no notes, whatever
+--progress says; status and files are the same. With --limit-rate no more octets a second go over a data connection.
 Where the control connection ends, another one is made, at most four times, behind 1, 2, 4 and 8 seconds, but once alone where the server
 never said a line; each is told on standard error. The download goes on there where size and moment are those of before, and else begins
 anew. A server that says, takes and sends nothing for the seconds of --timeout counts as one that ended it.
@@ -143,12 +143,12 @@ Example:
 
 pub const PUT: &str = "\
 FILE is - for standard input. A PATH that is empty or ends in / is a directory: each file goes into it by its own name, over a control
-connection of its own; one that fails does not stop the others, and the status is the worst. HOST, PATH, passwords, status, progress, --limit-rate,
-data connections and what is done where the control connection ends are as with get; an upload begins anew then. A file of more octets than --limit is refused,
-with status 1. Behind an upload in type I and file structure the server is asked for the size of what it has, where it tells that; where
-that is a part, or the data connection alone broke, it goes on there, by at most 16 tries in all, and is done only once the size is that of
-FILE. More than one try are told on standard error; status 1 where the server has another size in the end, or says that there is no such
-file.
+connection of its own; one that fails does not stop the others, and the status is the worst. HOST, PATH, passwords, status, progress,
+--limit-rate, data connections and what is done where the control connection ends are as with get; an upload begins anew then. A file of
+more octets than --limit is refused, with status 1. Behind an upload in type I and file structure the server is asked for the size of what
+it has, where it tells that; where that is a part, or the data connection alone broke, it goes on there, by at most 16 tries in all, and is
+done only once the size is that of FILE. More than one try are told on standard error; status 1 where the server has another size in the
+end, or says that there is no such file.
 
 Example:
   FTP_PASSWORD=secret ftp_tool put a.txt 127.0.0.1:2121/a.txt --user guest
