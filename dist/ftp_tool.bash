@@ -2,10 +2,10 @@
 
 # the options of a subcommand
 _ftp_tool_options() {
-    local place='--user --password-file --active --extended --no-extended --progress --timeout --limit --type --stru --mode --help'
+    local place='--user --password-file --active --extended --no-extended --progress --quiet --timeout --limit --type --stru --mode --help'
     case $1 in
-        get) echo "--keep --continue --moment $place" ;;
-        put) echo "$place" ;;
+        get) echo "--keep --continue --moment --no-glob --limit-rate $place" ;;
+        put) echo "--limit-rate $place" ;;
         ls) echo "--long --json $place" ;;
         cat) echo "$place" ;;
         size) echo "$place" ;;
@@ -13,7 +13,7 @@ _ftp_tool_options() {
         mkdir) echo "--parents $place" ;;
         rmdir) echo "$place" ;;
         mv) echo "$place" ;;
-        mirror) echo "--delete --delete-any --dry-run --json --checksum --exclude --user --password-file --limit --active --extended --no-extended --no-flush --progress --timeout --help" ;;
+        mirror) echo "--delete --delete-any --dry-run --json --checksum --exclude --user --password-file --limit --limit-rate --active --extended --no-extended --no-flush --progress --quiet --timeout --help" ;;
         run) echo "--host --port --user --password-file --timeout --help" ;;
         serve) echo "--port --dir --sessions --host --accounts --log --keep --login --idle --idle-while-waited --session-while-waited --login-while-waited --passive-ports --passive-address --skip --help" ;;
         password) echo "--rounds --help" ;;
@@ -33,7 +33,7 @@ _ftp_tool_values() {
         --type) echo A I ;;
         --stru) echo F R ;;
         --mode) echo S B ;;
-        --user | --timeout | --limit | --exclude | --host | --port | --rounds | --piece | --sessions) ;;
+        --user | --timeout | --limit | --limit-rate | --exclude | --host | --port | --rounds | --piece | --sessions) ;;
         --login | --idle | --*-while-waited | --passive-ports | --passive-address) ;;
         *) case $1 in
             get | put) echo files ;;

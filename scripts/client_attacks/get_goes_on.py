@@ -99,6 +99,14 @@ def over_control_connections(rows):
     server.says["RETR"] = said_and_dropped(server.says["RETR"])
     status, octets, told, _ = get(rows, server)
     rows.row("control connection ended behind a 226, with octets under way: goes on there", (status, octets) == (0, WHOLE) and "REST 1000" in server.commands, (status, len(octets), told, server.commands))
+    clear(rows)
+    server = File(WHOLE, [1000] * 99).server()
+    status, octets, told, _ = get(rows, server, "--keep")
+    part = rows.folder / "out.ftp-part"
+    stays = part.exists() and part.read_bytes() == WHOLE[:5000] and (rows.folder / NOTE).exists()
+    rows.row("each time, with --keep: the part and its note stay", status in (1, 3) and octets == OLDER and stays, (status, told))
+    status, octets, told, _ = go_on(rows, server, WHOLE)
+    rows.row("and --continue goes on behind it", (status, octets) == (0, WHOLE) and "REST 5000" in server.commands, (status, told, server.commands))
     server = File(WHOLE, [1000] * 4).server()
     status, octets, told, _ = get(rows, server)
     rows.row("four times: whole", (status, octets) == (0, WHOLE) and "REST 4000" in server.commands, (status, len(octets), told))
@@ -229,6 +237,31 @@ def limits(rows):
     rows.row("a listing without an end: refused by name", (status, out) == (1, b"") and b"1,000,000 entries" in told, (status, told))
 
 
+def rates(rows):
+    clear(rows)
+    status, octets, told, took = get(rows, File(WHOLE).server(), "--limit-rate", "4K")
+    rows.row("get --limit-rate 4K: 10,240 octets take two seconds and more", (status, octets) == (0, WHOLE) and 2 <= took < 8, (status, told, took))
+    status, octets, told, took = get(rows, File(WHOLE).server(), "--limit-rate", "1G")
+    rows.row("get --limit-rate 1G: at once", (status, octets) == (0, WHOLE) and took < 2, (status, told, took))
+    got = []
+
+    def stor(session, _):
+        session.reply("150 here")
+        link = session.data.accept()[0]
+        while octets := link.recv(65536):
+            got.append(octets)
+        session.reply("226 done")
+
+    server = FakeServer({"SIZE": lambda session, _: session.reply(f"213 {len(b''.join(got))}" if got else "550 no"), "STOR": stor})
+    begun = time.monotonic()
+    status, _, told = rows.tool_in(rows.folder, WHOLE, "put", "-", f"127.0.0.1:{server.port}/f", "--limit-rate", "4096")
+    took = time.monotonic() - begun
+    rows.row("put --limit-rate 4096: the same", (status, b"".join(got)) == (0, WHOLE) and 2 <= took < 8, (status, told, took))
+    for word in ("4k", "K", "-1", "4 K", "99999999999G"):
+        status, octets, told, _ = get(rows, File(WHOLE).server(), "--limit-rate", word)
+        rows.row(f"--limit-rate {word}: refused with its name", (status, octets) == (2, OLDER) and "--limit-rate" in told, (status, told))
+
+
 def endless(session, _):
     session.reply("150 here")
     link = session.data.accept()[0]
@@ -310,6 +343,7 @@ def main():
     over_control_connections(rows)
     continued(rows)
     limits(rows)
+    rates(rows)
     standard_input(rows)
     not_ended(rows)
     rows.finish()

@@ -2,7 +2,7 @@
 """A server that falls silent, at whatever step, holds no program of a client: with --timeout 1 each try ends, and nothing that stood is lost.
 
 What the server said finally stands, though its data connection stays open. All rows run side by side, since a program that finds silence asks
-anew over four more control connections, behind 1, 2, 4 and 8 seconds.
+anew over four more control connections, behind 1, 2, 4 and 8 seconds; where the server never said a line, over one.
 """
 import socket
 import tempfile
@@ -19,6 +19,8 @@ WHOLE = bytes(range(256)) * 4000
 LIMIT = 60
 
 KEPT = []
+# how many connections came to each port that never says a line
+ACCEPTED = {}
 
 
 def hang(session, _=None):
@@ -64,13 +66,16 @@ def refused_open(session, _):
 def no_greeting():
     """Accepts connections, and says nothing on them."""
     listener = socket.create_server(("127.0.0.1", 0))
+    port = listener.getsockname()[1]
+    ACCEPTED[port] = 0
 
     def accept():
         while True:
             KEPT.append(listener.accept()[0])
+            ACCEPTED[port] += 1
 
     threading.Thread(target=accept, daemon=True).start()
-    return listener.getsockname()[1]
+    return port
 
 
 def no_answer():
@@ -111,9 +116,10 @@ def main():
     run = ("run", "--host", "127.0.0.1", "--port", "PORT")
     script = b"login anonymous a\nget IFSpn f\nwhere\n"
     silent = b"silent for 1 s"
+    unsaid = no_greeting()
     cases = [
         ("get, no connection comes", no_answer(), get, 3, b"error: "),
-        ("get, no greeting", no_greeting(), get, 3, silent),
+        ("get, no greeting", unsaid, get, 3, silent),
         ("get, silent behind USER", FakeServer({"USER": hang}).port, get, 3, silent),
         ("get, silent behind SIZE", FakeServer({"SIZE": hang}).port, get, 3, silent),
         ("get, silent behind EPSV", FakeServer({"SIZE": size, "EPSV": hang}).port, get, 3, silent),
@@ -133,6 +139,7 @@ def main():
         tried = [pool.submit(row, rows, what, port, words, wanted, told, script if words is run else None) for what, port, words, wanted, told in cases]
     for it in tried:
         rows.row(*it.result())
+    rows.row("get, no greeting: tried twice in all", ACCEPTED[unsaid] == 2, ACCEPTED[unsaid])
     rows.finish()
 
 

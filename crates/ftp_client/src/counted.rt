@@ -81,11 +81,7 @@ impl<A: Allocator + Copy, F: ClientTransfer<A>> Counted<A, F> {
 
     /// Begins an upload that goes on after breaks, and has one report (at most 16 tries; own choice). `texts` has the path and the octets.
     /// Says whether one is begun.
-    pub(crate) fn begin_upload(
-        &mut self,
-        texts: &mut Option<(Text<A>, Text<A>)>,
-        how: How,
-    ) -> bool
+    pub(crate) fn begin_upload(&mut self, texts: &mut Option<(Text<A>, Text<A>)>, how: How) -> bool
         ensures begun { (path octets : List ℕ) → texts.old ≡ Some (path, octets) → is_busy (counted_of F.flow self.old).view ≡ false
             → HoldsIfRoom (counted_of F.flow self.old) (counted_of F.flow self.new)
             (uploads (over_breaks path octets how) (counted_of F.flow self.old).view) (uploads_short (over_breaks path octets how) (counted_of F.flow self.old).view) }

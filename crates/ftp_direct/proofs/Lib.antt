@@ -2,6 +2,7 @@ pub mod BelowLemmas
 pub mod FaultLemmas
 pub mod ListingLemmas
 pub mod NodeLemmas
+pub mod OntoLemmas
 pub mod PieceLemmas
 pub mod PlaceLemmas
 pub mod PutLemmas

@@ -3,9 +3,10 @@ use Rattle.std.proofs.Common.{◌≡◌, ℕ, Bool, true, false, not, List, [], 
 use mathlib.Core.Bool.{false≢true, true≢false}
 use Rattle.ftp_path.specs.Path.{fits, resolved, Names, is_within}
 use Rattle.std.specs.Option.{option_map, unwrap_or}
-use Rattle.ftp_tree.specs.Tree.{Node, Dir, File, Table, node_at, kind_of, kind_at, moment_of, of_node, octets_at, size_at, stamp_at, octets_or_none, directory_refusal, file_refusal, under, whenever, or_else, source_answer, source_refusal, target_refusal, rename_refusal}
+use Rattle.ftp_tree.specs.Tree.{Node, Dir, File, Table, freed, node_at, kind_of, kind_at, moment_of, of_node, octets_at, size_at, stamp_at, octets_or_none, directory_refusal, file_refusal, under, whenever, or_else, source_answer, source_refusal, target_refusal, rename_refusal}
 use Rattle.ftp_tree.specs.declared.fault.TreeFault.{TreeFault}
 use Rattle.ftp_tree.specs.declared.fault.TreeFault.TheVariants.{Absent, WrongKind, Busy}
+use Rattle.ftp_tree.proofs.KeepLaws.{freed-source}
 use Rattle.ftp_tree.specs.declared.tree.NodeKind.{NodeKind}
 use Rattle.ftp_tree.specs.declared.tree.NodeKind.TheVariants as Kinds
 use Rattle.ftp_operation.specs.declared.op.Op.TheVariants as Ops
@@ -148,9 +149,10 @@ or_free None second free = refl
 or_free (Some fault) second free = absurd (true≢false free)
 
 -- what can be moved is refused by the new name alone
-pub rename_free : (table : Table) (from to : Names) (busy : Option TreeFault) → is_some (or_else (source_refusal table from) busy) ≡ false
-    → rename_refusal table from to ≡ target_refusal table from to
-rename_free table from to busy free = rename_target table from to (or_free (source_refusal table from) busy free)
+pub rename_freed : (onto : Bool) (table : Table) (from to : Names) (busy : Option TreeFault) → is_some (or_else (source_refusal table from) busy) ≡ false
+    → rename_refusal (freed onto table from to) from to ≡ target_refusal (freed onto table from to) from to
+rename_freed onto table from to busy free =
+    rename_target (freed onto table from to) from to (freed-source onto table from to ∙ or_free (source_refusal table from) busy free)
 
 -- ---- when a file was installed
 

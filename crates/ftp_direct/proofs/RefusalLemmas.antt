@@ -10,7 +10,7 @@ use Rattle.ftp_tree.specs.declared.fault.TreeFault.TheVariants.{Absent, Exists, 
 use Rattle.ftp_operation.specs.declared.answer.Answer.{Answer}
 use Rattle.ftp_operation.specs.Answer.{Said, Refused, said_of}
 use Rattle.ftp_operation.specs.declared.op.Op.{Op}
-use Rattle.ftp_direct.specs.Direct.{State, chosen, done, due, here, refusal, refused_there}
+use Rattle.ftp_direct.specs.Direct.{State, chosen, done, due, here, here_onto, refusal, refused_there}
 use Rattle.ftp_direct.specs.declared.refusal.Refusal.{Refusal}
 use Rattle.ftp_direct.specs.Refusal.{code_of, told}
 use Rattle.ftp_direct.specs.Run.{Gives, IsAnswer}
@@ -95,30 +95,37 @@ told-other Device way other = absurd (other refl)
 told-other Memory way other = refl
 
 -- what a refused call leaves and says is the answer: where the map gave a reason that way was due
-answers : (refusal : Option TreeFault) (fault : TreeFault) (way : Refusal) (before after : ℕ) (table new : Table) (root cwd : Names) (due : Said × State) (said : Said)
+answers : (refusal : Option TreeFault) (fault : TreeFault) (way : Refusal) (before after : ℕ) (table new : Table) (root cwd : Names) (onto : Bool) (due : Said × State) (said : Said)
     → IsRefused refusal fault table new before after → fault ≢ Memory → NoDevice refusal
-    → ((why : TreeFault) → refusal ≡ Some why → Gives due (Refused (code_of way)) (here table root cwd)) → said ≡ Refused (code_of (told fault way))
-    → IsAnswer before after due (here table root cwd) said (here new root cwd)
-answers None fault way before after table new root cwd due said (same, inl (memory, kept)) other never is e = absurd (other memory)
-answers None fault way before after table new root cwd due said (same, inr (device, moved)) other never is e = record {
+    → ((why : TreeFault) → refusal ≡ Some why → Gives due (Refused (code_of way)) (here_onto table root cwd onto)) → said ≡ Refused (code_of (told fault way))
+    → IsAnswer before after due (here_onto table root cwd onto) said (here_onto new root cwd onto)
+answers None fault way before after table new root cwd onto due said (same, inl (memory, kept)) other never is e = absurd (other memory)
+answers None fault way before after table new root cwd onto due said (same, inr (device, moved)) other never is e = record {
   steady = λ kept. absurd (next_count-moves before (sym kept ∙ moved));
-  failed = λ ne. (moved, (e ∙ ap (λ f. Refused (code_of (told f way))) device, ap (λ t. here t root cwd) same));
+  failed = λ ne. (moved, (e ∙ ap (λ f. Refused (code_of (told f way))) device, ap (λ t. here_onto t root cwd onto) same));
 }
-answers (Some why) fault way before after table new root cwd due said (same, (reason, kept)) other never is e =
+answers (Some why) fault way before after table new root cwd onto due said (same, (reason, kept)) other never is e =
     let ours : fault ≢ Device = λ d. never (ap Some (sym reason ∙ d)) in
     let gives = is why refl in record {
-      steady = λ kept. (e ∙ ap (λ w. Refused (code_of w)) (told-other fault way ours) ∙ gives.0, ap (λ t. here t root cwd) same ∙ gives.1);
+      steady = λ kept. (e ∙ ap (λ w. Refused (code_of w)) (told-other fault way ours) ∙ gives.0, ap (λ t. here_onto t root cwd onto) same ∙ gives.1);
       failed = λ ne. absurd (ne kept);
     }
+
+pub if_refused_onto : {A E : Type 0} (result : Result (Answer A) E) (refusal : Option TreeFault) (fault : TreeFault) (way : Refusal) (before after : ℕ) (table new : Table) (root cwd : Names) (onto : Bool) (due : Said × State)
+    → IfOk result (λ answer. said_of answer ≡ Refused (code_of (told fault way))) → OnOk result (fault ≢ Memory)
+    → IsRefused refusal fault table new before after → NoDevice refusal
+    → ((why : TreeFault) → refusal ≡ Some why → Gives due (Refused (code_of way)) (here_onto table root cwd onto))
+    → IfOk result (λ answer. IsAnswer before after due (here_onto table root cwd onto) (said_of answer) (here_onto new root cwd onto))
+if_refused_onto (Ok answer) refusal fault way before after table new root cwd onto due e other refused never is =
+    answers refusal fault way before after table new root cwd onto due (said_of answer) refused other never is e
+if_refused_onto (Err why) refusal fault way before after table new root cwd onto due e other refused never is = tt
 
 pub if_refused : {A E : Type 0} (result : Result (Answer A) E) (refusal : Option TreeFault) (fault : TreeFault) (way : Refusal) (before after : ℕ) (table new : Table) (root cwd : Names) (due : Said × State)
     → IfOk result (λ answer. said_of answer ≡ Refused (code_of (told fault way))) → OnOk result (fault ≢ Memory)
     → IsRefused refusal fault table new before after → NoDevice refusal
     → ((why : TreeFault) → refusal ≡ Some why → Gives due (Refused (code_of way)) (here table root cwd))
     → IfOk result (λ answer. IsAnswer before after due (here table root cwd) (said_of answer) (here new root cwd))
-if_refused (Ok answer) refusal fault way before after table new root cwd due e other refused never is =
-    answers refusal fault way before after table new root cwd due (said_of answer) refused other never is e
-if_refused (Err why) refusal fault way before after table new root cwd due e other refused never is = tt
+if_refused result refusal fault way before after table new root cwd due = if_refused_onto result refusal fault way before after table new root cwd false due
 
 -- ---- what is due, by the refusal
 

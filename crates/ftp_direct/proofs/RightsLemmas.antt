@@ -1,6 +1,6 @@
 -- What an account has no right to do is refused first, and all else is done as of an account that may do all.
 use Rattle.std.proofs.Common.{◌≡◌, ℕ, Bool, true, false, List, [], ◌∷◌, Option, Some, None, Result, Ok, Err, IfOk, refl, ap, sym, subst, ◌∙◌, ◌&&◌}
-use Rattle.std.specs.Prelude.{if◌then◌else◌, is_none}
+use Rattle.std.specs.Prelude.{⊤, if◌then◌else◌, is_none}
 use Rattle.ftp_path.specs.Path.{Names, fits}
 use Rattle.ftp_tree.specs.Tree.{Table, node_at}
 use Rattle.ftp_operation.specs.Answer.{Said, BadOperation, Refused, said_of}
@@ -12,7 +12,7 @@ use Rattle.ftp_operation.specs.declared.op.Op.{Op}
 use Rattle.ftp_operation.specs.declared.op.Op.TheVariants as Ops
 use Rattle.ftp_direct.specs.declared.refusal.Refusal.{Refusal}
 use Rattle.ftp_direct.specs.declared.refusal.Refusal.TheVariants.{NotLoggedIn}
-use Rattle.ftp_direct.specs.Direct.{State, answer, answers, barred, barred_put, chosen, done, due, first_refusal, here, is_file, offset_refusal, or_refused, part, refusal, standing}
+use Rattle.ftp_direct.specs.Direct.{State, answer, answers, barred, barred_put, chosen, done, due, first_refusal, here, here_onto, is_file, offset_refusal, or_refused, part, refusal, standing}
 use Rattle.ftp_direct.specs.Refusal.{code_of}
 use Rattle.ftp_direct.specs.Rights.{LookersChangeNothing, RightsComeFirst, barring, free}
 use Rattle.ftp_direct.specs.Run.{Gives, IsAnswer}
@@ -103,14 +103,87 @@ answer_alike before after rights due old new said is = record {
 -- where no right is wanting, what is answered to an account that may do all is answered
 pub permitted_due : {A E : Type 0} (result : Result (Answer A) E) (before after : ℕ) (table new : Table) (root cwd at : Names) (rights : Rights) (op : Op (List ℕ)) (moment : ℕ)
     → None ≡ barring (standing table root cwd true rights) op
-    → IfOk result (λ answer. IsAnswer before after (due (here table root cwd) op moment) (here table root cwd) (said_of answer) (here new root at))
+    → IfOk result (λ answer. IsAnswer before after (due (here_onto table root cwd rights.onto) op moment) (here_onto table root cwd rights.onto) (said_of answer) (here_onto new root at rights.onto))
     → IfOk result (λ answer. IsAnswer before after (due (standing table root cwd true rights) op moment) (standing table root cwd true rights) (said_of answer)
     (standing new root at true rights))
 permitted_due (Ok answer) before after table new root cwd at rights op moment may is =
     let state = standing table root cwd true rights in
+    let own = here_onto table root cwd rights.onto in
     subst (λ due. IsAnswer before after due state (said_of answer) (standing new root at true rights)) (sym (due_alike state op moment (sym may)))
-    (answer_alike before after rights (due (here table root cwd) op moment) (here table root cwd) (here new root at) (said_of answer) is)
+    (answer_alike before after rights (due own op moment) own (here_onto new root at rights.onto) (said_of answer) is)
 permitted_due (Err fault) before after table new root cwd at rights op moment may is = tt
+
+-- ---- an operation that renames nothing
+
+abbrev pub RenamesNothing : Op (List ℕ) → Type 0
+RenamesNothing (Ops.Rename text new) = ⊥
+RenamesNothing other = ⊤
+
+module _ (table : Table) (root cwd : Names) (onto : Bool) where
+  abbrev all : State
+  all = here table root cwd
+
+  abbrev some : State
+  some = here_onto table root cwd onto
+
+  -- it is refused alike, whether files may be renamed onto or not
+  refused_else : (op : Op (List ℕ)) → RenamesNothing op → refusal some op ≡ refusal all op
+  refused_else Ops.Where other = refl
+  refused_else (Ops.ChangeDir text) other = refl
+  refused_else Ops.Up other = refl
+  refused_else (Ops.MakeDir text) other = refl
+  refused_else (Ops.RemoveDir text) other = refl
+  refused_else (Ops.Delete text) other = refl
+  refused_else (Ops.Rename text new) other = absurd other
+  refused_else (Ops.Put text octets how) other = refl
+  refused_else (Ops.Append text octets how) other = refl
+  refused_else (Ops.PutFrom text offset octets how) other = refl
+  refused_else (Ops.Get text how) other = refl
+  refused_else (Ops.GetFrom text offset how) other = refl
+  refused_else (Ops.Peek text count how) other = refl
+  refused_else (Ops.Size text how) other = refl
+  refused_else (Ops.Modified text) other = refl
+  refused_else (Ops.Facts text) other = refl
+  refused_else (Ops.List text how) other = refl
+  refused_else (Ops.Names text how) other = refl
+
+  -- and the same is done
+  done_else : (op : Op (List ℕ)) (moment : ℕ) → RenamesNothing op
+      → done some op moment ≡ ((done all op moment).0, record (done all op moment).1 { rights = some.rights })
+  done_else Ops.Where moment other = refl
+  done_else (Ops.ChangeDir text) moment other = refl
+  done_else Ops.Up moment other = refl
+  done_else (Ops.MakeDir text) moment other = refl
+  done_else (Ops.RemoveDir text) moment other = refl
+  done_else (Ops.Delete text) moment other = refl
+  done_else (Ops.Rename text new) moment other = absurd other
+  done_else (Ops.Put text octets how) moment other = refl
+  done_else (Ops.Append text octets how) moment other = refl
+  done_else (Ops.PutFrom text offset octets how) moment other = refl
+  done_else (Ops.Get text how) moment other = refl
+  done_else (Ops.GetFrom text offset how) moment other = refl
+  done_else (Ops.Peek text count how) moment other = refl
+  done_else (Ops.Size text how) moment other = refl
+  done_else (Ops.Modified text) moment other = refl
+  done_else (Ops.Facts text) moment other = refl
+  done_else (Ops.List text how) moment other = refl
+  done_else (Ops.Names text how) moment other = refl
+
+  chosen_else : (why : Option Refusal) (op : Op (List ℕ)) (moment : ℕ) → RenamesNothing op
+      → chosen why some (done some op moment) ≡ ((chosen why all (done all op moment)).0, record (chosen why all (done all op moment)).1 { rights = some.rights })
+  chosen_else None op moment other = done_else op moment other
+  chosen_else (Some why) op moment other = refl
+
+  -- so it is answered alike
+  pub due_else : {A E : Type 0} (result : Result (Answer A) E) (before after : ℕ) (new : Table) (at : Names) (op : Op (List ℕ)) (moment : ℕ) → RenamesNothing op
+      → IfOk result (λ answer. IsAnswer before after (due all op moment) all (said_of answer) (here new root at))
+      → IfOk result (λ answer. IsAnswer before after (due some op moment) some (said_of answer) (here_onto new root at onto))
+  due_else (Ok answer) before after new at op moment other is =
+      let same : due some op moment ≡ ((due all op moment).0, record (due all op moment).1 { rights = some.rights }) =
+      ap (λ why. chosen why some (done some op moment)) (refused_else op other) ∙ chosen_else (refusal all op) op moment other in
+      subst (λ due. IsAnswer before after due some (said_of answer) (here_onto new root at onto)) (sym same)
+      (answer_alike before after some.rights (due all op moment) all (here new root at) (said_of answer) is)
+  due_else (Err fault) before after new at op moment other is = tt
 
 -- ---- an account without a right to change
 

@@ -312,6 +312,10 @@ answers state (order ∷ orders) =
 abbrev pub here : Table → Names → Names → State
 here table root cwd = standing table root cwd true all_rights
 
+-- the same, who may rename onto files or not
+abbrev pub here_onto : Table → Names → Names → (onto : Bool) → State
+here_onto table root cwd onto = standing table root cwd true (record all_rights { onto = onto })
+
 -- the answer that is due to an operation that can be sent, and the state after it
 abbrev pub due : State → Op (List ℕ) → ℕ → Said × State
 due state op moment = chosen (refusal state op) state (done state op moment)

@@ -2,7 +2,7 @@
 ghost use Rattle.std.specs.Prelude.{◌≡◌, ℕ, [], IsTrue, IfOk, IfErr, List, OnErr, map, take, true};
 ghost use Rattle.ftp_operation.specs.Account.{login_account};
 ghost use Rattle.ftp_operation.specs.Answer.{Said, said_of};
-ghost use Rattle.ftp_direct.specs.Direct.{answer, due, here, standing, start};
+ghost use Rattle.ftp_direct.specs.Direct.{answer, due, here_onto, standing, start};
 ghost use Rattle.ftp_operation.specs.Operation.{can_be_sent};
 ghost use Rattle.ftp_direct.specs.Run.{IsAnswer, Ran, orders_of};
 
@@ -110,21 +110,22 @@ fn permitted<A: Allocator + Copy, T: Tree<A>>(
     if let Some(why) = barring(alloc, tree, root, cwd, rights, op)? {
         return Ok(tell(why));
     }
-    due(alloc, tree, root, cwd, op, moment)
+    due(alloc, tree, root, cwd, rights.onto, op, moment)
 }
 
-/// Answers one operation that can be sent, for a login that is known and may change all.
+/// Answers one operation that can be sent, for a login that is known and may change all, and rename onto files or not.
 fn due<A: Allocator + Copy, T: Tree<A>>(
     alloc: &A,
     tree: &mut T,
     root: &Path<A>,
     cwd: &mut Path<A>,
+    onto: bool,
     op: &Op<Text<A>>,
     moment: Moment,
 ) -> Result<Answer<A>, AllocError>
     requires { IsTrue (can_be_sent op.now) }
-    ensures answer { IfOk result (λ answer. let old = here (T.table tree.old) root.now cwd.old in
-        IsAnswer (T.failures tree.old) (T.failures tree.new) (due old op.now moment.seconds) old (said_of answer) (here (T.table tree.new) root.now cwd.new)) }
+    ensures answer { IfOk result (λ answer. let old = here_onto (T.table tree.old) root.now cwd.old onto in
+        IsAnswer (T.failures tree.old) (T.failures tree.new) (due old op.now moment.seconds) old (said_of answer) (here_onto (T.table tree.new) root.now cwd.new onto)) }
     ensures kept { OnErr result ((T.table tree.new ≡ T.table tree.old) × (T.failures tree.new ≡ T.failures tree.old)) }
 {
     match op {
@@ -134,7 +135,7 @@ fn due<A: Allocator + Copy, T: Tree<A>>(
         Op::MakeDir(text) => make_dir(alloc, tree, root, cwd, text),
         Op::RemoveDir(text) => remove_dir(alloc, tree, root, cwd, text),
         Op::Delete(text) => delete(alloc, tree, root, cwd, text),
-        Op::Rename(from, to) => rename(alloc, tree, root, cwd, from, to),
+        Op::Rename(from, to) => rename(alloc, tree, root, cwd, onto, from, to),
         Op::Put(text, octets, _) => put(alloc, tree, root, cwd, text, octets, moment),
         Op::Append(text, octets, _) => append(alloc, tree, root, cwd, text, octets, moment),
         Op::PutFrom(text, offset, octets, how) => put_from(

@@ -24,7 +24,7 @@ pub use laws::{
 };
 pub use nodes::{absent_fault, directory_fault, file_fault, is_dir, is_file, len_at};
 pub use offsets::{place_at, takes_offset};
-pub use places::{is_busy, is_held};
+pub use places::{is_busy, is_held, move_to};
 pub use refusal::Refusal;
 pub use rights::may_put_at;
 pub use sizes::wire_len;

@@ -1,18 +1,20 @@
 // Operations on the current directory, on directories and on names.
-ghost use Rattle.std.specs.Prelude.{◌≡◌, IsTrue, IfOk, OnErr, is_some};
+ghost use Rattle.std.specs.Prelude.{◌≡◌, IsTrue, IfOk, IfErr, OnErr, OnOk, is_some, true};
 ghost use Rattle.ftp_operation.specs.Answer.{said_of};
-ghost use Rattle.ftp_path.specs.Path.{Names, is_within};
-ghost use Rattle.ftp_tree.specs.Tree.{Table, or_else, source_refusal, under};
-ghost use Rattle.ftp_direct.specs.Direct.{busy_refusal, due, here};
+ghost use Rattle.ftp_path.specs.Path.{Names, fits, is_within};
+ghost use Rattle.ftp_tree.specs.Change.{IsDone, IsRefused};
+ghost use Rattle.ftp_tree.specs.Sound.{IsSoundTree};
+ghost use Rattle.ftp_tree.specs.Tree.{Table, freed, moved, or_else, rename_refusal, source_refusal, takes_place, under, with_part};
+ghost use Rattle.ftp_direct.specs.Direct.{busy_refusal, due, here, here_onto};
 ghost use Rattle.ftp_operation.specs.Operation.{is_path_text};
 ghost use Rattle.ftp_direct.specs.Run.{Gives, IsAnswer};
 
-use crate::nodes::{absent_fault, directory_fault};
+use crate::nodes::{absent_fault, directory_fault, is_file};
 use crate::refusal::{Refusal, find, refused, tell};
 use ftp_facts::Text;
 use ftp_operation::{Answer, Op};
 use ftp_path::key::is_within;
-use ftp_tree::{Path, Tree};
+use ftp_tree::{Path, Tree, TreeFault};
 use std::alloc::{AllocError, Allocator};
 
 /// Says which directory is the current one.
@@ -136,19 +138,20 @@ pub(crate) fn delete<A: Allocator + Copy, T: Tree<A>>(
     }
 }
 
-/// Moves what stands at a path, with all below it.
+/// Moves what stands at a path, with all below it, for an account that may rename onto files or not.
 pub(crate) fn rename<A: Allocator + Copy, T: Tree<A>>(
     alloc: &A,
     tree: &mut T,
     root: &Path<A>,
     cwd: &Path<A>,
+    onto: bool,
     from: &Text<A>,
     to: &Text<A>,
 ) -> Result<Answer<A>, AllocError>
     requires old { IsTrue (is_path_text from.now) }
     requires new { IsTrue (is_path_text to.now) }
-    ensures answer { IfOk result (λ answer. let old = here (T.table tree.old) root.now cwd.now in
-        IsAnswer (T.failures tree.old) (T.failures tree.new) (due old (Op.Rename from.now to.now) 0) old (said_of answer) (here (T.table tree.new) root.now cwd.now)) }
+    ensures answer { IfOk result (λ answer. let old = here_onto (T.table tree.old) root.now cwd.now onto in
+        IsAnswer (T.failures tree.old) (T.failures tree.new) (due old (Op.Rename from.now to.now) 0) old (said_of answer) (here_onto (T.table tree.new) root.now cwd.now onto)) }
     ensures kept { OnErr result ((T.table tree.new ≡ T.table tree.old) × (T.failures tree.new ≡ T.failures tree.old)) }
 {
     let Some(source) = find(alloc, cwd, from)? else {
@@ -160,10 +163,54 @@ pub(crate) fn rename<A: Allocator + Copy, T: Tree<A>>(
     let Some(target) = find(alloc, cwd, to)? else {
         return Ok(tell(Refusal::BadName));
     };
-    match tree.rename(root, &source, &target) {
+    match move_to(tree, onto, root, &source, &target) {
         Ok(()) => Ok(Answer::Done),
         Err(fault) => refused(fault, Refusal::BadName),
     }
+}
+
+/// Moves what stands at a path, with all below it (RFC 959, section 4.1.3); where `onto` says so, a file also into the place of another.
+///
+/// Refused: as `Tree::rename` says, of the map without the file whose place is taken.
+pub fn move_to<A: Allocator + Copy, T: Tree<A>>(
+    tree: &mut T,
+    onto: bool,
+    root: &Path<A>,
+    from: &Path<A>,
+    to: &Path<A>,
+) -> Result<(), TreeFault>
+    requires { fits to.now ≡ true }
+    ensures done { OnOk result (let seen = freed onto (under (T.table tree.old) root.now) from.now to.now in
+        IsDone (rename_refusal seen from.now to.now) (with_part (T.table tree.old) root.now (moved seen from.now to.now)) (T.table tree.new) (T.failures tree.old) (T.failures tree.new)) }
+    ensures refused { IfErr result (λ fault. let seen = freed onto (under (T.table tree.old) root.now) from.now to.now in
+        IsRefused (rename_refusal seen from.now to.now) fault (T.table tree.old) (T.table tree.new) (T.failures tree.old) (T.failures tree.new)) }
+{
+    if onto && takes_place(tree, root, from, to) {
+        return tree.rename_onto(root, from, to);
+    }
+    tree.rename(root, from, to)
+}
+
+/// Whether a file may take the place of another: files stand at both paths, and the second is not the first. Whatever it answers, the map
+/// is sound: above the path whose place is taken there is a directory.
+fn takes_place<A: Allocator + Copy, T: Tree<A>>(
+    tree: &T,
+    root: &Path<A>,
+    from: &Path<A>,
+    to: &Path<A>,
+) -> bool
+    ensures is { result ≡ takes_place (under (T.table tree.now) root.now) from.now to.now }
+    ensures sound { IsSoundTree (T.table tree.now) }
+{
+    // What it answers is not asked for: it tells, for the map of any tree, that the map is one.
+    let _ = tree.fits(root);
+    if !is_file(tree, root, from) {
+        return false;
+    }
+    if !is_file(tree, root, to) {
+        return false;
+    }
+    !is_within(from.key(), to.key())
 }
 
 /// Whether nothing can be moved from a path: nothing stands there, or it is in use.

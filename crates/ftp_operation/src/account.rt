@@ -193,8 +193,7 @@ fn is_nested<A: Allocator + Copy>(
 ) -> bool
     ensures { result ≡ list_any (has_nested account.now) list.now }
 {
-    list.iter()
-        .any(|other| changes_above(account, other) || changes_above(other, account))
+    list.iter().any(|other| changes_above(account, other) || changes_above(other, account))
 }
 
 /// Whether an account may change something, and the root of another is below its own.

@@ -5,6 +5,7 @@ use Rattle.std.proofs.lemmas.List.Folds.{list_all-append}
 use Rattle.std.specs.FinMap as fin
 use Rattle.std.specs.FinMap.Entries.{find as find_entry}
 use Rattle.std.specs.List.{find, list_all, list_any, sum_by}
+use Rattle.std.specs.Option.{unwrap_or}
 use Rattle.std.specs.Ordering.{eq_by_cmp}
 use Rattle.std.proofs.lemmas.Bool.{and_parts, leb-true}
 use Rattle.std.proofs.lemmas.List.Sums.{sum_by-cons}
@@ -20,10 +21,11 @@ use Rattle.ftp_operation.specs.declared.account.AccountsFault.TheVariants.{SameU
 use Rattle.ftp_operation_secret.specs.declared.secret.Secret.{Secret}
 use Rattle.ftp_path.specs.Path.{Names, fits, is_name, path_cmp, text_of}
 use Rattle.ftp_tree.specs.Sound.{is_sound_entry, is_sound_node, last_second}
-use Rattle.ftp_tree.specs.Tree.{Node, Dir, File, Table, IsTree, node_at, octets_in, length_of, total_limit}
+use Rattle.ftp_tree.specs.Tree.{Node, Dir, File, Table, IsTree, file_limit, node_at, octets_at, octets_in, octets_of, of_node, length_of, total_limit}
 use Rattle.ftp_tree.proofs.LawLemmas.{get-node, same, under-stands}
 use Rattle.ftp_tree.proofs.PartLemmas.{parts-trees}
 use Rattle.ftp_direct.specs.Direct.{start as direct_start, is_directory, part}
+use Rattle.ftp_server_model.specs.Held.{HasShortFiles}
 use Rattle.ftp_server_model.specs.Login.{is_open, open_account}
 use Rattle.ftp_server_model.specs.Machine.{Reading}
 use Rattle.ftp_server_model.specs.Replies.{fixed_reply}
@@ -147,12 +149,22 @@ short_entry path (row ∷ rows) octets moment is =
     by_node Dir e = absurd (cc)
     by_node (File other at) e = let same : other ≡ octets = cc in ap length same
 
--- a file of a table whose octets are within the limit is within it
-short_file : (table : Table) (path : Names) (octets : List ℕ) (moment : ℕ) → octets_in table ≤ total_limit → node_at table path ≡ Some (File octets moment) → length octets ≤ total_limit
-unfolding octets_in
-short_file table path octets moment few is =
-    let short = short_entry path (fin.entries table) octets moment (get-node table path ∙ is) in
-    omega (arith, short, few)
+-- in a table whose octets are together within the limit, each file is within that of a file
+pub few_are_short : (table : Table) → octets_in table ≤ total_limit → HasShortFiles table
+unfolding octets_in octets_at
+few_are_short table few path = by_node (node_at table path) refl
+  where
+    by_node : (node : Option Node) → node_at table path ≡ node → length (unwrap_or (of_node octets_of node) []) ≤ file_limit
+    by_node None is = omega arith
+    by_node (Some Dir) is = omega arith
+    by_node (Some (File octets moment)) is =
+        let short = short_entry path (fin.entries table) octets moment (get-node table path ∙ is) in
+        omega (arith, short, few)
+
+-- a file of a table of short files is within the limit of a file
+short_file : (table : Table) (path : Names) (octets : List ℕ) (moment : ℕ) → HasShortFiles table → node_at table path ≡ Some (File octets moment) → length octets ≤ total_limit
+unfolding octets_at
+short_file table path octets moment short is = subst (λ (node : Option Node). length (unwrap_or (of_node octets_of node) []) ≤ total_limit) is (short path)
 
 -- a path that has an entry among sound entries is a path of names
 named_entry : (path : Names) (rows : List (Names × Node)) → list_all is_sound_entry rows ≡ true → IsSome (find_entry path_cmp path rows) → list_all is_name path ≡ true
@@ -168,20 +180,20 @@ root_is_path : is_path [] ≡ true
 unfolding fits text_of
 root_is_path = refl
 
--- the direct run starts in a sound state from a tree of sound entries whose visible octets are within the limit
-sound_start : (table : Table) (found : Option Account) → IsTree table → list_all is_sound_entry (fin.entries table) ≡ true → octets_in (part (direct_start table found)) ≤ total_limit
+-- the direct run starts in a sound state from a tree of sound entries whose visible files are short
+sound_start : (table : Table) (found : Option Account) → IsTree table → list_all is_sound_entry (fin.entries table) ≡ true → HasShortFiles (part (direct_start table found))
     → IsSound (direct_start table found)
-sound_start table None tree all few = record {
+sound_start table None tree all short = record {
   cwd = root_is_path;
   tree = λ known. absurd (cc);
   here = λ known. absurd (cc);
   names = λ path some. named_entry path (fin.entries table) all (ap is_some (get-node table path ∙ sym (under-stands table [] path)) ∙ some);
   files = λ path octets moment is. (
     early_entry path (fin.entries table) octets moment all (get-node table path ∙ sym (under-stands table [] path) ∙ is),
-    short_file (part (direct_start table None)) path octets moment few is,
+    short_file (part (direct_start table None)) path octets moment short is,
   );
 }
-sound_start table (Some account) tree all few = record {
+sound_start table (Some account) tree all short = record {
   cwd = root_is_path;
   tree = λ known. parts-trees.taking table account.root tree (a_directory (node_at table account.root) known);
   here = λ known. (parts-trees.taking table account.root tree (a_directory (node_at table account.root) known)).root;
@@ -190,7 +202,7 @@ sound_start table (Some account) tree all few = record {
       (and_parts (list_all is_name account.root) (list_all is_name path) (sym (list_all-append is_name account.root path) ∙ whole)).1;
   files = λ path octets moment is. (
     early_entry (account.root ++ path) (fin.entries table) octets moment all (get-node table (account.root ++ path) ∙ sym (under-stands table account.root path) ∙ is),
-    short_file (part (direct_start table (Some account))) path octets moment few is,
+    short_file (part (direct_start table (Some account))) path octets moment short is,
   );
 }
   where
@@ -219,7 +231,7 @@ begins_follow read b fair = record {
     record { control = refl; cutoff = refl },
     inl (record {
       now = state_of b;
-      sound = sound_start b.table (login_account b.accounts b.user b.pass) fair.tree fair.entries fair.octets;
+      sound = sound_start b.table (login_account b.accounts b.user b.pass) fair.tree fair.entries fair.files;
       told = record { items = []; all = refl; hold = tt; now_is = refl };
       stands = record {
         base = world_of b;

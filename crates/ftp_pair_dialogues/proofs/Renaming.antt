@@ -8,13 +8,14 @@ use Rattle.ftp_operation.specs.Answer.{Said, Done, Refused}
 use Rattle.ftp_operation.specs.Operation.{can_be_sent}
 use Rattle.ftp_operation.specs.declared.op.Op.TheVariants as Ops
 use Rattle.ftp_path.specs.Path.{Names, IsPathText, fits, resolved}
-use Rattle.ftp_direct.specs.Direct.{State, answer, barred, changed, done, named, part, refusal, limited, refused_there, refused_name, busy_refusal, or_refused}
+use Rattle.ftp_direct.specs.Direct.{State, answer, barred, changed, done, named, part, refusal, target_part, limited, refused_there, refused_name, busy_refusal, or_refused}
 use Rattle.ftp_direct.specs.Refusal.{code_of}
 use Rattle.ftp_direct.specs.declared.refusal.Refusal.{Refusal}
 use Rattle.ftp_direct.specs.declared.refusal.Refusal.TheVariants as Refusals
-use Rattle.ftp_tree.specs.Tree.{or_else, moved, source_refusal, target_refusal, rename_refusal}
+use Rattle.ftp_tree.specs.Tree.{Table, or_else, freed, moved, source_refusal, target_refusal, rename_refusal}
 use Rattle.ftp_tree.specs.declared.fault.TreeFault.{TreeFault}
 use Rattle.ftp_tree.specs.declared.fault.TreeFault.TheVariants as Faults
+use Rattle.ftp_tree.proofs.KeepLaws.{freed-source}
 use Rattle.ftp_client_model.specs.Dialogue.{answered}
 use Rattle.ftp_client_model.specs.View.{View as Near}
 use Rattle.ftp_client_model.specs.declared.client.Step.TheVariants as Steps
@@ -44,11 +45,11 @@ source_why state text =
 -- why RNTO is refused
 abbrev pub target_why : State → List ℕ → List ℕ → Option Refusal
 target_why state text new =
-    or_refused (barred state.rights.rename) (refused_name (limited (named state new) (rename_refusal (part state) (named state text) (named state new))))
+    or_refused (barred state.rights.rename) (refused_name (limited (named state new) (rename_refusal (target_part state text new) (named state text) (named state new))))
 
 -- the reason of the direct run for the new name
 abbrev pub direct_target_why : State → List ℕ → List ℕ → Option Refusal
-direct_target_why state text new = refused_name (limited (named state new) (target_refusal (part state) (named state text) (named state new)))
+direct_target_why state text new = refused_name (limited (named state new) (target_refusal (target_part state text new) (named state text) (named state new)))
 
 -- no refusal by what stands there means no fault of the tree
 pub none_there : (why : Option TreeFault) → refused_there why ≡ None → why ≡ None
@@ -82,9 +83,10 @@ source_none state text none =
 pub same_target : (state : State) (text new : List ℕ) → source_why state text ≡ None → target_why state text new ≡ direct_target_why state text new
 unfolding rename_refusal
 same_target state text new none =
-    ap (λ why. or_refused why (refused_name (limited (named state new) (rename_refusal (part state) (named state text) (named state new)))))
+    ap (λ why. or_refused why (refused_name (limited (named state new) (rename_refusal (target_part state text new) (named state text) (named state new)))))
     (may_is state.rights.rename _ none)
-    ∙ ap (λ why. refused_name (limited (named state new) (or_else why (target_refusal (part state) (named state text) (named state new))))) (source_none state text none)
+    ∙ ap (λ why. refused_name (limited (named state new) (or_else why (target_refusal (target_part state text new) (named state text) (named state new)))))
+    (freed-source state.rights.onto (part state) (named state text) (named state new) ∙ source_none state text none)
 
 -- the first of three reasons is the same however they are put together
 as_one : (one other last : Option Refusal) → or_refused one (or_refused other last) ≡ or_refused (or_refused one other) last
@@ -164,16 +166,25 @@ module _ (read : Reading) (text new : List ℕ) (reads : IsReading read) (first 
   abbrev renamed : Session
   renamed = as_direct (done state (Ops.Rename text new) 0).1 (cleared f)
 
+  -- what RNTO looks at
+  abbrev freed_of : State → Names → Names → Table
+  freed_of s from to = freed s.rights.onto (part s) from to
+
+  -- the session where something is moved, in a current directory
+  abbrev moves_of : State → Names → Names → Names → Session
+  moves_of s from to cwd = record (cleared f) { table = (changed s (moved (freed_of s from to) from to)).table; cwd = cwd }
+
   -- with a login, the server behind an RNFR that was taken refuses RNTO by its reason or renames
   target_decided : state.known ≡ true → (why : Option Refusal) → target_why state text new ≡ why
       → decides (Commands.Rnto new) (with_session noted f) ≡ unless why (cleared f) (renamed, Replies.Fixed Texts.Done)
   target_decided known why is =
       decides_known (Commands.Rnto new) (with_session noted f) (stands.sees.known ∙ known)
       ∙ ap (λ s. unless (or_refused (barred s.rights.rename)
-      (refused_name (limited (path_of (cleared f) new) (rename_refusal (part s) (path_of (cleared f) text) (path_of (cleared f) new)))))
-      (cleared f) (record (cleared f) { table = (changed s (moved (part s) (path_of (cleared f) text) (path_of (cleared f) new))).table }, Replies.Fixed Texts.Done)) (same_direct known)
-      ∙ (λ i. unless (or_refused (barred state.rights.rename) (refused_name (limited (same_path new i) (rename_refusal (part state) (same_path text i) (same_path new i)))))
-      (cleared f) (record (cleared f) { table = (changed state (moved (part state) (same_path text i) (same_path new i))).table; cwd = stands.sees.cwd i }, Replies.Fixed Texts.Done))
+      (refused_name (limited (path_of (cleared f) new) (rename_refusal (freed_of s (path_of (cleared f) text) (path_of (cleared f) new)) (path_of (cleared f) text) (path_of (cleared f) new)))))
+      (cleared f) (moves_of s (path_of (cleared f) text) (path_of (cleared f) new) (cleared f).cwd, Replies.Fixed Texts.Done)) (same_direct known)
+      ∙ (λ i. unless (or_refused (barred state.rights.rename)
+      (refused_name (limited (same_path new i) (rename_refusal (freed_of state (same_path text i) (same_path new i)) (same_path text i) (same_path new i)))))
+      (cleared f) (moves_of state (same_path text i) (same_path new i) (stands.sees.cwd i), Replies.Fixed Texts.Done))
       ∙ ap (λ w. unless w (cleared f) (renamed, Replies.Fixed Texts.Done)) is
 
   -- at the 350 the client goes on to its last step and owes RNTO

@@ -13,13 +13,13 @@ use Rattle.ftp_operation.specs.declared.op.Op.TheVariants as Ops
 use Rattle.ftp_path.specs.Path.{Names, IsPathText, fits, is_name, is_within, parent, path_cmp}
 use Rattle.ftp_path.proofs.KeyLemmas.{within-append, within-parts}
 use Rattle.ftp_server_model.proofs.PathTexts.{is_path-led, is_path-parent}
-use Rattle.ftp_tree.specs.Tree.{Node, Dir, File, Table, IsTree, node_at, made, removed, moved, or_else, file_refusal, make_refusal, remove_refusal, delete_refusal, rename_refusal, source_refusal}
+use Rattle.ftp_tree.specs.Tree.{Node, Dir, File, Table, IsTree, node_at, made, removed, moved, freed, or_else, file_refusal, make_refusal, remove_refusal, delete_refusal, rename_refusal, source_refusal}
 use Rattle.ftp_tree.specs.declared.fault.TreeFault.{TreeFault}
 use Rattle.ftp_tree.specs.declared.fault.TreeFault.TheVariants as Faults
-use Rattle.ftp_tree.proofs.KeepLaws.{at-insert, at-remove, changes-keep, is-dir}
+use Rattle.ftp_tree.proofs.KeepLaws.{at-insert, at-remove, by-freed, changes-keep, freed-tree, is-dir, takes-parts}
 use Rattle.ftp_tree.proofs.LawLemmas.{apart, free-to, rename-moves, same, target-parts}
 use Rattle.ftp_tree.proofs.PartLemmas.{parts-put}
-use Rattle.ftp_direct.specs.Direct.{State, answer, busy_refusal, changed, chosen, done, limited, named, part, refusal, refused_name}
+use Rattle.ftp_direct.specs.Direct.{State, answer, busy_refusal, changed, chosen, done, limited, named, part, refusal, refused_name, target_part}
 use Rattle.ftp_direct.specs.declared.refusal.Refusal.{Refusal}
 use Rattle.ftp_direct.specs.declared.refusal.Refusal.TheVariants as Refusals
 use Rattle.ftp_server_model.specs.Told.{is_path}
@@ -174,12 +174,11 @@ within-name path why none =
     (λ e. absurd (let f : Some Faults.TooBig ≡ None = sym (ap (λ b. if b then why else Some Faults.TooBig) e) ∙ none_name _ none in cc))
 
 module _ (state : State) (moment : ℕ) (sound : IsSound state) (known : state.known ≡ true) where
-  -- a path whose deletion is not refused is not the current directory
-  no-file : (path : Names) → delete_refusal (part state) path ≡ None → eq_by_cmp path_cmp state.cwd path ≡ false
-  unfolding delete_refusal
-  no-file path can =
+  -- a path where a file stands is not the current directory
+  no-file : (path : Names) → file_refusal (node_at (part state) path) ≡ None → eq_by_cmp path_cmp state.cwd path ≡ false
+  no-file path file =
       by_bool (eq_by_cmp path_cmp state.cwd path)
-      (λ e. absurd (not-dir (node_at (part state) path) can (ap (node_at (part state)) (sym (same state.cwd path e)) ∙ sound.here known))) (λ e. e)
+      (λ e. absurd (not-dir (node_at (part state) path) file (ap (node_at (part state)) (sym (same state.cwd path e)) ∙ sound.here known))) (λ e. e)
 
   abbrev Stays : Op (List ℕ) → Type 0
   Stays op = refusal state op ≡ None → IsSound (done state op moment).1
@@ -222,11 +221,28 @@ module _ (state : State) (moment : ℕ) (sound : IsSound state) (known : state.k
 
   -- a sound state where a file is deleted is sound
   delete-sound : (text : List ℕ) → Stays (Ops.Delete text)
+  unfolding delete_refusal
   delete-sound text none =
       let can : delete_refusal (part state) (named state text) ≡ None = none_limited (named state text) _ (none_there _ (may_none state.rights.delete _ none)) in
       change-sound state (removed (part state) (named state text)) sound (changes-keep.deleting (part state) (named state text) (sound.tree known) can)
       (files-removed (part state) (named state text) sound.files) (names-removed (part state) (named state text) sound.names)
       (here-removed (part state) (named state text) state.cwd (sound.here known) (no-file (named state text) can))
+
+  -- what a rename looks at has fine files, names, and the current directory, as what the account sees has
+  files-freed : (text new : List ℕ) → HasFineFiles (target_part state text new)
+  files-freed text new =
+      by-freed HasFineFiles state.rights.onto (part state) (named state text) (named state new) sound.files (λ takes. files-removed (part state) (named state new) sound.files)
+
+  names-freed : (text new : List ℕ) → HasNames (target_part state text new)
+  names-freed text new =
+      by-freed HasNames state.rights.onto (part state) (named state text) (named state new) sound.names (λ takes. names-removed (part state) (named state new) sound.names)
+
+  here-freed : (text new : List ℕ) → node_at (target_part state text new) state.cwd ≡ Some Dir
+  here-freed text new =
+      by-freed (λ table. node_at table state.cwd ≡ Some Dir) state.rights.onto (part state) (named state text) (named state new) (sound.here known)
+      (λ takes.
+      here-removed (part state) (named state new) state.cwd (sound.here known)
+      (no-file (named state new) (takes-parts (part state) (named state text) (named state new) takes).target))
 
   -- a sound state where something gets another name is sound
   rename-sound : (text new : List ℕ) → IsPathText new → Stays (Ops.Rename text new)
@@ -239,17 +255,19 @@ module _ (state : State) (moment : ℕ) (sound : IsSound state) (known : state.k
       by_source None source =
           let from : Names = named state text in
           let to : Names = named state new in
-          let can : rename_refusal (part state) from to ≡ None = none_limited to _ (none_name _ (may_none state.rights.rename _ (target source))) in
+          let table : Table = target_part state text new in
+          let tree : IsTree table = freed-tree state.rights.onto (part state) from to (sound.tree known) in
+          let can : rename_refusal table from to ≡ None = none_limited to _ (none_name _ (may_none state.rights.rename _ (target source))) in
           let within : IsTrue (fits to) = within-name to _ (may_none state.rights.rename _ (target source)) in
           let beside : is_within from state.cwd ≡ false =
           not-busy state from (second-none (source_refusal (part state) from) _ (none_limited from _ (none_there _ (may_none state.rights.rename _ source)))) in
           let free : is_within to state.cwd ≡ false =
-          free-to (part state) to (sound.tree known) (target-parts (part state) from to can).0 state.cwd (ap is_some (sound.here known)) in
-          change-sound state (moved (part state) (named state text) (named state new)) sound
-          (changes-keep.moving (part state) (named state text) (named state new) (sound.tree known) can)
-          (files-moved (part state) (named state text) (named state new) (sound.tree known) can sound.files)
-          (names-moved (part state) from to (sound.tree known) can (named-names new is within) sound.names)
-          ((rename-moves (part state) from to (sound.tree known) can).stays state.cwd beside free ∙ sound.here known)
+          free-to table to tree (target-parts table from to can).0 state.cwd (ap is_some (here-freed text new)) in
+          change-sound state (moved table from to) sound
+          (changes-keep.moving table from to tree can)
+          (files-moved table from to tree can (files-freed text new))
+          (names-moved table from to tree can (named-names new is within) (names-freed text new))
+          ((rename-moves table from to tree can).stays state.cwd beside free ∙ here-freed text new)
       by_source (Some why) source = absurd (let f : Some why ≡ None = sym (direct_by_source state text new (Some why) source) ∙ none in cc)
 
   -- a sound state is so when an operation without a transfer that can be sent and is not refused is done

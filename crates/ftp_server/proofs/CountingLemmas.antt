@@ -1,5 +1,5 @@
 -- How far counts move in a call: by one where a step failed, and by one where the line that waits did.
-use Rattle.std.proofs.Common.{◌≡◌, ℕ, zero, suc, ◌+◌, ◌%◌, ◌^◌, ◌≤◌, ap, subst, ◌∙◌, arith}
+use Rattle.std.proofs.Common.{◌≡◌, ℕ, zero, suc, ◌+◌, ◌%◌, ◌^◌, ap, subst, ◌∙◌, arith}
 use Rattle.ftp_direct.specs.Run.{moved_on}
 use Rattle.ftp_server_model.specs.Counting.{CountsOn, MovesOn}
 use Rattle.ftp_server_model.specs.Failing.{Counts}

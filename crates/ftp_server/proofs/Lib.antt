@@ -10,3 +10,4 @@ pub mod ReaderLemmas
 pub mod ReadingLemmas
 pub mod ShortLemmas
 pub mod TakenLemmas
+pub mod ToldLemmas

@@ -29,7 +29,7 @@ use Rattle.ftp_server_model.specs.Setting.{choose, is_utf8_on}
 use Rattle.ftp_server_model.specs.Transfer.{begin, rests, transfer_starts}
 use Rattle.ftp_server_model.specs.View.{Accounts, Footing, Session, Transfer, as_direct, direct_of, how_in_force, seen, with_seen}
 use Rattle.ftp_tree.specs.Tree.{moved, node_at}
-use Rattle.ftp_server_model.specs.Walk.{path_of, refused_source, refused_target, rnto, unless}
+use Rattle.ftp_server_model.specs.Walk.{path_of, refused_source, refused_target, rnto, target_seen, unless}
 use Rattle.ftp_server_model.specs.declared.heard.HeardLine.{HeardLine}
 use Rattle.ftp_server_model.specs.declared.heard.HeardLine.TheVariants.{TooLong, Bad, Asks}
 use Rattle.ftp_server_model.specs.declared.reply.ReplyKind.{ReplyKind}
@@ -124,7 +124,7 @@ within_performs most op kind s k = within_unless most (refusal (direct_of s) op)
 within_rnto : (most : ℕ) (pending : Pending Names) (text : List ℕ) (s : Session) → Named most s → Within most (rnto pending text s)
 within_rnto most (Pendings.Rename from) text s k =
     within_unless most (refused_target s from (path_of s text)) s
-    (tells Texts.Done (with_seen (moved (seen s) from (path_of s text)) s)) k k
+    (tells Texts.Done (with_seen (moved (target_seen s from (path_of s text)) from (path_of s text)) s)) k k
 within_rnto most Pendings.Nothing text s k = k
 within_rnto most (Pendings.Restart place) text s k = k
 
@@ -222,10 +222,10 @@ pub name_if_waits : (heard : HeardLine (List ℕ)) (waiting : Option (HeardLine 
 name_if_waits heard waiting is was = ∥∥₁_elim was (within_once _ _) (λ h. let waits : MayWait (Some heard) = subst MayWait is h in waits.2)
 
 -- while a transfer stands less is owed, and without one the session holds less
-pub holds_little : {J : Type 0} (c : ServerLink J) (owed : List ℕ) (count unfinished waits rest : ℕ) → count ≡ length owed → count ≤ 8192 → HasRoom c owed → unfinished ≤ 1024
-    → waits ≤ waiting_limit → rest ≤ 16307 → (is_busy c ≡ false → rest ≤ 2955) → count + (unfinished + (waits + rest)) ≤ held_limit
-holds_little c owed count unfinished waits rest same within room read short all free = by_case (is_busy c) room free
+pub holds_little : {J : Type 0} (c : ServerLink J) (owed : List ℕ) (count unfinished waits rest told : ℕ) → told ≤ 512 → count ≡ length owed → count ≤ 8192 → HasRoom c owed → unfinished ≤ 1024
+    → waits ≤ waiting_limit → rest ≤ 16307 → (is_busy c ≡ false → rest ≤ 2955) → told + (count + (unfinished + (waits + rest))) ≤ held_limit
+holds_little c owed count unfinished waits rest told few same within room read short all free = by_case (is_busy c) room free
   where
-    by_case : (b : Bool) → (b ≡ true → length owed ≤ 5120) → (b ≡ false → rest ≤ 2955) → count + (unfinished + (waits + rest)) ≤ held_limit
-    by_case true few little = let owes = few refl in omega (arith, same, owes, read, short, all)
-    by_case false few little = let holds = little refl in omega (arith, within, read, short, holds)
+    by_case : (b : Bool) → (b ≡ true → length owed ≤ 4672) → (b ≡ false → rest ≤ 2955) → told + (count + (unfinished + (waits + rest))) ≤ held_limit
+    by_case true busy little = let owes = busy refl in omega (arith, few, same, owes, read, short, all)
+    by_case false busy little = let holds = little refl in omega (arith, few, within, read, short, holds)

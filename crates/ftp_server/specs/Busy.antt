@@ -36,9 +36,9 @@ is_opening (Data.Transferring transfer) = false
 
 -- the most octets that are owed meanwhile: the 4,096 with which an octet is taken, and what comes of it
 abbrev pub busy_room : ℕ
-busy_room = 5120
+busy_room = 4672
 
--- so 3,072 are free for the reply by which it ends
+-- so 3,520 are free for the reply by which it ends
 abbrev pub HasRoom : {J : Type 0} → ServerLink J → List ℕ → Type 0
 HasRoom connection owed = is_busy connection ≡ true → length owed ≤ busy_room
 

@@ -1,7 +1,8 @@
 -- Octets of the data connection as one call takes them, and what is said of them.
-use Rattle.std.specs.Prelude.{◌≡◌, ℕ, List}
+use Rattle.std.specs.Prelude.{◌≡◌, ℕ, List, Option}
 use Rattle.ftp_server_model.specs.Calls.{MayReceive, receives}
 use Rattle.ftp_server_model.specs.Failing.{Late}
+use Rattle.ftp_server_model.specs.Heard.{Heard, later_heard, latest}
 use Rattle.ftp_server_model.specs.Machine.{later, owes, replied}
 use Rattle.ftp_server_model.specs.Replies.{mark_reply, reply_octets}
 use Rattle.ftp_server_model.specs.View.{View}
@@ -30,3 +31,10 @@ SayingFails Nothing v w = ⊥
 SayingFails (Mark marker) v w = ⊥
 SayingFails Faulty v w = Late (refused v) w
 SayingFails NoMemory v w = Late (refused v) w
+
+-- the line that was acted on last, where this was it before: behind a fault it may be the one that waits
+abbrev pub TellsSaid : Told → View → (before after : Option Heard) → Type 0
+TellsSaid Nothing v before after = after ≡ before
+TellsSaid (Mark marker) v before after = after ≡ before
+TellsSaid Faulty v before after = after ≡ latest before (later_heard (refused v))
+TellsSaid NoMemory v before after = ⊥

@@ -70,6 +70,7 @@ impl<A: Allocator + Copy, T: Tree<A>, J: ServerTransfer<A, T>> Server<A, T, J> {
             reader,
             waiting: None,
             output,
+            heard: None,
             refusals: 0,
         })
     }

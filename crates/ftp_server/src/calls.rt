@@ -1,8 +1,9 @@
 // The calls of a server: a step, and then the line that waits (RFC 959, sections 3.2 and 4.1).
-ghost use Rattle.std.specs.Prelude.{◌≡◌, ◌≢◌, ◌<◌, ◌≤◌, length, min, take, OnErr, OnOk};
+ghost use Rattle.std.specs.Prelude.{◌≡◌, ◌≢◌, ◌<◌, ◌≤◌, length, min, take, None, OnErr, OnOk};
 ghost use Rattle.ftp_server_model.specs.Counting.{MovesOn};
 ghost use Rattle.ftp_server_model.specs.Calls.{clock_step, close_step, control_end, control_step, listening_step, no_port_step, opened_step, refused_step};
 ghost use Rattle.ftp_server_model.specs.Far.{Acts, counts_told};
+ghost use Rattle.ftp_server_model.specs.Heard.{Tells};
 ghost use Rattle.ftp_server.specs.Settled.{IsSettled};
 
 use crate::line::Failed;
@@ -34,6 +35,7 @@ impl<A: Allocator + Copy, T: Tree<A>, J: ServerTransfer<A, T>> Server<A, T, J> {
         ensures failed { OnErr outcome (counts_of T.failures self.new ≢ record (counts_of T.failures self.old) { failures = failures }) }
         ensures few { MovesOn 1 self.old.refusals self.new.refusals }
         ensures device { T.failures self.new.session.tree ≡ T.failures self.old.session.tree }
+        ensures told { self.new.heard ≡ self.old.heard }
     {
         if outcome.is_err() && self.session.tree.device_failures() == failures {
             self.refusals = self.refusals.wrapping_add(1);
@@ -42,7 +44,8 @@ impl<A: Allocator + Copy, T: Tree<A>, J: ServerTransfer<A, T>> Server<A, T, J> {
 
     /// The end of each call: the line that waits is acted on, if it may be.
     pub(crate) fn settle(&mut self)
-        ensures { Acts (λ v. v) (server_of T.table T.failures J.view self.old) (server_of T.table T.failures J.view self.new) }
+        ensures acts { Acts (λ v. v) (server_of T.table T.failures J.view self.old) (server_of T.table T.failures J.view self.new) }
+        ensures told { Tells (λ v. v) self.new.heard (server_of T.table T.failures J.view self.old) (server_of T.table T.failures J.view self.new) }
     {
         let failures = self.session.tree.device_failures();
         self.settle_behind(Ok(()), failures);
@@ -51,6 +54,7 @@ impl<A: Allocator + Copy, T: Tree<A>, J: ServerTransfer<A, T>> Server<A, T, J> {
     /// The end of a call whose step may have failed; it began where the device's count stood at `failures`.
     pub(crate) fn settle_behind(&mut self, step: Result<(), Failed>, failures: u64)
         ensures settled { IsSettled step failures (server_of T.table T.failures J.view self.old) (server_of T.table T.failures J.view self.new) }
+        ensures told { OnOk step (failures ≡ T.failures self.old.session.tree → Tells (λ v. v) self.new.heard (server_of T.table T.failures J.view self.old) (server_of T.table T.failures J.view self.new)) }
         ensures refusals { MovesOn 1 self.old.refusals self.new.refusals }
         ensures few { MovesOn 1 (T.failures self.old.session.tree) (T.failures self.new.session.tree) }
     {
@@ -63,9 +67,10 @@ impl<A: Allocator + Copy, T: Tree<A>, J: ServerTransfer<A, T>> Server<A, T, J> {
     }
 
     /// The moment in force from now on.
-    #[tactic(auto, using(crate::proofs::CallLemmas::acts))]
+    #[tactic(auto, using(crate::proofs::CallLemmas::acts, crate::proofs::ToldLemmas::tells))]
     pub fn clock(&mut self, moment: Moment)
-        ensures { Acts (clock_step moment.seconds) (server_of T.table T.failures J.view self.old) (server_of T.table T.failures J.view self.new) }
+        ensures acts { Acts (clock_step moment.seconds) (server_of T.table T.failures J.view self.old) (server_of T.table T.failures J.view self.new) }
+        ensures told { Tells (clock_step moment.seconds) self.new.heard (server_of T.table T.failures J.view self.old) (server_of T.table T.failures J.view self.new) }
     {
         self.footing.moment = moment;
         self.settle();
@@ -76,6 +81,7 @@ impl<A: Allocator + Copy, T: Tree<A>, J: ServerTransfer<A, T>> Server<A, T, J> {
         ensures within { (result ≤ length room.old) × (result ≤ length (view_of T.table J.view self.old).owed) }
         ensures gave { take result room.new ≡ take result (view_of T.table J.view self.old).owed }
         ensures now { Acts (control_step result) (server_of T.table T.failures J.view self.old) (server_of T.table T.failures J.view self.new) }
+        ensures told { Tells (control_step result) self.new.heard (server_of T.table T.failures J.view self.old) (server_of T.table T.failures J.view self.new) }
         ensures some { 0 < length room.old → 0 < length (view_of T.table J.view self.old).owed → 0 < result }
 
         // It gives all that is owed, or fills the room.
@@ -88,7 +94,8 @@ impl<A: Allocator + Copy, T: Tree<A>, J: ServerTransfer<A, T>> Server<A, T, J> {
 
     /// A port is listened at.
     pub fn listening(&mut self, port: u16)
-        ensures { Acts (listening_step port) (server_of T.table T.failures J.view self.old) (server_of T.table T.failures J.view self.new) }
+        ensures acts { Acts (listening_step port) (server_of T.table T.failures J.view self.old) (server_of T.table T.failures J.view self.new) }
+        ensures told { Tells (listening_step port) self.new.heard (server_of T.table T.failures J.view self.old) (server_of T.table T.failures J.view self.new) }
     {
         self.listen(port);
         self.settle();
@@ -96,7 +103,8 @@ impl<A: Allocator + Copy, T: Tree<A>, J: ServerTransfer<A, T>> Server<A, T, J> {
 
     /// No port was had.
     pub fn listen_refused(&mut self)
-        ensures { Acts no_port_step (server_of T.table T.failures J.view self.old) (server_of T.table T.failures J.view self.new) }
+        ensures acts { Acts no_port_step (server_of T.table T.failures J.view self.old) (server_of T.table T.failures J.view self.new) }
+        ensures told { Tells no_port_step self.new.heard (server_of T.table T.failures J.view self.old) (server_of T.table T.failures J.view self.new) }
     {
         self.give_up_port();
         self.settle();
@@ -104,7 +112,8 @@ impl<A: Allocator + Copy, T: Tree<A>, J: ServerTransfer<A, T>> Server<A, T, J> {
 
     /// The data connection is open; this host is at its other end.
     pub fn data_opened(&mut self, host: Host)
-        ensures { Acts (opened_step host) (server_of T.table T.failures J.view self.old) (server_of T.table T.failures J.view self.new) }
+        ensures acts { Acts (opened_step host) (server_of T.table T.failures J.view self.old) (server_of T.table T.failures J.view self.new) }
+        ensures told { Tells (opened_step host) self.new.heard (server_of T.table T.failures J.view self.old) (server_of T.table T.failures J.view self.new) }
     {
         self.open(host);
         self.settle();
@@ -112,7 +121,8 @@ impl<A: Allocator + Copy, T: Tree<A>, J: ServerTransfer<A, T>> Server<A, T, J> {
 
     /// The data connection was not had.
     pub fn data_refused(&mut self)
-        ensures { Acts refused_step (server_of T.table T.failures J.view self.old) (server_of T.table T.failures J.view self.new) }
+        ensures acts { Acts refused_step (server_of T.table T.failures J.view self.old) (server_of T.table T.failures J.view self.new) }
+        ensures told { Tells refused_step self.new.heard (server_of T.table T.failures J.view self.old) (server_of T.table T.failures J.view self.new) }
     {
         self.give_up_opening();
         self.settle();
@@ -120,7 +130,8 @@ impl<A: Allocator + Copy, T: Tree<A>, J: ServerTransfer<A, T>> Server<A, T, J> {
 
     /// A close that it wanted is done.
     pub fn data_closed(&mut self)
-        ensures { Acts close_step (server_of T.table T.failures J.view self.old) (server_of T.table T.failures J.view self.new) }
+        ensures acts { Acts close_step (server_of T.table T.failures J.view self.old) (server_of T.table T.failures J.view self.new) }
+        ensures told { Tells close_step self.new.heard (server_of T.table T.failures J.view self.old) (server_of T.table T.failures J.view self.new) }
     {
         self.close();
         self.settle();
@@ -128,7 +139,8 @@ impl<A: Allocator + Copy, T: Tree<A>, J: ServerTransfer<A, T>> Server<A, T, J> {
 
     /// The control connection ended.
     pub fn control_end(&mut self)
-        ensures { server_of T.table T.failures J.view self.new ≡ record (server_of T.table T.failures J.view self.old) { view = control_end (view_of T.table J.view self.old) } }
+        ensures acts { server_of T.table T.failures J.view self.new ≡ record (server_of T.table T.failures J.view self.old) { view = control_end (view_of T.table J.view self.old) } }
+        ensures told { self.new.heard ≡ None }
     {
         self.cut();
     }

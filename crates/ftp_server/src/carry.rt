@@ -3,6 +3,7 @@ ghost use Rattle.std.specs.Prelude.{◌≡◌, ◌≤◌, ◌<◌, IsTrue, lengt
 ghost use Rattle.ftp_server_model.specs.Calls.{break_step, end_step, given_step, may_receive, to_give};
 ghost use Rattle.ftp_server_model.specs.Failing.{EndFails, GiveFails};
 ghost use Rattle.ftp_server_model.specs.Far.{Receives, Steps};
+ghost use Rattle.ftp_server_model.specs.Heard.{Tells, TellsReceived};
 ghost use Rattle.ftp_server_model.specs.Most.{IsMostReceived};
 
 use crate::server::Server;
@@ -17,6 +18,7 @@ impl<A: Allocator + Copy, T: Tree<A>, J: ServerTransfer<A, T>> Server<A, T, J> {
     pub fn data_hear(&mut self, piece: &[u8]) -> usize
         ensures within { result ≤ length piece.now }
         ensures took { Receives (take result piece.now) (server_of T.table T.failures J.view self.old) (server_of T.table T.failures J.view self.new) }
+        ensures told { TellsReceived (take result piece.now) self.new.heard (server_of T.table T.failures J.view self.old) (server_of T.table T.failures J.view self.new) }
         ensures some { IsTrue (may_receive (view_of T.table J.view self.old)) → 0 < length piece.now → 0 < result }
 
         // Where nothing failed it takes all of them, or as many as it may.
@@ -30,7 +32,8 @@ impl<A: Allocator + Copy, T: Tree<A>, J: ServerTransfer<A, T>> Server<A, T, J> {
 
     /// The other end closed the data connection.
     pub fn data_end(&mut self)
-        ensures { Steps EndFails end_step (server_of T.table T.failures J.view self.old) (server_of T.table T.failures J.view self.new) }
+        ensures acts { Steps EndFails end_step (server_of T.table T.failures J.view self.old) (server_of T.table T.failures J.view self.new) }
+        ensures told { Tells end_step self.new.heard (server_of T.table T.failures J.view self.old) (server_of T.table T.failures J.view self.new) }
     {
         let failures = self.session.tree.device_failures();
         let ended = self.end_transfer();
@@ -39,7 +42,8 @@ impl<A: Allocator + Copy, T: Tree<A>, J: ServerTransfer<A, T>> Server<A, T, J> {
 
     /// The data connection broke.
     pub fn data_fault(&mut self)
-        ensures { Steps EndFails break_step (server_of T.table T.failures J.view self.old) (server_of T.table T.failures J.view self.new) }
+        ensures acts { Steps EndFails break_step (server_of T.table T.failures J.view self.old) (server_of T.table T.failures J.view self.new) }
+        ensures told { Tells break_step self.new.heard (server_of T.table T.failures J.view self.old) (server_of T.table T.failures J.view self.new) }
     {
         let failures = self.session.tree.device_failures();
         let broken = self.break_transfer();
@@ -51,6 +55,7 @@ impl<A: Allocator + Copy, T: Tree<A>, J: ServerTransfer<A, T>> Server<A, T, J> {
         ensures within { (result ≤ length room.old) × (result ≤ length (to_give (view_of T.table J.view self.old))) }
         ensures gave { take result room.new ≡ take result (to_give (view_of T.table J.view self.old)) }
         ensures now { Steps (GiveFails result) (given_step result) (server_of T.table T.failures J.view self.old) (server_of T.table T.failures J.view self.new) }
+        ensures told { Tells (given_step result) self.new.heard (server_of T.table T.failures J.view self.old) (server_of T.table T.failures J.view self.new) }
         ensures some { let old = server_of T.table T.failures J.view self.old in (server_of T.table T.failures J.view self.new).counts ≡ old.counts → 0 < length room.old → 0 < length (to_give old.view) → 0 < result }
 
         // Where nothing failed it gives all that is left, or fills the room.

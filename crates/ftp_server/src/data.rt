@@ -1,11 +1,12 @@
 // The octets of the data connection (RFC 959, section 3).
-ghost use Rattle.std.specs.Prelude.{◌≡◌, ◌≤◌, ◌<◌, OnErr, OnOk, length, min, take, true};
+ghost use Rattle.std.specs.Prelude.{◌≡◌, ◌≤◌, ◌<◌, None, OnErr, OnOk, length, min, take, true};
 ghost use Rattle.ftp_server_model.specs.Counting.{MovesOn};
 ghost use Rattle.ftp_server_model.specs.Calls.{given_step, may_receive, to_give};
 ghost use Rattle.ftp_server_model.specs.Failing.{AreReceived, GiveFails, Late};
+ghost use Rattle.ftp_server_model.specs.Heard.{heard_received};
 ghost use Rattle.ftp_server_model.specs.Most.{IsMostReceived};
 ghost use Rattle.ftp_server_model.specs.View.{View};
-ghost use Rattle.ftp_server.specs.Data.{IsSaid, ReceivesTo, SayingFails};
+ghost use Rattle.ftp_server.specs.Data.{IsSaid, ReceivesTo, SayingFails, TellsSaid};
 
 use crate::line::{Failed, Moved};
 use crate::server::Server;
@@ -21,6 +22,7 @@ impl<A: Allocator + Copy, T: Tree<A>, J: ServerTransfer<A, T>> Server<A, T, J> {
     pub(crate) fn receive_octets(&mut self, piece: &[u8]) -> Moved
         ensures within { result.count ≤ length piece.now }
         ensures done { OnOk result.outcome (ReceivesTo (take result.count piece.now) (view_of T.table J.view self.old) (view_of T.table J.view self.new)) }
+        ensures told { OnOk result.outcome (self.new.heard ≡ heard_received None (view_of T.table J.view self.old) (take result.count piece.now)) }
         ensures steady { OnOk result.outcome (counts_of T.failures self.new ≡ counts_of T.failures self.old) }
         ensures lost { OnErr result.outcome (AreReceived (view_of T.table J.view self.old) (take result.count piece.now) (view_of T.table J.view self.new)) }
         ensures refusals { self.new.refusals ≡ self.old.refusals }
@@ -28,6 +30,7 @@ impl<A: Allocator + Copy, T: Tree<A>, J: ServerTransfer<A, T>> Server<A, T, J> {
         ensures most { OnOk result.outcome (IsMostReceived result.count piece.now (view_of T.table J.view self.new)) }
         ensures few { MovesOn 1 (T.failures self.old.session.tree) (T.failures self.new.session.tree) }
     {
+        self.heard = None;
         let mut count = 0;
         while count < piece.len() {
             if !self.may_receive() {
@@ -53,6 +56,7 @@ impl<A: Allocator + Copy, T: Tree<A>, J: ServerTransfer<A, T>> Server<A, T, J> {
     fn receive(&mut self, piece: &[u8]) -> Moved
         ensures within { result.count ≤ length piece.now }
         ensures done { OnOk result.outcome (ReceivesTo (take result.count piece.now) (view_of T.table J.view self.old) (view_of T.table J.view self.new)) }
+        ensures told { OnOk result.outcome (self.new.heard ≡ heard_received self.old.heard (view_of T.table J.view self.old) (take result.count piece.now)) }
         ensures steady { OnOk result.outcome (counts_of T.failures self.new ≡ counts_of T.failures self.old) }
         ensures lost { OnErr result.outcome (AreReceived (view_of T.table J.view self.old) (take result.count piece.now) (view_of T.table J.view self.new)) }
         ensures refusals { self.new.refusals ≡ self.old.refusals }
@@ -77,6 +81,7 @@ impl<A: Allocator + Copy, T: Tree<A>, J: ServerTransfer<A, T>> Server<A, T, J> {
     fn tell(&mut self, told: Told) -> Result<(), Failed>
         requires room { length self.old.output ≤ 4096 }
         ensures done { OnOk result (IsSaid told (view_of T.table J.view self.old) (view_of T.table J.view self.new)) }
+        ensures told { OnOk result (TellsSaid told (view_of T.table J.view self.old) self.old.heard self.new.heard) }
         ensures steady { OnOk result (counts_of T.failures self.new ≡ counts_of T.failures self.old) }
         ensures lost { OnErr result (SayingFails told (view_of T.table J.view self.old) (view_of T.table J.view self.new)) }
         ensures refusals { self.new.refusals ≡ self.old.refusals }
@@ -90,7 +95,7 @@ impl<A: Allocator + Copy, T: Tree<A>, J: ServerTransfer<A, T>> Server<A, T, J> {
             }
             Told::Faulty => {
                 self.output.put_fixed(FixedReply::LocalFault);
-                self.later()
+                self.later_again()
             }
             Told::NoMemory => {
                 self.output.put_fixed(FixedReply::LocalFault);

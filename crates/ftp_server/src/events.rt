@@ -1,5 +1,5 @@
 // What the events of a server do before the line that waits is acted on: its steps (RFC 959, sections 3.2 and 4.1).
-ghost use Rattle.std.specs.Prelude.{◌≡◌};
+ghost use Rattle.std.specs.Prelude.{◌≡◌, None};
 ghost use Rattle.ftp_server_model.specs.Calls.{close_step, control_end, listening_step, no_port_step, opened_step, refused_step};
 
 use crate::server::Server;
@@ -90,6 +90,7 @@ impl<A: Allocator + Copy, T: Tree<A>, J: ServerTransfer<A, T>> Server<A, T, J> {
     #[tactic(auto, unfolding(ftp_server_model::specs::Calls::control_end))]
     pub(crate) fn cut(&mut self)
         ensures step { view_of T.table J.view self.new ≡ control_end (view_of T.table J.view self.old) }
+        ensures told { self.new.heard ≡ None }
         ensures steady { counts_of T.failures self.new ≡ counts_of T.failures self.old }
     {
         self.session.forget();
@@ -97,5 +98,6 @@ impl<A: Allocator + Copy, T: Tree<A>, J: ServerTransfer<A, T>> Server<A, T, J> {
         self.session.life = Life::Cut;
         self.waiting = None;
         self.output.clear();
+        self.heard = None;
     }
 }

@@ -3,7 +3,9 @@ use crate::server::Server;
 use ftp_endpoint::Host;
 use ftp_ends::Wants;
 use ftp_facts::Moment;
-use ftp_server_model::{Counts, Far};
+use ftp_operation::Rights;
+use ftp_path::Path;
+use ftp_server_model::{Answered, Counts, Far};
 use ftp_server_session::ServerTransfer;
 use ftp_tree::Tree;
 use std::alloc::Allocator;
@@ -12,6 +14,8 @@ impl<A: Allocator + Copy, T: Tree<A>, J: ServerTransfer<A, T>> Far<A, T> for Ser
     ghost use Rattle.ftp_server.specs.Server.{server_of};
 
     ghost server = { server_of T.table T.failures J.view };
+
+    ghost heard = { λ server. server.heard };
 
     fn clock(&mut self, moment: Moment) {
         self.clock(moment);
@@ -91,6 +95,26 @@ impl<A: Allocator + Copy, T: Tree<A>, J: ServerTransfer<A, T>> Far<A, T> for Ser
 
     fn may_receive(&self) -> bool {
         self.may_receive()
+    }
+
+    fn answered(&self) -> Option<Answered<'_>> {
+        self.answered()
+    }
+
+    fn login(&self) -> Option<(&Path<A>, Rights)> {
+        self.login()
+    }
+
+    fn owed(&self) -> usize {
+        self.owed()
+    }
+
+    fn code_at(&self, place: usize) -> Option<u16> {
+        self.code_at(place)
+    }
+
+    fn is_transferring(&self) -> bool {
+        self.is_transferring()
     }
 
     fn tree(&self) -> &T {

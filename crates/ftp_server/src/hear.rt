@@ -5,10 +5,11 @@ ghost use Rattle.ftp_nvt.specs.Ear.{line_of};
 ghost use Rattle.ftp_server_model.specs.Counting.{MovesOn};
 ghost use Rattle.ftp_server_model.specs.Far.{Hears};
 ghost use Rattle.ftp_server_model.specs.Failing.{ActingFails, AreHeard, LineIsHeard, OctetIsHeard};
+ghost use Rattle.ftp_server_model.specs.Heard.{TellsHeard, heard_by_line, heard_by_octet};
 ghost use Rattle.ftp_server_model.specs.Machine.{IsReading, MayHear, Reading, hears, hears_octet, heard_line, is_abor, is_abort, is_transferring, may_hear};
 ghost use Rattle.ftp_server_model.specs.Most.{IsMostHeard};
 ghost use Rattle.ftp_server.specs.Busy.{MayWait};
-ghost use Rattle.ftp_server.specs.HearsTo.{AreHeardTo, HearsTo};
+ghost use Rattle.ftp_server.specs.HearsTo.{AreHeardTo, HearsTo, TellsTo};
 ghost use Rattle.ftp_server_session.specs.Session.{has_transfer};
 
 use crate::line::{Failed, Moved};
@@ -17,6 +18,7 @@ use crate::server::Server;
 use ftp_command::{Argument, Command, CommandFault};
 use ftp_nvt::Event;
 use ftp_server_model::{HeardLine, Life, ServerLink};
+use ftp_server_parts::ActedLine;
 use ftp_server_session::ServerTransfer;
 use ftp_tree::Tree;
 use std::alloc::Allocator;
@@ -28,6 +30,7 @@ impl<A: Allocator + Copy, T: Tree<A>, J: ServerTransfer<A, T>> Server<A, T, J> {
     pub fn hear(&mut self, piece: &[u8]) -> usize
         ensures within { result ≤ length piece.now }
         ensures took { Hears (take result piece.now) (server_of T.table T.failures J.view self.old) (server_of T.table T.failures J.view self.new) }
+        ensures told { TellsHeard (take result piece.now) self.new.heard (server_of T.table T.failures J.view self.old) (server_of T.table T.failures J.view self.new) }
         ensures some { IsTrue (may_hear (view_of T.table J.view self.old)) → 0 < length piece.now → 0 < result }
 
         // Where nothing failed it takes all of them, or as many as it may.
@@ -62,13 +65,16 @@ impl<A: Allocator + Copy, T: Tree<A>, J: ServerTransfer<A, T>> Server<A, T, J> {
         requires none { self.old.waiting ≡ None }
         requires waits { MayWait (Some heard) }
         ensures done { OnOk result (view_of T.table J.view self.new ≡ heard_line heard (view_of T.table J.view self.old)) }
+        ensures told { OnOk result (self.new.heard ≡ heard_by_line heard (view_of T.table J.view self.old)) }
         ensures steady { OnOk result (counts_of T.failures self.new ≡ counts_of T.failures self.old) }
         ensures lost { OnErr result (ActingFails (is_abort heard (view_of T.table J.view self.old)) heard (view_of T.table J.view self.old) (view_of T.table J.view self.new)) }
         ensures refusals { self.new.refusals ≡ self.old.refusals }
         ensures few { MovesOn 1 (T.failures self.old.session.tree) (T.failures self.new.session.tree) }
     {
         if self.is_abort(&heard) {
-            return self.abort();
+            let aborted = self.abort();
+            self.heard = Some(ActedLine::abort());
+            return aborted;
         }
         self.waiting = Some(heard);
         self.later()
@@ -80,6 +86,7 @@ impl<A: Allocator + Copy, T: Tree<A>, J: ServerTransfer<A, T>> Server<A, T, J> {
         requires none { self.old.waiting ≡ None }
         requires short { length (line_of self.old.reader.ear) ≤ line_limit }
         ensures done { OnOk result ((read : Reading) → IsReading read → view_of T.table J.view self.new ≡ heard_line (read (line_of self.old.reader.ear)) (view_of T.table J.view self.old)) }
+        ensures told { OnOk result ((read : Reading) → IsReading read → self.new.heard ≡ heard_by_line (read (line_of self.old.reader.ear)) (view_of T.table J.view self.old)) }
         ensures steady { OnOk result (counts_of T.failures self.new ≡ counts_of T.failures self.old) }
         ensures lost { OnErr result ((read : Reading) → IsReading read → LineIsHeard (read (line_of self.old.reader.ear)) (view_of T.table J.view self.old) (view_of T.table J.view self.new)) }
         ensures refusals { self.new.refusals ≡ self.old.refusals }
@@ -98,6 +105,7 @@ impl<A: Allocator + Copy, T: Tree<A>, J: ServerTransfer<A, T>> Server<A, T, J> {
     pub(crate) fn hear_octets(&mut self, piece: &[u8]) -> Moved
         ensures within { result.count ≤ length piece.now }
         ensures done { OnOk result.outcome (HearsTo (take result.count piece.now) (view_of T.table J.view self.old) (view_of T.table J.view self.new)) }
+        ensures told { OnOk result.outcome (TellsTo (take result.count piece.now) (view_of T.table J.view self.old) self.new.heard) }
         ensures steady { OnOk result.outcome (counts_of T.failures self.new ≡ counts_of T.failures self.old) }
         ensures lost { OnErr result.outcome (AreHeardTo (take result.count piece.now) (view_of T.table J.view self.old) (view_of T.table J.view self.new)) }
         ensures refusals { self.new.refusals ≡ self.old.refusals }
@@ -105,6 +113,7 @@ impl<A: Allocator + Copy, T: Tree<A>, J: ServerTransfer<A, T>> Server<A, T, J> {
         ensures most { OnOk result.outcome (IsMostHeard result.count piece.now (view_of T.table J.view self.new)) }
         ensures few { MovesOn 1 (T.failures self.old.session.tree) (T.failures self.new.session.tree) }
     {
+        self.heard = None;
         let mut count = 0;
         for octet in piece {
             if !self.may_hear() {
@@ -123,16 +132,18 @@ impl<A: Allocator + Copy, T: Tree<A>, J: ServerTransfer<A, T>> Server<A, T, J> {
     }
 
     /// Takes one octet.
-    #[tactic(auto, unfolding(ftp_server_model::specs::Machine::hears_octet))]
+    #[tactic(auto, unfolding(ftp_server_model::specs::Machine::hears_octet, ftp_server_model::specs::Heard::heard_by_octet))]
     fn hear_octet(&mut self, octet: u8) -> Result<(), Failed>
         requires room { length self.old.output ≤ 4096 }
         requires none { self.old.waiting ≡ None }
         ensures done { OnOk result ((read : Reading) → IsReading read → view_of T.table J.view self.new ≡ hears_octet read (view_of T.table J.view self.old) octet) }
+        ensures told { OnOk result ((read : Reading) → IsReading read → self.new.heard ≡ heard_by_octet read (view_of T.table J.view self.old) octet) }
         ensures steady { OnOk result (counts_of T.failures self.new ≡ counts_of T.failures self.old) }
         ensures lost { OnErr result ((read : Reading) → IsReading read → OctetIsHeard read (view_of T.table J.view self.old) octet (view_of T.table J.view self.new)) }
         ensures refusals { self.new.refusals ≡ self.old.refusals }
         ensures few { MovesOn 1 (T.failures self.old.session.tree) (T.failures self.new.session.tree) }
     {
+        self.heard = None;
         match self.reader.hear(octet) {
             Event::More => Ok(()),
             Event::Line => self.hear_text(),

@@ -1,7 +1,8 @@
 // How much a server holds (own choice of the limits).
-ghost use Rattle.std.specs.Prelude.{◌≡◌, ◌≤◌, false};
+ghost use Rattle.std.specs.Prelude.{◌≡◌, ◌≤◌, ◌+◌, false};
 ghost use Rattle.ftp_ends.specs.Limits.{held_limit};
 ghost use Rattle.ftp_server.specs.Busy.{is_busy};
+ghost use Rattle.ftp_server_model.specs.Heard.{heard_len};
 ghost use Rattle.ftp_server_model.specs.Held.{connection_len, held, session_len, stored_limit};
 
 use crate::server::Server;
@@ -14,15 +15,28 @@ impl<A: Allocator + Copy, T: Tree<A>, J: Counted<A, T>> Server<A, T, J> {
     ghost use Rattle.ftp_server.specs.Server.{view_of};
 
     /// How many octets it holds beside the tree, the accounts, what came of an upload, and what a transfer shares with the tree: those that
-    /// are owed, the line that is being read, the line that waits as it would be written, the names and paths of the session, and what its
+    /// are owed, the line that is being read, the line that waits as it would be written, what the line that was acted on
+    /// names, the names and paths of the session, and what its
     /// transfer stores; at most 24,576.
     pub fn held(&self) -> usize
         ensures len { let stored = connection_len J.stored self.now.session.connection in
-            result ≡ held stored (view_of T.table J.view self.now) }
+            result ≡ heard_len self.now.heard + held stored (view_of T.table J.view self.now) }
         ensures little { result ≤ held_limit }
     {
         let waiting = waiting_len(&self.waiting);
-        self.output.len() + (self.reader.unfinished() + (waiting + self.session_len()))
+        let held = self.output.len() + (self.reader.unfinished() + (waiting + self.session_len()));
+        self.heard_len() + held
+    }
+
+    /// Those of what the line that was acted on names.
+    fn heard_len(&self) -> usize
+        ensures len { result ≡ heard_len self.now.heard }
+        ensures short { result ≤ 512 }
+    {
+        match &self.heard {
+            Some(line) => line.len(),
+            None => 0,
+        }
     }
 
     /// Those of the session: names, paths and the transfer.

@@ -1,6 +1,7 @@
 // A line is acted on, or waits (RFC 959, sections 4.1.3 and 5.4).
-ghost use Rattle.std.specs.Prelude.{◌≡◌, ◌≤◌, OnErr, OnOk, true, false};
+ghost use Rattle.std.specs.Prelude.{◌≡◌, ◌≤◌, OnErr, OnOk, Some, true, false};
 ghost use Rattle.ftp_server_model.specs.Counting.{MovesOn};
+ghost use Rattle.ftp_server_model.specs.Heard.{later_heard, latest, told_of};
 ghost use Rattle.ftp_server_model.specs.Machine.{completed, is_idle, later, obeyed};
 ghost use Rattle.ftp_server_model.specs.Failing.{LineFails, WaitingFails};
 ghost use Rattle.ftp_path.specs.Login.{login_limit};
@@ -11,6 +12,7 @@ use crate::say::say;
 use crate::server::Server;
 use ftp_command::Argument;
 use ftp_server_model::{FixedReply, HeardLine, ServerLink};
+use ftp_server_parts::{ActedLine, fixed_code, reply_code};
 use ftp_server_session::ServerTransfer;
 use ftp_tree::Tree;
 use std::alloc::Allocator;
@@ -50,19 +52,23 @@ impl<A: Allocator + Copy, T: Tree<A>, J: ServerTransfer<A, T>> Server<A, T, J> {
         requires paths { HeardPaths heard }
         requires named { heard_name_len heard ≤ login_limit }
         ensures done { OnOk result (view_of T.table J.view self.new ≡ obeyed heard (view_of T.table J.view self.old)) }
+        ensures told { OnOk result (self.new.heard ≡ Some (told_of heard (view_of T.table J.view self.old))) }
         ensures steady { OnOk result (T.failures self.new.session.tree ≡ T.failures self.old.session.tree) }
         ensures lost { OnErr result (LineFails heard (view_of T.table J.view self.old) (view_of T.table J.view self.new)) }
         ensures refusals { self.new.refusals ≡ self.old.refusals }
         ensures few { MovesOn 1 (T.failures self.old.session.tree) (T.failures self.new.session.tree) }
     {
+        let told = ActedLine::of(&heard);
         match self.session.decide(&self.footing, heard) {
             Ok(kind) => {
                 say(&mut self.output, &kind, &self.session);
                 self.complete();
+                self.heard = Some(told.answered(reply_code(&kind)));
                 Ok(())
             }
             Err(_) => {
                 self.output.put_fixed(FixedReply::LocalFault);
+                self.heard = Some(told.answered(Some(fixed_code(FixedReply::LocalFault))));
                 Err(Failed)
             }
         }
@@ -78,11 +84,13 @@ impl<A: Allocator + Copy, T: Tree<A>, J: ServerTransfer<A, T>> Server<A, T, J> {
     /// Acts on the line that waits, where that may be.
     pub(crate) fn later(&mut self) -> Result<(), Failed>
         ensures done { OnOk result (view_of T.table J.view self.new ≡ later (view_of T.table J.view self.old)) }
+        ensures told { OnOk result (self.new.heard ≡ later_heard (view_of T.table J.view self.old)) }
         ensures steady { OnOk result (T.failures self.new.session.tree ≡ T.failures self.old.session.tree) }
         ensures lost { OnErr result (WaitingFails (view_of T.table J.view self.old).waiting (view_of T.table J.view self.old) (view_of T.table J.view self.new)) }
         ensures refusals { self.new.refusals ≡ self.old.refusals }
         ensures few { MovesOn 1 (T.failures self.old.session.tree) (T.failures self.new.session.tree) }
     {
+        self.heard = None;
         if !self.is_idle() {
             return Ok(());
         }
@@ -90,5 +98,22 @@ impl<A: Allocator + Copy, T: Tree<A>, J: ServerTransfer<A, T>> Server<A, T, J> {
             Some(heard) => self.obey(heard),
             None => Ok(()),
         }
+    }
+
+    /// The same in the midst of a call: where no line is acted on, the one that this call acted on before is still the last.
+    pub(crate) fn later_again(&mut self) -> Result<(), Failed>
+        ensures done { OnOk result (view_of T.table J.view self.new ≡ later (view_of T.table J.view self.old)) }
+        ensures told { OnOk result (self.new.heard ≡ latest self.old.heard (later_heard (view_of T.table J.view self.old))) }
+        ensures steady { OnOk result (T.failures self.new.session.tree ≡ T.failures self.old.session.tree) }
+        ensures lost { OnErr result (WaitingFails (view_of T.table J.view self.old).waiting (view_of T.table J.view self.old) (view_of T.table J.view self.new)) }
+        ensures refusals { self.new.refusals ≡ self.old.refusals }
+        ensures few { MovesOn 1 (T.failures self.old.session.tree) (T.failures self.new.session.tree) }
+    {
+        let before = mem::replace(&mut self.heard, None);
+        let settled = self.later();
+        if self.heard.is_none() {
+            self.heard = before;
+        }
+        settled
     }
 }

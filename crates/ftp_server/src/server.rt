@@ -7,18 +7,20 @@ ghost use Rattle.ftp_server.specs.Busy.{HasRoom, MayWait};
 use crate::reader::Reader;
 use ftp_command::Argument;
 use ftp_server_model::HeardLine;
-use ftp_server_parts::Output;
+use ftp_server_parts::{ActedLine, Output};
 use ftp_server_session::{Footing, Session};
 use std::alloc::Allocator;
 
-/// A server's end of a session: who may log in, the session, the line that is read and the one that waits, and the octets
-/// that are owed. `J` is how a transfer is held.
+/// A server's end of a session: who may log in, the session, the line that is read, the one that waits and the one that was
+/// acted on, and the octets that are owed. `J` is how a transfer is held.
 pub struct Server<A: Allocator + Copy, T: Drop, J: Drop> {
     pub(crate) footing: Footing<A>,
     pub(crate) session: Session<A, T, J>,
     pub(crate) reader: Reader<A>,
     pub(crate) waiting: Option<HeardLine<Argument<A>>>,
     pub(crate) output: Output<A>,
+    /// The line that the last call acted on, where it acted on one.
+    pub(crate) heard: Option<ActedLine>,
     /// In how many calls a growth was refused; it wraps.
     pub(crate) refusals: u64,
     ghost room: { HasRoom session.connection output },
@@ -35,6 +37,7 @@ impl<A: Allocator + Copy, T: Drop, J: Drop> Drop for Server<A, T, J> {
             reader: _,
             waiting: _,
             output: _,
+            heard: _,
             refusals: _,
         } = self;
     }
@@ -51,6 +54,7 @@ impl<A: Allocator + Copy, T: Drop, J: Drop> Server<A, T, J> {
             reader: _,
             waiting: _,
             output: _,
+            heard: _,
             refusals: _,
         } = self;
         session

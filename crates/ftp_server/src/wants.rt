@@ -1,14 +1,19 @@
 // What a server wants of the connections (RFC 959, section 3.2).
-ghost use Rattle.std.specs.Prelude.{◌≡◌, length};
+ghost use Rattle.std.specs.Prelude.{◌≡◌, drop, length, option_map};
 ghost use Rattle.ftp_ends.specs.Octets.{has_octets};
 ghost use Rattle.ftp_server_model.specs.Calls.{is_done, may_receive, to_give, wants, wants_of};
-ghost use Rattle.ftp_server_model.specs.Machine.{is_running};
+ghost use Rattle.ftp_server_model.specs.Heard.{code_in, lent, login_in};
+ghost use Rattle.ftp_server_model.specs.Machine.{is_running, is_transferring};
 ghost use Rattle.ftp_server.specs.Busy.{is_opening};
 
+use crate::hear::is_transferring;
 use crate::server::Server;
 use ftp_endpoint::Host;
 use ftp_ends::Wants;
-use ftp_server_model::{Life, ServerLink, Way};
+use ftp_operation::Rights;
+use ftp_path::Path;
+use ftp_server_model::{Answered, Life, ServerLink, Way};
+use ftp_server_parts::is_in;
 use ftp_server_session::ServerTransfer;
 use ftp_tree::Tree;
 use std::alloc::Allocator;
@@ -69,6 +74,40 @@ impl<A: Allocator + Copy, T: Tree<A>, J: ServerTransfer<A, T>> Server<A, T, J> {
         ensures { result ≡ (view_of T.table J.view self.now).footing.here }
     {
         self.footing.here
+    }
+
+    /// The line that the last call acted on, if it acted on one. Takes no memory.
+    pub fn answered(&self) -> Option<Answered<'_>>
+        ensures { option_map lent result ≡ self.now.heard }
+    {
+        match &self.heard {
+            Some(line) => Some(line.lend()),
+            None => None,
+        }
+    }
+
+    /// The root of the account of who is logged in, and its rights; none where nobody is.
+    pub fn login(&self) -> Option<(&Path<A>, Rights)>
+        ensures { option_map (λ login. (login.0.now, login.1)) result ≡ login_in (view_of T.table J.view self.now).session }
+    {
+        if !is_in(&self.session.access) {
+            return None;
+        }
+        Some((&self.session.root, self.session.rights))
+    }
+
+    /// The code whose three digits stand at a place of the octets that are owed; none where no three digits stand there.
+    pub fn code_at(&self, place: usize) -> Option<u16>
+        ensures { result ≡ code_in (drop place (view_of T.table J.view self.now).owed) }
+    {
+        self.output.code_at(place)
+    }
+
+    /// Whether a transfer is under way, its data connection open or still to come.
+    pub fn is_transferring(&self) -> bool
+        ensures { result ≡ is_transferring (view_of T.table J.view self.now).session.connection }
+    {
+        is_transferring(&self.session.connection)
     }
 
     /// Whether neither QUIT nor the end of the control connection came.

@@ -18,7 +18,7 @@ pub record Timed : Type 0 where
   pub told : Option (List ℕ)
 
 -- of values of the program
-abbrev pub timed : {F C : Type 0} → (F → Server) → (C → Option (List ℕ)) → Clocked F C → Timed
+abbrev pub timed : {F C O : Type 0} → (F → Server) → (C → Option (List ℕ)) → Clocked F C O → Timed
 timed server told clocked = record { server = server clocked.server; told = told clocked.watch }
 
 -- the server is called, and the clock is not asked

@@ -4,7 +4,7 @@ ghost use Rattle.ftp_control.specs.Machine.{held};
 ghost use Rattle.ftp_server_drive.specs.Driving.{Drives};
 ghost use Rattle.ftp_server_drive.specs.Side.{beside, timed};
 
-use crate::clocked::Clocked;
+use crate::clocked::{Clocked, Watches};
 use crate::serves::Serves;
 use ftp_control::{Cause, Control, Ports, Watch};
 use ftp_control_drive::drive_end;
@@ -17,9 +17,9 @@ use std::io::{Read, Write};
 ///
 /// All that the server owes is written before more is read, and all that was read is heard, while a transfer is under way too: between its
 /// pieces, and where its data connection would wait. Where the drive breaks off, which it does only for a `Cause` that is so, the server is told
-/// that the control connection ended. Data connections and ports are closed at the end.
-pub fn drive_server<A, T, F, R, W, P, C>(
-    clocked: &mut Clocked<F, C>,
+/// that the control connection ended. Who looks on is shown the server behind each of its calls. Data connections and ports are closed at the end.
+pub fn drive_server<A, T, F, R, W, P, C, O>(
+    clocked: &mut Clocked<F, C, O>,
     control: &mut Control<R, W>,
     ports: &mut P,
 ) -> Result<(), Cause>
@@ -31,9 +31,12 @@ where
     W: Write + Drop,
     P: Ports,
     C: Watch,
+    O: Watches<F>,
     ensures { Drives control.new.failed (beside R.remaining W.contents (held (timed F.server C.told clocked.old) (no_lane (P.history ports.old))) control.old) (beside R.remaining W.contents (held (timed F.server C.told clocked.new) (no_lane (P.history ports.new))) control.new) result }
 {
-    let (data, ended) = drive_end::<Serves<A, T>, Clocked<F, C>, R, W, P>(clocked, control, ports);
+    let (data, ended) = drive_end::<Serves<A, T>, Clocked<F, C, O>, R, W, P>(
+        clocked, control, ports,
+    );
     match ended {
         Ok(()) => {
             data.finish(ports);
@@ -41,7 +44,7 @@ where
         }
         Err(cause) => {
             let mut data = data;
-            data.cut::<Serves<A, T>, Clocked<F, C>>(clocked);
+            data.cut::<Serves<A, T>, Clocked<F, C, O>>(clocked);
             data.finish(ports);
             Err(cause)
         }

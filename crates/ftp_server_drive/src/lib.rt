@@ -6,6 +6,6 @@ mod clocked;
 mod drive;
 mod serves;
 
-pub use clocked::Clocked;
+pub use clocked::{Clocked, Watches};
 pub use drive::drive_server;
 pub use ftp_control::Control;

@@ -7,7 +7,7 @@ ghost use Rattle.ftp_server_model.specs.Machine.{may_hear};
 ghost use Rattle.ftp_server_drive.specs.Driving.{IsDone};
 ghost use Rattle.ftp_server_drive.specs.Side.{Timely, ends_line, server_machine, timed};
 
-use crate::clocked::Clocked;
+use crate::clocked::{Clocked, Watches};
 use ftp_control::Watch;
 use ftp_control_drive::EndCalls;
 use ftp_endpoint::Host;
@@ -22,12 +22,13 @@ pub(crate) struct Serves<A, T> {
     _serves: PhantomData<(A, T)>,
 }
 
-impl<A, T, F, C> EndCalls<Clocked<F, C>> for Serves<A, T>
+impl<A, T, F, C, O> EndCalls<Clocked<F, C, O>> for Serves<A, T>
 where
     A: Allocator + Copy,
     T: Tree<A>,
     F: Far<A, T>,
     C: Watch,
+    O: Watches<F>,
 {
     type Over = ();
 
@@ -44,77 +45,93 @@ where
     }
 
     /// It is over where the server is done with the control connection.
-    fn over(end: &mut Clocked<F, C>) -> Option<()> {
+    fn over(end: &mut Clocked<F, C, O>) -> Option<()> {
         match end.server.wants() {
             Wants::CloseAll => Some(()),
             _ => None,
         }
     }
 
-    fn wants(end: &Clocked<F, C>) -> Wants {
+    fn wants(end: &Clocked<F, C, O>) -> Wants {
         end.server.wants()
     }
 
-    fn may_hear(end: &Clocked<F, C>) -> bool {
+    fn may_hear(end: &Clocked<F, C, O>) -> bool {
         end.server.may_hear()
     }
 
     /// One octet a call: what is behind it is heard where the server takes it, or waits for a transfer's end.
-    fn hear(end: &mut Clocked<F, C>, unheard: &[u8]) -> usize {
+    fn hear(end: &mut Clocked<F, C, O>, unheard: &[u8]) -> usize {
         if ends_line(unheard) {
-            return hear_end::<A, T, F, C>(end, unheard);
+            return hear_end::<A, T, F, C, O>(end, unheard);
         }
-        hear_one::<A, T, F>(&mut end.server, unheard)
+        let count = hear_one::<A, T, F>(&mut end.server, unheard);
+        end.watcher.saw(&end.server);
+        count
     }
 
-    fn owes(end: &Clocked<F, C>) -> bool {
+    fn owes(end: &Clocked<F, C, O>) -> bool {
         end.server.owes()
     }
 
-    fn control_out(end: &mut Clocked<F, C>, room: &mut [u8]) -> usize {
-        end.server.control_out(room)
+    fn control_out(end: &mut Clocked<F, C, O>, room: &mut [u8]) -> usize {
+        let count = end.server.control_out(room);
+        end.watcher.saw(&end.server);
+        count
     }
 
-    fn control_end(end: &mut Clocked<F, C>) {
+    fn control_end(end: &mut Clocked<F, C, O>) {
         end.server.control_end();
+        end.watcher.saw(&end.server);
     }
 
-    fn listening(end: &mut Clocked<F, C>, port: u16) {
+    fn listening(end: &mut Clocked<F, C, O>, port: u16) {
         end.server.listening(port);
+        end.watcher.saw(&end.server);
     }
 
-    fn listen_refused(end: &mut Clocked<F, C>) {
+    fn listen_refused(end: &mut Clocked<F, C, O>) {
         end.server.listen_refused();
+        end.watcher.saw(&end.server);
     }
 
-    fn data_opened(end: &mut Clocked<F, C>, host: Host) {
+    fn data_opened(end: &mut Clocked<F, C, O>, host: Host) {
         end.server.data_opened(host);
+        end.watcher.saw(&end.server);
     }
 
-    fn data_refused(end: &mut Clocked<F, C>) {
+    fn data_refused(end: &mut Clocked<F, C, O>) {
         end.server.data_refused();
+        end.watcher.saw(&end.server);
     }
 
-    fn data_hear(end: &mut Clocked<F, C>, piece: &[u8]) -> usize {
-        end.server.data_hear(piece)
+    fn data_hear(end: &mut Clocked<F, C, O>, piece: &[u8]) -> usize {
+        let count = end.server.data_hear(piece);
+        end.watcher.saw(&end.server);
+        count
     }
 
-    fn data_end(end: &mut Clocked<F, C>) {
-        tell_time::<A, T, F, C>(end);
+    fn data_end(end: &mut Clocked<F, C, O>) {
+        tell_time::<A, T, F, C, O>(end);
         end.server.data_end();
+        end.watcher.saw(&end.server);
     }
 
-    fn data_fault(end: &mut Clocked<F, C>) {
-        tell_time::<A, T, F, C>(end);
+    fn data_fault(end: &mut Clocked<F, C, O>) {
+        tell_time::<A, T, F, C, O>(end);
         end.server.data_fault();
+        end.watcher.saw(&end.server);
     }
 
-    fn data_out(end: &mut Clocked<F, C>, room: &mut [u8]) -> usize {
-        end.server.data_out(room)
+    fn data_out(end: &mut Clocked<F, C, O>, room: &mut [u8]) -> usize {
+        let count = end.server.data_out(room);
+        end.watcher.saw(&end.server);
+        count
     }
 
-    fn data_closed(end: &mut Clocked<F, C>) {
+    fn data_closed(end: &mut Clocked<F, C, O>) {
         end.server.data_closed();
+        end.watcher.saw(&end.server);
     }
 
     ghost is_over = { λ old new asked serves. asked.1 };
@@ -123,31 +140,36 @@ where
 }
 
 /// The server is told the moment that its clock tells.
-fn tell_time<A, T, F, C>(end: &mut Clocked<F, C>)
+fn tell_time<A, T, F, C, O>(end: &mut Clocked<F, C, O>)
 where
     A: Allocator + Copy,
     T: Tree<A>,
     F: Far<A, T>,
     C: Watch,
+    O: Watches<F>,
     ensures { (moment : ℕ) × Adds (C.told end.old.watch) (C.told end.new.watch) (moment ∷ []) × Acts (clock_step moment) (F.server end.old.server) (F.server end.new.server) }
 {
     let moment = end.watch.moment();
     end.server.clock(moment);
+    end.watcher.saw(&end.server);
 }
 
 /// Hears an octet that ends a line, behind the moment.
-fn hear_end<A, T, F, C>(end: &mut Clocked<F, C>, unheard: &[u8]) -> usize
+fn hear_end<A, T, F, C, O>(end: &mut Clocked<F, C, O>, unheard: &[u8]) -> usize
 where
     A: Allocator + Copy,
     T: Tree<A>,
     F: Far<A, T>,
     C: Watch,
+    O: Watches<F>,
     ensures within { (result ≤ length unheard.now) × (length (take result unheard.now) ≤ 1) }
     ensures took { Timely (Hears (take result unheard.now)) (timed F.server C.told end.old) (timed F.server C.told end.new) }
     ensures some { IsTrue (may_hear (F.server end.old.server).view) → 0 < length unheard.now → 0 < result }
 {
-    tell_time::<A, T, F, C>(end);
-    hear_one::<A, T, F>(&mut end.server, unheard)
+    tell_time::<A, T, F, C, O>(end);
+    let count = hear_one::<A, T, F>(&mut end.server, unheard);
+    end.watcher.saw(&end.server);
+    count
 }
 
 /// Hears the first of these octets, and gives how many were taken.

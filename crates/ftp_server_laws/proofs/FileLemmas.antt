@@ -10,14 +10,15 @@ use Rattle.std.specs.Ordering.{eq_by_cmp, is_eq, is_lt}
 use Rattle.std.proofs.lemmas.Bool.{and_parts, cond_both, leb-true}
 use Rattle.ftp_path.specs.Path.{Names, moved_path, path_cmp}
 use Rattle.ftp_tree.specs.Store.{Rows}
-use Rattle.ftp_tree.specs.Tree.{Node, Dir, File, Table, node_at, octets_at, octets_of, of_node, octets_or_none, octets_refusal, or_else, room_at, whenever, made, removed, installed, moved, under, with_part}
+use Rattle.ftp_tree.specs.Tree.{Node, Dir, File, Table, node_at, octets_at, octets_of, of_node, octets_or_none, octets_refusal, or_else, room_at, whenever, made, removed, installed, freed, moved, under, with_part}
 use Rattle.ftp_direct.specs.Direct.{place_in, size_in}
 use Rattle.ftp_settings.specs.declared.representation.Kind.{Kind}
 use Rattle.ftp_tree.specs.declared.fault.TreeFault.{TreeFault}
 use Rattle.ftp_tree.specs.declared.fault.TreeFault.TheVariants.{TooBig, Full}
 use Rattle.ftp_tree.proofs.EntryLemmas.{less-from, true-from}
-use Rattle.ftp_tree.proofs.KeepLaws.{at-insert, at-remove}
+use Rattle.ftp_tree.proofs.KeepLaws.{at-insert, at-remove, by-freed}
 use Rattle.ftp_tree.proofs.LawLemmas.{cmp-front, get-moved, get-node, same, under-stands}
+use Rattle.ftp_tree.proofs.PartLemmas.{part-taken, put_again}
 use Rattle.ftp_tree.proofs.UnderLemmas.{insert-under, remove-under, moved-under}
 use Rattle.ftp_server_model.specs.Held.{HasShortFiles}
 
@@ -105,8 +106,17 @@ unfolding installed
 installed_short table root path octets moment few short =
     subst HasShortFiles (sym (insert-under table root path (File octets moment))) (insert_short table (root ++ path) (File octets moment) few short)
 
-pub renamed_short : (table : Table) (root from to : Names) → HasShortFiles table → HasShortFiles (with_part table root (moved (under table root) from to))
-renamed_short table root from to short = subst HasShortFiles (sym (moved-under table root from to)) (moved_short table (root ++ from) (root ++ to) short)
+moves_short : (table : Table) (root from to : Names) → HasShortFiles table → HasShortFiles (with_part table root (moved (under table root) from to))
+moves_short table root from to short = subst HasShortFiles (sym (moved-under table root from to)) (moved_short table (root ++ from) (root ++ to) short)
+
+-- the same where a file's place is freed first
+pub renamed_short : (onto : Bool) (table : Table) (root from to : Names) → HasShortFiles table → HasShortFiles (with_part table root (moved (freed onto (under table root) from to) from to))
+renamed_short onto table root from to short =
+    let part = removed (under table root) to in
+    let without = with_part table root part in
+    by-freed (λ part. HasShortFiles (with_part table root (moved part from to))) onto (under table root) from to (moves_short table root from to short)
+    (λ takes. subst HasShortFiles (ap (λ part. with_part without root (moved part from to)) (part-taken table root part) ∙ put_again table root part (moved part from to))
+    (moves_short without root from to (removed_short table root to short)))
 
 -- a file of it is within the limit
 pub seen_short : (table : Table) (root path : Names) → HasShortFiles table → length (octets_or_none (under table root) path) ≤ 67108864

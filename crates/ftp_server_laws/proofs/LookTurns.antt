@@ -30,7 +30,7 @@ use Rattle.ftp_server_model.specs.Replies.{Turn, tells}
 use Rattle.ftp_server_model.specs.Setting.{choose, is_utf8_on, opts}
 use Rattle.ftp_server_model.specs.Transfer.{rests, begin, transfer_starts, place_of, stor_at, appe_at}
 use Rattle.ftp_server_model.specs.View.{Accounts, Footing, Session, Transfer, direct_of, as_direct, how_in_force, seen, with_seen}
-use Rattle.ftp_server_model.specs.Walk.{unless, path_of, performs, refused_source, refused_target, rnto}
+use Rattle.ftp_server_model.specs.Walk.{target_seen, unless, path_of, performs, refused_source, refused_target, rnto}
 use Rattle.ftp_server_model.specs.declared.heard.HeardLine.{HeardLine}
 use Rattle.ftp_server_model.specs.declared.heard.HeardLine.TheVariants.{TooLong, Bad, Asks}
 use Rattle.ftp_server_model.specs.declared.reply.FixedReply.TheVariants as Texts
@@ -169,7 +169,7 @@ module _ (table : Table) where
   rnto_looks : (pending : Pending Names) (text : List ℕ) (s : Session) → Looks table s → LooksTurn (rnto pending text s)
   rnto_looks (Pendings.Rename from) text s k =
       let to : Names = path_of s text in
-      unless_looks (refused_target s from to) s (tells Texts.Done (with_seen (moved (seen s) from to) s)) k
+      unless_looks (refused_target s from to) s (tells Texts.Done (with_seen (moved (target_seen s from to) from to) s)) k
       (λ none. wanting _ s.rights.rename (ap (λ (rights : Rights). rights.rename) k.rights) (first_is_none _ _ none))
   rnto_looks Pendings.Nothing text s k = k
   rnto_looks (Pendings.Restart place) text s k = k

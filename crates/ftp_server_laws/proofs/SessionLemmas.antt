@@ -28,7 +28,7 @@ use Rattle.ftp_server_model.specs.Replies.{Turn, tells}
 use Rattle.ftp_server_model.specs.Setting.{choose, is_utf8_on, opts}
 use Rattle.ftp_server_model.specs.Transfer.{rests, begin, transfer_starts, place_of, stor_at, appe_at, refused_to_hold}
 use Rattle.ftp_server_model.specs.View.{Accounts, Footing, Session, Transfer, direct_of, as_direct, how_in_force, seen, with_seen}
-use Rattle.ftp_server_model.specs.Walk.{unless, path_of, performs, refused_source, refused_target, rnto}
+use Rattle.ftp_server_model.specs.Walk.{target_seen, unless, path_of, performs, refused_source, refused_target, rnto}
 use Rattle.ftp_server_model.specs.declared.heard.HeardLine.{HeardLine}
 use Rattle.ftp_server_model.specs.declared.heard.HeardLine.TheVariants.{TooLong, Bad, Asks}
 use Rattle.ftp_server_model.specs.declared.reply.FixedReply.{FixedReply}
@@ -152,8 +152,8 @@ rests_short (Some why) place s k = k
 rnto_short : (pending : Pending Names) (text : List ℕ) (s : Session) → IsShortSession s → IsShortTurn (rnto pending text s)
 rnto_short (Pendings.Rename from) text s k =
     let to : Names = path_of s text in
-    unless_short (refused_target s from to) s (tells Texts.Done (with_seen (moved (seen s) from to) s)) k
-    (record { files = renamed_short s.table s.root from to k.files; connection = k.connection })
+    unless_short (refused_target s from to) s (tells Texts.Done (with_seen (moved (target_seen s from to) from to) s)) k
+    (record { files = renamed_short s.rights.onto s.table s.root from to k.files; connection = k.connection })
 rnto_short Pendings.Nothing text s k = k
 rnto_short (Pendings.Restart place) text s k = k
 

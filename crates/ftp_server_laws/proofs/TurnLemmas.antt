@@ -15,7 +15,7 @@ use Rattle.ftp_operation.specs.declared.op.Op.TheVariants as Ops
 use Rattle.ftp_direct.specs.Direct.{refusal, barred, done, limited, or_refused, refused_name, is_directory}
 use Rattle.ftp_direct.specs.declared.refusal.Refusal.{Refusal}
 use Rattle.ftp_tree.proofs.PartLemmas.{part-stays, part-taken}
-use Rattle.ftp_tree.specs.Tree.{Table, made, removed, moved, node_at, rename_refusal, under}
+use Rattle.ftp_tree.specs.Tree.{Table, freed, made, removed, moved, node_at, rename_refusal, under}
 use Rattle.ftp_server_model.specs.Act.{act, decided, forgets, is_allowed, is_in, is_transfer}
 use Rattle.ftp_server_model.specs.Ask.{size, mdtm, mlst, has_size, or_empty, size_of}
 use Rattle.ftp_server_model.specs.Endpoint.{forgotten, is_taken, takes, port, asks, pasv, epsv}
@@ -27,7 +27,7 @@ use Rattle.ftp_server_model.specs.Replies.{Turn, said_octets, tells}
 use Rattle.ftp_server_model.specs.Setting.{choose, is_utf8_on, opts}
 use Rattle.ftp_server_model.specs.Transfer.{rests, begin, transfer_starts, place_of, retr, retr_at, stor, stor_at, appe, appe_at, list, nlst, mlsd}
 use Rattle.ftp_server_model.specs.View.{Accounts, Footing, Session, Transfer, direct_of, as_direct, how_in_force, seen, with_seen}
-use Rattle.ftp_server_model.specs.Walk.{unless, path_of, performs, refused_source, refused_target, rnfr, renames, rnto}
+use Rattle.ftp_server_model.specs.Walk.{target_seen, unless, path_of, performs, refused_source, refused_target, rnfr, renames, rnto}
 use Rattle.ftp_server_model.specs.declared.heard.HeardLine.{HeardLine}
 use Rattle.ftp_server_model.specs.declared.heard.HeardLine.TheVariants.{TooLong, Bad, Asks}
 use Rattle.ftp_server_model.specs.declared.reply.FixedReply.{FixedReply}
@@ -205,8 +205,8 @@ rnfr_own text s =
 renames_own : (from to : Names) (s : Session) → OwnTurn s (renames from to s) (renames from to (at s.root s))
 renames_own from to s =
     unless_own (refused_target s from to) (refused_target (at s.root s) from to) s _ _
-    (ap (λ part. or_refused (barred s.rights.rename) (refused_name (limited to (rename_refusal part from to)))) (seen_at s))
-    (changes s (moved (seen s) from to) (moved (seen (at s.root s)) from to) _ (ap (λ part. moved part from to) (seen_at s)) tt)
+    (ap (λ part. or_refused (barred s.rights.rename) (refused_name (limited to (rename_refusal (freed s.rights.onto part from to) from to)))) (seen_at s))
+    (changes s (moved (target_seen s from to) from to) (moved (target_seen (at s.root s) from to) from to) _ (ap (λ part. moved (freed s.rights.onto part from to) from to) (seen_at s)) tt)
 
 rnto_own : (pending : Pending Names) (text : List ℕ) (s : Session) → OwnTurn s (rnto pending text s) (rnto pending text (at s.root s))
 rnto_own (Pendings.Rename from) text s = renames_own from (path_of s text) s
@@ -428,7 +428,7 @@ rests_begins (Some why) place s = inl (refl, refl)
 
 rnto_begins : (pending : Pending Names) (text : List ℕ) (s : Session) → Begins s (rnto pending text s).0
 rnto_begins (Pendings.Rename from) text s =
-    unless_begins (refused_target s from (path_of s text)) s (tells Texts.Done (with_seen (moved (seen s) from (path_of s text)) s)) (inl (refl, refl))
+    unless_begins (refused_target s from (path_of s text)) s (tells Texts.Done (with_seen (moved (target_seen s from (path_of s text)) from (path_of s text)) s)) (inl (refl, refl))
 rnto_begins Pendings.Nothing text s = inl (refl, refl)
 rnto_begins (Pendings.Restart place) text s = inl (refl, refl)
 

@@ -1,5 +1,5 @@
 -- The worked rows of a server, computed.
-use Rattle.std.proofs.Common.{◌≡◌, ℕ, List, [], ◌∷◌, ◌++◌, Bool, false, Option, Some, None, refl, ap, ◌∙◌}
+use Rattle.std.proofs.Common.{◌≡◌, ℕ, List, [], ◌∷◌, ◌++◌, Bool, true, false, Option, Some, None, refl, ap, ◌∙◌}
 use Rattle.std.specs.Prelude.{codes, decimal, drop, filter_map, unwrap_or}
 use Rattle.ftp_command.specs.declared.command.Command.TheVariants as command
 use Rattle.ftp_settings.specs.declared.representation.Kind.TheVariants as Kinds
@@ -13,7 +13,9 @@ use Rattle.ftp_direct.specs.declared.refusal.Refusal.{Refusal}
 use Rattle.ftp_direct.specs.Direct.{entries_in, entry_at, listed as listed_entry, is_directory, names_for, refusal, refused_file, file_of, place_in, or_refused, refused_there}
 use Rattle.ftp_operation.specs.declared.op.Op.TheVariants as Ops
 use Rattle.ftp_path.specs.Path.{resolved, fits, parent, text_of, is_within, Names}
-use Rattle.ftp_tree.specs.Tree.{Node, source_refusal, target_refusal, rename_refusal, octets_at, node_at, children, under, Table, Dir, File}
+use Rattle.ftp_tree.specs.Tree.{Node, source_refusal, target_refusal, rename_refusal, takes_place, freed, moved, octets_at, node_at, children, under, with_part, Table, Dir, File}
+use Rattle.ftp_tree.proofs.KeepLaws.{takes-freed}
+use Rattle.ftp_tree.proofs.OntoLemmas.{free-freed}
 use Rattle.ftp_server_model.specs.View.{Transfer, Session, View, all_facts, direct_of, how_in_force, seen}
 use Rattle.ftp_server_model.specs.Replies.{reply_octets, reply_of}
 use Rattle.ftp_server_model.specs.Entries.{listed_line}
@@ -27,7 +29,7 @@ use Rattle.ftp_facts.specs.Moment.{four_digits}
 use Rattle.ftp_server_model.specs.Machine.{obeyed, completed, turned, owes, with_session}
 use Rattle.ftp_server_model.specs.Calls.{gives_control, listening, listen_refused, data_opened, data_refused, gives_data, to_give, wants}
 use Rattle.ftp_ends.specs.RowWords.{here, elsewhere}
-use Rattle.ftp_server_model.specs.Rows.{RowEvent, after_events, server, member, logged_in, at, of, five, asks, opened, refused, LoginAnswered, OpenLogin, RootMissing, RootIsTop, MadeBelowRoot, WrongPassword, OrderOfDecisions, BeforeLogin, FeaturesTold, Utf8Chosen, FactsChosen, FeaturesBehindOptions, EntryTold, RecordsSent, NamesSent, EntriesSent, OnlyExtended, Reinitialized, QuitHeard, ByFamily, ForeignEndpoint, RefusedOpening, RefusedListen, ForeignOpener, RenameDone, LateRename, DownloadSent, RestartSent, LateRestart, RestartInAscii, RestartInPair, RestartInRecords, ListingSent, EarlyAbort, WaitingLine}
+use Rattle.ftp_server_model.specs.Rows.{RowEvent, after_events, server, member, logged_in, at, of, five, asks, opened, refused, LoginAnswered, OpenLogin, RootMissing, RootIsTop, MadeBelowRoot, WrongPassword, OrderOfDecisions, BeforeLogin, FeaturesTold, Utf8Chosen, FactsChosen, FeaturesBehindOptions, EntryTold, RecordsSent, NamesSent, EntriesSent, OnlyExtended, Reinitialized, QuitHeard, ByFamily, ForeignEndpoint, RefusedOpening, RefusedListen, ForeignOpener, RenameDone, OntoRefused, OntoDone, LateRename, DownloadSent, RestartSent, LateRestart, RestartInAscii, RestartInPair, RestartInRecords, ListingSent, EarlyAbort, WaitingLine}
 use Rattle.ftp_server_model.specs.declared.session.Pending.TheVariants as Pendings
 use Rattle.ftp_server_model.specs.declared.session.ServerLink.TheVariants as Data
 use Rattle.ftp_server_model.specs.declared.session.Transfer.TheVariants as Transfers
@@ -127,8 +129,23 @@ unfolding obeyed fits text_of resolved source_refusal is_within
 late_rename table root d = rw d refl
 
 pub rename : RenameDone
-unfolding obeyed fits text_of resolved source_refusal rename_refusal target_refusal is_within parent
+unfolding obeyed fits text_of resolved source_refusal rename_refusal target_refusal freed is_within parent
 rename table root top d e fit = (rw d (rw d (rw e (rw top (rw fit refl)))), rw d (rw d (rw e (rw top (rw fit refl)))))
+
+pub onto_refused : OntoRefused
+unfolding obeyed fits text_of resolved source_refusal rename_refusal target_refusal freed is_within
+onto_refused table root octets other moment later d e = (rw d (rw d (rw e refl)), rw d (rw d (rw e refl)))
+
+-- the file takes the place of the other, which nothing refuses
+pub onto_done : OntoDone
+unfolding obeyed fits text_of resolved source_refusal takes_place is_within
+onto_done table root octets other moment later tree d e =
+    let part = under table root in
+    let from = of (codes "d") in
+    let to = of (codes "e") in
+    let takes : takes_place part from to ≡ true = rw d (rw e refl) in
+    let none = free-freed part from to tree refl takes in
+    (rw d (rw none refl), rw d (rw none (ap (λ part. with_part table root (moved part from to)) (takes-freed part from to takes))))
 
 pub active_download : DownloadSent
 unfolding obeyed fits text_of resolved octets_at data_opened gives_data

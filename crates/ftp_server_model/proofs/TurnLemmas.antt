@@ -37,7 +37,7 @@ use Rattle.ftp_server_model.specs.Setting.{choose, is_utf8_on, opts}
 use Rattle.ftp_server_model.specs.Told.{is_path, CanBeSaid, ReadCanBeHeard, PendingKeeps, TransferKeeps, ConnectionKeeps, Keeps, AreWithinLimits, TurnKeeps, LineKeeps}
 use Rattle.ftp_server_model.specs.Transfer.{rests, begin, transfer_starts, stor_at, appe_at, refused_to_hold, place_of}
 use Rattle.ftp_server_model.specs.View.{Accounts, Footing, Session, Transfer, direct_of, as_direct, how_in_force, seen, with_seen}
-use Rattle.ftp_server_model.specs.Walk.{unless, path_of, performs, refused_source, refused_target, rnto}
+use Rattle.ftp_server_model.specs.Walk.{target_seen, unless, path_of, performs, refused_source, refused_target, rnto}
 use Rattle.ftp_server_model.specs.declared.heard.HeardLine.TheVariants.{TooLong, Bad, Asks}
 use Rattle.ftp_server_model.specs.declared.reply.FixedReply.{FixedReply}
 use Rattle.ftp_server_model.specs.declared.reply.FixedReply.TheVariants as Texts
@@ -244,7 +244,7 @@ rests_keeps (Some why) place s short k idle = tells_keeps _ s k
 rnto_keeps : (pending : Pending Names) (text : List ℕ) (s : Session) → Keeps s → TurnKeeps (rnto pending text s)
 rnto_keeps (Pendings.Rename from) text s k =
     let to : Names = path_of s text in
-    let renamed : Session = with_seen (moved (seen s) from to) s in
+    let renamed : Session = with_seen (moved (target_seen s from to) from to) s in
     unless_keeps (refused_target s from to) s (tells Texts.Done renamed) k
     (λ is. tells_keeps Texts.Done renamed (record { access = k.access; root = k.root; cwd = k.cwd; pending = k.pending; connection = k.connection }))
 rnto_keeps Pendings.Nothing text s k = tells_keeps Texts.BadSequence s k

@@ -19,6 +19,7 @@ pub mod Kept
 pub mod Failing
 pub mod Counting
 pub mod Far
+pub mod Heard
 pub mod Most
 pub mod Bounds
 pub mod Play

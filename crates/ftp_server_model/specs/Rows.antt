@@ -14,7 +14,7 @@ use Rattle.ftp_endpoint.specs.declared.host.Host.{Host}
 use Rattle.ftp_operation.specs.Rights.{all_rights}
 use Rattle.ftp_operation_secret.specs.Secret.{plain}
 use Rattle.ftp_path.specs.Path.{Names}
-use Rattle.ftp_tree.specs.Tree.{Dir, File, Table, node_at, children, installed, made, moved, make_refusal, moves_fit, room_at, under, with_part}
+use Rattle.ftp_tree.specs.Tree.{Dir, File, Table, IsTree, node_at, children, installed, made, moved, removed, make_refusal, moves_fit, room_at, under, with_part}
 use Rattle.ftp_ends.specs.RowWords.{here, elsewhere, lines}
 use Rattle.ftp_server_model.specs.View.{Accounts, View}
 use Rattle.ftp_server_model.specs.Machine.{heard_line, may_hear}
@@ -249,6 +249,26 @@ RenameDone =
     → let v = member table root (asks (command.Rnfr (codes "d")) ∷ asks (command.Rnto (codes "e")) ∷ []) in
     (v.owed ≡ said_to_member (codes "350 Ready for the new name" ∷ codes "250 Done" ∷ []))
     × (v.session.table ≡ with_part table root (moved (under table root) (of (codes "d")) (of (codes "e"))))
+
+-- 553: RNTO onto a file, of an account that may not rename onto files
+abbrev pub OntoRefused : Type 0
+OntoRefused =
+    (table : Table) (root : Names) (octets other : List ℕ) (moment later : ℕ) → node_at (under table root) (of (codes "d")) ≡ Some (File octets moment)
+    → node_at (under table root) (of (codes "e")) ≡ Some (File other later)
+    → let v = member table root (asks (command.Rnfr (codes "d")) ∷ asks (command.Rnto (codes "e")) ∷ []) in
+    (v.owed ≡ said_to_member (codes "350 Ready for the new name" ∷ codes "553 Name refused" ∷ [])) × (v.session.table ≡ table)
+
+-- the same, of one that may: the file takes the place of the other
+abbrev pub OntoDone : Type 0
+OntoDone =
+    (table : Table) (root : Names) (octets other : List ℕ) (moment later : ℕ) → IsTree (under table root)
+    → node_at (under table root) (of (codes "d")) ≡ Some (File octets moment) → node_at (under table root) (of (codes "e")) ≡ Some (File other later)
+    → let may = record all_rights { onto = true } in
+    let there = logged_in table root in
+    let asked = asks (command.Rnfr (codes "d")) ∷ asks (command.Rnto (codes "e")) ∷ [] in
+    let v = after_events asked (record there { session = record there.session { rights = may } }) in
+    (v.owed ≡ said_to_member (codes "350 Ready for the new name" ∷ codes "250 Done" ∷ []))
+    × (v.session.table ≡ with_part table root (moved (removed (under table root) (of (codes "e"))) (of (codes "d")) (of (codes "e"))))
 
 -- RNTO counts right after an RNFR
 abbrev pub LateRename : Type 0

@@ -1,16 +1,20 @@
 // The server's end of a session, as a world of both sees it: each call is a step of the view that `specs` has for it.
-ghost use Rattle.std.specs.Prelude.{◌≡◌, ◌<◌, ◌≤◌, ℕ, IsTrue, length, min, take};
+ghost use Rattle.std.specs.Prelude.{◌≡◌, ◌<◌, ◌≤◌, ℕ, IsTrue, None, Option, drop, length, min, option_map, take};
 ghost use Rattle.ftp_server_model.specs.Calls.{break_step, clock_step, close_step, control_end, control_step, end_step, given_step, listening_step, may_receive, no_port_step, opened_step, refused_step, to_give, wants};
 ghost use Rattle.ftp_server_model.specs.Failing.{EndFails, GiveFails};
-ghost use Rattle.ftp_server_model.specs.Machine.{may_hear};
+ghost use Rattle.ftp_server_model.specs.Heard.{Heard, Tells, TellsHeard, TellsReceived, code_in, lent, login_in};
+ghost use Rattle.ftp_server_model.specs.Machine.{is_transferring, may_hear};
 ghost use Rattle.ftp_server_model.specs.Most.{IsMostHeard, IsMostReceived};
 ghost use Rattle.ftp_server_model.specs.Far.{Acts, Hears, Receives, Server, Steps, counts_told};
 ghost use Rattle.ftp_ends.specs.Octets.{has_octets};
 
 use crate::counts::Counts;
+use crate::heard::Answered;
 use ftp_endpoint::Host;
 use ftp_ends::Wants;
 use ftp_facts::Moment;
+use ftp_operation::Rights;
+use ftp_path::Path;
 use ftp_tree::Tree;
 use std::alloc::Allocator;
 
@@ -18,15 +22,19 @@ use std::alloc::Allocator;
 /// (both wrap, and move by as many as `specs/Counting` says at most), the call left what `specs/Failing` says, and every later call is a step again.
 pub trait Far<A: Allocator + Copy, T: Tree<A>>: Drop {
     ghost server: { Self → Server };
+    /// The line that the last call acted on, where it acted on one; what it is where a count changed in that call is not said.
+    ghost heard: { Self → Option Heard };
 
     /// The moment in force from now on.
     fn clock(&mut self, moment: Moment)
-        ensures { Acts (clock_step moment.seconds) (server self.old) (server self.new) };
+        ensures acts { Acts (clock_step moment.seconds) (server self.old) (server self.new) }
+        ensures told { Tells (clock_step moment.seconds) (heard self.new) (server self.old) (server self.new) };
 
     /// Takes octets of the control connection, and says how many.
     fn hear(&mut self, piece: &[u8]) -> usize
         ensures within { result ≤ length piece.now }
         ensures took { Hears (take result piece.now) (server self.old) (server self.new) }
+        ensures told { TellsHeard (take result piece.now) (heard self.new) (server self.old) (server self.new) }
         ensures some { IsTrue (may_hear (server self.old).view) → 0 < length piece.now → 0 < result }
 
         // Where nothing failed it takes all of them, or as many as it may.
@@ -37,6 +45,7 @@ pub trait Far<A: Allocator + Copy, T: Tree<A>>: Drop {
         ensures within { (result ≤ length room.old) × (result ≤ length (server self.old).view.owed) }
         ensures gave { take result room.new ≡ take result (server self.old).view.owed }
         ensures now { Acts (control_step result) (server self.old) (server self.new) }
+        ensures told { Tells (control_step result) (heard self.new) (server self.old) (server self.new) }
         ensures some { 0 < length room.old → 0 < length (server self.old).view.owed → 0 < result }
 
         // It gives all that is owed, or fills the room.
@@ -44,28 +53,34 @@ pub trait Far<A: Allocator + Copy, T: Tree<A>>: Drop {
 
     /// The control connection ended.
     fn control_end(&mut self)
-        ensures { server self.new ≡ record (server self.old) { view = control_end (server self.old).view } };
+        ensures acts { server self.new ≡ record (server self.old) { view = control_end (server self.old).view } }
+        ensures told { heard self.new ≡ None };
 
     /// A port is listened at.
     fn listening(&mut self, port: u16)
-        ensures { Acts (listening_step port) (server self.old) (server self.new) };
+        ensures acts { Acts (listening_step port) (server self.old) (server self.new) }
+        ensures told { Tells (listening_step port) (heard self.new) (server self.old) (server self.new) };
 
     /// No port was had.
     fn listen_refused(&mut self)
-        ensures { Acts no_port_step (server self.old) (server self.new) };
+        ensures acts { Acts no_port_step (server self.old) (server self.new) }
+        ensures told { Tells no_port_step (heard self.new) (server self.old) (server self.new) };
 
     /// The data connection is open; this host is at its other end.
     fn data_opened(&mut self, host: Host)
-        ensures { Acts (opened_step host) (server self.old) (server self.new) };
+        ensures acts { Acts (opened_step host) (server self.old) (server self.new) }
+        ensures told { Tells (opened_step host) (heard self.new) (server self.old) (server self.new) };
 
     /// The data connection was not had.
     fn data_refused(&mut self)
-        ensures { Acts refused_step (server self.old) (server self.new) };
+        ensures acts { Acts refused_step (server self.old) (server self.new) }
+        ensures told { Tells refused_step (heard self.new) (server self.old) (server self.new) };
 
     /// Takes octets of the data connection, and says how many.
     fn data_hear(&mut self, piece: &[u8]) -> usize
         ensures within { result ≤ length piece.now }
         ensures took { Receives (take result piece.now) (server self.old) (server self.new) }
+        ensures told { TellsReceived (take result piece.now) (heard self.new) (server self.old) (server self.new) }
         ensures some { IsTrue (may_receive (server self.old).view) → 0 < length piece.now → 0 < result }
 
         // Where nothing failed it takes all of them, or as many as it may.
@@ -73,17 +88,20 @@ pub trait Far<A: Allocator + Copy, T: Tree<A>>: Drop {
 
     /// The other end closed the data connection.
     fn data_end(&mut self)
-        ensures { Steps EndFails end_step (server self.old) (server self.new) };
+        ensures acts { Steps EndFails end_step (server self.old) (server self.new) }
+        ensures told { Tells end_step (heard self.new) (server self.old) (server self.new) };
 
     /// The data connection broke.
     fn data_fault(&mut self)
-        ensures { Steps EndFails break_step (server self.old) (server self.new) };
+        ensures acts { Steps EndFails break_step (server self.old) (server self.new) }
+        ensures told { Tells break_step (heard self.new) (server self.old) (server self.new) };
 
     /// Gives octets of the data connection, and says how many.
     fn data_out(&mut self, room: &mut [u8]) -> usize
         ensures within { (result ≤ length room.old) × (result ≤ length (to_give (server self.old).view)) }
         ensures gave { take result room.new ≡ take result (to_give (server self.old).view) }
         ensures now { Steps (GiveFails result) (given_step result) (server self.old) (server self.new) }
+        ensures told { Tells (given_step result) (heard self.new) (server self.old) (server self.new) }
         ensures some { (server self.new).counts ≡ (server self.old).counts → 0 < length room.old → 0 < length (to_give (server self.old).view) → 0 < result }
 
         // Where nothing failed it gives all that is left, or fills the room.
@@ -91,7 +109,8 @@ pub trait Far<A: Allocator + Copy, T: Tree<A>>: Drop {
 
     /// A close that it wanted is done.
     fn data_closed(&mut self)
-        ensures { Acts close_step (server self.old) (server self.new) };
+        ensures acts { Acts close_step (server self.old) (server self.new) }
+        ensures told { Tells close_step (heard self.new) (server self.old) (server self.new) };
 
     /// What it wants of the connections. Takes no memory.
     fn wants(&self) -> Wants
@@ -120,6 +139,26 @@ pub trait Far<A: Allocator + Copy, T: Tree<A>>: Drop {
     /// Whether it may take an octet of the data connection.
     fn may_receive(&self) -> bool
         ensures { result ≡ may_receive (server self.now).view };
+
+    /// The line that the last call acted on, if it acted on one. Takes no memory.
+    fn answered(&self) -> Option<Answered<'_>>
+        ensures { option_map lent result ≡ heard self.now };
+
+    /// The root of the account of who is logged in, and its rights; none where nobody is.
+    fn login(&self) -> Option<(&Path<A>, Rights)>
+        ensures { option_map (λ login. (login.0.now, login.1)) result ≡ login_in (server self.now).view.session };
+
+    /// How many octets of the control connection it owes.
+    fn owed(&self) -> usize
+        ensures { result ≡ length (server self.now).view.owed };
+
+    /// The code whose three digits stand at a place of the octets that it owes; none where no three digits stand there.
+    fn code_at(&self, place: usize) -> Option<u16>
+        ensures { result ≡ code_in (drop place (server self.now).view.owed) };
+
+    /// Whether a transfer is under way, its data connection open or still to come.
+    fn is_transferring(&self) -> bool
+        ensures { result ≡ is_transferring (server self.now).view.session.connection };
 
     /// Its tree, whose map is that of the session.
     fn tree(&self) -> &T

@@ -13,7 +13,7 @@ mod session;
 
 pub use counts::Counts;
 pub use far::Far;
-pub use heard::HeardLine;
+pub use heard::{Answered, HeardLine, TOLD_LIMIT};
 pub use reply::{FixedReply, ReplyKind};
 pub use room::{FREE_ROOM, OUTPUT_ROOM};
 pub use session::{Access, Facts, Life, PassiveVerb, Pending, ServerLink, Transfer, Way};

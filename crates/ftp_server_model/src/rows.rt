@@ -1,5 +1,5 @@
 //! Worked rows of a server: functions that do nothing, whose contracts are rows of `specs/Rows`.
-ghost use Rattle.ftp_server_model.specs.Rows.{AbortAnswered, AbortPastRoom, BeforeLogin, BrokenUploadKept, ByFamily, DownloadSent, EarlyAbort, EarlyEnd, EntriesSent, EntryTold, FactsChosen, FaultyUpload, FeaturesBehindOptions, FeaturesTold, ForeignEndpoint, ForeignOpener, LateRename, LateRestart, ListingSent, LoginAnswered, MadeBelowRoot, MarkerAnswered, NamesSent, OnlyExtended, OpenLogin, OrderOfDecisions, QuitHeard, RecordsSent, RefusedListen, RefusedOpening, Reinitialized, RenameDone, RestartInAscii, RestartInPair, RestartInRecords, RestartSent, RootIsTop, RootMissing, TooMuchRefused, UploadDropped, UploadFromPlace, UploadInstalled, Utf8Chosen, WaitingLine, WrongPassword};
+ghost use Rattle.ftp_server_model.specs.Rows.{AbortAnswered, AbortPastRoom, BeforeLogin, BrokenUploadKept, ByFamily, DownloadSent, EarlyAbort, EarlyEnd, EntriesSent, EntryTold, FactsChosen, FaultyUpload, FeaturesBehindOptions, FeaturesTold, ForeignEndpoint, ForeignOpener, LateRename, LateRestart, ListingSent, LoginAnswered, MadeBelowRoot, MarkerAnswered, NamesSent, OnlyExtended, OntoDone, OntoRefused, OpenLogin, OrderOfDecisions, QuitHeard, RecordsSent, RefusedListen, RefusedOpening, Reinitialized, RenameDone, RestartInAscii, RestartInPair, RestartInRecords, RestartSent, RootIsTop, RootMissing, TooMuchRefused, UploadDropped, UploadFromPlace, UploadInstalled, Utf8Chosen, WaitingLine, WrongPassword};
 
 /// A login with a password.
 pub fn login()
@@ -99,6 +99,16 @@ pub fn made()
 /// RNFR and RNTO.
 pub fn rename()
     ensures { RenameDone }
+{}
+
+/// RNTO onto a file, of an account that may not rename onto files.
+pub fn onto_refused()
+    ensures { OntoRefused }
+{}
+
+/// RNTO onto a file, of an account that may.
+pub fn onto_done()
+    ensures { OntoDone }
 {}
 
 /// RNTO behind another line.

@@ -1,1 +1,2 @@
+pub mod CodeLemmas
 pub mod ReplyLemmas

@@ -3,6 +3,7 @@
 //! that a server owes, each reply as it goes out (RFC 959, section 4.2; RFC 2389, RFC 2428, RFC 3659). No IO.
 #![tactic(auto)]
 
+mod acted;
 mod counted;
 mod decision;
 mod endpoint;
@@ -15,6 +16,7 @@ mod reply;
 mod text;
 mod transfer;
 
+pub use acted::{ActedLine, fixed_code, reply_code};
 pub use counted::Counted;
 pub use decision::{fault_text, is_free, is_in, is_transfer, pending_for};
 pub use endpoint::is_taken;

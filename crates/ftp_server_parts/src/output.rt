@@ -1,9 +1,12 @@
 // The control octets that a server owes, in the order in which they go out (RFC 959, section 4.2).
-ghost use Rattle.std.specs.Prelude.{◌≡◌, ◌+◌, ◌-◌, ◌*◌, ◌≤◌, ◌++◌, [], IfOk, length, take, drop, min, nat_le, flat_map, decimal};
+ghost use Rattle.std.specs.Prelude.{◌≡◌, ◌+◌, ◌-◌, ◌*◌, ◌≤◌, ◌++◌, [], IfOk, IfSome, Some, length, take, drop, min, nat_le, flat_map, decimal};
 ghost use Rattle.ftp_ends.specs.Reply.{reply_octets};
 ghost use Rattle.ftp_nvt.specs.Lines.{written_octet};
 ghost use Rattle.ftp_reply.specs.Values.{doubled};
+ghost use Rattle.ftp_server_model.specs.Heard.{code_in};
 ghost use Rattle.ftp_server_model.specs.Replies.{fixed_reply};
+ghost use Rattle.ftp_server_parts.specs.Codes.{digit_in, of_three};
+ghost use Rattle.std.specs.List.{slice_get};
 
 use crate::text::{FIXED_LIMIT, fixed_line};
 use circular_buffer::HeapCircularBuffer;
@@ -80,6 +83,31 @@ impl<A: Allocator + Copy> Output<A> {
         self.octets.read_into(room)
     }
 
+    /// The code whose three digits stand at a place of them; none where no three digits stand there.
+    pub fn code_at(&self, place: usize) -> Option<u16>
+        ensures { result ≡ code_in (drop place self.now) }
+    {
+        if place >= self.octets.len() {
+            return None;
+        }
+        of_three(
+            self.digit_at(place),
+            self.digit_at(place + 1),
+            self.digit_at(place + 2),
+        )
+    }
+
+    /// The number that the octet at a place is as a digit, if it is one.
+    fn digit_at(&self, place: usize) -> Option<u16>
+        ensures is { result ≡ digit_in (slice_get self.now place) }
+        ensures small { IfSome result (λ digit. digit ≤ 9) }
+    {
+        match self.octets.get(place) {
+            Some(octet) => digit_of(*octet),
+            None => None,
+        }
+    }
+
     /// Owes these octets as they are.
     pub fn put(&mut self, octets: &[u8])
         requires { length self.old + length octets.now ≤ OUTPUT_ROOM }
@@ -143,5 +171,29 @@ impl<A: Allocator + Copy> Output<A> {
             }
             self.put_octet(*octet);
         }
+    }
+}
+
+/// The number that an octet is as a digit, if it is one.
+fn digit_of(octet: u8) -> Option<u16>
+    ensures is { result ≡ digit_in (Some octet) }
+    ensures small { IfSome result (λ digit. digit ≤ 9) }
+{
+    if !octet.is_ascii_digit() {
+        return None;
+    }
+    Some((octet - b'0') as u16)
+}
+
+/// The number that three digits are, where each is one.
+fn of_three(a: Option<u16>, b: Option<u16>, c: Option<u16>) -> Option<u16>
+    requires first { IfSome a (λ digit. digit ≤ 9) }
+    requires second { IfSome b (λ digit. digit ≤ 9) }
+    requires third { IfSome c (λ digit. digit ≤ 9) }
+    ensures { result ≡ of_three a b c }
+{
+    match (a, b, c) {
+        (Some(a), Some(b), Some(c)) => Some(100 * a + (10 * b + c)),
+        _ => None,
     }
 }

@@ -101,7 +101,7 @@ impl<A: Allocator + Copy> Output<A> {
         requires room { length self.old + 2 * MARKER_LIMIT + 2 * FIXED_LIMIT ≤ OUTPUT_ROOM }
         requires marker { length theirs.now ≤ MARKER_LIMIT }
         ensures octets { self.new ≡ self.old ++ reply_octets (mark_reply theirs.now held) }
-        ensures room { length self.new ≤ length self.old + 2 * MARKER_LIMIT + 2 * FIXED_LIMIT }
+        ensures room { length self.new ≤ length self.old + 2 * MARKER_LIMIT + FIXED_LIMIT }
     {
         self.put(b"110 MARK ");
         self.put_text(theirs);

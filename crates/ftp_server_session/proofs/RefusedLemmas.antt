@@ -10,8 +10,8 @@ use Rattle.ftp_direct.specs.declared.refusal.Refusal.{Refusal}
 use Rattle.ftp_direct.specs.declared.refusal.Refusal.TheVariants as Refusals
 use Rattle.ftp_direct.proofs.RefusalLemmas.{NoDevice, there_some}
 use Rattle.ftp_server_model.specs.Replies.{Turn, tells}
-use Rattle.ftp_server_model.specs.View.{Session, Transfer, seen, with_seen}
-use Rattle.ftp_server_model.specs.Walk.{path_of, renames, unless}
+use Rattle.ftp_server_model.specs.View.{Session, Transfer, with_seen}
+use Rattle.ftp_server_model.specs.Walk.{path_of, renames, target_seen, unless}
 use Rattle.ftp_server_model.specs.declared.reply.ReplyKind.{ReplyKind}
 use Rattle.ftp_server_model.specs.declared.reply.ReplyKind.TheVariants as Replies
 use Rattle.ftp_server_model.specs.declared.reply.FixedReply.{FixedReply}
@@ -67,8 +67,8 @@ name_due : (s : Session) (turn : Turn) (named path : Names) (refusal : Names →
 name_due s turn named path refusal why is fit e =
     ap (λ r. unless r s turn) (name_some (fits named) (refusal named) (ap fits (sym is) ∙ fit) (ap (λ p. is_some (refusal p)) (sym is) ∙ ap is_some e))
 
-pub rename_due : (s : Session) (from to : Names) (text : List ℕ) (why : TreeFault) → to ≡ resolved s.cwd text → fits to ≡ true → rename_refusal (seen s) from to ≡ Some why
+pub rename_due : (s : Session) (from to : Names) (text : List ℕ) (why : TreeFault) → to ≡ resolved s.cwd text → fits to ≡ true → rename_refusal (target_seen s from to) from to ≡ Some why
     → s.rights.rename ≡ true → renames from (path_of s text) s ≡ (s, Replies.Fixed Texts.NameRefused)
 rename_due s from to text why is fit e may =
     may_due s _ _ s.rights.rename _ may
-    (name_due s (tells Texts.Done (with_seen (moved (seen s) from (path_of s text)) s)) (path_of s text) to (rename_refusal (seen s) from) why is fit e)
+    (name_due s (tells Texts.Done (with_seen (moved (target_seen s from (path_of s text)) from (path_of s text)) s)) (path_of s text) to (λ to. rename_refusal (target_seen s from to) from to) why is fit e)

@@ -1,6 +1,7 @@
 // Octets of the data connection (RFC 959, section 3).
 ghost use Rattle.std.specs.Prelude.{◌≡◌, ◌≤◌, ◌<◌, false, length, min, take, true};
 ghost use Rattle.ftp_server_model.specs.Calls.{connection_of as connection_in, given_by, is_upload};
+ghost use Rattle.ftp_server_model.specs.Endpoint.{forgotten};
 ghost use Rattle.ftp_server_model.specs.Machine.{has_room};
 ghost use Rattle.ftp_ends.specs.Octets.{has_octets};
 ghost use Rattle.ftp_server_model.specs.View.{View};
@@ -20,6 +21,7 @@ impl<A: Allocator + Copy, T: Tree<A>, J: ServerTransfer<A, T>> Session<A, T, J> 
         ensures within { result.count ≤ length piece.now }
         ensures comes { (v : View) → v.session ≡ session_of T.table J.view self.old → has_room v ≡ true → ComesIn v (take result.count piece.now) result.told (session_of T.table J.view self.new) }
         ensures some { is_upload (connection_in (session_of T.table J.view self.old)) ≡ true → 0 < length piece.now → 0 < result.count }
+        ensures over { result.told ≡ Told.Faulty → session_of T.table J.view self.new ≡ forgotten (session_of T.table J.view self.old) }
         ensures tree { self.new.tree ≡ self.old.tree }
         ensures access { self.new.access ≡ self.old.access }
     {

@@ -5,7 +5,7 @@ ghost use Rattle.ftp_server_model.specs.Walk.{cdup, cwd, dele, mkd, rmd, rnfr, r
 ghost use Rattle.ftp_server_session.specs.Session.{RefusedAs};
 
 use crate::session::Session;
-use ftp_direct::{directory_fault, is_busy, is_held};
+use ftp_direct::{directory_fault, is_busy, is_held, move_to};
 use ftp_path::Path;
 use ftp_server_model::{FixedReply, Pending, ReplyKind};
 use ftp_server_parts::{Fault, ServerTransfer};
@@ -151,7 +151,7 @@ impl<A: Allocator + Copy, T: Tree<A>, J: ServerTransfer<A, T>> Session<A, T, J> 
         let Some(to) = found else {
             return Ok(ReplyKind::Fixed(FixedReply::NameRefused));
         };
-        match self.tree.rename(&self.root, from, &to) {
+        match move_to(&mut self.tree, self.rights.onto, &self.root, from, &to) {
             Ok(()) => Ok(ReplyKind::Fixed(FixedReply::Done)),
             Err(fault) => refused(fault, FixedReply::NameRefused),
         }

@@ -7,18 +7,18 @@ mod several;
 
 use clap::{ArgMatches, Error};
 use ftp_tool_command::{
-    BadValue, PLACE_OPTION, Program, Refusal, asked_of, command, download_of, fetch_task_of,
-    mirror_of, openings_of, program_of, rounds_of, script_server_of, script_user_of, serving_of,
-    settings_of, task_of, url_in, urls_in,
+    BadValue, PLACE_OPTION, Program, Refusal, asked_of, command, fetch_task_of, get_task_of,
+    is_matched, mirror_of, openings_of, program_of, rounds_of, script_server_of, script_user_of,
+    serving_of, settings_of, task_of, told_of, url_in, urls_in,
 };
 use ftp_tool_fetch::{Openings, Target, Task};
+use ftp_tool_quiet::Hushed;
 use ftp_tool_shown::Shown;
 use ftp_tool_status::Status;
 use ftp_tool_words::{Location, UrlPlace, place_for, says_directory};
-use programs::Programs;
-use several::{check_places, goes_into, sources_of, uploads_of};
+use programs::{Machine, Programs};
+use several::{check_places, goes_into, is_any_matched, sources_of, uploads_of};
 use std::alloc::{AllocError, Global};
-use std::env::Env;
 use std::io::{Eprint, IsTerminal, Write};
 use std::process::ExitCode;
 use std::{env, io};
@@ -30,13 +30,16 @@ fn main(rt: HostRuntime) -> ExitCode {
 /// Does what the command line asks for, and tells the faults of a wire to `faults`.
 fn run<R, F>(rt: &R, faults: &mut F) -> io::Result<u8>
 where
-    R: Programs + Env + Print + Eprint + AllocGlobal,
+    R: Machine,
     F: Write + IsTerminal,
 {
     let alloc = rt.alloc();
     let words: Vec<String> = env::args(rt)?.collect(alloc)?;
     match matches_of(alloc, words.as_slice()) {
-        Ok(matches) => obey(rt, alloc, &matches, faults),
+        Ok(matches) => {
+            let told = told_of(&matches);
+            obey(&Hushed { rt, told }, alloc, &matches, faults)
+        }
         Err(error) => tell(rt, &error),
     }
 }
@@ -203,8 +206,9 @@ fn get_where<'a, R: Programs + Eprint>(
     urls: &'a [Option<UrlPlace>],
     goal: Goal<'a>,
 ) -> io::Result<u8> {
-    match check_places(words, places, urls, goal.openings, goal.into) {
-        Ok(()) => number_of(get_all(rt, alloc, words, places, urls, goal)),
+    let into = goal.into || is_any_matched(words, places, urls, goal.openings);
+    match check_places(words, places, urls, goal.openings, into) {
+        Ok(()) => number_of(get_all(rt, alloc, words, places, urls, Goal { into, ..goal })),
         Err(refusal) => refuse(rt, refusal),
     }
 }
@@ -241,7 +245,7 @@ fn get_all<'a, R: Programs + Eprint>(
     Ok(worst)
 }
 
-/// Downloads a file, into the target or to it.
+/// Downloads a file, into the target or to it; or the files of a pattern into the target.
 fn get_one<R: Programs>(
     rt: &R,
     alloc: Global,
@@ -249,8 +253,11 @@ fn get_one<R: Programs>(
     asked: &Target<'_>,
     goal: Goal<'_>,
 ) -> io::Result<Status> {
+    if is_matched(words, asked.place) {
+        return rt.fetch(asked, get_task_of(words, asked.place, goal.target));
+    }
     let file = place_for(alloc, goal.into, goal.target, asked.place.path)?;
-    rt.fetch(asked, Task::Get(download_of(words, file.as_str())))
+    rt.fetch(asked, get_task_of(words, asked.place, file.as_str()))
 }
 
 /// Does what `put` asks for, file by file, each over a control connection of its own; the status is the worst.

@@ -5,6 +5,7 @@ use ftp_tool_command::Task;
 use ftp_tool_fetch::{ServerAddress, Target};
 use ftp_tool_mirror::Mirror;
 use ftp_tool_pair::PairSettings;
+use ftp_tool_quiet::Hushed;
 use ftp_tool_serve::Serving;
 use ftp_tool_status::Status;
 use ftp_tool_words::User;
@@ -41,7 +42,20 @@ pub(crate) trait Programs {
     fn is_folder(&self, name: &str) -> bool;
 }
 
-impl<R> Programs for R
+/// A system that has all that the programs ask for.
+pub(crate) trait Machine: Input
+    + Print
+    + Eprint
+    + Env
+    + Files
+    + AllocGlobal
+    + Clock
+    + RandomSource
+    + Net<Listener = TcpListener, Stream = TcpStream>
+    + Clone
+    + Drop {}
+
+impl<R> Machine for R
 where
     R: Input
         + Print
@@ -54,34 +68,37 @@ where
         + Net<Listener = TcpListener, Stream = TcpStream>
         + Clone
         + Drop,
-{
+{}
+
+/// What `get` and its like, and `mirror`, tell on standard error is what is to be told; the others tell all.
+impl<'a, R: Machine> Programs for Hushed<'a, R> {
     fn serve(&self, job: Serving<'_>) -> io::Result<Status> {
-        ftp_tool_serve::serve(self, job)
+        ftp_tool_serve::serve(self.rt, job)
     }
 
     fn play_loop(&self) -> io::Result<Status> {
-        ftp_tool_loop::play(self)
+        ftp_tool_loop::play(self.rt)
     }
 
     fn play_pair<F: Write>(&self, settings: PairSettings, faults: &mut F) -> Status {
-        let mut reader = self.reader();
+        let mut reader = self.rt.reader();
         ftp_tool_pair::pair(
-            self.alloc(),
+            self.rt.alloc(),
             settings,
             &mut reader,
-            &mut io::writer(self),
+            &mut io::writer(self.rt),
             faults,
         )
     }
 
     fn password<F: Write>(&self, rounds: Option<u32>, faults: &mut F) -> Status {
-        ftp_tool_password::password(self, rounds, faults)
+        ftp_tool_password::password(self.rt, rounds, faults)
     }
 
     fn run(&self, server: ServerAddress<'_>, user: Option<User<'_>>) -> io::Result<Status> {
         match user {
-            Some(user) => ftp_tool_fetch::run_as(self, server, user),
-            None => ftp_tool_fetch::run(self, server),
+            Some(user) => ftp_tool_fetch::run_as(self.rt, server, user),
+            None => ftp_tool_fetch::run(self.rt, server),
         }
     }
 
@@ -94,12 +111,12 @@ where
     }
 
     fn perform<F: Write>(&self, task: Task, faults: &mut F) -> u8 {
-        let mut reader = self.reader();
+        let mut reader = self.rt.reader();
         perform(
-            self.alloc(),
+            self.rt.alloc(),
             task,
             &mut reader,
-            &mut io::writer(self),
+            &mut io::writer(self.rt),
             faults,
         )
     }
@@ -108,7 +125,7 @@ where
         if name == "-" {
             return false;
         }
-        match fs::metadata(self, name) {
+        match fs::metadata(self.rt, name) {
             Ok(found) => found.is_dir(),
             Err(_) => false,
         }

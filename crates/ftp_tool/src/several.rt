@@ -3,7 +3,7 @@ ghost use Rattle.std.specs.Prelude.{◌≡◌, ◌<◌, ◌++◌, ◌∷◌, [],
 ghost use Rattle.ftp_tool_words.specs.Placing.{says_directory};
 
 use clap::ArgMatches;
-use ftp_tool_command::{BadValue, PLACE_OPTION, Refusal, asked_of};
+use ftp_tool_command::{BadValue, PLACE_OPTION, Refusal, asked_of, is_matched};
 use ftp_tool_fetch::Openings;
 use ftp_tool_words::{Location, UrlPlace, is_url, last_part, says_directory};
 
@@ -30,6 +30,23 @@ pub(crate) fn uploads_of<'a, 'b>(
             wanted: "files are wanted, and after them the place where they go",
         })),
     }
+}
+
+/// Whether files of a pattern are fetched at one of the places, of which these are URLs.
+pub(crate) fn is_any_matched<'a>(
+    words: &'a ArgMatches<'_>,
+    places: &[&'a str],
+    urls: &'a [Option<UrlPlace>],
+    openings: &'a Openings,
+) -> bool {
+    for (place, url) in places.iter().zip(urls.iter()) {
+        if let Ok(asked) = asked_of(words, *place, url.as_ref(), openings, false) {
+            if is_matched(words, asked.place) {
+                return true;
+            }
+        }
+    }
+    false
 }
 
 /// Fails where nothing can be asked at one of the places, of which these are URLs, or where a file that is fetched into a folder has no name there.

@@ -37,7 +37,7 @@ needed [] = Ok None
 needed (octet ∷ octets) = elim (read (octet ∷ octets)) [ Ok secret ↦ Ok (Some secret) | Err fault ↦ Err fault ]
 
 -- the rights that a letter says: `r` to look alone, which adds none; `w` to put new files and make directories; `p` to put new files; `a` to append to files
--- and replace them; `d` to delete files; `m` to make directories; `x` to remove directories; `f` to rename
+-- and replace them; `d` to delete files; `m` to make directories; `x` to remove directories; `f` to rename; `o`, beside it, to rename a file onto another
 abbrev pub rights_of_letter : ℕ → Option Rights
 rights_of_letter letter =
     if letter == 114 then Some no_rights
@@ -47,14 +47,15 @@ rights_of_letter letter =
     else (if letter == 100 then Some (record no_rights { delete = true })
     else (if letter == 109 then Some (record no_rights { make_dir = true })
     else (if letter == 120 then Some (record no_rights { remove_dir = true })
-    else (if letter == 102 then Some (record no_rights { rename = true }) else None)))))))
+    else (if letter == 102 then Some (record no_rights { rename = true })
+    else (if letter == 111 then Some (record no_rights { onto = true }) else None))))))))
 
 -- these rights and those of letters, each of which says some
 abbrev pub with_letters : Rights → List ℕ → Option Rights
 with_letters rights [] = Some rights
 with_letters rights (letter ∷ letters) = elim (rights_of_letter letter) [ Some more ↦ with_letters (joined rights more) letters | None ↦ None ]
 
--- the rights that are said: all where no field stands, and else those of its letters; an empty field says none
+-- the rights that are said: all but to rename onto files where no field stands, and else those of its letters; an empty field says none
 abbrev pub rights_said : Option (List ℕ) → Option Rights
 rights_said None = Some all_rights
 rights_said (Some []) = None

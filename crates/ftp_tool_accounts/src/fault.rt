@@ -24,11 +24,11 @@ pub enum LineFault {
     /// It does not begin with `/`, or is no path text, or is past the limits of a path.
     #[error("the root is no path that begins with /")]
     Root,
-    #[error("the rights are none: letters of r, w, p, a, d, m, x and f are wanted after the root, or no colon")]
+    #[error("the rights are none: letters of r, w, p, a, d, m, x, f and o are wanted after the root, or no colon")]
     Rights,
     #[error("a line above has this user")]
     SameUser,
-    #[error("the root is below one of a line above, or above it")]
+    #[error("the root is below that of a line above, or above it, and the upper account may change something")]
     NestedRoots,
     #[error("out of memory")]
     Memory,

@@ -200,6 +200,7 @@ fn rights_of_letter(letter: u8) -> Option<Rights>
             rename: true,
             ..none
         }),
+        b'o' => Some(Rights { onto: true, ..none }),
         _ => None,
     }
 }

@@ -21,8 +21,8 @@ const MARK: &[u8] = b"\xef\xbb\xbf";
 /// The accounts that a text says, in the order of its lines: each line is `user:password:root`, where an empty password means that none is needed, or that with
 /// a colon and letters of rights after it. Lines end with LF, or CR LF; one of blanks alone or that begins with `#` says nothing.
 ///
-/// The first line that says no account is told; then the first that no account can follow, since its user stands above or its root
-/// is below another's or above it.
+/// The first line that says no account is told; then the first that no account can follow, since its user stands above, or its root
+/// is below another's or above it and the upper one of both may change something.
 pub fn read_accounts<A: Allocator + Copy>(alloc: A, text: &[u8]) -> Result<Accounts<A>, TextFault>
     ensures said { IfOk result (λ accounts. SaysAll text.now accounts) }
     ensures allowed { IfOk result (λ accounts. accounts_refusal accounts ≡ None) }

@@ -3,13 +3,15 @@ use crate::help;
 use crate::place::{location_in, user_in, wanted_of};
 use crate::refusal::Refusal;
 use crate::words::{
-    ACTIVE, EXTENDED, Form, LIMIT, MODE, NO_EXTENDED, PASSWORD_FILE, STRU, Subcommand, TIMEOUT,
-    TYPE, USER, Value, Word, chosen, how_of, limit_in, representation_in, text_in, timeout_in,
+    ACTIVE, EXTENDED, Form, LIMIT, LIMIT_RATE, MODE, NO_EXTENDED, PASSWORD_FILE, QUIET, STRU,
+    Subcommand, TIMEOUT, TYPE, USER, Value, Word, chosen, how_of, limit_in, rate_in,
+    representation_in, text_in, timeout_in,
 };
 use clap::ArgMatches;
 use ftp_operation::How;
 use ftp_tool_connection::Openings;
 use ftp_tool_fetch::{Download, Lines, Parts, Simple, Target, Task};
+use ftp_tool_listing::is_pattern;
 use ftp_tool_words::{Location, UrlPlace};
 
 pub const GET: Subcommand<'static> = Subcommand {
@@ -38,6 +40,12 @@ pub const GET: Subcommand<'static> = Subcommand {
             form: Form::Flag,
             help: "the last change of FILE is at the server's moment of it",
         },
+        LIMIT_RATE,
+        Word {
+            name: "no-glob",
+            form: Form::Letter('g'),
+            help: "takes * and ? in the last name of PATH as they stand",
+        },
     ],
 };
 
@@ -46,16 +54,19 @@ pub const PUT: Subcommand<'static> = Subcommand {
     about: "uploads files to a server",
     usage: Some("ftp_tool put [OPTIONS] <FILE>... <HOST:PORT/PATH>"),
     help: help::PUT,
-    words: &[Word {
-        name: "files",
-        form: Form::NeededPlaces(Value::Name("FILE")),
-        help: "what is read, - is standard input; the last word is HOST:PORT/PATH or a URL, where it goes",
-    }],
+    words: &[
+        Word {
+            name: "files",
+            form: Form::NeededPlaces(Value::Name("FILE")),
+            help: "what is read, - is standard input; the last word is HOST:PORT/PATH or a URL, where it goes",
+        },
+        LIMIT_RATE,
+    ],
 };
 
 pub const LS: Subcommand<'static> = Subcommand {
     name: "ls",
-    about: "lists a directory of a server",
+    about: "lists a directory or a file of a server",
     usage: None,
     help: help::LS,
     words: &[
@@ -166,6 +177,7 @@ const OPTIONS: &[Word<'static>] = &[
         form: Form::Flag,
         help: "tells how far a transfer is, each second; without it where standard error is a terminal",
     },
+    QUIET,
     TIMEOUT,
     LIMIT,
     Word {
@@ -197,6 +209,7 @@ pub fn asked_of<'a>(
     let timeout = timeout_in(words)?;
     let how = how_in(words)?;
     let limit = limit_in(words)?;
+    let rate = rate_in(words)?;
     Ok(Target {
         place: location,
         user: user_in(words, url),
@@ -204,6 +217,7 @@ pub fn asked_of<'a>(
         openings,
         timeout,
         progress: is_terminal || words.get_flag("progress"),
+        rate,
         limit,
     })
 }
@@ -256,8 +270,23 @@ const SHOWN: Download<'static> = Download {
     moment: false,
 };
 
+/// Whether `get` fetches what the directory of a place has that is of a pattern: where the name that its path ends in is one, and `--no-glob` is not there.
+pub fn is_matched(words: &ArgMatches<'_>, place: Location<'_>) -> bool {
+    !words.get_flag("no-glob") && is_pattern(place.name().as_bytes())
+}
+
+/// What `get` does at a place, into a file; into a folder of that name, where files of a pattern are fetched.
+pub fn get_task_of<'a>(words: &ArgMatches<'_>, place: Location<'_>, file: &'a str) -> Task<'a> {
+    let download = download_of(words, file);
+    if is_matched(words, place) {
+        Task::GetMatching(download)
+    } else {
+        Task::Get(download)
+    }
+}
+
 /// The download of `get` into a file.
-pub fn download_of<'a>(words: &ArgMatches<'_>, file: &'a str) -> Download<'a> {
+fn download_of<'a>(words: &ArgMatches<'_>, file: &'a str) -> Download<'a> {
     Download {
         file,
         parts: parts_of(words),

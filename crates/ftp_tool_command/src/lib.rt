@@ -15,7 +15,7 @@ mod task;
 mod words;
 
 pub use command_line::{Program, command, program_of};
-pub use fetching::{PLACE_OPTION, asked_of, download_of, fetch_task_of};
+pub use fetching::{PLACE_OPTION, asked_of, fetch_task_of, get_task_of, is_matched};
 pub use mirroring::mirror_of;
 pub use pairing::settings_of;
 pub use password::rounds_of;
@@ -24,4 +24,4 @@ pub use refusal::{BadValue, Refusal};
 pub use running::{script_server_of, script_user_of};
 pub use serving::serving_of;
 pub use task::{Task, task_of};
-pub use words::openings_of;
+pub use words::{openings_of, told_of};

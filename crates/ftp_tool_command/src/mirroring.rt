@@ -2,8 +2,8 @@
 use crate::place::{location_in, user_in};
 use crate::refusal::Refusal;
 use crate::words::{
-    ACTIVE, EXTENDED, Form, LIMIT, NO_EXTENDED, PASSWORD_FILE, Subcommand, TIMEOUT, USER, Value,
-    Word, chosen, how_of, limit_in, text_in, timeout_in,
+    ACTIVE, EXTENDED, Form, LIMIT, LIMIT_RATE, NO_EXTENDED, PASSWORD_FILE, QUIET, Subcommand,
+    TIMEOUT, USER, Value, Word, chosen, how_of, limit_in, rate_in, text_in, timeout_in,
 };
 use clap::ArgMatches;
 use ftp_tool_connection::{Openings, ServerAddress};
@@ -26,9 +26,9 @@ removal is an object there, {\"deed\":\"copy\",\"path\":\"d/a\"}, make or remove
 A file that fails does not stop the others.
 One control connection is used; where it ends, the rest is done over another one, as with get. The server has to know MLSD.
 A file of this machine is written beside its name, and moved over it once it is whole and on the disk, as with get. With --no-flush it is moved
-before it is on the disk, which is faster: after a power cut a file may be cut, and another run mends that. Passwords, --timeout and data
-connections are as with get.
-Output: on standard error why something was not done, and at the end how much was.
+before it is on the disk, which is faster: after a power cut a file may be cut, and another run mends that. Passwords, --timeout, --limit-rate and
+data connections are as with get.
+Output: on standard error why something was not done, and at the end how much was; with --quiet the former alone.
 Status: 0 done; 1 something was refused or failed; 2 bad command line or login; 3 the control connection or a device failed, or memory was
 refused.
 
@@ -94,6 +94,7 @@ const OPTIONS: &[Word<'static>] = &[
     USER,
     PASSWORD_FILE,
     LIMIT,
+    LIMIT_RATE,
     ACTIVE,
     EXTENDED,
     NO_EXTENDED,
@@ -107,6 +108,7 @@ const OPTIONS: &[Word<'static>] = &[
         form: Form::Flag,
         help: "tells of each file that is copied",
     },
+    QUIET,
     TIMEOUT,
 ];
 
@@ -120,6 +122,7 @@ pub fn mirror_of<'a>(
     let settings = Settings {
         openings,
         timeout: timeout_in(words)?,
+        rate: rate_in(words)?,
     };
     let source = text_in(words, "source");
     let target = text_in(words, "target");
@@ -143,6 +146,7 @@ fn server_of<'a>(word: &'a str, url: Option<&'a UrlPlace>) -> Option<Location<'a
 struct Settings<'a> {
     openings: &'a Openings,
     timeout: u32,
+    rate: u64,
 }
 
 fn mirrored<'a>(
@@ -163,6 +167,7 @@ fn mirrored<'a>(
             port: place.port,
             timeout: settings.timeout,
             progress: words.get_flag("progress"),
+            rate: settings.rate,
         },
         user: user_in(words, url),
         path: place.path,

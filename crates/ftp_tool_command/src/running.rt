@@ -44,6 +44,7 @@ pub fn script_server_of<'a>(words: &'a ArgMatches<'_>) -> Option<ServerAddress<'
         port: server_port_of(text_in(words, "port"))?,
         timeout: number_in(words, "timeout")?,
         progress: false,
+        rate: 0,
     })
 }
 

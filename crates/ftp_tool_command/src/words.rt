@@ -9,6 +9,7 @@ use clap::{Arg, ArgAction, ArgMatches, Command};
 use ftp_operation::How;
 use ftp_tool_connection::{Opening, Openings};
 use ftp_tool_files::{Representation, number_of, representation_of};
+use ftp_tool_quiet::Told;
 use std::alloc::{AllocError, Global};
 
 /// The letters of types, structures and modes (RFC 959, section 5.3.2), and the most that a number may be.
@@ -60,11 +61,25 @@ pub const NO_EXTENDED: Word<'static> = Word {
     help: "data connections over IPv4 by PASV and PORT alone",
 };
 
+/// What of standard error is told, for all programs of a client that ask at a place.
+pub const QUIET: Word<'static> = Word {
+    name: "quiet",
+    form: Form::Letter('q'),
+    help: "tells errors alone: no progress, no notes, no summary",
+};
+
 /// The most octets of a file that is held in memory.
 pub const LIMIT: Word<'static> = Word {
     name: "limit",
     form: Form::Else(Value::Number("OCTETS", 0, MOST_OCTETS), "1073741824"),
     help: "the most octets of a file, which is held in memory",
+};
+
+/// How fast a transfer may be.
+pub const LIMIT_RATE: Word<'static> = Word {
+    name: "limit-rate",
+    form: Form::Given(Value::Name("OCTETS[K|M|G]")),
+    help: "the most octets a second over a data connection, K, M and G are powers of 1,024; 0, and without it: no limit",
 };
 
 /// The most octets that a file may be said to have.
@@ -233,6 +248,14 @@ pub fn chosen<T: Copy>(matches: &ArgMatches<'_>, option: &str, given: T, other: 
     }
 }
 
+/// What of standard error is told by the subcommand of a command line: all, where it has no `--quiet`.
+pub fn told_of(matches: &ArgMatches<'_>) -> Told {
+    match matches.subcommand() {
+        Some((_, words)) => chosen(words, "quiet", Told::Errors, Told::All),
+        None => Told::All,
+    }
+}
+
 /// The text that an option has; empty where it is not there.
 pub fn text_in<'a>(matches: &'a ArgMatches<'_>, option: &str) -> &'a str {
     match matches.get_str(option) {
@@ -288,6 +311,41 @@ pub fn limit_in<'a>(matches: &'a ArgMatches<'_>) -> Result<u64, Refusal<'a>> {
         None => Err(Refusal::of("--limit <OCTETS>", limit, "decimal digits alone are wanted")),
     }
 }
+
+/// The most octets a second, as `--limit-rate` says, and 0 where it is not there; refused where they are no number.
+pub fn rate_in<'a>(matches: &'a ArgMatches<'_>) -> Result<u64, Refusal<'a>> {
+    let text = text_in(matches, "limit-rate");
+    if text.is_empty() {
+        return Ok(0);
+    }
+    match rate_of(text) {
+        Some(rate) => Ok(rate),
+        None => Err(Refusal::of(
+            "--limit-rate <OCTETS[K|M|G]>",
+            text,
+            "decimal digits are wanted, and K, M or G behind them or nothing, less than 2^64 octets in all",
+        )),
+    }
+}
+
+/// A decimal number of octets, or of the power of 1,024 that the letter behind it says, below 2^64.
+fn rate_of(text: &str) -> Option<u64> {
+    let (digits, unit) = parted(text);
+    octets_of(digits)?.checked_mul(unit)
+}
+
+/// A text without the letter of a power of 1,024 at its end, and that power; 1 without one.
+fn parted(text: &str) -> (&str, u64) {
+    for (letter, unit) in UNITS {
+        if let Some(digits) = text.strip_suffix(*letter) {
+            return (digits, *unit);
+        }
+    }
+    (text, 1)
+}
+
+/// The letters of powers of 1,024.
+const UNITS: &[(char, u64)] = &[('K', 1_024), ('M', 1_048_576), ('G', 1_073_741_824)];
 
 /// A decimal number below 2^64, as it is written: digits alone, leading zeros read, no sign.
 fn octets_of(text: &str) -> Option<u64>

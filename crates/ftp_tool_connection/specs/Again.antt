@@ -1,5 +1,5 @@
 -- When a further control connection may bring an answer (own choice: RFC 959, section 3.5, leaves recovery to the user).
-use Rattle.std.specs.Prelude.{Option, Some, None, Result, Ok, Err}
+use Rattle.std.specs.Prelude.{Bool, false, not, Option, Some, None, Result, Ok, Err}
 use Rattle.ftp_operation.specs.declared.answer.Answer.{Answer}
 use Rattle.ftp_operation.specs.declared.answer.Answer.TheVariants as Answers
 use Rattle.ftp_tool_connection.specs.declared.again.Loss.{Loss}
@@ -19,3 +19,8 @@ abbrev pub loss_by : {A : Type 0} → Result (Answer A) SessionFault → Option 
 loss_by (Ok Answers.Lost) = Some Losses.Ended
 loss_by (Ok answer) = None
 loss_by (Err fault) = loss_amid fault.stage
+
+-- nothing more is tried behind a further control connection: it ended too, and the server never said a line
+abbrev pub gives_up : Loss → (is_heard : Bool) → Bool
+gives_up Losses.Ended is_heard = not is_heard
+gives_up Losses.Unconnected is_heard = false

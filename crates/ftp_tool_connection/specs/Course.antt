@@ -1,18 +1,19 @@
--- What is heard of a server's lines, and how much a data connection may bring (own choice).
-use Rattle.std.specs.Prelude.{ℕ, ◌==◌, ◌||◌, Bool, false, Option, Some, None, nat_lt, if◌then◌else◌}
-use Rattle.std.specs.Option.{unwrap_or}
-use Rattle.ftp_tool_connection.specs.declared.course.Heard.{Heard}
+-- When a data connection did not end, and how much it may bring (own choice).
+use Rattle.std.specs.Prelude.{ℕ, ◌==◌, ◌&&◌, ◌||◌, Bool, false, List, [], ◌∷◌, Option, Some, None, nat_lt}
+use Rattle.ftp_operation.specs.declared.answer.Answer.{Answer}
+use Rattle.ftp_operation.specs.declared.answer.Answer.TheVariants as Answers
 use Rattle.ftp_tool_connection.specs.declared.course.Most.{Most}
 
--- LF, which ends a line (RFC 959, section 4.2)
-abbrev pub line_end : ℕ
-line_end = 10
+-- a line says that all is done: the first digit of its code is 2 (RFC 959, section 4.2.1)
+abbrev pub says_done : List ℕ → Bool
+says_done [] = false
+says_done (octet ∷ line) = octet == 50
 
--- one octet more: a line keeps its first octet, and is whole with its end
-abbrev pub hears : Heard → ℕ → Heard
-hears heard octet =
-    if octet == line_end then record { under_way = None; last = heard.under_way }
-    else record { under_way = Some (unwrap_or heard.under_way octet); last = heard.last }
+-- a data connection did not end although the server said that all is done: what it brought is reported as broken off, and nothing more came of it for
+-- as long as a server may be silent
+abbrev pub is_unended : {A : Type 0} → (is_silent : Bool) → Option (Answer A) → (line : List ℕ) → Bool
+is_unended is_silent (Some (Answers.Broken got mark)) line = is_silent && says_done line
+is_unended is_silent report line = false
 
 -- more lines than may come, where they are counted
 abbrev pub are_past : Option ℕ → ℕ → Bool

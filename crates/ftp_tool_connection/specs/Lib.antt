@@ -2,7 +2,9 @@
 pub mod Answering
 -- When a further control connection may bring an answer.
 pub mod Again
--- What is heard of a server's lines, and how much a data connection may bring.
+-- When a data connection did not end, and how much it may bring.
 pub mod Course
+-- How long a data connection waits before it moves more.
+pub mod Rate
 -- By which commands a data connection is asked for, and when by the others.
 pub mod Opening

@@ -1,6 +1,6 @@
 // What is asked anew where its control connection ends.
 ghost use Rattle.std.specs.Prelude.{◌≡◌};
-ghost use Rattle.ftp_tool_connection.specs.Again.{loss_by};
+ghost use Rattle.ftp_tool_connection.specs.Again.{gives_up, loss_by};
 
 use crate::conversing::{Converses, Logins, converse_as};
 use crate::fault::{Phase, SessionFault};
@@ -28,7 +28,7 @@ pub(crate) enum Loss {
 }
 
 /// Plays over a control connection of its own, for a user. Where one was made and ended before the answer, it is played anew, from the beginning,
-/// over at most four more.
+/// over at most four more; of a server that never said a line over one.
 pub fn ask<R, P>(
     rt: &R,
     server: ServerAddress<'_>,
@@ -50,7 +50,7 @@ where
     }
 }
 
-/// Plays anew, each time after a longer wait.
+/// Plays anew, each time after a longer wait, while that may help.
 fn ask_again<R, P>(
     rt: &R,
     server: ServerAddress<'_>,
@@ -70,6 +70,9 @@ where
         match loss_of(&answered) {
             Some(found) => {
                 drop(answered);
+                if gives_up(found, noticed.is_heard()) {
+                    break;
+                }
                 loss = found;
             }
             None => return answered,
@@ -90,6 +93,16 @@ fn loss_of(answered: &Result<Answer<Global>, SessionFault>) -> Option<Loss>
             Phase::Connection => Some(Loss::Unconnected),
             _ => None,
         },
+    }
+}
+
+/// Whether nothing more is tried behind a further control connection: it ended too, and the server never said a line.
+fn gives_up(found: Loss, is_heard: bool) -> bool
+    ensures { result ≡ gives_up found is_heard }
+{
+    match found {
+        Loss::Ended => !is_heard,
+        Loss::Unconnected => false,
     }
 }
 

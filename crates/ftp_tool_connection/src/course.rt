@@ -1,15 +1,15 @@
-// What the control connection and the data connections of one session know of each other.
+// What is asked over one control connection, as its data connections know it, and how the last of these ended.
 ghost use Rattle.std.specs.Prelude.{◌≡◌};
-ghost use Rattle.ftp_tool_connection.specs.Course.{hears, is_past};
+ghost use Rattle.ftp_tool_connection.specs.Course.{is_past, is_unended, says_done};
 
 use crate::request::{Request, most_of, span_of};
-use ftp_control::{Ready, Spoken};
+use ftp_control::Ready;
+use ftp_operation::Answer;
 use ftp_tool_status::Span;
+use std::alloc::Global;
 use std::cell::Cell;
 
-/// The first octet of a reply that a transfer begins, and of one that all is done (RFC 959, section 4.2.1).
-const PRELIMINARY: u8 = b'1';
-
+/// The first octet of a reply that all is done (RFC 959, section 4.2.1).
 const COMPLETION: u8 = b'2';
 
 /// The most that a data connection may bring.
@@ -25,19 +25,10 @@ pub struct Most {
 pub enum Ending {
     /// As the answer says.
     Answered,
-    /// It did not end although the server says that all is done: nothing came over it for as long as a server may be silent.
+    /// It did not end although the server said that all is done: nothing came over it for as long as a server may be silent.
     Unended,
     /// This end cut it off, since more came than may.
     PastLimit,
-}
-
-/// The lines of a server, by the first octet of each.
-#[derive(Clone, Copy)]
-pub struct Heard {
-    /// That of the line under way, if an octet of it came.
-    pub under_way: Option<u8>,
-    /// That of the last whole line.
-    pub last: Option<u8>,
 }
 
 /// What is known of the request under way.
@@ -45,11 +36,8 @@ pub struct Heard {
 pub(crate) struct Course {
     most: Cell<Most>,
     span: Cell<Span>,
-    /// Whether what came is to be answered where the control connection ends.
-    is_kept: Cell<bool>,
-    /// Whether the control connection ended amid a download whose octets are to be answered.
-    is_cut: Cell<bool>,
-    heard: Cell<Heard>,
+    /// Whether a wait for its data connection found no end.
+    is_silent: Cell<bool>,
     ending: Cell<Ending>,
 }
 
@@ -65,12 +53,7 @@ impl Course {
                 start: 0,
                 total: None,
             }),
-            is_kept: Cell::new(false),
-            is_cut: Cell::new(false),
-            heard: Cell::new(Heard {
-                under_way: None,
-                last: None,
-            }),
+            is_silent: Cell::new(false),
             ending: Cell::new(Ending::Answered),
         }
     }
@@ -79,49 +62,20 @@ impl Course {
     pub(crate) fn begin(&self, request: &Request) {
         self.most.set(most_of(request));
         self.span.set(span_of(request));
-        self.is_kept.set(request.is_kept());
+        self.is_silent.set(false);
         self.ending.set(Ending::Answered);
     }
 
-    /// These octets of replies came.
-    pub(crate) fn hear(&self, octets: &[u8]) {
-        let mut heard = self.heard.get();
-        for octet in octets {
-            heard = hears(heard, *octet);
-        }
-        self.heard.set(heard);
-    }
-
-    /// Whether the end of the control connection is to be said in the server's place, as the end of a transfer: where one has begun whose octets are
-    /// to be answered. It is said once.
-    pub(crate) fn is_to_be_said(&self) -> bool {
-        let is_amid = self.is_kept.get() && self.heard.get().last == Some(PRELIMINARY);
-        if !is_amid || self.is_cut.get() {
-            return false;
-        }
-        self.is_cut.set(true);
-        true
-    }
-
-    /// Whether the end of the control connection is that of the data connection too: behind the reply that all is done, where the octets of a transfer
-    /// are to be answered that are not all there. Nothing is waited for then.
-    pub(crate) fn ends_with(&self, spoken: Spoken) -> bool {
-        let is_ended = matches!(spoken, Spoken::Ended);
-        let ends = is_ended && self.is_kept.get() && self.heard.get().last == Some(COMPLETION);
-        if ends {
-            self.is_cut.set(true);
-        }
-        ends
-    }
-
-    /// Whether the control connection ended amid a transfer.
-    pub(crate) fn is_cut(&self) -> bool {
-        self.is_cut.get()
-    }
-
-    /// A wait for octets of the data connection, or of the control connection, ended so.
+    /// A wait for the data connection ended so.
     pub(crate) fn waited(&self, ready: Ready) {
-        if ready == Ready::Lost && self.heard.get().last == Some(COMPLETION) {
+        if ready == Ready::Lost {
+            self.is_silent.set(true);
+        }
+    }
+
+    /// This is reported, and the server said this line last.
+    pub(crate) fn reported(&self, report: &Option<Answer<Global>>, line: &[u8]) {
+        if is_unended(self.is_silent.get(), report, line) {
             self.ending.set(Ending::Unended);
         }
     }
@@ -151,19 +105,24 @@ impl Course {
     }
 }
 
-/// The lines with one octet more.
-fn hears(heard: Heard, octet: u8) -> Heard
-    ensures { result ≡ hears heard octet }
+/// Whether a data connection did not end although the server says that all is done: what it brought is reported as broken off, since a wait for more
+/// found no end.
+fn is_unended(is_silent: bool, report: &Option<Answer<Global>>, line: &[u8]) -> bool
+    ensures { result ≡ is_unended is_silent report.now line.now }
 {
-    if octet == b'\n' {
-        return Heard {
-            under_way: None,
-            last: heard.under_way,
-        };
+    match report {
+        Some(Answer::Broken { got: _, mark: _ }) => is_silent && says_done(line),
+        _ => false,
     }
-    Heard {
-        under_way: Some(heard.under_way.unwrap_or(octet)),
-        last: heard.last,
+}
+
+/// Whether a line says that all is done.
+fn says_done(line: &[u8]) -> bool
+    ensures { result ≡ says_done line.now }
+{
+    match line.first() {
+        Some(octet) => *octet == COMPLETION,
+        None => false,
     }
 }
 

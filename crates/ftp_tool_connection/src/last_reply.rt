@@ -1,9 +1,9 @@
-// What is noticed of a server beside its answer: the line of its replies that came last, how many data connections were opened, and that it fell silent.
+// What is told of a server beside its answer: the line that it said last, how many data connections were opened, and that it fell silent.
 use ftp_tool_shown::Shown;
 use std::fmt;
 use std::fmt::{Display, Formatter};
 
-/// The most octets of a line that are kept.
+/// The most octets of a line that are kept: more than a client tells.
 const LINE_LIMIT: usize = 512;
 
 /// The code of a server that ends the control connection (RFC 959, section 4.2.2).
@@ -15,14 +15,14 @@ const NOT_LOGGED_IN: u16 = 530;
 /// The code of a server that gave up what it was doing (RFC 959, section 4.2.2).
 const GIVEN_UP: u16 = 451;
 
-/// What was noticed so far.
+/// What is known so far.
 #[derive(Drop)]
 pub struct LastReply {
-    /// The first octets of the line that came last, without the CR LF at its end.
+    /// The first octets of the line that was said last, without its end.
     line: [u8; LINE_LIMIT],
     len: usize,
-    /// Whether that line came whole.
-    is_whole: bool,
+    /// Whether a line was said, over any control connection.
+    is_heard: bool,
     /// How many data connections were opened, over all control connections.
     opened: u32,
     /// For how many seconds it was silent, where that ended the last control connection.
@@ -35,7 +35,7 @@ impl LastReply {
         LastReply {
             line: [0; LINE_LIMIT],
             len: 0,
-            is_whole: false,
+            is_heard: false,
             opened: 0,
             silence: None,
         }
@@ -49,6 +49,11 @@ impl LastReply {
     /// So many data connections more were opened.
     pub(crate) fn add_opened(&mut self, count: u32) {
         self.opened = self.opened.saturating_add(count);
+    }
+
+    /// Whether the server said a line, over any control connection.
+    pub(crate) fn is_heard(&self) -> bool {
+        self.is_heard
     }
 
     /// How many data connections were opened.
@@ -72,66 +77,54 @@ impl LastReply {
         }
     }
 
-    /// What the server said last, whole or not, as it is told behind a sentence.
+    /// What the server said last, as it is told behind a sentence.
     pub fn said(&self) -> Said<'_> {
         Said {
-            line: self.line.get(..self.len).unwrap_or(&[]),
+            line: self.line(),
             silence: None,
         }
     }
 
-    /// The line that came last, where it is whole and begins with this code; else an empty one.
+    /// The line that was said last; an empty one where none was.
+    fn line(&self) -> &[u8] {
+        self.line.get(..self.len).unwrap_or(&[])
+    }
+
+    /// The same where it begins with this code; else an empty one.
     fn last(&self, code: u16) -> &[u8] {
-        let line = self.line.get(..self.len).unwrap_or(&[]);
-        if self.is_whole && code_of(line) == Some(code) {
+        let line = self.line();
+        if code_of(line) == Some(code) {
             line
         } else {
             &[]
         }
     }
 
-    /// Whether the line that came last stays: it refuses a login, and what is asked behind it is refused by the same code with less to say; or it
+    /// Whether the line that was said last stays: it refuses a login, and what is asked behind it is refused by the same code with less to say; or it
     /// gives up what was asked, and the size of what came is asked behind it.
     fn stays(&self) -> bool {
-        self.ends_with(NOT_LOGGED_IN) || self.ends_with(GIVEN_UP)
+        let line = self.line();
+        matches!(code_of(line), Some(NOT_LOGGED_IN | GIVEN_UP))
+            && !matches!(line.get(3), Some(b'-'))
     }
 
-    /// Whether the line that came last ends a reply with this code.
-    fn ends_with(&self, code: u16) -> bool {
-        let line = self.last(code);
-        !line.is_empty() && !matches!(line.get(3), Some(b'-'))
-    }
-
-    /// A control connection begins, on which no line came.
+    /// A control connection begins, on which no line was said.
     pub(crate) fn begin(&mut self) {
         self.len = 0;
-        self.is_whole = false;
         self.silence = None;
     }
 
-    /// Keeps octets of replies.
-    pub(crate) fn keep(&mut self, octets: &[u8]) {
-        for octet in octets {
-            self.keep_one(*octet);
-        }
-    }
-
-    fn keep_one(&mut self, octet: u8) {
-        if self.stays() {
+    /// This line was said last, without its end; an empty one is none.
+    pub(crate) fn keep(&mut self, line: &[u8]) {
+        if line.is_empty() || self.stays() {
             return;
         }
-        if self.is_whole {
-            self.is_whole = false;
-            self.len = 0;
-        }
-        match octet {
-            b'\n' => self.is_whole = true,
-            b'\r' => {}
-            _ => {
-                if let Some(place) = self.line.get_mut(self.len) {
-                    *place = octet;
-                    self.len += 1;
-                }
+        self.is_heard = true;
+        self.len = 0;
+        for octet in line {
+            if let Some(place) = self.line.get_mut(self.len) {
+                *place = *octet;
+                self.len += 1;
             }
         }
     }

@@ -1,7 +1,7 @@
-// A client between its connections, as whoever asks sees it: how an answer comes about is a ghost member, so that what stands on these calls is proved
-// without the clauses of a client.
+// A client between its connections, as whoever asks sees it: how an answer comes about, and what is kept of a download, are ghost members, so that what
+// stands on these calls is proved without the clauses of a client.
 ghost use Rattle.std.specs.Global.{Global};
-ghost use Rattle.std.specs.Prelude.{⊤};
+ghost use Rattle.std.specs.Prelude.{◌≡◌, ℕ, List, ⊤};
 ghost use Rattle.ftp_control.specs.Lane.{no_lane};
 ghost use Rattle.ftp_control.specs.Machine.{held};
 ghost use Rattle.ftp_client_drive.specs.Side.{beside};
@@ -24,9 +24,16 @@ pub trait ClientSession {
     /// How an answer comes about, where that is known.
     ghost answers: { Request → Answer Global → (old new : Self) → Type 0 } = { λ request answer old new. ⊤ };
 
+    /// What is kept of a download whose control connection ended, where that is known.
+    ghost keeps: { (came : List ℕ) → Self → Type 0 } = { λ came session. ⊤ };
+
     /// Does what is requested, and gives its answer.
     fn answer(&mut self, request: Request) -> Answer<Global>
         ensures { answers request result self.old self.new };
+
+    /// What came of the download that was asked for last, where its control connection ended in its middle; else nothing.
+    fn came(&self) -> &[u8]
+        ensures { keeps result.now self.now };
 
     /// How many data connections were opened so far.
     fn opened(&self) -> u32;
@@ -68,15 +75,22 @@ where
 {
     ghost answers = { λ request answer old new. Answers request (said_of answer) new.control.now.failed (beside C.remaining W.contents (held (N.client old.client) (no_lane (P.history old.ports.now))) old.control.now) (beside C.remaining W.contents (held (N.client new.client) (no_lane (P.history new.ports.now))) new.control.now) };
 
+    ghost keeps = { λ came session. came ≡ (N.told session.client).came };
+
     fn answer(&mut self, request: Request) -> Answer<Global> {
         let mut request = request;
         self.course.begin(&request);
         begin(&mut self.client, &mut request);
         let Driven { report, off: _ } = drive_client(&mut self.client, self.control, self.ports);
+        self.course.reported(&report, self.client.last_reply());
         match report {
             Some(answer) => answer,
             None => Answer::Lost,
         }
+    }
+
+    fn came(&self) -> &[u8] {
+        self.client.came()
     }
 
     fn opened(&self) -> u32 {

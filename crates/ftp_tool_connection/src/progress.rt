@@ -1,12 +1,14 @@
-// How far a transfer is, on standard error.
-ghost use Rattle.std.specs.Prelude.{None};
+// How far a transfer is, on standard error, and how fast it may be.
+ghost use Rattle.std.specs.Prelude.{◌≤◌, None};
 ghost use Rattle.ftp_control.specs.Asking.{Closes};
 
 use crate::course::Course;
 use crate::live::Opens;
+use crate::rate::{pause_of, piece_of};
+use crate::server::ServerAddress;
 use ftp_control::{Accepted, For, Ports, Ready, Spoken, Whole};
 use ftp_endpoint::Endpoint;
-use ftp_tool_sockets::{Link, Patience, SocketPorts};
+use ftp_tool_sockets::{Link, Patience, SocketPorts, pause};
 use ftp_tool_status::pace_of;
 use std::io;
 use std::io::{Eprint, Error, ErrorKind, Read, Write};
@@ -23,21 +25,27 @@ struct Told {
     last: Option<Instant>,
 }
 
-/// Data connections that tell how far they are.
+/// Data connections that tell how far they are, and are no faster than they may be.
 #[derive(Drop)]
 pub(crate) struct MeteredPorts<'a, R: Net<Listener = TcpListener, Stream = TcpStream>> {
     rt: &'a R,
     ports: SocketPorts<'a, R>,
     course: &'a Course,
     is_told: bool,
+    /// The most octets a second; 0: without a limit.
+    rate: u64,
 }
 
-/// A data connection that tells how far it is.
+/// A data connection that tells how far it is, and is no faster than it may be.
 #[derive(Drop)]
 pub(crate) struct MeteredLink<'a, R> {
     rt: &'a R,
     link: Link<'a>,
     course: &'a Course,
+    /// The most octets a second; 0: without a limit.
+    rate: u64,
+    /// When it was opened, where the system tells the time.
+    begun: Option<Instant>,
     /// How many octets it moved.
     moved: u64,
     /// How many lines of a listing came.
@@ -50,32 +58,36 @@ impl<'a, R> MeteredPorts<'a, R>
 where
     R: Net<Listener = TcpListener, Stream = TcpStream> + Clock,
 {
-    /// Data connections of a client, beside its control connection.
+    /// Data connections of a client, beside its control connection to this server.
     pub(crate) fn hearing(
         rt: &'a R,
         control: &'a TcpStream,
         patience: &'a Patience<'a>,
         course: &'a Course,
-        is_told: bool,
+        server: ServerAddress<'_>,
     ) -> io::Result<MeteredPorts<'a, R>> {
         let ports = SocketPorts::hearing(rt, control, patience)?;
         Ok(MeteredPorts {
             rt,
             ports,
             course,
-            is_told,
+            is_told: server.progress,
+            rate: server.rate,
         })
     }
 
     fn metered(&self, link: Link<'a>) -> MeteredLink<'a, R> {
-        let told = match Instant::now(self.rt) {
-            Ok(begun) if self.is_told => Some(Told { begun, last: None }),
+        let begun = Instant::now(self.rt).ok();
+        let told = match begun {
+            Some(begun) if self.is_told => Some(Told { begun, last: None }),
             _ => None,
         };
         MeteredLink {
             rt: self.rt,
             link,
             course: self.course,
+            rate: self.rate,
+            begun,
             moved: 0,
             lines: 0,
             told,
@@ -107,13 +119,7 @@ where
     }
 
     fn wait(&mut self, stream: &mut MeteredLink<'a, R>, what: For, hears: bool) -> Ready {
-        if self.course.is_cut() {
-            return Ready::Lost;
-        }
         let ready = self.ports.wait(&mut stream.link, what, hears);
-        if ready == Ready::Control && self.course.ends_with(self.ports.spoken()) {
-            return Ready::Lost;
-        }
         self.course.waited(ready);
         ready
     }
@@ -168,10 +174,24 @@ impl<'a, R: Clock + Eprint> MeteredLink<'a, R> {
 
     /// Tells how far it is, and what stands behind that.
     fn tell(&self, begun: Instant, now: Instant, behind: &str) {
-        let millis = now.duration_since(begun).as_millis();
-        let millis = u64::try_from(millis).unwrap_or(u64::MAX);
-        let pace = pace_of(self.course.span(), self.moved, millis);
+        let pace = pace_of(self.course.span(), self.moved, millis_between(begun, now));
         let _told = eprint!(self.rt; "\r{pace}{behind}");
+    }
+
+    /// Waits until more may be moved; gives how many octets of these may be at once.
+    fn await_turn(&self, count: usize) -> usize
+        ensures within { result ≤ count }
+    {
+        if self.rate == 0 {
+            return count;
+        }
+        if let (Some(begun), Ok(now)) = (self.begun, Instant::now(self.rt)) {
+            pause(pause_of(self.rate, self.moved, millis_between(begun, now)));
+        }
+        match usize::try_from(piece_of(self.rate)) {
+            Ok(piece) => count.min(piece),
+            Err(_) => count,
+        }
     }
 
     /// The lines that end in octets that came, where they are counted.
@@ -199,6 +219,8 @@ impl<'a, R: Clock + Eprint> MeteredLink<'a, R> {
             rt: _,
             link,
             course: _,
+            rate: _,
+            begun: _,
             moved: _,
             lines: _,
             told: _,
@@ -207,12 +229,16 @@ impl<'a, R: Clock + Eprint> MeteredLink<'a, R> {
     }
 }
 
+/// The milliseconds from one moment to a later one.
+fn millis_between(begun: Instant, now: Instant) -> u64 {
+    u64::try_from(now.duration_since(begun).as_millis()).unwrap_or(u64::MAX)
+}
+
 impl<'a, R: Clock + Eprint> Read for MeteredLink<'a, R> {
     fn read(&mut self, room: &mut [u8]) -> io::Result<usize> {
-        if self.course.is_cut() {
-            return Err(Error::from(ErrorKind::ConnectionAborted));
-        }
-        let count = self.link.read(room)?;
+        let most = self.await_turn(room.len());
+        let (front, _) = room.split_at_mut(most);
+        let count = self.link.read(front)?;
         self.add(count);
         self.add_lines(room.get(..count).unwrap_or(&[]));
         if self.course.cuts_off(self.moved, self.lines) {
@@ -224,7 +250,9 @@ impl<'a, R: Clock + Eprint> Read for MeteredLink<'a, R> {
 
 impl<'a, R: Clock + Eprint> Write for MeteredLink<'a, R> {
     fn write(&mut self, octets: &[u8]) -> io::Result<usize> {
-        let count = self.link.write(octets)?;
+        let most = self.await_turn(octets.len());
+        let (front, _) = octets.split_at(most);
+        let count = self.link.write(front)?;
         self.add(count);
         Ok(count)
     }

@@ -29,8 +29,6 @@ pub struct Terms {
     pub most: u64,
     /// How many octets the file has, where that is known.
     pub total: Option<u64>,
-    /// Whether what came is answered as broken off where the control connection ends in its middle.
-    pub is_kept: bool,
 }
 
 /// By hand: a derived drop is proved again, part by part, wherever a request is let go.
@@ -38,16 +36,6 @@ impl Drop for Request {
     fn drop(self) {
         match self {
             Request::One(_) | Request::Upload(_, _) | Request::Download(_, _) => {}
-        }
-    }
-}
-
-impl Request {
-    /// Whether what came is answered where the control connection ends.
-    pub(crate) fn is_kept(&self) -> bool {
-        match self {
-            Request::Download(_, terms) => terms.is_kept,
-            Request::One(_) | Request::Upload(_, _) => false,
         }
     }
 }

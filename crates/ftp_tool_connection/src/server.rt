@@ -15,6 +15,8 @@ pub struct ServerAddress<'a> {
     pub timeout: u32,
     /// Whether a transfer that takes more than a second is told of, each second at most.
     pub progress: bool,
+    /// The most octets a second over a data connection; 0: without a limit.
+    pub rate: u64,
 }
 
 /// A control connection.

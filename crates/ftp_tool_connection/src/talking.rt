@@ -1,9 +1,9 @@
 // A control connection from its beginning to its end, and the one client at it.
 use crate::course::Course;
 use crate::fault::{Phase, SessionFault, at};
+use crate::hearing::Hearing;
 use crate::last_reply::LastReply;
 use crate::live::{LiveSession, Opens, SessionTask};
-use crate::noticing::Noticing;
 use crate::progress::MeteredPorts;
 use crate::server::{ServerAddress, connected, leave};
 use ftp_client::Client;
@@ -56,7 +56,7 @@ where
 {
     let patience = Patience::of_client(server.timeout);
     let course = Course::new();
-    let ports = MeteredPorts::hearing(rt, stream, &patience, &course, server.progress);
+    let ports = MeteredPorts::hearing(rt, stream, &patience, &course, server);
     let mut ports = at(Phase::Talking, ports)?;
     let link = ControlLink {
         stream,
@@ -93,15 +93,14 @@ where
     P: SessionTask<Result<T, SessionFault>>,
 {
     let hosts = at(Phase::Talking, hosts_of(link.stream))?;
-    let reader = ControlReader::new(link.stream, link.patience);
     let mut control = Control::new(
-        Noticing::new(reader, noticed, link.course),
+        ControlReader::new(link.stream, link.patience),
         ControlWriter::new(link.stream, link.patience),
     );
     let done = match login.take() {
         Some(login) => play_by_one::<OperationTransfer<Global>, _, _, _, _, _>(
             (alloc, login, hosts),
-            &mut control,
+            (&mut control, noticed),
             ports,
             link.course,
             play,
@@ -124,7 +123,7 @@ fn hosts_of(stream: &TcpStream) -> io::Result<(Host, Host)> {
 /// Plays by a client between two hosts, which takes the login; what it transfers by is a parameter, since a named one costs the proof more.
 fn play_by_one<F, C, W, O, T, P>(
     (alloc, login, hosts): (Global, Login<Global>, (Host, Host)),
-    control: &mut Control<C, W>,
+    (control, noticed): (&mut Control<C, W>, &mut LastReply),
     ports: &mut O,
     course: &Course,
     play: &mut P,
@@ -138,7 +137,7 @@ where
     P: SessionTask<Result<T, SessionFault>>,
 {
     match client_of::<F>(alloc, login, hosts) {
-        Some(client) => play_by(client, control, ports, course, play),
+        Some(client) => play_by(Hearing::new(client, noticed), control, ports, course, play),
         None => Err(SessionFault::of_memory()),
     }
 }

@@ -36,11 +36,11 @@ pub struct Download<'a> {
 }
 
 /// A download, the place of its file at a server, and the number of the part that it may go on behind.
-struct Job<'a> {
-    alloc: Global,
-    download: Download<'a>,
-    place: String<Global>,
-    over: Option<u32>,
+pub(crate) struct Job<'a> {
+    pub(crate) alloc: Global,
+    pub(crate) download: Download<'a>,
+    pub(crate) place: String<Global>,
+    pub(crate) over: Option<u32>,
 }
 
 /// By hand: a derived drop is proved again, part by part, wherever a job is let go.
@@ -91,13 +91,13 @@ fn begun<'a, R: Eprint>(
 ) -> io::Result<Downloading<'a, R>> {
     let path = asked.place.path;
     let mut downloading = Downloading::new(rt, alloc, path, asked.how, asked.openings)?;
-    downloading.put_terms(asked.limit, stamp_of(asked.how, download));
+    downloading.put_terms(asked.limit, stamp_of(asked.how, download.moment));
     Ok(downloading)
 }
 
 /// The moment is asked for where it is wanted, and where the size of the file tells whether it is the same still.
-fn stamp_of(how: How, download: Download<'_>) -> Stamp {
-    if download.moment || is_counted(how) {
+pub(crate) fn stamp_of(how: How, moment: bool) -> Stamp {
+    if moment || is_counted(how) {
         Stamp::Untold
     } else {
         Stamp::Unasked
@@ -105,13 +105,13 @@ fn stamp_of(how: How, download: Download<'_>) -> Stamp {
 }
 
 /// The place of a file at a server, as its note has it.
-fn place_text(alloc: Global, asked: &Target<'_>) -> io::Result<String<Global>> {
+pub(crate) fn place_text(alloc: Global, asked: &Target<'_>) -> io::Result<String<Global>> {
     let place = asked.place;
     Ok(format!(in alloc; "{}:{}/{}", place.host, place.port, place.path)?)
 }
 
 /// Takes the octets of a part that is kept beside the file; where it has no note that fits, that is told.
-fn resume<R: LocalFiles + Eprint>(
+pub(crate) fn resume<R: LocalFiles + Eprint>(
     rt: &R,
     limit: u64,
     job: &mut Job<'_>,
@@ -164,7 +164,7 @@ where
 }
 
 /// Leaves at this end what came, as the server answered.
-fn leave<R: LocalFiles + Print + Eprint>(
+pub(crate) fn leave<R: LocalFiles + Print + Eprint>(
     rt: &R,
     asked: &Target<'_>,
     job: &Job<'_>,

@@ -1,6 +1,7 @@
 // What the subcommands that ask at one place do.
 use crate::download::{Download, get};
 use crate::listing::{Lines, Listing, listing_of};
+use crate::matching::get_matching;
 use crate::parents::make_all;
 use crate::simple::{Simple, do_simple};
 use crate::single::{Wish, ask_for};
@@ -30,6 +31,8 @@ const NOT_IMPLEMENTED: u16 = 502;
 pub enum Task<'a> {
     /// The file is downloaded.
     Get(Download<'a>),
+    /// The files of the directory whose names are of the pattern that the path ends in are downloaded into the folder that is named as the file.
+    GetMatching(Download<'a>),
     /// This file of this end is uploaded; `-` is standard input.
     Put(&'a str),
     /// The entries of the directory go to standard output, or its names where the server has no machine listing.
@@ -64,6 +67,7 @@ where
     let mut noticed = LastReply::new();
     let done = match task {
         Task::Get(download) => get(rt, alloc, asked, download, &mut noticed),
+        Task::GetMatching(download) => get_matching(rt, alloc, asked, download, &mut noticed),
         Task::Put(file) => put(rt, alloc, asked, file, &mut noticed),
         Task::List(lines) => list(rt, alloc, asked, lines, &mut noticed),
         Task::Simple(simple) => do_simple(rt, alloc, asked, simple, &mut noticed),
@@ -78,7 +82,7 @@ where
 /// The file of this end that a task reads or writes.
 fn file_of(task: Task<'_>) -> &str {
     match task {
-        Task::Get(download) => download.file,
+        Task::Get(download) | Task::GetMatching(download) => download.file,
         Task::Put(file) => file,
         Task::List(_) | Task::Simple(_) | Task::MakeDirectories => "-",
     }
@@ -122,7 +126,15 @@ where
 
 /// Whether the server does not know what was asked.
 fn is_unknown(answered: &Result<Answer<Global>, SessionFault>) -> bool {
-    matches!(answered, Ok(Answer::Refused(UNKNOWN | NOT_IMPLEMENTED)))
+    match answered {
+        Ok(answer) => says_unknown(answer),
+        Err(_) => false,
+    }
+}
+
+/// Whether an answer says so.
+pub(crate) fn says_unknown(answer: &Answer<Global>) -> bool {
+    matches!(answer, Answer::Refused(UNKNOWN | NOT_IMPLEMENTED))
 }
 
 /// Writes a listing to standard output, or tells why there is none.

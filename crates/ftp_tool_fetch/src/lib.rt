@@ -5,6 +5,8 @@
 mod download;
 mod fetching;
 mod listing;
+mod looking;
+mod matching;
 mod parents;
 mod running;
 mod simple;

@@ -1,4 +1,5 @@
 // One operation over a control connection of its own.
+use crate::looking::{listing_of_file, may_be_file, settles};
 use crate::simple::{Simple, op_of};
 use crate::target::Target;
 use ftp_facts::Text;
@@ -7,6 +8,7 @@ use ftp_tool_connection::{
     ClientSession, Converses, Ending, LastReply, Logins, Openings, Phase, Request, SessionFault,
     SessionTask, ask, at, converse_as,
 };
+use ftp_tool_words::{last_part, says_directory};
 use std::alloc::{AllocError, Global};
 use std::io::{Eprint, Error, ErrorKind};
 
@@ -84,17 +86,47 @@ where
 
 /// A wish at a path, whose request is made anew for each control connection.
 #[derive(Drop)]
-struct Single<'a> {
-    alloc: Global,
-    path: &'a str,
-    how: How,
-    openings: &'a Openings,
-    wish: Wish<'a>,
+pub(crate) struct Single<'a> {
+    pub(crate) alloc: Global,
+    pub(crate) path: &'a str,
+    pub(crate) how: How,
+    pub(crate) openings: &'a Openings,
+    pub(crate) wish: Wish<'a>,
 }
 
 impl<'a> Single<'a> {
+    /// What the server answers. Where entries are asked for and a file may stand there, it is asked for the facts of that (MLST, RFC 3659, section 7): they
+    /// are the listing of a file. Where they say nothing of why a listing is refused, it is asked for once more, so that its refusal is what the server says
+    /// last.
+    fn looked<S: ClientSession>(&self, seat: &mut S) -> Result<Answer<Global>, AllocError> {
+        let listed = self.asked(seat)?;
+        if !self.looks_on() || !may_be_file(&listed) {
+            return Ok(listed);
+        }
+        let is_refused = matches!(&listed, Answer::Refused(_));
+        let path = Text::copy_of(self.alloc, self.path.as_bytes())?;
+        let facts = seat.answer(Request::One(Some(Op::Facts(path))));
+        if settles(is_refused, &facts) {
+            let file = listing_of_file(self.alloc, last_part(self.path), &facts)?;
+            return Ok(file.unwrap_or(facts));
+        }
+        if is_refused {
+            self.asked(seat)
+        } else {
+            Ok(listed)
+        }
+    }
+
+    /// Whether entries are asked for at a path that may be a file's.
+    fn looks_on(&self) -> bool {
+        matches!(self.wish, Wish::Entries) && !says_directory(self.path)
+    }
+
     /// What the server answers; where it does not know how the data connection of a listing is asked for, to the same asked for otherwise.
-    fn asked<S: ClientSession>(&self, seat: &mut S) -> Result<Answer<Global>, AllocError> {
+    pub(crate) fn asked<S: ClientSession>(
+        &self,
+        seat: &mut S,
+    ) -> Result<Answer<Global>, AllocError> {
         let opened = seat.opened();
         let answer = seat.answer(self.request()?);
         if self.wish.is_simple() || !self.openings.hear(&answer, seat.opened() > opened) {
@@ -119,7 +151,7 @@ impl<'a> Single<'a> {
 
 impl<'a> SessionTask<Result<Answer<Global>, SessionFault>> for Single<'a> {
     fn play<S: ClientSession>(&mut self, seat: &mut S) -> Result<Answer<Global>, SessionFault> {
-        let Ok(answer) = self.asked(seat) else {
+        let Ok(answer) = self.looked(seat) else {
             return Ok(Answer::Memory);
         };
         if seat.ending() != Ending::PastLimit {

@@ -15,6 +15,8 @@ pub struct Target<'a> {
     pub timeout: u32,
     /// Whether a transfer that takes more than a second is told of, each second at most.
     pub progress: bool,
+    /// The most octets a second over a data connection; 0: without a limit.
+    pub rate: u64,
     /// The most octets of a file, which is held in memory.
     pub limit: u64,
 }
@@ -27,6 +29,7 @@ impl<'a> Target<'a> {
             port: self.place.port,
             timeout: self.timeout,
             progress: self.progress,
+            rate: self.rate,
         }
     }
 

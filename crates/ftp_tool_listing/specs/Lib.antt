@@ -5,6 +5,7 @@ pub mod Long
 pub mod Json
 pub mod ShownRows
 pub mod Pattern
+pub mod Chosen
 pub mod Deeds
 pub mod Plan
 pub mod PlanRows

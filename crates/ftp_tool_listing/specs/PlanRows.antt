@@ -13,6 +13,7 @@ use Rattle.ftp_tool_listing.specs.declared.deeds.Reason.TheVariants as Reasons
 use Rattle.ftp_tool_listing.specs.declared.deeds.Deed.{Deed}
 use Rattle.ftp_tool_listing.specs.declared.deeds.Deed.TheVariants as Does
 use Rattle.ftp_tool_listing.specs.declared.planning.Step.{Step}
+use Rattle.ftp_tool_listing.specs.Chosen.{is_chosen_name, is_pattern}
 use Rattle.ftp_tool_listing.specs.Pattern.{is_met, matches}
 use Rattle.ftp_tool_listing.specs.Plan.{plan, refused, whole_plan}
 
@@ -114,3 +115,17 @@ PatternsMet =
     × (is_met (codes "d/a.tmp") (codes "a.tmp") (codes "d/*") ≡ true)
     × (is_met (codes "d/a.tmp") (codes "a.tmp") (codes "/a.tmp") ≡ false)
     × (is_met (codes "a.tmp") (codes "a.tmp") (codes "/a.tmp") ≡ true)
+
+-- which names are patterns, and which names of a listing one chooses
+abbrev pub NamesChosen : Type 0
+NamesChosen =
+    (is_pattern (codes "a*") ≡ true)
+    × (is_pattern (codes "?") ≡ true)
+    × (is_pattern (codes "a.csv") ≡ false)
+    × (is_chosen_name (codes "*.csv") (codes "pub/") (codes "a.csv") ≡ true)
+    × (is_chosen_name (codes "*.csv") (codes "pub/") (codes "pub/a.csv") ≡ true)
+    × (is_chosen_name (codes "*.csv") (codes "pub/") (codes "other/a.csv") ≡ false)
+    × (is_chosen_name (codes "*.csv") (codes "pub/") (codes "a.csv~") ≡ false)
+    × (is_chosen_name (codes "*") (codes "pub/") (codes "pub/..") ≡ false)
+    × (is_chosen_name (codes "*") [] (codes "..") ≡ false)
+    × (is_chosen_name (codes "*") [] (codes "d/a") ≡ false)

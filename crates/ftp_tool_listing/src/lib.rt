@@ -2,6 +2,7 @@
 //! does by the listing of a source and that of a target, but for what a pattern leaves out (own choice; RFC 3629, section 4; RFC 3659, section 7). No IO.
 #![tactic(auto)]
 
+mod chosen;
 mod deeds;
 mod index;
 mod item;
@@ -13,6 +14,7 @@ mod pattern;
 mod planning;
 pub mod rows;
 
+pub use chosen::{chosen_entries, chosen_names, is_chosen, is_chosen_name, is_pattern};
 pub use deeds::{
     Check, Deed, Deeds, Extra, Reason, Rules, Way, deeds_for, may_remove, removal_for,
 };

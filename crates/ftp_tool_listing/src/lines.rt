@@ -134,7 +134,7 @@ fn is_below(path: &[u8], name: &[u8]) -> bool
 }
 
 /// Octets without a slash at their front.
-fn without_slash(octets: &[u8]) -> &[u8]
+pub(crate) fn without_slash(octets: &[u8]) -> &[u8]
     ensures { result.now ≡ without_slash octets.now }
 {
     match octets {

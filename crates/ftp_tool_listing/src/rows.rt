@@ -1,5 +1,5 @@
 //! Worked rows: functions that do nothing, whose contracts are rows of `specs/ShownRows` and `specs/PlanRows`.
-ghost use Rattle.ftp_tool_listing.specs.PlanRows.{DirsPlanned, FilesPlanned, OthersPlanned, PatternsMet};
+ghost use Rattle.ftp_tool_listing.specs.PlanRows.{DirsPlanned, FilesPlanned, NamesChosen, OthersPlanned, PatternsMet};
 ghost use Rattle.ftp_tool_listing.specs.ShownRows.{ColumnsShown, JsonWritten, NamesListed};
 
 /// Which texts are names of single files.
@@ -35,4 +35,9 @@ pub fn others()
 /// Which paths meet a pattern.
 pub fn patterns()
     ensures { PatternsMet }
+{}
+
+/// Which names are patterns, and which names of a listing one chooses.
+pub fn chosen()
+    ensures { NamesChosen }
 {}

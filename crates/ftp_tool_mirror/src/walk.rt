@@ -101,7 +101,7 @@ impl<'a, R: Machine> Walk<'a, R> {
         self.tally.add_failed();
         let place = match trouble {
             Trouble::Here(_) if below.is_empty() => self.mirror.folder,
-            Trouble::Refused(_) if below.is_empty() => self.mirror.path,
+            Trouble::Refused(_) | Trouble::Answered(_) if below.is_empty() => self.mirror.path,
             _ => below,
         };
         let _told = tell_trouble(self.rt, self.alloc, place, trouble);

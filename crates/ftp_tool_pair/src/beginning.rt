@@ -4,11 +4,11 @@ ghost use Rattle.ftp_direct.specs.Direct.{part, start};
 ghost use Rattle.ftp_operation.specs.Account.{login_account};
 ghost use Rattle.ftp_tree.specs.Sound.{IsSoundTree};
 ghost use Rattle.ftp_tree.specs.Tree.{octets_in, total_limit};
-ghost use Rattle.ftp_pair_world.specs.Claims.{AreRelated, IsFair};
+ghost use Rattle.ftp_pair_world.specs.Claims.{AreRelated};
 ghost use Rattle.std.proofs.Props.{props};
 ghost use Rattle.ftp_tool_pair.specs.Begun.{begun};
 ghost use Rattle.ftp_tool_pair.specs.Known.{AreRelated-prop, IsTypedHost-prop};
-ghost use Rattle.ftp_tool_pair.specs.Refusing.{IsWhy};
+ghost use Rattle.ftp_tool_pair.specs.Refusing.{CanBegin, IsWhy};
 
 use crate::typed::{are_paths, is_typed};
 use ftp_endpoint::Host;
@@ -27,7 +27,7 @@ pub struct Beginning<A: Allocator + Copy, T: Tree<A>> {
     pub(crate) tree: T,
     pub(crate) near_host: Host,
     pub(crate) far_host: Host,
-    ghost fair: { IsFair (begun login.user login.pass accounts (T.table tree) near_host far_host) } by { Prim.hlevel (IsTypedHost-prop, AreRelated-prop, props) },
+    ghost can: { CanBegin (begun login.user login.pass accounts (T.table tree) near_host far_host) } by { Prim.hlevel (IsTypedHost-prop, AreRelated-prop, props) },
 }
 
 /// Why nothing can begin so.
@@ -44,7 +44,7 @@ pub enum Unfair {
 impl<A: Allocator + Copy, T: Tree<A>> Beginning<A, T> {
     /// What a session can begin with, of a login, a list of accounts, a tree, and the hosts of client and server; or why none can: of the
     /// hosts first, then of the accounts, then of the tree.
-    #[tactic(auto, using(crate::proofs::Fairness::is_fair, crate::proofs::Fairness::not_related, crate::proofs::Fairness::not_accounts, crate::proofs::Fairness::not_full, crate::proofs::Fairness::is_over))]
+    #[tactic(auto, using(crate::proofs::Fairness::not_related, crate::proofs::Fairness::not_accounts, crate::proofs::Fairness::not_full, crate::proofs::Fairness::is_over))]
     pub fn new(
         alloc: A,
         login: Login<A>,
@@ -54,7 +54,7 @@ impl<A: Allocator + Copy, T: Tree<A>> Beginning<A, T> {
         far_host: Host,
     ) -> Result<Self, Unfair>
         ensures begun { IfOk result (λ of. begun of.login.user of.login.pass of.accounts (T.table of.tree) of.near_host of.far_host ≡ begun login.user login.pass list.items (T.table tree) near_host far_host) }
-        ensures unfair { IfErr result (λ fault. ¬ IsFair (begun login.user login.pass list.items (T.table tree) near_host far_host)) }
+        ensures unfair { IfErr result (λ fault. ¬ CanBegin (begun login.user login.pass list.items (T.table tree) near_host far_host)) }
         ensures why { IfErr result (λ fault. IsWhy fault (begun login.user login.pass list.items (T.table tree) near_host far_host)) }
     {
         if !are_related(near_host, far_host) {

@@ -2,8 +2,9 @@
 ghost use Rattle.std.specs.Prelude.{◌≡◌};
 ghost use Rattle.ftp_tool_serve.specs.Listening.{told_host};
 
-use crate::heard::{CountedPorts, HeardReader, SaidWriter};
+use crate::connections::{CountedPorts, SaidWriter};
 use crate::journal::{Journal, Log};
+use crate::watching::Watching;
 use ftp_control::Failed;
 use ftp_endpoint::Host;
 use ftp_operation::Accounts;
@@ -19,8 +20,8 @@ use ftp_tool_sockets::{
     keep_alive, say_at_once, say_goodbye,
 };
 use ftp_tree::Tree;
-use ftp_tree_folder::Reasons;
-use std::alloc::{AllocError, Global};
+use ftp_tree_folder::Explains;
+use std::alloc::Global;
 use std::cell::RefCell;
 use std::io;
 use std::io::Eprint;
@@ -49,8 +50,6 @@ fn told_host(asked: Option<IpAddr>, reached: Host) -> Host
 #[derive(Clone, Copy)]
 pub struct Service<'a> {
     pub log: Log,
-    /// Why a change of the tree's folder failed.
-    pub reasons: &'a Reasons,
     pub patience: &'a Patience<'a>,
     pub passive: &'a PassivePorts,
     /// The address that PASV names in place of that which the client reached, where both are of one family.
@@ -71,7 +70,7 @@ pub fn session<R, T>(
 ) -> (T, Result<(), Failed>)
 where
     R: Net<Listener = TcpListener, Stream = TcpStream> + Clock + Eprint + AllocGlobal,
-    T: Tree<Global>,
+    T: Tree<Global> + Explains,
 {
     match ends_of(stream) {
         Ok((reached, peer)) => session_between::<R, T, TreeTransfer<Global>>(
@@ -92,7 +91,7 @@ trait Drives {
     fn heap(&self) -> Global;
 
     /// Serves a control connection by a server, which it gives back.
-    fn drive<T: Tree<Global>, F: Far<Global, T>>(
+    fn drive<T: Tree<Global> + Explains, F: Far<Global, T>>(
         &self,
         server: F,
         stream: &TcpStream,
@@ -109,7 +108,7 @@ where
         self.alloc()
     }
 
-    fn drive<T: Tree<Global>, F: Far<Global, T>>(
+    fn drive<T: Tree<Global> + Explains, F: Far<Global, T>>(
         &self,
         server: F,
         stream: &TcpStream,
@@ -132,7 +131,7 @@ fn session_between<R, T, J>(
 ) -> (T, Result<(), Failed>)
 where
     R: Drives,
-    T: Tree<Global>,
+    T: Tree<Global> + Explains,
     J: ServerTransfer<Global, T>,
 {
     let made: Result<Server<Global, T, J>, NotBegun<Global, T>> = Server::new(
@@ -170,7 +169,7 @@ fn session_by<R, T, F>(
 ) -> (T, Result<(), Failed>)
 where
     R: Drives,
-    T: Tree<Global>,
+    T: Tree<Global> + Explains,
     F: Far<Global, T> + GivesTree<T>,
 {
     let (server, ended) = rt.drive(server, stream, peer, service);
@@ -187,13 +186,11 @@ fn with_journal<R, T, F>(
 ) -> (F, Result<(), Failed>)
 where
     R: Net<Listener = TcpListener, Stream = TcpStream> + Clock + Eprint + AllocGlobal,
-    T: Tree<Global>,
+    T: Tree<Global> + Explains,
     F: Far<Global, T>,
 {
-    match Journal::new(rt, rt.alloc(), peer, service) {
-        Ok(journal) => connected(rt, server, stream, &journal, service),
-        Err(AllocError) => (server, Err(Failed)),
-    }
+    let journal = Journal::new(rt, peer, service);
+    connected(rt, server, stream, &journal, service)
 }
 
 /// Serves a control connection by a server, with data connections.
@@ -206,7 +203,7 @@ fn connected<'a, R, T, F>(
 ) -> (F, Result<(), Failed>)
 where
     R: Net<Listener = TcpListener, Stream = TcpStream> + Clock + Eprint + AllocGlobal,
-    T: Tree<Global>,
+    T: Tree<Global> + Explains,
     F: Far<Global, T>,
 {
     match SocketPorts::new(rt, stream, service.patience, service.passive) {
@@ -226,26 +223,29 @@ fn driven<'a, R, T, F>(
 ) -> (F, Result<(), Failed>)
 where
     R: Net<Listener = TcpListener, Stream = TcpStream> + Clock + Eprint + AllocGlobal,
-    T: Tree<Global>,
+    T: Tree<Global> + Explains,
     F: Far<Global, T>,
 {
     journal.note("begins");
-    let reader = HeardReader {
-        inner: ControlReader::new(stream, patience),
-        journal,
-    };
+    let reader = ControlReader::new(stream, patience);
     let writer = SaidWriter::new(ControlWriter::new(stream, patience), journal);
     let mut ports = CountedPorts {
         inner: ports,
         journal,
     };
     let mut control = Control::new(reader, writer);
+    journal.begin(&server);
     let mut clocked = Clocked {
         server,
         watch: SystemWatch::new(rt),
+        watcher: Watching::new(journal),
     };
     let ended = drive_server(&mut clocked, &mut control, &mut ports).is_ok();
-    let Clocked { server, watch: _ } = clocked;
+    let Clocked {
+        server,
+        watch: _,
+        watcher: _,
+    } = clocked;
     ports.inner.finish();
     let last = journal.last_reply();
     if let Some(last) = last {

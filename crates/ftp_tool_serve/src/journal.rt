@@ -1,17 +1,22 @@
-// What is told of a session on standard error.
-ghost use Rattle.std.specs.Prelude.{◌≤◌, ◌<◌, length};
-
+// What is told of a session on standard error, and how slow it is after refused logins: a function of what its server tells of each call.
 use crate::connection::Service;
 use crate::goodbye::{guessed_from, last_reply};
 use crate::line::Line;
 use crate::manner::{Manner, Pace};
-use crate::talk::{Answered, Talk, Told};
-use crate::telling::{Asked, Guest, tells};
+use crate::telling::Asked;
 use crate::tells::{Entry, Fate, Note, Outcome, Tells};
+use ftp_command::Verb;
+use ftp_server_model::{Answered, Far};
 use ftp_tool_sockets::{Over, monotonic_seconds, pause};
-use std::alloc::{AllocError, Global};
-use std::cell::{Cell, RefCell};
+use ftp_tree::Tree;
+use ftp_tree_folder::Explains;
+use std::alloc::Global;
+use std::cell::Cell;
+use std::io;
 use std::net::SocketAddr;
+
+/// The code with which a transfer ends of which there is nothing to give (RFC 959, section 4.2.2).
+const COMPLETE: u16 = 226;
 
 /// How long an answer waits after refused logins, in milliseconds.
 const SLOW_MILLIS: u16 = 1_000;
@@ -23,15 +28,26 @@ pub enum Log {
     Told,
 }
 
-/// What is known of a session.
-#[derive(Drop)]
-struct Known {
-    talk: Talk,
-    guest: Guest,
+/// What a server held before a call.
+#[derive(Clone, Copy)]
+struct Before {
+    /// How many octets it owed.
+    owed: usize,
+    is_transferring: bool,
+    /// How many failures of its tree's device it had counted.
+    failures: u64,
+}
+
+/// A line that is told: what it says, the code of its last reply, if it had one, and why a change of the folder failed.
+#[derive(Clone, Copy)]
+struct Closed<'a> {
+    asked: Asked,
+    code: Option<u16>,
+    why: Option<&'a io::Error>,
 }
 
 /// Tells of one session, a line each: the moment, the peer, the user, the verb, what it names, the octets that went over data connections for
-/// it, and the code of the last reply, behind it `reset` where the data connection was, and the reason where the folder failed. A line is told
+/// it, and the code of the last reply, after it `reset` where the data connection was, and the reason where the folder failed. A line is told
 /// before its reply is written, so whether or not that can be. What standard error refuses is dropped.
 #[derive(Drop)]
 pub(crate) struct Journal<'a, R: Tells> {
@@ -39,35 +55,42 @@ pub(crate) struct Journal<'a, R: Tells> {
     peer: SocketAddr,
     service: Service<'a>,
     manner: Cell<Manner>,
-    known: RefCell<Known>,
+    /// The user who was named last.
+    named: Cell<Line>,
+    /// The user who is logged in; empty where nobody is.
+    user: Cell<Line>,
+    before: Cell<Before>,
+    /// The line that was acted on and whose last reply is still to come: a transfer goes on, or a port is waited for.
+    pending: Cell<Option<Asked>>,
     moved: Cell<u64>,
     fate: Cell<Fate>,
+    /// Whether the server owes octets that were not given to be written.
+    owes: Cell<bool>,
     /// Whether what was written is whole replies.
     is_whole: Cell<bool>,
 }
 
 impl<'a, R: Tells> Journal<'a, R> {
     /// Nobody is logged in, and nothing was said.
-    pub(crate) fn new(
-        rt: &'a R,
-        alloc: Global,
-        peer: SocketAddr,
-        service: Service<'a>,
-    ) -> Result<Journal<'a, R>, AllocError> {
-        let known = Known {
-            talk: Talk::new(alloc)?,
-            guest: Guest::nobody(),
-        };
-        Ok(Journal {
+    pub(crate) fn new(rt: &'a R, peer: SocketAddr, service: Service<'a>) -> Journal<'a, R> {
+        Journal {
             rt,
             peer,
             service,
             manner: Cell::new(Manner::new()),
-            known: RefCell::new(known),
+            named: Cell::new(Line::new()),
+            user: Cell::new(Line::new()),
+            before: Cell::new(Before {
+                owed: 0,
+                is_transferring: false,
+                failures: 0,
+            }),
+            pending: Cell::new(None),
             moved: Cell::new(0),
             fate: Cell::new(Fate::Ended),
+            owes: Cell::new(false),
             is_whole: Cell::new(true),
-        })
+        }
     }
 
     /// Tells how a session goes, in a word or two.
@@ -94,35 +117,103 @@ impl<'a, R: Tells> Journal<'a, R> {
         self.note(ended);
     }
 
-    /// The client said octets.
-    pub(crate) fn hear(&self, octets: &[u8]) {
-        if let Ok(mut known) = self.known.try_borrow_mut() {
-            known.talk.hear(octets);
-        }
+    /// A server is as it will be called next.
+    pub(crate) fn begin<T: Tree<Global>, F: Far<Global, T>>(&self, server: &F) {
+        self.before.set(Before {
+            owed: server.owed(),
+            is_transferring: server.is_transferring(),
+            failures: server.counts().failures,
+        });
     }
 
-    /// Octets are to be said to the client.
-    pub(crate) fn say(&self, octets: &[u8]) {
-        let mut taken = 0;
-        while taken < octets.len() {
-            let (_, rest) = octets.split_at(taken);
-            let told = self.told(rest);
-            taken += told.taken;
-            if let Some(answered) = told.answered {
-                let named = self.named(&answered);
-                self.judge(&answered);
-                self.tell(&answered, named);
+    /// The server was called: takes in which lines it answered for good, and tells them.
+    pub(crate) fn saw<T, F>(&self, server: &F)
+    where
+        T: Tree<Global> + Explains,
+        F: Far<Global, T>,
+    {
+        self.owes.set(server.owes());
+        let is_in = server.login().is_some();
+        let why = self.why(server);
+        if let Some((asked, code)) = self.ended(server) {
+            self.close(
+                is_in,
+                Closed {
+                    asked,
+                    code: Some(code),
+                    why,
+                },
+            );
+        }
+        if let Some(answered) = server.answered() {
+            let asked = self.asked(&answered);
+            match last_code(&answered, server.is_transferring()) {
+                Some(code) => self.close(
+                    is_in,
+                    Closed {
+                        asked,
+                        code: Some(code),
+                        why,
+                    },
+                ),
+                None => self.pending.set(Some(asked)),
             }
+        }
+        self.begin(server);
+    }
+
+    /// Why the folder failed in the call, if it did.
+    fn why<'b, T, F>(&self, server: &'b F) -> Option<&'b io::Error>
+    where
+        T: Tree<Global> + Explains + 'b,
+        F: Far<Global, T>,
+    {
+        if server.counts().failures == self.before.get().failures {
+            return None;
+        }
+        server.tree().reason()
+    }
+
+    /// The line that waited for its last reply, and the code of that, where it was said in the call: the transfer ended, or the port that was
+    /// waited for is had or not. It comes before all else that the call says.
+    fn ended<T: Tree<Global>, F: Far<Global, T>>(&self, server: &F) -> Option<(Asked, u16)> {
+        let asked = self.pending.get()?;
+        let before = self.before.get();
+        if before.is_transferring && server.is_transferring() {
+            return None;
+        }
+        let code = server.code_at(before.owed)?;
+        self.pending.set(None);
+        Some((asked, code))
+    }
+
+    /// What a line says that was acted on. The user who is named is kept.
+    fn asked(&self, answered: &Answered<'_>) -> Asked {
+        let asked = Asked::of(answered, self.named.get());
+        if asked.verb == Some(Verb::User) {
+            self.named.set(asked.names);
+        }
+        asked
+    }
+
+    /// A line was answered for good, and then somebody is logged in, or nobody: takes in how a login went, and tells the line, where it is one that
+    /// is told.
+    fn close(&self, is_in: bool, closed: Closed<'_>) {
+        self.user
+            .set(if is_in { self.named.get() } else { Line::new() });
+        let Some(code) = closed.code else {
+            return;
+        };
+        self.judge(closed.asked.verb, code, is_in);
+        if closed.asked.is_told_by(code) {
+            self.tell(closed);
         }
     }
 
     /// Takes in how a login went. After some that were refused each answer waits until somebody is logged in, and then that to a refused one.
-    fn judge(&self, answered: &Answered) {
-        let Some(code) = answered.code else {
-            return;
-        };
+    fn judge(&self, verb: Option<Verb>, code: u16, is_in: bool) {
         let before = self.manner.get();
-        let manner = before.after(answered.asked.verb, code);
+        let manner = before.after(verb, code, is_in);
         self.manner.set(manner);
         if manner.logged_in {
             self.service.patience.log_in();
@@ -160,13 +251,9 @@ impl<'a, R: Tells> Journal<'a, R> {
         self.is_whole.set(false);
     }
 
-    /// What was told was written: behind the last answer nothing more is heard.
+    /// What was given was written. After the last answer nothing more is heard.
     pub(crate) fn written(&self) {
-        let is_whole = match self.known.try_borrow() {
-            Ok(known) => known.talk.is_between_replies(),
-            Err(_) => false,
-        };
-        self.is_whole.set(is_whole);
+        self.is_whole.set(!self.owes.get());
         if self.manner.get().pace() == Pace::Last {
             self.service.patience.end(Over::Refused);
         }
@@ -190,20 +277,6 @@ impl<'a, R: Tells> Journal<'a, R> {
         self.service.patience.stir();
     }
 
-    /// What octets that are said answer, up to the next end of a line.
-    fn told(&self, octets: &[u8]) -> Told
-        ensures within { result.taken ≤ length octets.now }
-        ensures some { 0 < length octets.now → 0 < result.taken }
-    {
-        match self.known.try_borrow_mut() {
-            Ok(mut known) => known.talk.say(octets),
-            Err(_) => Told {
-                taken: octets.len(),
-                answered: None,
-            },
-        }
-    }
-
     /// Octets went over a data connection.
     pub(crate) fn carry(&self, count: usize) {
         self.moved
@@ -211,74 +284,52 @@ impl<'a, R: Tells> Journal<'a, R> {
     }
 
     /// A data connection was closed.
-    pub(crate) fn close(&self, fate: Fate) {
+    pub(crate) fn parted(&self, fate: Fate) {
         self.fate.set(fate);
     }
 
     /// Nothing more is said: tells of a line that was not answered, where it may have done something.
     pub(crate) fn finish(&self) {
-        if self.service.log == Log::Silent {
-            return;
-        }
-        let Some(asked) = self.unanswered() else {
+        let Some(asked) = self.pending.get() else {
             return;
         };
         if asked.is_told() {
-            let answered = Answered { asked, code: None };
-            self.tell(&answered, self.named(&answered));
+            self.tell(Closed {
+                asked,
+                code: None,
+                why: None,
+            });
         }
     }
 
-    /// The first line that was not answered.
-    fn unanswered(&self) -> Option<Asked> {
-        self.known.try_borrow_mut().ok()?.talk.next_line()
-    }
-
-    /// Takes in who is logged in now; gives who was when the line was said, or is by it, and what the line names.
-    fn named(&self, answered: &Answered) -> Option<(Guest, Line)> {
-        let mut known = self.known.try_borrow_mut().ok()?;
-        let names = match answered.code {
-            Some(code) => known.guest.answered(&answered.asked, code),
-            None => answered.asked.names,
-        };
-        Some((known.guest, names))
-    }
-
-    /// Tells a line, where it is one that is told: who was logged in, and what it names, are given.
-    fn tell(&self, answered: &Answered, named: Option<(Guest, Line)>) {
+    /// Tells a line, where sessions are told.
+    fn tell(&self, closed: Closed<'_>) {
         if self.service.log == Log::Silent {
             return;
         }
-        let Some((guest, names)) = named else {
-            return;
-        };
-        if is_told(answered) {
-            self.tell_entry(answered, &guest, &names);
-        }
-    }
-
-    /// Tells a line.
-    fn tell_entry(&self, answered: &Answered, guest: &Guest, names: &Line) {
+        let user = self.user.get();
         let entry = Entry {
             peer: self.peer,
-            user: guest.user(),
-            verb: answered.asked.verb,
-            names: names.octets(),
+            user: user.octets(),
+            verb: closed.asked.verb,
+            names: closed.asked.names.octets(),
             moved: self.moved.replace(0),
             outcome: Outcome {
-                code: answered.code,
+                code: closed.code,
                 fate: self.fate.replace(Fate::Ended),
-                why: self.service.reasons.take(),
+                why: closed.why,
             },
         };
         self.rt.tell(self.service.lines, &entry);
     }
 }
 
-/// Whether a line is one that is told.
-fn is_told(answered: &Answered) -> bool {
+/// The code of the last reply to a line that was acted on, where that was said at once: another one follows where a transfer goes on, or a port is
+/// waited for.
+fn last_code(answered: &Answered<'_>, is_transferring: bool) -> Option<u16> {
     match answered.code {
-        Some(code) => tells(&answered.asked, code),
-        None => true,
+        Some(code) if code >= 200 => Some(code),
+        Some(_) if !is_transferring => Some(COMPLETE),
+        _ => None,
     }
 }

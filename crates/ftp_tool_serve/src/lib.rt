@@ -3,17 +3,17 @@
 
 mod accounts;
 mod connection;
+mod connections;
 mod goodbye;
-mod heard;
 mod journal;
 mod line;
 mod manner;
 mod named;
 mod serving;
 mod starting;
-mod talk;
 mod telling;
 mod tells;
+mod watching;
 
 pub use accounts::accounts_of;
 pub use connection::{Service, session};

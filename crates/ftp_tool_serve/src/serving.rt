@@ -15,7 +15,7 @@ use ftp_tool_shown::Shown;
 use ftp_tool_sockets::{Limits, PassivePorts, Patience, SystemWatch, pause};
 use ftp_tool_status::Status;
 use ftp_tool_words::Sessions;
-use ftp_tree_folder::{DiskFolder, LoadFault, Mirror, Reasons, Seen, reloaded};
+use ftp_tree_folder::{DiskFolder, LoadFault, Mirror, Seen, reloaded};
 use std::alloc::Global;
 use std::cell::RefCell;
 use std::fmt::Display;
@@ -74,7 +74,6 @@ pub enum Odd {
 struct Desk<'a> {
     job: &'a Serving<'a>,
     listener: &'a TcpListener,
-    reasons: &'a Reasons,
     passive: &'a PassivePorts,
     lines: &'a Lines,
     guesses: &'a RefCell<Guesses<Global>>,
@@ -173,12 +172,11 @@ where
         Ok(roots) => roots,
         Err(fault) => return refuse(rt, "accounts: ", &OfFile(job.accounts, &fault)),
     };
-    let reasons = Reasons::new();
     let lines = Lines::new();
-    match opened(rt, job, roots.as_slice(), &reasons, &lines) {
+    match opened(rt, job, roots.as_slice(), &lines) {
         Ok(mirror) => {
             tell_roots(rt, &mirror, job.accounts, roots.as_slice(), &lines);
-            serve_mirror(rt, mirror, job, &reasons, &lines)
+            serve_mirror(rt, mirror, job, &lines)
         }
         Err(fault) => refuse_folder(rt, job, &fault),
     }
@@ -213,7 +211,6 @@ fn serve_mirror<'a, R>(
     rt: &'a R,
     mirror: Mirror<Global, DiskFolder<'a, R>>,
     job: &Serving<'_>,
-    reasons: &Reasons,
     lines: &Lines,
 ) -> io::Result<Status>
 where
@@ -227,7 +224,7 @@ where
         + Drop,
 {
     match listener_for(rt, job) {
-        Ok(Some(listener)) => Ok(serve_by(rt, mirror, job, &listener, reasons, lines)),
+        Ok(Some(listener)) => Ok(serve_by(rt, mirror, job, &listener, lines)),
         Ok(None) => Ok(Status::Failed),
         Err(error) => Err(error),
     }
@@ -279,7 +276,6 @@ fn serve_by<'a, R>(
     mirror: Mirror<Global, DiskFolder<'a, R>>,
     job: &Serving<'_>,
     listener: &TcpListener,
-    reasons: &Reasons,
     lines: &Lines,
 ) -> Status
 where
@@ -296,7 +292,6 @@ where
     let desk = Desk {
         job,
         listener,
-        reasons,
         passive: &passive,
         lines,
         guesses: &guesses,
@@ -362,7 +357,6 @@ where
     let patience = Patience::new(desk.job.limits, Some(desk.listener));
     let service = Service {
         log: desk.job.log,
-        reasons: desk.reasons,
         patience: &patience,
         passive: desk.passive,
         passive_address: desk.job.passive_address,

@@ -7,9 +7,7 @@ use ftp_path::Path;
 use ftp_tool_log::Lines;
 use ftp_tool_sockets::SystemWatch;
 use ftp_tree::{MemTree, NodeKind, Tree, TreeFault};
-use ftp_tree_folder::{
-    Disk, DiskFolder, LeftOut, LoadFault, Mirror, Reason, Reasons, Seen, open, reloaded,
-};
+use ftp_tree_folder::{Disk, DiskFolder, LeftOut, LoadFault, Mirror, Reason, Seen, open, reloaded};
 use std::alloc::Global;
 use std::fmt::{Display, Formatter};
 use std::fs::Files;
@@ -21,16 +19,15 @@ pub(crate) fn opened<'a, R>(
     rt: &'a R,
     job: &Serving<'_>,
     roots: &[Path<Global>],
-    reasons: &'a Reasons,
     lines: &Lines,
 ) -> Result<Mirror<Global, DiskFolder<'a, R>>, LoadFault>
 where
     R: Files + Clock + AllocGlobal + Clone + Drop,
 {
     if job.odd == Odd::Refuse || !is_folder(rt, job.dir) {
-        return open(rt, job.dir, roots, reasons);
+        return open(rt, job.dir, roots);
     }
-    let Ok(folder) = DiskFolder::new(rt, job.dir, reasons) else {
+    let Ok(folder) = DiskFolder::new(rt, job.dir) else {
         return Err(LoadFault::Memory);
     };
     let empty = Mirror::new(MemTree::new(rt.alloc()), folder);

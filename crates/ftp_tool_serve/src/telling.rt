@@ -1,7 +1,7 @@
-// What is told of a line that was answered: its verb, and what it names where that is no secret.
+// What is told of a line that a server acted on: its verb, and what it names where that is no secret.
 use crate::line::Line;
-use crate::manner::{Login, login_by};
-use ftp_command::{Verb, verb_of};
+use ftp_command::Verb;
+use ftp_server_model::Answered;
 
 /// The code of a login (RFC 959, section 4.2.2).
 const LOGGED_IN: u16 = 230;
@@ -16,115 +16,42 @@ pub(crate) struct Asked {
 }
 
 impl Asked {
-    /// A line of which nothing is known.
-    pub(crate) fn unread() -> Asked {
+    /// A line that a server acted on; PASS is told by the user who was named before it.
+    pub(crate) fn of(answered: &Answered<'_>, named: Line) -> Asked {
+        let names = match answered.verb {
+            Some(Verb::Pass) => named,
+            _ => Line::front_of(answered.text),
+        };
         Asked {
-            verb: None,
-            names: Line::new(),
+            verb: answered.verb,
+            names,
         }
     }
 
-    /// Whether it is told whatever is answered, and where it is not answered.
+    /// Whether it is told whatever is answered, and where it is not answered: transfers, and what changes the folder or the directory.
     pub(crate) fn is_told(&self) -> bool {
-        self.verb.is_some_and(is_told)
-    }
-}
-
-/// What is told of a line, without its end. What stands behind a verb is told where that is a path or a user's name alone: a password never
-/// is, nor the words of a line that has no verb.
-pub(crate) fn asked_of(line: &[u8]) -> Asked {
-    let (word, rest) = parts_of(line);
-    let verb = verb_of(word);
-    let names = match verb {
-        Some(verb) if names_path(verb) => Line::front_of(rest),
-        _ => Line::new(),
-    };
-    Asked { verb, names }
-}
-
-/// Who is logged in, and who is about to.
-#[derive(Clone, Copy)]
-pub(crate) struct Guest {
-    claimed: Line,
-    known: Line,
-}
-
-impl Guest {
-    /// Nobody.
-    pub(crate) fn nobody() -> Guest {
-        Guest {
-            claimed: Line::new(),
-            known: Line::new(),
-        }
+        matches!(
+            self.verb,
+            Some(
+                Verb::Retr
+                    | Verb::Stor
+                    | Verb::Stou
+                    | Verb::Appe
+                    | Verb::List
+                    | Verb::Nlst
+                    | Verb::Mlsd
+                    | Verb::Cwd
+                    | Verb::Dele
+                    | Verb::Rmd
+                    | Verb::Mkd
+                    | Verb::Rnfr
+                    | Verb::Rnto
+            )
+        )
     }
 
-    /// The user who is logged in; empty where nobody is.
-    pub(crate) fn user(&self) -> &[u8] {
-        self.known.octets()
+    /// Whether it is told with this code of its last reply: refusals and logins are too.
+    pub(crate) fn is_told_by(&self, code: u16) -> bool {
+        code >= 400 || code == LOGGED_IN || self.is_told()
     }
-
-    /// Takes in that a line was answered, and gives what it names: behind PASS the user.
-    pub(crate) fn answered(&mut self, asked: &Asked, code: u16) -> Line {
-        let names = self.named_by(asked);
-        match login_by(asked.verb, code) {
-            Login::Same => {}
-            Login::Named => {
-                self.claimed = names;
-                self.known = Line::new();
-            }
-            Login::In => self.known = names,
-            Login::Out => self.known = Line::new(),
-        }
-        names
-    }
-
-    /// What a line names: behind PASS the user who was named before it.
-    fn named_by(&self, asked: &Asked) -> Line {
-        if asked.verb == Some(Verb::Pass) {
-            self.claimed
-        } else {
-            asked.names
-        }
-    }
-}
-
-/// Whether a line that was answered is told: refusals, logins, transfers, and what changes the folder or the directory.
-pub(crate) fn tells(asked: &Asked, code: u16) -> bool {
-    code >= 400 || code == LOGGED_IN || asked.is_told()
-}
-
-/// The word at the front of a line, and what follows the blank behind it, as a line is read.
-fn parts_of(line: &[u8]) -> (&[u8], &[u8]) {
-    match line.iter().position(|octet| *octet == b' ') {
-        Some(place) => {
-            let (word, rest) = line.split_at(place);
-            (word, &rest[1..])
-        }
-        None => (line, &[]),
-    }
-}
-
-/// Whether a path stands behind a verb.
-fn names_path(verb: Verb) -> bool {
-    is_told(verb) || matches!(verb, Verb::User | Verb::Mlst | Verb::Size | Verb::Mdtm)
-}
-
-/// Whether a line of a verb is told whatever is answered: transfers, and what changes the folder or the directory.
-fn is_told(verb: Verb) -> bool {
-    matches!(
-        verb,
-        Verb::Retr
-            | Verb::Stor
-            | Verb::Stou
-            | Verb::Appe
-            | Verb::List
-            | Verb::Nlst
-            | Verb::Mlsd
-            | Verb::Cwd
-            | Verb::Dele
-            | Verb::Rmd
-            | Verb::Mkd
-            | Verb::Rnfr
-            | Verb::Rnto
-    )
 }

@@ -86,7 +86,7 @@ pub(crate) struct Entry<'a> {
     pub(crate) verb: Option<Verb>,
     pub(crate) names: &'a [u8],
     pub(crate) moved: u64,
-    pub(crate) outcome: Outcome,
+    pub(crate) outcome: Outcome<'a>,
 }
 
 impl<'a> Display for Entry<'a> {
@@ -113,13 +113,13 @@ fn verb_text(verb: Option<Verb>) -> &'static str {
 
 /// How a line ended: the code of its last reply, `reset`, and the system's reason.
 #[derive(Drop)]
-pub(crate) struct Outcome {
+pub(crate) struct Outcome<'a> {
     pub(crate) code: Option<u16>,
     pub(crate) fate: Fate,
-    pub(crate) why: Option<io::Error>,
+    pub(crate) why: Option<&'a io::Error>,
 }
 
-impl Display for Outcome {
+impl<'a> Display for Outcome<'a> {
     fn fmt<W: fmt::Write>(&self, formatter: &mut Formatter<W>) -> fmt::Result {
         match self.code {
             Some(code) => write!(formatter, "{code}")?,
@@ -128,7 +128,7 @@ impl Display for Outcome {
         if self.fate == Fate::Reset {
             write!(formatter, " reset")?;
         }
-        match &self.why {
+        match self.why {
             Some(why) => write!(formatter, " {why}"),
             None => Ok(()),
         }

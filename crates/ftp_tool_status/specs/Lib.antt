@@ -3,3 +3,4 @@ pub mod Steps
 pub mod Tries
 pub mod Version
 pub mod Pace
+pub mod Measure

@@ -2,12 +2,14 @@
 //! statuses of the programs (own choice). No IO.
 #![tactic(auto)]
 
+mod measure;
 mod pace;
 mod status;
 mod step;
 mod tries;
 mod version;
 
+pub use measure::{Measure, Unit, measured, unit_for};
 pub use pace::{Pace, Rest, Span, pace_of};
 pub use status::Status;
 pub use step::{Ended, Step, There, Transfer, follows};

@@ -2,6 +2,7 @@
 ghost use Rattle.std.specs.Prelude.{◌≡◌, ◌+◌};
 ghost use Rattle.ftp_tool_status.specs.Pace.{hundredths, pace_of, per_second, seconds_left};
 
+use crate::measure::{measured, unit_for};
 use std::fmt;
 use std::fmt::{Display, Formatter};
 
@@ -83,6 +84,7 @@ fn seconds_left(count: u128, total: u64, per_second: u128) -> Option<u128>
     Some(u128::from(total).saturating_sub(count) / per_second)
 }
 
+/// `5.2 of 20.0 MiB, 26 %, 1.1 MiB/s, 13 s left`, or `5.2 MiB, 1.1 MiB/s` of a file whose size is not known.
 impl Display for Pace {
     fn fmt<W: fmt::Write>(&self, formatter: &mut Formatter<W>) -> fmt::Result {
         let Pace {
@@ -90,23 +92,35 @@ impl Display for Pace {
             per_second,
             rest,
         } = *self;
+        let rate = measured(unit_for(per_second), per_second);
         match rest {
             Some(rest) => {
-                let Rest {
-                    total,
-                    percent,
-                    seconds,
-                } = rest;
-                write!(
-                    formatter,
-                    "{count} of {total} octets, {percent} %, {per_second} a second"
-                )?;
-                match seconds {
-                    Some(seconds) => write!(formatter, ", {seconds} s left"),
-                    None => Ok(()),
-                }
+                write_part(count, rest, formatter)?;
+                write!(formatter, ", {rate}/s")?;
+                write_left(rest.seconds, formatter)
             }
-            None => write!(formatter, "{count} octets, {per_second} a second"),
+            None => {
+                let there = measured(unit_for(count), count);
+                write!(formatter, "{there}, {rate}/s")
+            }
         }
+    }
+}
+
+/// Writes how much of a file is there: both sizes in the unit of the whole.
+fn write_part<W: fmt::Write>(count: u128, rest: Rest, formatter: &mut Formatter<W>) -> fmt::Result {
+    let total = u128::from(rest.total);
+    let unit = unit_for(total);
+    measured(unit, count).write_number(formatter)?;
+    let whole = measured(unit, total);
+    let percent = rest.percent;
+    write!(formatter, " of {whole}, {percent} %")
+}
+
+/// Writes how long the rest takes, where that is known.
+fn write_left<W: fmt::Write>(seconds: Option<u128>, formatter: &mut Formatter<W>) -> fmt::Result {
+    match seconds {
+        Some(seconds) => write!(formatter, ", {seconds} s left"),
+        None => Ok(()),
     }
 }

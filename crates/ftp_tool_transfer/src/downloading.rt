@@ -302,7 +302,7 @@ impl<'a, R: Eprint> Downloading<'a, R> {
         let Ok(asked) = self.asked(seat) else {
             return Turn::Over(Answer::Memory);
         };
-        let answer = self.take(asked);
+        let answer = self.take(asked, seat.came());
         if seat.ending() == Ending::PastLimit {
             drop(answer);
             self.size = Size::Past;
@@ -323,7 +323,7 @@ impl<'a, R: Eprint> Downloading<'a, R> {
         Ok(seat.answer(self.request()?))
     }
 
-    /// What is asked for a try. Where the size is known, what came is kept where the control connection ends.
+    /// What is asked for a try.
     fn request(&self) -> Result<Request, AllocError> {
         let path = Text::copy_of(self.alloc, self.path.as_bytes())?;
         let how = self.openings.how(self.how);
@@ -338,22 +338,36 @@ impl<'a, R: Eprint> Downloading<'a, R> {
         let terms = Terms {
             most: self.limit.saturating_sub(self.came.count()),
             total,
-            is_kept: total.is_some(),
         };
         Ok(Request::Download(Some(op), terms))
     }
 
-    /// Takes the octets out of an answer.
-    fn take(&mut self, mut answer: Answer<Global>) -> Answer<Global> {
+    /// Takes the octets out of an answer; where the control connection ended in the middle of a transfer, those that came until then (`kept`), which
+    /// is answered as a break. Without the size of the file nothing goes on behind them, and they are left.
+    fn take(&mut self, mut answer: Answer<Global>, kept: &[u8]) -> Answer<Global> {
         let none = Text::from_vec(Vec::new(self.alloc));
         let octets = match &mut answer {
             Answer::Octets(octets) => mem::replace(octets, none),
             Answer::Broken { got, mark: _ } => mem::replace(got, none),
+            Answer::Lost if matches!(self.size, Size::Told(_)) && !kept.is_empty() => {
+                return self.take_kept(kept);
+            }
             _ => return answer,
         };
         match self.came.add(octets) {
             Ok(()) if matches!(&answer, Answer::Octets(_)) => Answer::Done,
             Ok(()) => answer,
+            Err(AllocError) => Answer::Memory,
+        }
+    }
+
+    /// Takes octets that came before the control connection ended.
+    fn take_kept(&mut self, kept: &[u8]) -> Answer<Global> {
+        match Text::copy_of(self.alloc, kept).and_then(|octets| self.came.add(octets)) {
+            Ok(()) => Answer::Broken {
+                got: Text::from_vec(Vec::new(self.alloc)),
+                mark: None,
+            },
             Err(AllocError) => Answer::Memory,
         }
     }

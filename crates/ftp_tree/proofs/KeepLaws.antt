@@ -1,20 +1,21 @@
 -- Each change that is not refused keeps a tree one.
-use Rattle.std.proofs.Common.{ℕ, ◌-◌, ◌<◌, ◌≡◌, Bool, true, false, cond, Option, Some, None, IsSome, is_some, List, [], ◌∷◌, ◌++◌, length, drop, refl, sym, ap, ◌∙◌, subst, arith}
+use Rattle.std.proofs.Common.{ℕ, ◌-◌, ◌<◌, ◌≡◌, Bool, true, false, not, ◌&&◌, cond, Option, Some, None, IsSome, is_some, is_none, List, [], ◌∷◌, ◌++◌, length, drop, refl, sym, ap, ◌∙◌, subst, arith}
 use Rattle.std.specs.List.{Contains}
-use Rattle.std.specs.Ordering.{eq_by_cmp}
+use Rattle.std.specs.Cmp.{tied_itself}
+use Rattle.std.specs.Ordering.{eq_by_cmp, is_eq}
 use Rattle.std.specs.FinMap as fin
-use Rattle.std.proofs.lemmas.Bool.{cond-true, cond-false, true≢false}
+use Rattle.std.proofs.lemmas.Bool.{and_parts, cond-true, cond-false, true≢false}
 use Rattle.std.proofs.lemmas.List.{append-nil, append_assoc, length-append, length-take}
 use Rattle.ftp_path.specs.Path.{parent, Names, path_cmp, is_within}
-use Rattle.ftp_tree.specs.Tree.{Node, Dir, File, Table, node_at, children, root_alone, made, removed, installed, moved, IsTree, whenever, directory_refusal, place_refusal, nodes_refusal, make_refusal, file_refusal, delete_refusal, empty_refusal, remove_answer, remove_refusal, rename_refusal, room_answer, room_refusal, octets_refusal, install_refusal}
+use Rattle.ftp_tree.specs.Tree.{Node, Dir, File, Table, node_at, children, root_alone, made, removed, installed, moved, IsTree, whenever, freed, takes_place, onto_refusal, directory_refusal, place_refusal, nodes_refusal, make_refusal, file_refusal, delete_refusal, empty_refusal, remove_answer, remove_refusal, source_answer, source_refusal, rename_refusal, room_answer, room_refusal, octets_refusal, install_refusal}
 use Rattle.ftp_tree.specs.declared.fault.TreeFault.{TreeFault}
 use Rattle.ftp_tree.specs.declared.fault.TreeFault.TheVariants.{Exists, WrongKind}
-use Rattle.ftp_tree.specs.Laws.{ChangesKeepTrees}
+use Rattle.ftp_tree.specs.Laws.{ChangesKeepTrees, MovesAll}
 use Rattle.ftp_path.proofs.PathLemmas.{parent-last}
 use Rattle.ftp_tree.proofs.EntryLemmas.{path_total}
 use Rattle.ftp_path.proofs.KeyLemmas.{within-parts, within-append}
-use Rattle.ftp_tree.proofs.TableLemmas.{both-none, table_of-none, node_at-root}
-use Rattle.ftp_tree.proofs.LawLemmas.{same, false-where, parent-append, target-parts, rename-moves, children-stand}
+use Rattle.ftp_tree.proofs.TableLemmas.{both-none, held, table_of-none, node_at-root}
+use Rattle.ftp_tree.proofs.LawLemmas.{same, false-where, parent-append, target-parts, moves-where, children-stand}
 
 pub at-insert : (table : Table) (path : Names) (node : Node) (other : Names) → node_at (fin.insert table path node) other ≡ cond (eq_by_cmp path_cmp other path) (Some node) (node_at table other)
 unfolding node_at
@@ -181,23 +182,23 @@ root-outside : (name : List ℕ) (names : Names) → is_within (name ∷ names) 
 unfolding is_within
 root-outside name names = refl
 
-root-inside : (path : Names) → is_within [] path ≡ true
+pub root-inside : (path : Names) → is_within [] path ≡ true
 unfolding is_within
 root-inside path = refl
 
-module _ (table : Table) (from to : Names) (tree : IsTree table) (none : rename_refusal table from to ≡ None) where
-  apart_from : is_within from to ≡ false
-  apart_from = (target-parts table from to none).1
+module _ (table : Table) (from to : Names) (tree : IsTree table) (absent : is_some (node_at table to) ≡ false) (beside : is_within from to ≡ false) (above : node_at table (parent to) ≡ Some Dir) where
+  all : MovesAll table (moved table from to) from to
+  all = moves-where table from to tree absent beside
 
   root-not_from : is_within from [] ≡ false
-  root-not_from = by from apart_from
+  root-not_from = by from beside
     where
       by : (from : Names) → is_within from to ≡ false → is_within from [] ≡ false
       by [] outside = absurd (true≢false (sym (root-inside to) ∙ outside))
       by (name ∷ names) outside = root-outside name names
 
   root-not_to : is_within to [] ≡ false
-  root-not_to = by to (target-parts table from to none).0
+  root-not_to = by to absent
     where
       by : (to : Names) → is_some (node_at table to) ≡ false → is_within to [] ≡ false
       by [] free = absurd (true≢false (ap is_some (sym tree.root) ∙ free))
@@ -206,8 +207,8 @@ module _ (table : Table) (from to : Names) (tree : IsTree table) (none : rename_
   -- the parent of the new path stays where it is
   parent-stays : node_at (moved table from to) (parent to) ≡ Some Dir
   parent-stays =
-      (rename-moves table from to tree none).stays (parent to) (outside-up from to apart_from) (by to root-not_to)
-      ∙ is-dir (node_at table (parent to)) (target-parts table from to none).2
+      all.stays (parent to) (outside-up from to beside) (by to root-not_to)
+      ∙ above
     where
       by : (to : Names) → is_within to [] ≡ false → is_within to (parent to) ≡ false
       by [] outside = ap (is_within []) parent-none ∙ outside
@@ -219,7 +220,7 @@ module _ (table : Table) (from to : Names) (tree : IsTree table) (none : rename_
   below-new : (rest : Names) → IsSome (node_at table (from ++ rest)) → node_at (moved table from to) (parent (to ++ rest)) ≡ Some Dir
   below-new [] some = ap (λ p. node_at (moved table from to) (parent p)) (append-nil to) ∙ parent-stays
   below-new (name ∷ rest) some =
-      ap (node_at (moved table from to)) (parent-append to name rest) ∙ (rename-moves table from to tree none).comes (parent (name ∷ rest))
+      ap (node_at (moved table from to)) (parent-append to name rest) ∙ all.comes (parent (name ∷ rest))
       ∙ ap (node_at table) (sym (parent-append from name rest)) ∙ tree.parents (from ++ name ∷ rest) some
 
   up : (path : Names) → IsSome (node_at (moved table from to) path) → (b : Bool) → is_within to path ≡ b → (c : Bool) → is_within from path ≡ c → node_at (moved table from to) (parent path) ≡ Some Dir
@@ -227,18 +228,161 @@ module _ (table : Table) (from to : Names) (tree : IsTree table) (none : rename_
       let rest = drop (length to) path in
       let whole = within-parts to path inside in
       ap (λ p. node_at (moved table from to) (parent p)) whole
-      ∙ below-new rest (subst (λ o. IsSome o) (ap (node_at (moved table from to)) whole ∙ (rename-moves table from to tree none).comes rest) some)
-  up path some false outside true below = absurd (true≢false (sym (ap is_some (sym ((rename-moves table from to tree none).goes path below outside)) ∙ some)))
-  up path some false outside false beside =
-      (rename-moves table from to tree none).stays (parent path) (outside-up from path beside) (outside-up to path outside)
-      ∙ tree.parents path (subst (λ o. IsSome o) ((rename-moves table from to tree none).stays path beside outside) some)
+      ∙ below-new rest (subst (λ o. IsSome o) (ap (node_at (moved table from to)) whole ∙ all.comes rest) some)
+  up path some false outside true below = absurd (true≢false (sym (ap is_some (sym (all.goes path below outside)) ∙ some)))
+  up path some false outside false apart =
+      all.stays (parent path) (outside-up from path apart) (outside-up to path outside)
+      ∙ tree.parents path (subst (λ o. IsSome o) (all.stays path apart outside) some)
 
-  keeps-moved : IsTree (moved table from to)
-  keeps-moved =
+  keeps-there : IsTree (moved table from to)
+  keeps-there =
       record {
-        root = (rename-moves table from to tree none).stays [] root-not_from root-not_to ∙ tree.root;
+        root = all.stays [] root-not_from root-not_to ∙ tree.root;
         parents = λ path some. up path some (is_within to path) refl (is_within from path) refl;
       }
+
+keeps-moved : (table : Table) (from to : Names) → IsTree table → rename_refusal table from to ≡ None → IsTree (moved table from to)
+keeps-moved table from to tree none =
+    let parts = target-parts table from to none in
+    keeps-there table from to tree parts.0 parts.1 (is-dir _ parts.2)
+
+-- ---- a file in the place of another
+
+-- files stand at both paths, and the second is not the first
+pub record TakesPlace (table : Table) (from to : Names) : Type 0 where
+  pub source : file_refusal (node_at table from) ≡ None
+  pub target : file_refusal (node_at table to) ≡ None
+  pub beside : is_within from to ≡ false
+
+no-fault : (o : Option TreeFault) → is_none o ≡ true → o ≡ None
+no-fault None none = refl
+no-fault (Some fault) none = absurd (true≢false (sym none))
+
+no-true : (b : Bool) → not b ≡ true → b ≡ false
+no-true true held_not = absurd (true≢false (sym held_not))
+no-true false held_not = refl
+
+pub takes-parts : (table : Table) (from to : Names) → takes_place table from to ≡ true → TakesPlace table from to
+unfolding takes_place
+takes-parts table from to takes =
+    let both = and_parts (is_none (file_refusal (node_at table from))) (is_none (file_refusal (node_at table to)) && not (is_within from to)) takes in
+    let rest = and_parts (is_none (file_refusal (node_at table to))) (not (is_within from to)) both.1 in
+    record { source = no-fault _ both.0; target = no-fault _ rest.0; beside = no-true _ rest.1 }
+
+-- a file is moved onto another just where it may take its place
+pub onto-takes : (table : Table) (from to : Names) → onto_refusal table from to ≡ None → takes_place table from to ≡ true
+unfolding onto_refusal
+onto-takes table from to none = held (takes_place table from to) WrongKind none
+
+pub takes-onto : (table : Table) (from to : Names) → takes_place table from to ≡ true → onto_refusal table from to ≡ None
+unfolding onto_refusal
+takes-onto table from to takes = ap (λ b. whenever (not b) WrongKind) takes
+
+-- a file is something, and no directory
+pub file-stands : (node : Option Node) → file_refusal node ≡ None → is_some node ≡ true
+file-stands None none = cc
+file-stands (Some node) none = refl
+
+pub file-below : (table : Table) (path : Names) → IsTree table → file_refusal (node_at table path) ≡ None → path ≡ [] → ⊥
+file-below table path tree file root = kinds (ap file_refusal (sym (ap (node_at table) root ∙ tree.root)) ∙ file)
+  where
+    kinds : ◌≡◌ {A = Option TreeFault} (Some WrongKind) None → ⊥
+    kinds e = cc
+
+pub not-own : (path : Names) → (path ≡ [] → ⊥) → parent path ≡ path → ⊥
+not-own [] some own = some refl
+not-own (name ∷ rest) some own = let less = parent-shorter name rest in let long = ap length own in absurd (omega (arith, less, long))
+
+-- once the file at a path is gone, nothing stands there, and above it a directory as before
+pub record IsVacant (table : Table) (path : Names) : Type 0 where
+  pub tree : IsTree table
+  pub absent : node_at table path ≡ None
+  pub above : node_at table (parent path) ≡ Some Dir
+
+pub vacant : (table : Table) (path : Names) → IsTree table → file_refusal (node_at table path) ≡ None → IsVacant (removed table path) path
+unfolding removed delete_refusal
+vacant table path tree file =
+    record {
+      tree = keeps-deleted table path tree file;
+      absent = at-remove table path path ∙ cond-true (eq_by_cmp path_cmp path path) None (node_at table path) (ap is_eq (tied_itself path_total path));
+      above =
+          at-remove table path (parent path)
+          ∙ cond-false (eq_by_cmp path_cmp (parent path) path) None (node_at table (parent path)) (false-where _ (λ equal. not-own path
+          (file-below table path tree file) (same (parent path) path equal)))
+          ∙ tree.parents path (file-stands (node_at table path) file);
+    }
+
+-- the map without the file whose place is taken, where files may be replaced so; else the map
+pub takes-freed : (table : Table) (from to : Names) → takes_place table from to ≡ true → freed true table from to ≡ removed table to
+unfolding freed
+takes-freed table from to takes = cond-true (takes_place table from to) (removed table to) table takes
+
+pub not-freed : (table : Table) (from to : Names) → freed false table from to ≡ table
+unfolding freed
+not-freed table from to = refl
+
+pub stays-freed : (onto : Bool) (table : Table) (from to : Names) → takes_place table from to ≡ false → freed onto table from to ≡ table
+unfolding freed
+stays-freed true table from to stays = cond-false (takes_place table from to) (removed table to) table stays
+stays-freed false table from to stays = refl
+
+-- what holds of the map, and of it without a file whose place is taken, holds of it once a place is freed
+pub by-freed : (P : Table → Type 0) (onto : Bool) (table : Table) (from to : Names) → P table → (takes_place table from to ≡ true → P (removed table to))
+    → P (freed onto table from to)
+by-freed P false table from to whole without = subst P (sym (not-freed table from to)) whole
+by-freed P true table from to whole without =
+    elim (takes_place table from to) as (λ b. takes_place table from to ≡ b → P (freed true table from to)) [
+      | true ↦ λ takes. subst P (sym (takes-freed table from to takes)) (without takes)
+      | false ↦ λ stays. subst P (sym (stays-freed true table from to stays)) whole
+    ] refl
+
+-- a tree stays one
+pub freed-tree : (onto : Bool) (table : Table) (from to : Names) → IsTree table → IsTree (freed onto table from to)
+freed-tree onto table from to tree =
+    by-freed IsTree onto table from to tree (λ takes. (vacant table to tree (takes-parts table from to takes).target).tree)
+
+-- no other path changes, and what stands at the path that is freed goes
+pub freed-node : (onto : Bool) (table : Table) (from to path : Names) → eq_by_cmp path_cmp path to ≡ false
+    → node_at (freed onto table from to) path ≡ node_at table path
+unfolding removed
+freed-node onto table from to path other =
+    by-freed (λ t. node_at t path ≡ node_at table path) onto table from to refl (λ takes. at-remove table to path
+    ∙ cond-false (eq_by_cmp path_cmp path to) None (node_at table path) other)
+
+pub freed-at : (table : Table) (from to : Names) → takes_place table from to ≡ true → node_at (freed true table from to) to ≡ None
+unfolding removed
+freed-at table from to takes =
+    ap (λ t. node_at t to) (takes-freed table from to takes) ∙ at-remove table to to
+    ∙ cond-true (eq_by_cmp path_cmp to to) None (node_at table to) (ap is_eq (tied_itself path_total to))
+
+-- paths of which the second is not within the first are two
+pub beside-other : (from to : Names) (rest : Names) → is_within from to ≡ false → eq_by_cmp path_cmp (from ++ rest) to ≡ false
+beside-other from to rest beside = false-where _ (λ equal. true≢false (sym (within-append from rest) ∙ ap (is_within from) (same (from ++ rest) to equal)
+    ∙ beside))
+
+-- what is moved stands as before
+pub freed-from : (onto : Bool) (table : Table) (from to rest : Names) → node_at (freed onto table from to) (from ++ rest) ≡ node_at table (from ++ rest)
+unfolding removed
+freed-from onto table from to rest =
+    by-freed (λ t. node_at t (from ++ rest) ≡ node_at table (from ++ rest)) onto table from to refl
+    (λ takes. at-remove table to (from ++ rest)
+    ∙ cond-false (eq_by_cmp path_cmp (from ++ rest) to) None (node_at table (from ++ rest)) (beside-other from to rest
+    (takes-parts table from to takes).beside))
+
+-- so what is refused of it is as before
+pub freed-source : (onto : Bool) (table : Table) (from to : Names) → source_refusal (freed onto table from to) from ≡ source_refusal table from
+unfolding source_refusal
+freed-source onto table from to =
+    ap (λ node. source_answer node from)
+    (ap (node_at (freed onto table from to)) (sym (append-nil from)) ∙ freed-from onto table from to [] ∙ ap (node_at table) (append-nil from))
+
+keeps-replaced : (table : Table) (from to : Names) → IsTree table → onto_refusal table from to ≡ None → IsTree (moved (freed true table from to) from to)
+keeps-replaced table from to tree none =
+    let takes = onto-takes table from to none in
+    let parts = takes-parts table from to takes in
+    let free = vacant table to tree parts.target in
+    subst (λ t. IsTree (moved t from to)) (sym (takes-freed table from to takes)) (keeps-there (removed table to) from to free.tree
+    (ap is_some free.absent) parts.beside free.above)
 
 pub changes-keep : ChangesKeepTrees
 changes-keep =
@@ -248,5 +392,6 @@ changes-keep =
       removing = keeps-removed;
       deleting = keeps-deleted;
       moving = keeps-moved;
+      replacing = keeps-replaced;
       installing = keeps-installed;
     }

@@ -75,7 +75,7 @@ under-stands table root path =
 -- ---- all that stands
 
 -- what holds of each path that is found holds of each entry
-each-found : (P : Names → Type 0) (es : Rows) → ((p : Names) → is_some (find path_cmp p es) ≡ true → P p) → AllByRecursion (λ e. P e.0) es
+pub each-found : (P : Names → Type 0) (es : Rows) → ((p : Names) → is_some (find path_cmp p es) ≡ true → P p) → AllByRecursion (λ e. P e.0) es
 each-found P [] all = tt
 each-found P (e ∷ es) all = (
   all e.0 (ap (λ r. is_some (cond (is_eq r) (Some e.1) (find path_cmp e.0 es))) (tied_itself path_total e.0)),

@@ -80,7 +80,7 @@ itself path = ap is_eq (tied_itself path_total path)
 pub longer : (path : Names) (name : List ℕ) (rest : Names) → eq_by_cmp path_cmp (path ++ name ∷ rest) path ≡ false
 longer path name rest = false-where _ (λ equal. let long = ap length (same (path ++ name ∷ rest) path equal) in let all = length-append path (name ∷ rest) in absurd (omega arith))
 
-outside : (path other : Names) → is_within path other ≡ false → eq_by_cmp path_cmp other path ≡ false
+pub outside : (path other : Names) → is_within path other ≡ false → eq_by_cmp path_cmp other path ≡ false
 outside path other out = apart path other path out (ap (is_within path) (sym (append-nil path)) ∙ within-append path [])
 
 pub put-leaf : (table : Table) (path : Names) (node : Node) → IsLeaf table path → with_part table path (fin.insert fin.empty [] node) ≡ fin.insert table path node

@@ -8,6 +8,7 @@ pub mod LeafLemmas
 pub mod MirrorLemmas
 pub mod MoveLemmas
 pub mod NameLemmas
+pub mod OntoLemmas
 pub mod PartLemmas
 pub mod PlaceLemmas
 pub mod PlacingLemmas

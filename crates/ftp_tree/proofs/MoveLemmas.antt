@@ -6,34 +6,39 @@ use Rattle.std.proofs.lemmas.List.{append-nil}
 use Rattle.std.proofs.Math.Seq.{drop-append_seam}
 use Rattle.ftp_path.specs.Path.{Names, is_within}
 use Rattle.ftp_path.proofs.KeyLemmas.{within-append, within-parts}
-use Rattle.ftp_tree.specs.Tree.{Node, Dir, Table, IsTree, node_at, under, with_part, moved, root_alone, source_answer, source_refusal, rename_refusal}
+use Rattle.ftp_tree.specs.Tree.{Node, Dir, Table, IsTree, node_at, under, with_part, moved, source_answer, source_refusal, rename_refusal}
 use Rattle.ftp_tree.specs.Laws.{MovesAll}
 use Rattle.ftp_tree.proofs.BranchLemmas.{empty-at}
-use Rattle.ftp_tree.proofs.KeepLaws.{at-root_alone, changes-keep, root-tree}
+use Rattle.ftp_tree.proofs.KeepLaws.{at-insert, changes-keep}
 use Rattle.ftp_tree.proofs.LawLemmas.{moves-where, target-parts, under-stands}
 use Rattle.ftp_tree.proofs.LeafLemmas.{Keeps, none-absent, root-dir}
 use Rattle.ftp_tree.proofs.PartLemmas.{part-comes, part-stays, same-nodes, parts-trees}
 use Rattle.ftp_tree.proofs.TableLemmas.{both-none, not-some}
 use Rattle.ftp_tree.proofs.UnderLemmas.{moved-under, within-inside}
 
-module _ (table : Table) (from to : Names) (tree : IsTree table) (absent : is_some (node_at table to) ≡ false) (beside : is_within from to ≡ false) where
+module _ (table : Table) (from to : Names) (node : Node) (tree : IsTree table) (absent : is_some (node_at table to) ≡ false) (beside : is_within from to ≡ false) where
+  -- a node alone, and the map with it in the place
+  abbrev alone : Table
+  alone = fin.insert fin.empty [] node
+
   abbrev placed : Table
-  placed = with_part table to root_alone
+  placed = with_part table to alone
 
   -- what is moved is as it was when the place is had
   pub still : (rest : Names) → node_at placed (from ++ rest) ≡ node_at table (from ++ rest)
   still rest = elim (is_within to (from ++ rest)) as (λ b. is_within to (from ++ rest) ≡ b → node_at placed (from ++ rest) ≡ node_at table (from ++ rest)) [
     | true ↦ λ inside. by (drop (length to) (from ++ rest)) (within-parts to (from ++ rest) inside)
-    | false ↦ λ out. part-stays table to root_alone (from ++ rest) out
+    | false ↦ λ out. part-stays table to alone (from ++ rest) out
   ] refl
     where
       by : (more : Names) → from ++ rest ≡ to ++ more → node_at placed (from ++ rest) ≡ node_at table (from ++ rest)
       by [] is = absurd (true≢false (sym (within-append from rest) ∙ ap (is_within from) (is ∙ append-nil to) ∙ beside))
       by (name ∷ more) is =
-          ap (node_at placed) is ∙ part-comes table to root_alone (name ∷ more) ∙ at-root_alone (name ∷ more) ∙ sym (none-absent table to tree (not-some _ absent) name more) ∙ ap (node_at table) (sym is)
+          ap (node_at placed) is ∙ part-comes table to alone (name ∷ more) ∙ at-insert fin.empty [] node (name ∷ more) ∙ empty-at (name ∷ more)
+          ∙ sym (none-absent table to tree (not-some _ absent) name more) ∙ ap (node_at table) (sym is)
 
-  pub place-stands : node_at placed to ≡ Some Dir
-  place-stands = ap (node_at placed) (sym (append-nil to)) ∙ part-comes table to root_alone [] ∙ root-tree.root
+  pub place-stands : node_at placed to ≡ Some node
+  place-stands = ap (node_at placed) (sym (append-nil to)) ∙ part-comes table to alone [] ∙ at-insert fin.empty [] node []
 
   pub moved-so : with_part (with_part placed from fin.empty) to (under placed from) ≡ moved table from to
   moved-so = same-nodes _ _ (λ path. elim (is_within to path) as (λ b. is_within to path ≡ b → node_at (with_part (with_part placed from fin.empty) to (under placed from)) path ≡ node_at (moved table from to) path) [
@@ -54,7 +59,7 @@ module _ (table : Table) (from to : Names) (tree : IsTree table) (absent : is_so
             let rest = drop (length from) path in
             let is = within-parts from path inside in
             ap (node_at (with_part placed from fin.empty)) is ∙ part-comes placed from fin.empty rest ∙ empty-at rest ∙ sym (all.goes path inside out)
-        | false ↦ λ beside_from. part-stays placed from fin.empty path beside_from ∙ part-stays table to root_alone path out ∙ sym (all.stays path beside_from out)
+        | false ↦ λ beside_from. part-stays placed from fin.empty path beside_from ∙ part-stays table to alone path out ∙ sym (all.stays path beside_from out)
       ] refl
 
 -- what a rename below a root asks, of the whole

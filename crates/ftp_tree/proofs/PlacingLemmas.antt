@@ -8,7 +8,7 @@ use Rattle.ftp_path.specs.Path.{Names, parent, path_cmp}
 use Rattle.ftp_tree.specs.Branch.{file_alone}
 use Rattle.ftp_tree.specs.Tree.{Node, Dir, File, Table, IsTree, children, node_at, under, with_part, made, moved, removed, installed, root_alone, make_refusal, rename_refusal, file_refusal, delete_refusal, remove_answer, remove_refusal, room_answer, room_refusal, install_refusal}
 use Rattle.ftp_tree.specs.declared.fault.TreeFault.TheVariants.{Exists}
-use Rattle.ftp_tree.proofs.KeepLaws.{at-insert, at-remove, is-dir, IsTree-insert, parent-shorter}
+use Rattle.ftp_tree.proofs.KeepLaws.{at-insert, at-remove, file-below, file-stands, freed-from, is-dir, IsTree-insert, not-own, onto-takes, takes-freed, takes-parts, vacant}
 use Rattle.ftp_tree.proofs.LawLemmas.{children-stand, false-where, same, target-parts, under-stands}
 use Rattle.ftp_tree.proofs.LeafLemmas.{IsLeaf, Keeps, absent-dir, itself, longer, loose-from, none-absent, parent-none, put-leaf, removed-at, take-leaf}
 use Rattle.ftp_tree.proofs.MoveLemmas.{moved-at, moved-so, movable, place-stands, still}
@@ -147,10 +147,6 @@ had table new root path none is =
 
 -- ---- a file in the place of a node that has nothing below it
 
-file-stands : (node : Option Node) → file_refusal node ≡ None → is_some node ≡ true
-file-stands None none = cc
-file-stands (Some node) none = refl
-
 dir-stands : (node : Option Node) (names : List (List ℕ)) (path : Names) → remove_answer node names path ≡ None → node ≡ Some Dir
 dir-stands None names path none = cc
 dir-stands (Some Dir) names path none = refl
@@ -160,10 +156,6 @@ pub loose-stands : (table : Table) (path : Names) → (delete_refusal table path
 unfolding delete_refusal remove_refusal
 loose-stands table path (inl free) = file-stands (node_at table path) free
 loose-stands table path (inr free) = ap is_some (dir-stands (node_at table path) (children table path) path free)
-
-not-own : (path : Names) → (path ≡ [] → ⊥) → parent path ≡ path → ⊥
-not-own [] some own = some refl
-not-own (name ∷ rest) some own = let less = parent-shorter name rest in let long = ap length own in absurd (omega (arith, less, long))
 
 pub over-at : (table new : Table) (root path names : Names) (octets : List ℕ) (moment : ℕ) → IsTree table → (delete_refusal (under table root) path ≡ None) ⊎ (remove_refusal (under table root) path ≡ None) → names ≡ root ++ path
     → new ≡ with_part table names (file_alone octets moment) → Keeps new (with_part table root (installed (under table root) path octets moment))
@@ -184,30 +176,39 @@ over-at table new root path names octets moment tree free named is =
 
 -- ---- a move into a place
 
--- the map without the place
+node-of : (o : Option Node) → is_some o ≡ true → (node : Node) × (o ≡ Some node)
+node-of None some = absurd (true≢false (sym some))
+node-of (Some node) some = (node, refl)
+
+-- the map without what stands in the place
 record IsPlaced (table : Table) (root from to : Names) : Type 0 where
   before : Table
+  node : Node
   tree : IsTree before
   free : rename_refusal (under before root) from to ≡ None
-  had : table ≡ with_part before (root ++ to) root_alone
+  had : table ≡ with_part before (root ++ to) (fin.insert fin.empty [] node)
   is : with_part before root (moved (under before root) from to) ≡ with_part table root (moved (removed (under table root) to) from to)
 
-placed : (table : Table) (root from to : Names) → IsTree table → remove_refusal (under table root) to ≡ None → rename_refusal (removed (under table root) to) from to ≡ None → IsPlaced table root from to
-unfolding removed root_alone remove_refusal
+placed : (table : Table) (root from to : Names) → IsTree table → (delete_refusal (under table root) to ≡ None) ⊎ (remove_refusal (under table root) to ≡ None)
+    → rename_refusal (removed (under table root) to) from to ≡ None → IsPlaced table root from to
+unfolding removed
 placed table root from to tree loose none =
     let all = root ++ to in
     let was = with_part table root (fin.remove (under table root) to) in
     let part : under was root ≡ fin.remove (under table root) to = part-taken table root (fin.remove (under table root) to) in
-    let leaf = (loose-from table root to tree (inr loose)).leaf in
+    let leaf = (loose-from table root to tree loose).leaf in
     let whole : was ≡ fin.remove table all = remove-under table root to in
-    let kept = removed-at table was root to all tree (inr loose) refl (whole ∙ sym (take-leaf table all leaf)) in
+    let kept = removed-at table was root to all tree loose refl (whole ∙ sym (take-leaf table all leaf)) in
     let gone = ap (λ t. node_at t all) whole ∙ at-remove table all all ∙ cond-true (eq_by_cmp path_cmp all all) None (node_at table all) (itself all) in
-    let there = sym (under-stands table root to) ∙ dir-stands (node_at (under table root) to) (children (under table root) to) to loose in
+    let stands = node-of (node_at (under table root) to) (loose-stands (under table root) to loose) in
+    let there = sym (under-stands table root to) ∙ stands.1 in
     record {
       before = was;
+      node = stands.0;
       tree = kept.tree;
       free = ap (λ t. rename_refusal t from to) part ∙ none;
-      had = sym (put-leaf was all Dir (none-absent was all kept.tree gone) ∙ ap (λ t. fin.insert t all Dir) whole ∙ taken-put table all Dir ∙ put-same table all Dir there);
+      had = sym (put-leaf was all stands.0 (none-absent was all kept.tree gone) ∙ ap (λ t. fin.insert t all stands.0) whole ∙ taken-put table all stands.0
+          ∙ put-same table all stands.0 there);
       is = ap (λ t. with_part was root (moved t from to)) part ∙ put_again table root (fin.remove (under table root) to) (moved (fin.remove (under table root) to) from to);
     }
 
@@ -218,10 +219,14 @@ pub record MovesOver (table : Table) (root from to : Names) : Type 0 where
   pub there : is_some (node_at (with_part table (root ++ from) fin.empty) (root ++ to)) ≡ true
   pub done : (new : Table) → new ≡ with_part (with_part table (root ++ from) fin.empty) (root ++ to) (under table (root ++ from)) → Keeps new (with_part table root (moved (removed (under table root) to) from to))
 
-pub moves-over : (table : Table) (root from to : Names) → IsTree table → remove_refusal (under table root) to ≡ None → rename_refusal (removed (under table root) to) from to ≡ None → MovesOver table root from to
+pub moves-over : (table : Table) (root from to : Names) → IsTree table
+    → (delete_refusal (under table root) to ≡ None) ⊎ (remove_refusal (under table root) to ≡ None)
+    → rename_refusal (removed (under table root) to) from to ≡ None → MovesOver table root from to
 moves-over table root from to tree loose none =
     let place = placed table root from to tree loose none in
     let was = place.before in
+    let node = place.node in
+    let alone = fin.insert fin.empty [] node in
     let old = root ++ from in
     let all = root ++ to in
     let can = movable was root from to place.tree place.free in
@@ -229,12 +234,14 @@ moves-over table root from to tree loose none =
       some = can.some;
       top =
           ap (λ t. is_some (node_at (under t old) [])) place.had
-          ∙ ap is_some (under-stands (with_part was all root_alone) old [] ∙ still was old all place.tree can.absent can.beside [] ∙ ap (node_at was) (append-nil old)) ∙ can.stands;
+          ∙ ap is_some (under-stands (with_part was all alone) old [] ∙ still was old all node place.tree can.absent can.beside []
+          ∙ ap (node_at was) (append-nil old)) ∙ can.stands;
       there =
           ap (λ t. is_some (node_at (with_part t old fin.empty) all)) place.had
-          ∙ ap is_some (part-stays (with_part was all root_alone) old fin.empty all can.beside ∙ place-stands was old all place.tree can.absent can.beside);
+          ∙ ap is_some (part-stays (with_part was all alone) old fin.empty all can.beside ∙ place-stands was old all node place.tree can.absent can.beside);
       done = λ new is.
-          let moved_is = is ∙ ap (λ t. with_part (with_part t old fin.empty) all (under t old)) place.had ∙ moved-so was old all place.tree can.absent can.beside in
+          let moved_is = is ∙ ap (λ t. with_part (with_part t old fin.empty) all (under t old)) place.had
+          ∙ moved-so was old all node place.tree can.absent can.beside in
           let kept = moved-at was new root from to place.tree place.free moved_is in
           record { tree = kept.tree; is = kept.is ∙ place.is };
     }

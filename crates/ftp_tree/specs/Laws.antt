@@ -6,7 +6,7 @@ use Rattle.std.specs.List.{Contains, slice_get}
 use Rattle.std.specs.Ordering.{nat_cmp}
 use Rattle.std.specs.declared.cmp.Ordering.TheVariants.{Less}
 use Rattle.ftp_path.specs.Path.{Names, is_within}
-use Rattle.ftp_tree.specs.Tree.{Dir, Table, node_at, under, with_part, moved, children, root_alone, made, removed, installed, octets_or_none, octets_in, file_limit, node_limit, total_limit, IsTree, make_refusal, delete_refusal, remove_refusal, rename_refusal, install_refusal}
+use Rattle.ftp_tree.specs.Tree.{Dir, Table, node_at, under, with_part, moved, freed, children, root_alone, made, removed, installed, octets_or_none, octets_in, file_limit, node_limit, total_limit, IsTree, make_refusal, delete_refusal, remove_refusal, rename_refusal, onto_refusal, install_refusal}
 
 -- what stands below a path
 abbrev pub UnderStandsBelow : Type 0
@@ -41,6 +41,11 @@ pub record MovesAll (old new : Table) (from to : Names) : Type 0 where
 abbrev pub RenameMovesAll : Type 0
 RenameMovesAll = (table : Table) (from to : Names) → IsTree table → rename_refusal table from to ≡ None → MovesAll table (moved table from to) from to
 
+-- a file that is moved onto another stands there then, no longer where it was, and no other path changes
+abbrev pub OntoMovesAll : Type 0
+OntoMovesAll = (table : Table) (from to : Names) → IsTree table → onto_refusal table from to ≡ None
+    → MovesAll table (moved (freed true table from to) from to) from to
+
 -- the names in a directory are those by which something stands directly in it
 abbrev pub ChildrenStand : Type 0
 ChildrenStand = (table : Table) (path : Names) (name : List ℕ) → Contains (children table path) name ↔ IsSome (node_at table (path ++ name ∷ []))
@@ -67,4 +72,5 @@ pub record ChangesKeepTrees : Type 0 where
   pub removing : (table : Table) (path : Names) → IsTree table → remove_refusal table path ≡ None → IsTree (removed table path)
   pub deleting : (table : Table) (path : Names) → IsTree table → delete_refusal table path ≡ None → IsTree (removed table path)
   pub moving : (table : Table) (from to : Names) → IsTree table → rename_refusal table from to ≡ None → IsTree (moved table from to)
+  pub replacing : (table : Table) (from to : Names) → IsTree table → onto_refusal table from to ≡ None → IsTree (moved (freed true table from to) from to)
   pub installing : (table : Table) (path : Names) (octets : List ℕ) (moment : ℕ) → IsTree table → install_refusal table path (length octets) ≡ None → IsTree (installed table path octets moment)

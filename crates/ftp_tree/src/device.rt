@@ -1,6 +1,6 @@
 // A folder outside memory, as a mirrored tree uses it.
-ghost use Rattle.std.specs.Prelude.{◌≡◌, ℕ, Option, OnErr, OnOk};
-ghost use Rattle.ftp_tree.specs.Tree.{Table, installed, made, moved, removed};
+ghost use Rattle.std.specs.Prelude.{◌≡◌, ℕ, Option, OnErr, OnOk, true};
+ghost use Rattle.ftp_tree.specs.Tree.{Table, freed, installed, made, moved, removed};
 ghost use Rattle.ftp_tree.specs.Folder.{HasFailed, IsFree, IsKept, changed_below};
 
 use crate::content::Content;
@@ -61,6 +61,16 @@ pub trait Folder: Drop {
         to: &Path<D>,
     ) -> Result<(), FolderFault>
         ensures done { OnOk result (IsKept (changed_below root.now (λ part. moved part from.now to.now)) (kept self.old) (kept self.new) (failures self.old) (failures self.new)) }
+        ensures failed { OnErr result (HasFailed (kept self.old) (kept self.new) (failures self.old) (failures self.new)) };
+
+    /// Moves a file into the place of another, in one change.
+    fn rename_onto<B: Allocator + Copy, C: Allocator + Copy, D: Allocator + Copy>(
+        &mut self,
+        root: &Path<B>,
+        from: &Path<C>,
+        to: &Path<D>,
+    ) -> Result<(), FolderFault>
+        ensures done { OnOk result (IsKept (changed_below root.now (λ part. moved (freed true part from.now to.now) from.now to.now)) (kept self.old) (kept self.new) (failures self.old) (failures self.new)) }
         ensures failed { OnErr result (HasFailed (kept self.old) (kept self.new) (failures self.old) (failures self.new)) };
 
     /// Writes a file of these octets, in the place of one that stands there.

@@ -1,5 +1,5 @@
 //! What the tree's definitions say of single paths. The calls do nothing: their contracts are the laws.
-ghost use Rattle.ftp_tree.specs.Laws.{ChangesKeepTrees, ChildrenStand, NamesRise, OldMapsAreNew, PartsAreTrees, PartsArePut, PartsComeBack, RenameMovesAll, UnderStandsBelow};
+ghost use Rattle.ftp_tree.specs.Laws.{ChangesKeepTrees, ChildrenStand, NamesRise, OldMapsAreNew, OntoMovesAll, PartsAreTrees, PartsArePut, PartsComeBack, RenameMovesAll, UnderStandsBelow};
 
 /// In the part of a tree below a path, what stands at a path is what stands in the tree behind both.
 pub fn under_stands_below()
@@ -24,6 +24,11 @@ pub fn parts_are_trees()
 /// A rename that is not refused takes all at or below the old path to the new one, and changes no other path.
 pub fn rename_moves_all()
     ensures { RenameMovesAll }
+{}
+
+/// A file that is moved onto another stands there then, no longer where it was, and no other path changes.
+pub fn onto_moves_all()
+    ensures { OntoMovesAll }
 {}
 
 /// The names in a directory are those by which something stands directly in it.

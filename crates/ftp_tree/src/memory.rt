@@ -215,6 +215,19 @@ impl<A: Allocator + Copy> Tree<A> for MemTree<A> {
         }
     }
 
+    fn rename_onto<B: Allocator + Copy, C: Allocator + Copy, D: Allocator + Copy>(
+        &mut self,
+        root: &Path<B>,
+        from: &Path<C>,
+        to: &Path<D>,
+    ) -> Result<(), TreeFault> {
+        if let Some(fault) = self.onto_refusal(root, from, to) {
+            return Err(fault);
+        }
+        self.move_onto(root, from, to);
+        Ok(())
+    }
+
     fn install<B: Allocator + Copy, C: Allocator + Copy>(
         &mut self,
         root: &Path<B>,
@@ -540,22 +553,6 @@ impl<A: Allocator + Copy> MemTree<A> {
     {
         let place = Joined::of(root, path);
         let _gone = self.root.take_out(place.key());
-    }
-
-    /// Moves what stands at a path, with all below it, where no refusal applies: all memory is had first.
-    fn move_all<B: Allocator + Copy, C: Allocator + Copy, D: Allocator + Copy>(
-        &mut self,
-        root: &Path<B>,
-        from: &Path<C>,
-        to: &Path<D>,
-    ) -> Result<(), AllocError>
-        requires { rename_refusal (under self.old root.now) from.now to.now ≡ None }
-        ensures ok { OnOk result (self.new ≡ with_part self.old root.now (moved (under self.old root.now) from.now to.now)) }
-        ensures err { OnErr result (self.new ≡ self.old) }
-    {
-        self.make_place(root, to)?;
-        self.move_over(root, from, to);
-        Ok(())
     }
 }
 

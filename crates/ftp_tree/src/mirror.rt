@@ -1,8 +1,8 @@
 // A tree in memory and the folder that keeps it.
-ghost use Rattle.std.specs.Prelude.{◌≡◌, ◌⊎◌, None, OnOk, OnErr, IfErr, [], length};
+ghost use Rattle.std.specs.Prelude.{◌≡◌, ◌⊎◌, None, OnOk, OnErr, IfErr, [], length, true};
 ghost use Rattle.ftp_tree.specs.Change.{IsDone, IsRefused, Refuses};
-ghost use Rattle.ftp_tree.specs.Tree.{installed, made, moved, removed, under, with_part};
-ghost use Rattle.ftp_tree.specs.Tree.{delete_refusal, install_refusal, make_refusal, remove_refusal, rename_refusal};
+ghost use Rattle.ftp_tree.specs.Tree.{freed, installed, made, moved, removed, under, with_part};
+ghost use Rattle.ftp_tree.specs.Tree.{delete_refusal, install_refusal, make_refusal, onto_refusal, remove_refusal, rename_refusal};
 ghost use Rattle.ftp_tree.specs.Folder.{IsFree, IsKept, Mirrors, SparesUnknown, changed_below};
 
 use crate::content::Content;
@@ -216,6 +216,29 @@ impl<A: Allocator + Copy, D: Folder> Tree<A> for Mirror<A, D> {
             return Err(TreeFault::Device);
         }
         self.tree.move_over(root, from, to);
+        Ok(())
+    }
+
+    fn rename_onto<B: Allocator + Copy, C: Allocator + Copy, E: Allocator + Copy>(
+        &mut self,
+        root: &Path<B>,
+        from: &Path<C>,
+        to: &Path<E>,
+    ) -> Result<(), TreeFault>
+        ensures done { OnOk result (let part = under self.old.tree root.now in IsDone (onto_refusal part from.now to.now)
+            (with_part self.old.tree root.now (moved (freed true part from.now to.now) from.now to.now)) self.new.tree
+            (D.failures self.old.folder) (D.failures self.new.folder)) }
+        ensures refused { IfErr result (λ fault. let part = under self.old.tree root.now in IsRefused (onto_refusal part from.now to.now) fault
+            self.old.tree self.new.tree (D.failures self.old.folder) (D.failures self.new.folder)) }
+        ensures mirrors { Mirrors (D.kept self.old.folder) self.old.tree → Mirrors (D.kept self.new.folder) self.new.tree }
+    {
+        if let Some(fault) = self.tree.onto_refusal(root, from, to) {
+            return Err(fault);
+        }
+        if self.folder.rename_onto(root, from, to).is_err() {
+            return Err(TreeFault::Device);
+        }
+        self.tree.move_onto(root, from, to);
         Ok(())
     }
 

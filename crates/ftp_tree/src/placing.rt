@@ -1,15 +1,17 @@
 // A place for what comes: it is made while memory may still be refused, and what is put into it then takes none.
-ghost use Rattle.std.specs.Prelude.{◌≡◌, ◌≤◌, ◌<◌, ◌+◌, ◌^◌, ◌⊎◌, ◌↔◌, [], None, Some, IsTrue, OnErr, OnOk, length};
+ghost use Rattle.std.specs.Prelude.{◌≡◌, ◌≤◌, ◌<◌, ◌+◌, ◌^◌, ◌⊎◌, ◌↔◌, [], None, Some, IsTrue, OnErr, OnOk, length, true};
 ghost use Rattle.std.specs.FinMap as fin;
 ghost use Rattle.ftp_path.specs.Path.{parent};
-ghost use Rattle.ftp_tree.specs.Tree.{Dir, delete_refusal, installed, made, moved, node_at, octets_in, remove_refusal, removed, rename_refusal, under, with_part};
+ghost use Rattle.ftp_tree.specs.Tree.{Dir, delete_refusal, freed, installed, made, moved, node_at, octets_in, onto_refusal, remove_refusal, removed, rename_refusal, under, with_part};
 
 use crate::content::Content;
+use crate::fault::TreeFault;
 use crate::memory::MemTree;
 use crate::node::Node;
 use crate::place::Joined;
 use ftp_facts::Moment;
 use ftp_path::Path;
+use ftp_path::key::is_within;
 use std::alloc::{AllocError, Allocator};
 
 impl<A: Allocator + Copy> MemTree<A> {
@@ -61,14 +63,14 @@ impl<A: Allocator + Copy> MemTree<A> {
         self.root.put(self.alloc, place.key(), node).unwrap();
     }
 
-    /// Moves what stands at a path into the place of an empty directory, where no refusal applies without that. Takes no memory.
+    /// Moves what stands at a path into the place of a file or of an empty directory, where no refusal applies without that. Takes no memory.
     pub(crate) fn move_over<B: Allocator + Copy, C: Allocator + Copy, D: Allocator + Copy>(
         &mut self,
         root: &Path<B>,
         from: &Path<C>,
         to: &Path<D>,
     )
-        requires loose { remove_refusal (under self.old root.now) to.now ≡ None }
+        requires loose { let part = under self.old root.now in (delete_refusal part to.now ≡ None) ⊎ (remove_refusal part to.now ≡ None) }
         requires free { rename_refusal (removed (under self.old root.now) to.now) from.now to.now ≡ None }
         ensures { self.new ≡ with_part self.old root.now (moved (removed (under self.old root.now) to.now) from.now to.now) }
     {
@@ -78,5 +80,56 @@ impl<A: Allocator + Copy> MemTree<A> {
         let _all = self.root.count();
         let node = self.root.take_out(old.key()).unwrap();
         self.root.put(self.alloc, new.key(), node).unwrap();
+    }
+
+    /// Moves what stands at a path, with all below it, where no refusal applies: all memory is had first.
+    pub(crate) fn move_all<B: Allocator + Copy, C: Allocator + Copy, D: Allocator + Copy>(
+        &mut self,
+        root: &Path<B>,
+        from: &Path<C>,
+        to: &Path<D>,
+    ) -> Result<(), AllocError>
+        requires { rename_refusal (under self.old root.now) from.now to.now ≡ None }
+        ensures ok { OnOk result (self.new ≡ with_part self.old root.now (moved (under self.old root.now) from.now to.now)) }
+        ensures err { OnErr result (self.new ≡ self.old) }
+    {
+        self.make_place(root, to)?;
+        self.move_over(root, from, to);
+        Ok(())
+    }
+
+    /// The first reason, a device aside, why no file can be moved into the place of another.
+    #[tactic(auto, unfolding(crate::specs::Tree::onto_refusal, crate::specs::Tree::takes_place, crate::specs::Tree::delete_refusal))]
+    pub fn onto_refusal<B: Allocator + Copy, C: Allocator + Copy, D: Allocator + Copy>(
+        &self,
+        root: &Path<B>,
+        from: &Path<C>,
+        to: &Path<D>,
+    ) -> Option<TreeFault>
+        ensures { result ≡ onto_refusal (under self.now root.now) from.now to.now }
+    {
+        if self.delete_refusal(root, from).is_none()
+            && self.delete_refusal(root, to).is_none()
+            && !is_within(from.key(), to.key())
+        {
+            return None;
+        }
+        Some(TreeFault::WrongKind)
+    }
+
+    /// Moves a file into the place of another, where no refusal applies. Takes no memory.
+    pub(crate) fn move_onto<B: Allocator + Copy, C: Allocator + Copy, D: Allocator + Copy>(
+        &mut self,
+        root: &Path<B>,
+        from: &Path<C>,
+        to: &Path<D>,
+    )
+        requires { onto_refusal (under self.old root.now) from.now to.now ≡ None }
+        ensures { let part = under self.old root.now in self.new ≡ with_part self.old root.now (moved (freed true part from.now to.now) from.now to.now) }
+    {
+        // Both are read for what is known of them: the map is a tree, and the path is within the limits of a path.
+        let _all = self.root.count();
+        let _key = to.key();
+        self.move_over(root, from, to);
     }
 }

@@ -1,5 +1,5 @@
 // What a tree answers, as what its clauses say of one map, however the tree is kept.
-ghost use Rattle.std.specs.Prelude.{◌≡◌, ◌≤◌, ◌<◌, ◌∷◌, ◌++◌, ℕ, [], Some, None, IfOk, IfErr, IfSome, OnOk, OnErr, length, nat_le, take, drop, option_map};
+ghost use Rattle.std.specs.Prelude.{◌≡◌, ◌≤◌, ◌<◌, ◌∷◌, ◌++◌, ℕ, [], Some, None, IfOk, IfErr, IfSome, OnOk, OnErr, length, nat_le, take, drop, option_map, true};
 ghost use Rattle.std.specs.List.{slice_get};
 ghost use Rattle.ftp_tree.specs.Tree.{Table, children, delete_refusal, install_refusal, installed, kind_at, made, make_refusal, freed, moved, node_at, octets_in, octets_or_none, onto_refusal, remove_refusal, removed, rename_refusal, room_at, room_refusal, shown_of, size_at, stamp_at, total_limit, under, with_part};
 ghost use Rattle.ftp_tree.specs.Change.{IsDone, IsRefused};

@@ -4,9 +4,8 @@ ghost use Rattle.ftp_tree.specs.Change.{next_count};
 ghost use Rattle.ftp_tree_folder.specs.Place.{folder_text};
 
 use crate::loading::dir_text;
-use crate::place::{check_free, check_way, place_of};
-use crate::reasons::Reasons;
-use crate::{Disk, Folder, FolderFault};
+use crate::place::{check_free, check_two, check_way, place_of};
+use crate::{Disk, Folder, FolderFault, Mirror};
 use ftp_facts::Moment;
 use ftp_path::Path;
 use ftp_tree::Content;
@@ -17,9 +16,10 @@ use std::io;
 /// the way to what is changed is not followed: the call fails.
 pub struct DiskFolder<'a, R: Disk> {
     files: &'a R,
-    reasons: &'a Reasons,
     dir: String<Global>,
     failures: u64,
+    /// Why the last change that failed did.
+    reason: Option<io::Error>,
 }
 
 /// By hand, as that of a mirror.
@@ -27,29 +27,25 @@ impl<'a, R: Disk> Drop for DiskFolder<'a, R> {
     fn drop(self) {
         let Self {
             files: _,
-            reasons: _,
             dir: _,
             failures: _,
+            reason: _,
         } = self;
     }
 }
 
 impl<'a, R: Disk> DiskFolder<'a, R> {
-    /// The folder below a directory, which is the current one for an empty text. Nothing is looked at. Why a change fails goes to `reasons`.
-    pub fn new(
-        files: &'a R,
-        dir: &str,
-        reasons: &'a Reasons,
-    ) -> Result<DiskFolder<'a, R>, AllocError>
+    /// The folder below a directory, which is the current one for an empty text. Nothing is looked at.
+    pub fn new(files: &'a R, dir: &str) -> Result<DiskFolder<'a, R>, AllocError>
         ensures dir { IfOk result (λ folder. string_bytes folder.dir ≡ folder_text dir.now) }
         ensures failures { IfOk result (λ folder. folder.failures ≡ 0) }
     {
         let dir = String::from_str(files.memory(), dir_text(dir))?;
         Ok(DiskFolder {
             files,
-            reasons,
             dir,
             failures: 0,
+            reason: None,
         })
     }
 
@@ -87,6 +83,17 @@ impl<'a, R: Disk> DiskFolder<'a, R> {
         move_at(self.files, from.as_str(), to.as_str())
     }
 
+    fn renamed_onto<B: Allocator + Copy, C: Allocator + Copy, D: Allocator + Copy>(
+        &self,
+        root: &Path<B>,
+        from: &Path<C>,
+        to: &Path<D>,
+    ) -> io::Result<()> {
+        let from = self.place(root, from)?;
+        let to = self.place(root, to)?;
+        move_onto(self.files, from.as_str(), to.as_str())
+    }
+
     fn written<A: Allocator + Copy, B: Allocator + Copy, C: Allocator + Copy>(
         &self,
         root: &Path<B>,
@@ -117,11 +124,23 @@ impl<'a, R: Disk> DiskFolder<'a, R> {
         match done {
             Ok(()) => Ok(()),
             Err(error) => {
-                self.reasons.put(error);
+                self.reason = Some(error);
                 self.failures = self.failures.wrapping_add(1);
                 Err(FolderFault)
             }
         }
+    }
+}
+
+/// A tree that tells why a change of its device failed.
+pub trait Explains {
+    /// Why the last change that failed did; none where none failed.
+    fn reason(&self) -> Option<&io::Error>;
+}
+
+impl<'a, A: Allocator + Copy, R: Disk> Explains for Mirror<A, DiskFolder<'a, R>> {
+    fn reason(&self) -> Option<&io::Error> {
+        self.folder().reason.as_ref()
     }
 }
 
@@ -168,6 +187,16 @@ impl<'a, R: Disk> Folder for DiskFolder<'a, R> {
         to: &Path<D>,
     ) -> Result<(), FolderFault> {
         let done = self.renamed(root, from, to);
+        self.counted(done)
+    }
+
+    fn rename_onto<B: Allocator + Copy, C: Allocator + Copy, D: Allocator + Copy>(
+        &mut self,
+        root: &Path<B>,
+        from: &Path<C>,
+        to: &Path<D>,
+    ) -> Result<(), FolderFault> {
+        let done = self.renamed_onto(root, from, to);
         self.counted(done)
     }
 
@@ -230,6 +259,14 @@ fn move_at<R: Disk>(files: &R, from: &str, to: &str) -> io::Result<()> {
         let _back = files.move_to(to, from);
     }
     synced
+}
+
+/// Moves a file into the place of another, in one call of the system, or not at all. What stands at both places is still what a tree has there: two files.
+/// Where the names can't be flushed then, it is not moved back, since the file whose place it took is gone.
+fn move_onto<R: Disk>(files: &R, from: &str, to: &str) -> io::Result<()> {
+    check_two(&files.found(from)?, &files.found(to)?)?;
+    files.move_to(from, to)?;
+    sync_both(files, from, to)
 }
 
 /// Both names of a move are on the disk: the new one first, so that the file never has none there.

@@ -8,15 +8,13 @@ mod loading;
 mod look;
 mod place;
 mod reading;
-mod reasons;
 mod reloading;
 mod writing;
 
 pub use disk::{Disk, Entries};
 pub use fault::{LoadFault, Reason};
-pub use folder::DiskFolder;
+pub use folder::{DiskFolder, Explains};
 pub use ftp_tree::{Folder, FolderFault, Mirror};
 pub use loading::{load, open};
 pub use look::Seen;
-pub use reasons::Reasons;
 pub use reloading::{LeftOut, reloaded};

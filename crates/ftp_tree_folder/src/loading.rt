@@ -7,10 +7,10 @@ use crate::folder::DiskFolder;
 use crate::look::{Look, Seen};
 use crate::place::place_of;
 use crate::reading::{is_left, leave, moment_of, path_in};
-use crate::reasons::Reasons;
 use crate::reloading::LeftOut;
 use crate::{Disk, Entries, Mirror};
 use ftp_path::Path;
+use ftp_path::key::is_within;
 use ftp_tree::{Content, MemTree, NodeKind, Tree, TreeFault};
 use std::alloc::{AllocError, Global};
 use std::fs::Metadata;
@@ -22,19 +22,18 @@ const DIR_TURNS: u64 = 1_099_511_627_776;
 /// How many octets of a file are read at once.
 const PIECE: usize = 65_536;
 
-/// Loads the folder below a directory, and mirrors it: the changes of the tree that it gives go there. What fails of them is told by `reasons`.
+/// Loads the folder below a directory, and mirrors it: the changes of the tree that it gives go there.
 /// Limits are counted as `load` says.
 pub fn open<'a, R: Disk>(
     files: &'a R,
     dir: &str,
     roots: &[Path<Global>],
-    reasons: &'a Reasons,
 ) -> Result<Mirror<Global, DiskFolder<'a, R>>, LoadFault>
     ensures dir { IfOk result (λ mirror. string_bytes mirror.folder.dir ≡ folder_text dir.now) }
     ensures failures { IfOk result (λ mirror. mirror.folder.failures ≡ 0) }
 {
     let tree = load(files, dir, roots)?;
-    match DiskFolder::new(files, dir, reasons) {
+    match DiskFolder::new(files, dir) {
         Ok(folder) => Ok(Mirror::new(tree, folder)),
         Err(_) => Err(LoadFault::Memory),
     }
@@ -43,7 +42,8 @@ pub fn open<'a, R: Disk>(
 /// The files and directories below a directory, as a tree, each file with its moment; those before 1970 have the first one.
 ///
 /// Below each of the roots limits are counted as sessions at that root count them: what they leave can be loaded. What is below none of them is
-/// counted together, as one root. No root may be below another.
+/// counted together, as one root. What is below two of them is counted at the lower one alone: who has the upper one may only look, so below that
+/// there may be more than the limits.
 ///
 /// What an interrupted write left is kept as `ftp-left-1`, `ftp-left-2` and so on, each with the octet 127 behind it, and is not part of the
 /// tree; it is removed where it is empty.
@@ -56,10 +56,7 @@ pub fn load<'a, R: Disk>(
     roots: &'a [Path<Global>],
 ) -> Result<MemTree<Global>, LoadFault> {
     let alloc = files.memory();
-    let nothing = Loaded {
-        tree: MemTree::new(alloc),
-        seen: Seen::nothing(alloc),
-    };
+    let nothing = Loaded::nothing(alloc);
     let Ok(mut loading) = Loading::new(files, dir_text(dir), roots, nothing, None, 0) else {
         return Err(LoadFault::Memory);
     };
@@ -80,6 +77,16 @@ pub(crate) fn dir_text(dir: &str) -> &str
 pub(crate) struct Loaded {
     pub(crate) tree: MemTree<Global>,
     pub(crate) seen: Seen,
+}
+
+impl Loaded {
+    /// The root alone, and no file.
+    pub(crate) fn nothing(alloc: Global) -> Loaded {
+        Loaded {
+            tree: MemTree::new(alloc),
+            seen: Seen::nothing(alloc),
+        }
+    }
 }
 
 /// Room for a piece of a file.
@@ -226,9 +233,23 @@ impl<'a, R: Disk> Loading<'a, R> {
         }
     }
 
-    /// Whether a path is one of the roots, which is loaded behind what is below none.
+    /// Whether a path below the root that is being loaded is another root.
     fn is_later(&self, path: &Path<Global>) -> bool {
-        self.root.key().is_empty() && self.roots.iter().any(|root| root.key() == path.key())
+        self.roots
+            .iter()
+            .any(|root| joins(self.root.key(), path.key(), root.key()))
+    }
+
+    /// That root, which is loaded behind what is below the one that is being loaded and below no other.
+    fn add_later(&mut self, path: &Path<Global>) -> Result<(), AllocError> {
+        let alloc = self.files.memory();
+        for root in self.roots.iter() {
+            if joins(self.root.key(), path.key(), root.key()) {
+                self.later.push(root.copy(alloc)?)?;
+                return Ok(());
+            }
+        }
+        Ok(())
     }
 
     /// Loads one entry of the directory, which was found at a place.
@@ -270,13 +291,14 @@ impl<'a, R: Disk> Loading<'a, R> {
             }
         }
         let waits = if self.is_later(&path) {
-            self.later.push(path)
+            self.add_later(&path).is_ok()
         } else {
-            self.waiting.push(path)
+            self.waiting.push(path).is_ok()
         };
-        match waits {
-            Ok(()) => Ok(()),
-            Err(_) => Err(LoadFault::Memory),
+        if waits {
+            Ok(())
+        } else {
+            Err(LoadFault::Memory)
         }
     }
 
@@ -350,4 +372,20 @@ impl<'a, R: Disk> Entries for Loading<'a, R> {
             None => Err(fault),
         }
     }
+}
+
+/// Whether names joined are those of a root and behind them those of a path.
+fn joins(root: &[u8], path: &[u8], all: &[u8]) -> bool {
+    all.starts_with(root) && &all[root.len()..] == path
+}
+
+/// Whether a root is below another.
+pub(crate) fn are_nested(roots: &[Path<Global>]) -> bool {
+    roots.iter().any(|above| is_above(above, roots))
+}
+
+/// Whether one of the roots is below a path, and not that.
+fn is_above(above: &Path<Global>, roots: &[Path<Global>]) -> bool {
+    roots.iter().any(|root| root.key().len() > above.key().len()
+        && is_within(above.key(), root.key()))
 }

@@ -9,6 +9,7 @@ use std::alloc::{Allocator, Global};
 use std::fs::Metadata;
 use std::io;
 use std::io::{Error, ErrorKind};
+use std::os::unix::fs::MetadataExt;
 
 /// Where the path below a root lies: the text of the folder, and then a `/` before each name. No name of a path is `..`, so it is
 /// below the folder.
@@ -70,5 +71,15 @@ pub(crate) fn check_none(found: io::Result<Metadata>) -> io::Result<()> {
         Ok(_) => Err(Error::from(ErrorKind::AlreadyExists)),
         Err(error) if error.kind() == ErrorKind::NotFound => Ok(()),
         Err(error) => Err(error),
+    }
+}
+
+/// Fails where what was found at two places is not two files: a link is none, and one file by two names is not moved, though a system says that it is.
+pub(crate) fn check_two(one: &Metadata, other: &Metadata) -> io::Result<()> {
+    let are_files = one.is_file() && other.is_file();
+    if are_files && (one.dev() != other.dev() || one.ino() != other.ino()) {
+        Ok(())
+    } else {
+        Err(Error::from(ErrorKind::AlreadyExists))
     }
 }

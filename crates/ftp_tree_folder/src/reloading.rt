@@ -2,15 +2,15 @@
 ghost use Rattle.std.specs.Prelude.{◌≡◌, string_bytes};
 ghost use Rattle.ftp_tree_folder.specs.Place.{folder_text};
 
-use crate::fault::LoadFault;
+use crate::fault::{LoadFault, Reason};
 use crate::folder::DiskFolder;
-use crate::loading::{Loaded, Loading, dir_text};
+use crate::loading::{Loaded, Loading, are_nested, dir_text};
 use crate::look::Seen;
 use crate::place::place_of;
 use crate::reading::path_in;
 use crate::{Disk, Mirror};
 use ftp_path::Path;
-use ftp_tree::{NodeKind, Tree};
+use ftp_tree::{NodeKind, Tree, TreeFault};
 use std::alloc::Global;
 
 /// The most turns of a loop over directories or entries.
@@ -23,6 +23,8 @@ pub struct LeftOut {
     pub count: u64,
     /// Why the first one.
     pub first: Option<LoadFault>,
+    /// Whether one of them passed a limit of what is counted together.
+    is_full: bool,
 }
 
 impl LeftOut {
@@ -30,21 +32,31 @@ impl LeftOut {
         LeftOut {
             count: 0,
             first: None,
+            is_full: false,
         }
     }
 
     /// One more can't be loaded.
     pub(crate) fn put(&mut self, fault: LoadFault) {
         self.count = self.count.saturating_add(1);
+        self.is_full = self.is_full || is_full(&fault);
         if self.first.is_none() {
             self.first = Some(fault);
         }
     }
 }
 
+/// Whether a limit of what is counted together was passed.
+fn is_full(fault: &LoadFault) -> bool {
+    match fault {
+        LoadFault::Refused { place: _, why } => matches!(why, Reason::Tree(TreeFault::Full)),
+        LoadFault::Memory => false,
+    }
+}
+
 /// The mirror of a folder that others may have changed: what changed is loaded anew, and of each other file what was read before stays.
 /// `seen` is how files looked when they were read, and becomes how they look now; `now` is the second since 1970. What can't be loaded is no part of
-/// the tree, and is told.
+/// the tree, and is told. Limits are counted as `load` says.
 pub fn reloaded<'a, R: Disk>(
     files: &R,
     dir: &str,
@@ -62,7 +74,47 @@ pub fn reloaded<'a, R: Disk>(
 }
 
 /// A tree with what changed loaded anew, how its files look now, and what is left out; where memory is refused, all is as it was.
+///
+/// What stood below a lower root already was counted at the upper one too: where that passed a limit, all is loaded from nothing.
 fn loaded_anew<R: Disk>(
+    files: &R,
+    dir: &str,
+    roots: &[Path<Global>],
+    old: Loaded,
+    now: u64,
+) -> (Loaded, LeftOut) {
+    let top = Path::root(files.memory());
+    let had_some = old.tree.nth_name(&top, &top, 0).is_some();
+    let (new, left) = loaded_over(files, dir, roots, old, now);
+    if !had_some || !left.is_full || !are_nested(roots) {
+        return (new, left);
+    }
+    let nothing = Loaded::nothing(files.memory());
+    match Loading::new(
+        files,
+        dir_text(dir),
+        roots,
+        nothing,
+        Some(LeftOut::nothing()),
+        now,
+    ) {
+        Ok(loading) => finished(loading),
+        Err(_) => (new, left),
+    }
+}
+
+/// What is loaded, and what is left out.
+fn finished<R: Disk>(loading: Loading<'_, R>) -> (Loaded, LeftOut) {
+    let mut loading = loading;
+    let _met = loading.load_all();
+    let (mut new, left) = loading.into_parts();
+    new.seen.sort();
+    (new, left.unwrap_or(LeftOut::nothing()))
+}
+
+/// A tree in which something stood, with what changed loaded anew, how its files look now, and what is left out; where memory is refused, all is as
+/// it was.
+fn loaded_over<R: Disk>(
     files: &R,
     dir: &str,
     roots: &[Path<Global>],
@@ -71,12 +123,7 @@ fn loaded_anew<R: Disk>(
 ) -> (Loaded, LeftOut) {
     let nothing = Some(LeftOut::nothing());
     match Loading::new(files, dir_text(dir), roots, old, nothing, now) {
-        Ok(mut loading) => {
-            let _met = loading.load_all();
-            let (mut new, left) = loading.into_parts();
-            new.seen.sort();
-            (new, left.unwrap_or(LeftOut::nothing()))
-        }
+        Ok(loading) => finished(loading),
         Err(old) => {
             let mut left = LeftOut::nothing();
             left.put(LoadFault::Memory);

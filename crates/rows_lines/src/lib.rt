@@ -1,4 +1,5 @@
-//! For tests alone: rows of control lines, of endpoints, commands and replies, of passwords, of entries and moments, of scripts, and of files, items and wires.
+//! For tests alone: rows of control lines, of endpoints, commands and replies, of passwords, of entries and moments, of how far transfers are, of scripts, and of
+//! files, items and wires.
 #![tactic(auto)]
 
 mod calendar;
@@ -10,6 +11,7 @@ mod entries;
 mod growing;
 mod items;
 mod moments;
+mod paces;
 mod pieces;
 mod printed;
 mod replies;
@@ -35,6 +37,7 @@ pub fn play_all(alloc: Global, rows: &[u8]) -> Paper {
     ears::tried(alloc, &mut report);
     replies::tried(alloc, &mut report);
     printed::tried(alloc, &mut report);
+    paces::put_all(alloc, &mut report);
     scripts::tried(alloc, &mut report);
     report
 }

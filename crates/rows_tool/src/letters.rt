@@ -12,12 +12,14 @@ const OVER: Over<'static> = Over {
 
 /// The password of the first is `secret`.
 const ACCOUNTS: &str =
-    "scope:$5$rounds=1000$x$MwH1x3tv6pfJx.FrwforYF3VY24cFP1kjo6fe/LdghD:/:wf\nmore::/:a\nless::/:dx\n";
+    "scope:$5$rounds=1000$x$MwH1x3tv6pfJx.FrwforYF3VY24cFP1kjo6fe/LdghD:/:wf\nmore::/:a\nonto::/:fo\nless::/:dx\n";
 
-/// What the client says: who may put and rename changes nothing else; who may append puts nothing new; who may remove makes nothing.
+/// What the client says: who may put and rename changes nothing else; who may append puts nothing new; who may rename onto files does, but not a file onto
+/// itself nor onto a directory; who may remove makes nothing.
 const SAID: &[u8] = b"USER scope\r\nPASS Secret\r\nUSER scope\r\nPASS secret\r\n\
 PASV\r\nSTOR new.part\r\nRNFR new.part\r\nRNTO new\r\nPASV\r\nAPPE new\r\nDELE new\r\nMKD d\r\nRMD d\r\n\
-USER more\r\nPASV\r\nAPPE a\r\nPASV\r\nSTOR b\r\nUSER less\r\nDELE a\r\nRMD d\r\nMKD e\r\nQUIT\r\n";
+RNFR new\r\nRNTO a\r\nUSER more\r\nPASV\r\nAPPE a\r\nPASV\r\nSTOR b\r\n\
+USER onto\r\nRNFR new\r\nRNTO a\r\nRNFR a\r\nRNTO a\r\nRNFR a\r\nRNTO d\r\nUSER less\r\nDELE a\r\nRMD d\r\nMKD e\r\nQUIT\r\n";
 
 /// Writes what that client is answered.
 pub(crate) fn row(rt: &HostRuntime) -> io::Result<()> {

@@ -6,7 +6,7 @@ use ftp_tool_serve::{
     Guesses, Limits, Lines, Log, PassivePorts, Patience, Service, accounts_of, session,
 };
 use ftp_tree::Tree;
-use ftp_tree_folder::{DiskFolder, Mirror, Reasons, open};
+use ftp_tree_folder::{DiskFolder, Mirror, open};
 use rows_base::{Paper, cut};
 use std::alloc::Global;
 use std::cell::RefCell;
@@ -92,11 +92,10 @@ pub(crate) fn put_replies(paper: &mut Paper, replies: &[u8]) {
 
 /// Serves a control connection over a folder; gives whether all went well.
 fn served(rt: &HostRuntime, stream: &TcpStream, over: Over<'_>) -> io::Result<bool> {
-    let reasons = Reasons::new();
-    let Ok(mirror) = open(rt, over.dir, &[], &reasons) else {
+    let Ok(mirror) = open(rt, over.dir, &[]) else {
         return Err(io::Error::from(ErrorKind::InvalidData));
     };
-    match served_over(rt, stream, mirror, over.accounts, &reasons) {
+    match served_over(rt, stream, mirror, over.accounts) {
         Ok((_mirror, ended)) => Ok(ended),
         Err(fault) => Err(fault),
     }
@@ -108,10 +107,9 @@ pub(crate) fn served_over<'a>(
     stream: &TcpStream,
     mirror: Mirror<Global, DiskFolder<'a, HostRuntime>>,
     accounts: Option<&str>,
-    reasons: &Reasons,
 ) -> io::Result<(Mirror<Global, DiskFolder<'a, HostRuntime>>, bool)> {
     match accounts_of(rt, accounts) {
-        Ok(accounts) => Ok(served_accounts(rt, stream, mirror, accounts, reasons)),
+        Ok(accounts) => Ok(served_accounts(rt, stream, mirror, accounts)),
         Err(_) => Err(io::Error::from(ErrorKind::InvalidData)),
     }
 }
@@ -122,7 +120,6 @@ fn served_accounts<T>(
     stream: &TcpStream,
     tree: T,
     accounts: Accounts<Global>,
-    reasons: &Reasons,
 ) -> (T, bool)
 where
     T: Tree<Global>,
@@ -133,7 +130,6 @@ where
     let guesses = RefCell::new(Guesses::nothing(rt.alloc()));
     let service = Service {
         log: Log::Told,
-        reasons,
         patience: &patience,
         passive: &passive,
         passive_address: None,

@@ -11,6 +11,7 @@ mod letters;
 mod loopback;
 mod made;
 mod places;
+mod quiet;
 mod refused;
 mod rights;
 mod scripts;
@@ -114,6 +115,7 @@ fn fetched(rt: &HostRuntime, tries: &[u8]) -> io::Result<Paper> {
     let mut paper = Paper::new(rt.alloc());
     places::rows(&mut paper);
     statuses::rows(rt, &mut paper)?;
+    quiet::rows(rt, &mut paper);
     tries::rows(rt, &mut paper, tries)?;
     Ok(paper)
 }

@@ -3,7 +3,7 @@ use crate::handle::Handle;
 use crate::made::{deep, file};
 use crate::statuses::put;
 use ftp_tool_serve::{Limits, Log, Odd, Others, Serving, Sessions, accounts_of, serve};
-use ftp_tree_folder::{LoadFault, Reasons, open};
+use ftp_tree_folder::{LoadFault, open};
 use rows_base::Paper;
 use std::net::{IpAddr, Ipv4Addr, Net, SocketAddr, TcpListener};
 use std::os::unix::fs::symlink;
@@ -54,12 +54,18 @@ const FILES: &[(&str, &str, u32)] = &[
     ("a root without a slash", "a::/a\nb::b\n", 0o600),
     ("a user twice", "a::/a\na::/b\n", 0o600),
     ("a root below another", "a::/a\nb::/a/b\n", 0o600),
+    ("a root above another", "a::/a/b:r\nb::/a:o\n", 0o600),
     (
-        "rights",
-        "a::/a:r\nb:b:/b:w\nc::/c\nd::/d:wfa\ne::/e:fxmdapwr\n",
+        "a root above others of who may look",
+        "a::/a\nb::/:r\nc::/c/d:w\ne::/c:r\n",
         0o600,
     ),
-    ("rights that are none", "a::/a:r\nb::/b:wo\n", 0o600),
+    (
+        "rights",
+        "a::/a:r\nb:b:/b:w\nc::/c\nd::/d:wfa\ne::/e:ofxmdapwr\n",
+        0o600,
+    ),
+    ("rights that are none", "a::/a:r\nb::/b:wq\n", 0o600),
     ("a colon without rights", "a::/a\nb::/b:\n", 0o600),
     ("passwords as SHA-crypt", CRYPTS, 0o600),
     ("a digest cut short", "a::/a\n\nb:$6$salt$x:/b\n", 0o600),
@@ -133,7 +139,7 @@ fn tell(rt: &HostRuntime, fault: &LoadFault) -> io::Result<()> {
 
 /// Writes why a folder is refused, if it is.
 fn tell_folder(rt: &HostRuntime, dir: &str) -> io::Result<()> {
-    match &open(rt, dir, &[], &Reasons::new()) {
+    match &open(rt, dir, &[]) {
         Ok(_) => Ok(()),
         Err(fault) => tell(rt, fault),
     }

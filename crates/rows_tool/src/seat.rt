@@ -30,6 +30,8 @@ enum Told {
     /// So many seconds behind the beginning of 1970.
     Stamp(u64),
     Strange,
+    /// So many octets of a download, and then the end of its control connection.
+    Gone(u64),
     Lost,
 }
 
@@ -41,6 +43,7 @@ struct Seat<'a> {
     row: Row<'a>,
     opened: u32,
     ending: Ending,
+    came: Text<Global>,
 }
 
 impl<'a> ClientSession for Seat<'a> {
@@ -51,7 +54,12 @@ impl<'a> ClientSession for Seat<'a> {
             self.opened = self.opened.saturating_add(1);
         }
         self.ending = ending_of(told);
+        self.came = came_of(self.alloc, told, start_of(&request));
         answer_of(self.alloc, told, start_of(&request))
+    }
+
+    fn came(&self) -> &[u8] {
+        self.came.as_slice()
     }
 
     fn opened(&self) -> u32 {
@@ -94,6 +102,7 @@ fn told_by(word: &[u8]) -> Told {
             (b"size", Told::Size(count)),
             (b"stamp", Told::Stamp(count)),
             (b"strange", Told::Strange),
+            (b"gone", Told::Gone(count)),
         ],
         name,
         Told::Lost,
@@ -116,6 +125,7 @@ where
         row,
         opened: 0,
         ending: Ending::Answered,
+        came: octets(alloc, 0, 0),
     };
     let answered = task.play(&mut seat);
     if !matches!(&answered, Ok(Answer::Lost)) {
@@ -136,6 +146,7 @@ fn is_opened(told: Told) -> bool {
             | Told::Behind(_)
             | Told::Unended(_)
             | Told::Past
+            | Told::Gone(_)
     )
 }
 
@@ -168,7 +179,15 @@ fn answer_of(alloc: Global, told: Told, from: u64) -> Answer<Global> {
         Told::Size(count) => Answer::Number(count),
         Told::Stamp(seconds) => stamp(seconds),
         Told::Strange => Answer::Strange,
-        Told::Lost => Answer::Lost,
+        Told::Gone(_) | Told::Lost => Answer::Lost,
+    }
+}
+
+/// What came of a download before its control connection ended.
+fn came_of(alloc: Global, told: Told, from: u64) -> Text<Global> {
+    match told {
+        Told::Gone(count) => octets(alloc, from, count),
+        _ => octets(alloc, from, 0),
     }
 }
 

@@ -2,7 +2,7 @@
 // takes away what came between them.
 use crate::handle::SENT;
 use crate::loopback::{join, served_over};
-use ftp_tree_folder::{DiskFolder, Mirror, Reasons, Seen, open, reloaded};
+use ftp_tree_folder::{DiskFolder, Mirror, Seen, open, reloaded};
 use rows_base::Paper;
 use std::alloc::Global;
 use std::io::{ErrorKind, Write};
@@ -66,10 +66,9 @@ fn served_anew<'a>(
     stream: &TcpStream,
     mirror: Mirror<Global, DiskFolder<'a, HostRuntime>>,
     seen: &mut Seen,
-    reasons: &'a Reasons,
 ) -> io::Result<Mirror<Global, DiskFolder<'a, HostRuntime>>> {
     let (mirror, _left) = reloaded(rt, DIR, &[], mirror, seen, 0);
-    match served_over(rt, stream, mirror, None, reasons) {
+    match served_over(rt, stream, mirror, None) {
         Ok((mirror, _ended)) => Ok(mirror),
         Err(fault) => Err(fault),
     }
@@ -80,13 +79,12 @@ fn put_clients<'a>(
     rt: &'a HostRuntime,
     paper: &mut Paper,
     mirror: Mirror<Global, DiskFolder<'a, HostRuntime>>,
-    reasons: &Reasons,
 ) -> io::Result<()> {
     let mut mirror = mirror;
     let mut seen = Seen::nothing(rt.alloc());
     for (name, lines, ends) in CLIENTS {
         let (_client, stream) = said(rt, *lines, *ends)?;
-        mirror = served_anew(rt, &stream, mirror, &mut seen, reasons)?;
+        mirror = served_anew(rt, &stream, mirror, &mut seen)?;
         paper.holds(*name, taken(rt)? == matches!(ends, Ends::Whole));
     }
     Ok(())
@@ -96,9 +94,8 @@ fn put_clients<'a>(
 pub(crate) fn row(rt: &HostRuntime) -> io::Result<()> {
     fs::create_dir(rt, DIR)?;
     let mut paper = Paper::new(rt.alloc());
-    let reasons = Reasons::new();
-    match open(rt, DIR, &[], &reasons) {
-        Ok(mirror) => put_clients(rt, &mut paper, mirror, &reasons)?,
+    match open(rt, DIR, &[]) {
+        Ok(mirror) => put_clients(rt, &mut paper, mirror)?,
         Err(_) => return Err(io::Error::from(ErrorKind::InvalidData)),
     }
     rt.write_all(paper.text())

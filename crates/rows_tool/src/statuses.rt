@@ -56,6 +56,7 @@ fn asked(has_password: bool, openings: &Openings) -> Target<'_> {
         openings,
         timeout: 60,
         progress: false,
+        rate: 0,
         limit: 1_000,
     }
 }
@@ -66,6 +67,7 @@ const ABSENT: ServerAddress<'static> = ServerAddress {
     port: NOBODY,
     timeout: 60,
     progress: false,
+    rate: 0,
 };
 
 /// Tasks where nobody listens, and whether there is a password for each.
@@ -77,6 +79,15 @@ const TASKS: &[(&str, bool, Task<'static>)] = &[
             file: NONE,
             parts: Parts::Kept,
             moment: true,
+        }),
+    ),
+    (
+        "get of a pattern",
+        true,
+        Task::GetMatching(Download {
+            file: NONE,
+            parts: Parts::Dropped,
+            moment: false,
         }),
     ),
     ("put, no file", true, Task::Put(NONE)),

@@ -6,7 +6,7 @@ use ftp_facts::Text;
 use ftp_operation::{Account, Accounts, AccountsFault, Login, Rights};
 use ftp_operation_secret::Secret;
 use ftp_path::Path;
-use rows_base::Paper;
+use rows_base::{Paper, cut};
 use std::alloc::{Allocator, Global};
 
 /// `guest` with the password `secret`, and `anonymous` without one; both see the whole tree.
@@ -34,6 +34,17 @@ fn pass_of(word: &[u8]) -> Option<Option<Secret>> {
     }
 }
 
+/// The root and the rights that a word says: all but to rename onto files where no colon stands, none behind `:r`, all behind `:o`.
+fn ends_of(word: &[u8]) -> (&[u8], Rights) {
+    let (root, rights) = cut(word, b':');
+    let all = Rights::all();
+    match rights {
+        [b'r'] => (root, Rights::none()),
+        [b'o'] => (root, Rights { onto: true, ..all }),
+        _ => (root, all),
+    }
+}
+
 /// The account of these words; none where the password is none, or the root is no path.
 fn account<A: Allocator + Copy>(
     alloc: A,
@@ -42,18 +53,19 @@ fn account<A: Allocator + Copy>(
     root: &[u8],
 ) -> Option<Account<Text<A>, Path<A>>> {
     let pass = pass_of(pass)?;
+    let (root, rights) = ends_of(root);
     match place(alloc, root) {
         Ok(root) => Some(Account {
             user: text(alloc, user),
             pass,
             root,
-            rights: Rights::all(),
+            rights,
         }),
         Err(_) => None,
     }
 }
 
-/// An account for each user name, password and root.
+/// An account for each user name, password and root, behind which rights may stand.
 pub fn list_of<A: Allocator + Copy>(alloc: A, words: &[u8]) -> List<A> {
     let mut list = Vec::new(alloc);
     let mut rest = words;
@@ -106,7 +118,7 @@ fn show_accounts(alloc: Global, words: &[u8], paper: &mut Paper) {
         Err(refused) => {
             paper.put(match refused.fault {
                 AccountsFault::SameUser => b"one name twice, back ".as_slice(),
-                AccountsFault::NestedRoots => b"one root below another, back ",
+                AccountsFault::NestedRoots => b"one root below another that may be changed, back ",
             });
             paper.number(refused.list.len() as u64);
         }

@@ -35,6 +35,7 @@ fn change<A: Allocator + Copy, T: Tree<A>>(
         Step::Remove => tree.remove_dir(root, path),
         Step::Delete => tree.delete(root, path),
         Step::Rename => rename(alloc, tree, root, path, line.second),
+        Step::Onto => rename_onto(alloc, tree, root, path, line.second),
         Step::Install => install(alloc, tree, root, path, line),
         _ => front(alloc, tree, root, path, line),
     }
@@ -49,6 +50,17 @@ fn rename<A: Allocator + Copy, T: Tree<A>>(
 ) -> Result<(), TreeFault> {
     let to = place(alloc, text)?;
     tree.rename(root, path, &to)
+}
+
+fn rename_onto<A: Allocator + Copy, T: Tree<A>>(
+    alloc: A,
+    tree: &mut T,
+    root: &Path<A>,
+    path: &Path<A>,
+    text: &[u8],
+) -> Result<(), TreeFault> {
+    let to = place(alloc, text)?;
+    tree.rename_onto(root, path, &to)
 }
 
 /// Installs octets in a second.

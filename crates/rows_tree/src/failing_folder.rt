@@ -147,6 +147,21 @@ impl<A: Allocator + Copy> Folder for FailingFolder<A> {
         }
     }
 
+    fn rename_onto<B: Allocator + Copy, C: Allocator + Copy, D: Allocator + Copy>(
+        &mut self,
+        root: &Path<B>,
+        from: &Path<C>,
+        to: &Path<D>,
+    ) -> Result<(), FolderFault> {
+        if self.fails() {
+            return Err(self.failed());
+        }
+        match self.tree.rename_onto(root, from, to) {
+            Ok(()) => Ok(()),
+            Err(_) => Err(self.failed()),
+        }
+    }
+
     fn write<E: Allocator + Copy, B: Allocator + Copy, C: Allocator + Copy>(
         &mut self,
         root: &Path<B>,

@@ -16,7 +16,7 @@ use std::marker::PhantomData;
 /// A server beside its clock, and how its tree grows.
 #[derive(Drop)]
 pub struct Played<A, S: Drop> {
-    clocked: Clocked<S, Clock>,
+    clocked: Clocked<S, Clock, ()>,
     growth: PhantomData<A>,
 }
 
@@ -26,6 +26,7 @@ impl<A: Allocator + Copy, S: Far<A, MemTree<A>> + Holds> Played<A, S> {
             clocked: Clocked {
                 server,
                 watch: Clock::still(),
+                watcher: (),
             },
             growth: PhantomData,
         }

@@ -7,47 +7,47 @@ use Rattle.ftp_server_play.proofs.calling.call.Goals as goal
 pub returns-in-Clock-clause-makes : goal.returns-in-Clock-clause-makes
 returns-in-Clock-clause-makes g c =
     let server = g.S.Far.server in let old = server c.args.server.now in let new = server c.clock.new.self in
-    by_cue (cue_of c.args.cue.now) _ Nothing old new (ap cue_of c.in-Clock.is) (refl, c.clock.ensures)
+    by_cue (cue_of c.args.cue.now) _ Nothing old new (ap cue_of c.in-Clock.is) (refl, c.clock.ensures.acts)
 
 pub returns-in-ControlEnd-clause-makes : goal.returns-in-ControlEnd-clause-makes
 returns-in-ControlEnd-clause-makes g c =
     let server = g.S.Far.server in let old = server c.args.server.now in let new = server c.control_end.new.self in
-    by_cue (cue_of c.args.cue.now) _ Nothing old new (ap cue_of c.in-ControlEnd.is) (refl, c.control_end.ensures)
+    by_cue (cue_of c.args.cue.now) _ Nothing old new (ap cue_of c.in-ControlEnd.is) (refl, c.control_end.ensures.acts)
 
 pub returns-in-Listening-clause-makes : goal.returns-in-Listening-clause-makes
 returns-in-Listening-clause-makes g c =
     let server = g.S.Far.server in let old = server c.args.server.now in let new = server c.listening.new.self in
-    by_cue (cue_of c.args.cue.now) _ Nothing old new (ap cue_of c.in-Listening.is) (refl, c.listening.ensures)
+    by_cue (cue_of c.args.cue.now) _ Nothing old new (ap cue_of c.in-Listening.is) (refl, c.listening.ensures.acts)
 
 pub returns-in-ListenRefused-clause-makes : goal.returns-in-ListenRefused-clause-makes
 returns-in-ListenRefused-clause-makes g c =
     let server = g.S.Far.server in let old = server c.args.server.now in let new = server c.listen_refused.new.self in
-    by_cue (cue_of c.args.cue.now) _ Nothing old new (ap cue_of c.in-ListenRefused.is) (refl, c.listen_refused.ensures)
+    by_cue (cue_of c.args.cue.now) _ Nothing old new (ap cue_of c.in-ListenRefused.is) (refl, c.listen_refused.ensures.acts)
 
 pub returns-in-DataOpened-clause-makes : goal.returns-in-DataOpened-clause-makes
 returns-in-DataOpened-clause-makes g c =
     let server = g.S.Far.server in let old = server c.args.server.now in let new = server c.data_opened.new.self in
-    by_cue (cue_of c.args.cue.now) _ Nothing old new (ap cue_of c.in-DataOpened.is) (refl, c.data_opened.ensures)
+    by_cue (cue_of c.args.cue.now) _ Nothing old new (ap cue_of c.in-DataOpened.is) (refl, c.data_opened.ensures.acts)
 
 pub returns-in-DataRefused-clause-makes : goal.returns-in-DataRefused-clause-makes
 returns-in-DataRefused-clause-makes g c =
     let server = g.S.Far.server in let old = server c.args.server.now in let new = server c.data_refused.new.self in
-    by_cue (cue_of c.args.cue.now) _ Nothing old new (ap cue_of c.in-DataRefused.is) (refl, c.data_refused.ensures)
+    by_cue (cue_of c.args.cue.now) _ Nothing old new (ap cue_of c.in-DataRefused.is) (refl, c.data_refused.ensures.acts)
 
 pub returns-in-DataEnd-clause-makes : goal.returns-in-DataEnd-clause-makes
 returns-in-DataEnd-clause-makes g c =
     let server = g.S.Far.server in let old = server c.args.server.now in let new = server c.data_end.new.self in
-    by_cue (cue_of c.args.cue.now) _ Nothing old new (ap cue_of c.in-DataEnd.is) (refl, c.data_end.ensures)
+    by_cue (cue_of c.args.cue.now) _ Nothing old new (ap cue_of c.in-DataEnd.is) (refl, c.data_end.ensures.acts)
 
 pub returns-in-DataFault-clause-makes : goal.returns-in-DataFault-clause-makes
 returns-in-DataFault-clause-makes g c =
     let server = g.S.Far.server in let old = server c.args.server.now in let new = server c.data_fault.new.self in
-    by_cue (cue_of c.args.cue.now) _ Nothing old new (ap cue_of c.in-DataFault.is) (refl, c.data_fault.ensures)
+    by_cue (cue_of c.args.cue.now) _ Nothing old new (ap cue_of c.in-DataFault.is) (refl, c.data_fault.ensures.acts)
 
 pub returns-in-DataClosed-clause-makes : goal.returns-in-DataClosed-clause-makes
 returns-in-DataClosed-clause-makes g c =
     let server = g.S.Far.server in let old = server c.args.server.now in let new = server c.data_closed.new.self in
-    by_cue (cue_of c.args.cue.now) _ Nothing old new (ap cue_of c.in-DataClosed.is) (refl, c.data_closed.ensures)
+    by_cue (cue_of c.args.cue.now) _ Nothing old new (ap cue_of c.in-DataClosed.is) (refl, c.data_closed.ensures.acts)
 
 pub returns-in-Hear-clause-makes : goal.returns-in-Hear-clause-makes
 returns-in-Hear-clause-makes g c =

@@ -8,5 +8,5 @@ pub new-requires-3 : goal.new-requires-3
 new-requires-3 g c = record {
   fair = starts (begun c.args.of.login.user c.args.of.login.pass c.args.of.accounts (g.T.Tree.table c.args.of.tree) c.args.of.near_host c.args.of.far_host)
       (client_of g.C.ClientTransfer.flow c.in-Ok.client).view (view_of g.T.Tree.table g.J.ServerTransfer.view c.in-Ok-new.server)
-      c.args.of.fair c.in-Ok.ensures.begun c.in-Ok-new.ensures.begun;
+      c.args.of.can.fair c.in-Ok.ensures.begun c.in-Ok-new.ensures.begun;
 }

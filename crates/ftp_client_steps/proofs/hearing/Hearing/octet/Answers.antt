@@ -50,34 +50,34 @@ pub returns-in-More-clause-told : goal.returns-in-More-clause-told
 returns-in-More-clause-told g c =
     let new = c.feed-heard.new.self in
     sym (
-      line_comes c.self.inside.ear new c.self.inside.reader c.self.inside.gathered c.feed-heard.result.event c.args.octet c.feed-heard.result.taken
-      c.args.self.now.ear c.args.last.now c.self.invariant
-      (c.feed-heard.ensures.some (omega arith)) c.feed-heard.ensures.within c.feed-heard.ensures.hears (sym (ap (λ h. h.ear) c.self.view_is))
-      ∙ ap (λ e. line_behind (event_list e (line_of new)) c.args.last.now) c.in-More.is)
+    line_comes c.self.inside.ear new c.self.inside.reader c.self.inside.gathered c.feed-heard.result.event c.args.octet c.feed-heard.result.taken
+    c.args.self.now.ear c.args.last.now c.self.invariant
+    (c.feed-heard.ensures.some (omega arith)) c.feed-heard.ensures.within c.feed-heard.ensures.hears (sym (ap (λ h. h.ear) c.self.view_is))
+    ∙ ap (λ e. line_behind (event_list e (line_of new)) c.args.last.now) c.in-More.is)
 
 pub returns-in-Owed-clause-told : goal.returns-in-Owed-clause-told
 returns-in-Owed-clause-told g c =
     let new = c.feed-heard.new.self in
     sym (
-      line_comes c.self.inside.ear new c.self.inside.reader c.self.inside.gathered c.feed-heard.result.event c.args.octet c.feed-heard.result.taken
-      c.args.self.now.ear c.args.last.now c.self.invariant
-      (c.feed-heard.ensures.some (omega arith)) c.feed-heard.ensures.within c.feed-heard.ensures.hears (sym (ap (λ h. h.ear) c.self.view_is))
-      ∙ ap (λ e. line_behind (event_list e (line_of new)) c.args.last.now) c.in-Owed.is)
+    line_comes c.self.inside.ear new c.self.inside.reader c.self.inside.gathered c.feed-heard.result.event c.args.octet c.feed-heard.result.taken
+    c.args.self.now.ear c.args.last.now c.self.invariant
+    (c.feed-heard.ensures.some (omega arith)) c.feed-heard.ensures.within c.feed-heard.ensures.hears (sym (ap (λ h. h.ear) c.self.view_is))
+    ∙ ap (λ e. line_behind (event_list e (line_of new)) c.args.last.now) c.in-Owed.is)
 
 pub returns-in-TooLong-clause-told : goal.returns-in-TooLong-clause-told
 returns-in-TooLong-clause-told g c =
     let new = c.feed-heard.new.self in
     sym (
-      line_comes c.self.inside.ear new c.self.inside.reader c.self.inside.gathered c.feed-heard.result.event c.args.octet c.feed-heard.result.taken
-      c.args.self.now.ear c.args.last.now c.self.invariant
-      (c.feed-heard.ensures.some (omega arith)) c.feed-heard.ensures.within c.feed-heard.ensures.hears (sym (ap (λ h. h.ear) c.self.view_is))
-      ∙ ap (λ e. line_behind (event_list e (line_of new)) c.args.last.now) c.in-TooLong.is)
+    line_comes c.self.inside.ear new c.self.inside.reader c.self.inside.gathered c.feed-heard.result.event c.args.octet c.feed-heard.result.taken
+    c.args.self.now.ear c.args.last.now c.self.invariant
+    (c.feed-heard.ensures.some (omega arith)) c.feed-heard.ensures.within c.feed-heard.ensures.hears (sym (ap (λ h. h.ear) c.self.view_is))
+    ∙ ap (λ e. line_behind (event_list e (line_of new)) c.args.last.now) c.in-TooLong.is)
 
 pub returns-in-Line-clause-told : goal.returns-in-Line-clause-told
 returns-in-Line-clause-told g c =
     let new = c.feed-heard.new.self in
     c.keep.ensures ∙ ap (λ line. take kept_limit line) c.line-line.ensures ∙ sym (
-      line_comes c.self.inside.ear new c.self.inside.reader c.self.inside.gathered c.feed-heard.result.event c.args.octet c.feed-heard.result.taken
-      c.args.self.now.ear c.args.last.now c.self.invariant
-      (c.feed-heard.ensures.some (omega arith)) c.feed-heard.ensures.within c.feed-heard.ensures.hears (sym (ap (λ h. h.ear) c.self.view_is))
-      ∙ ap (λ e. line_behind (event_list e (line_of new)) c.args.last.now) c.in-Line.is)
+    line_comes c.self.inside.ear new c.self.inside.reader c.self.inside.gathered c.feed-heard.result.event c.args.octet c.feed-heard.result.taken
+    c.args.self.now.ear c.args.last.now c.self.invariant
+    (c.feed-heard.ensures.some (omega arith)) c.feed-heard.ensures.within c.feed-heard.ensures.hears (sym (ap (λ h. h.ear) c.self.view_is))
+    ∙ ap (λ e. line_behind (event_list e (line_of new)) c.args.last.now) c.in-Line.is)

@@ -3,7 +3,7 @@ use Rattle.ftp_pair_parts.proofs.Keeping.{held}
 use Rattle.ftp_pair_parts.proofs.parts.Parts.tell.Goals as goal
 
 pub returns-in-ControlToServer-clause-counted : goal.returns-in-ControlToServer-clause-counted
-returns-in-ControlToServer-clause-counted g c = held 3 refl (ap (λ s. s.counts) c.control_end.ensures)
+returns-in-ControlToServer-clause-counted g c = held 3 refl (ap (λ s. s.counts) c.control_end.ensures.acts)
 
 pub returns-in-ControlToClient-clause-counted : goal.returns-in-ControlToClient-clause-counted
 returns-in-ControlToClient-clause-counted g c = held 3 c.control_end-in-ControlToClient.ensures.now.1 refl

@@ -5,6 +5,7 @@ use Rattle.ftp_server.proofs.DataLemmas.{not_failed, on_any, steps}
 use Rattle.ftp_server.proofs.TakenLemmas.{some_given}
 use Rattle.ftp_server.specs.Server.{counts_of, server_of, view_of}
 use Rattle.ftp_server.proofs.CountingLemmas.{by_step, stayed}
+use Rattle.ftp_server.proofs.ToldLemmas.{tells_step}
 use Rattle.ftp_server.proofs.server.Server.data_out.Goals as goal
 
 pub returns-clause-now : goal.returns-clause-now
@@ -32,3 +33,11 @@ returns-clause-most g c = λ same.
     let r = c.give-given in
     not_failed r.result.outcome c.device_failures-failures.result (server_of table failures view c.args.self.now) (server_of table failures view r.new.self)
     (server_of table failures view c.settle_behind.new.self) c.device_failures-failures.ensures (ap (λ n. n.refusals) r.ensures.steady) c.settle_behind.ensures.settled same r.ensures.full
+
+pub returns-clause-told : goal.returns-clause-told
+returns-clause-told g c =
+    let table = g.T.Tree.table in let failures = g.T.Tree.failures in let view = g.J.ServerTransfer.view in
+    let r = c.give-given in
+    tells_step (given_step r.result.count) c.settle_behind.new.self.heard (server_of table failures view c.args.self.now) (server_of table failures view r.new.self) (server_of table failures view c.settle_behind.new.self)
+    c.device_failures-failures.result r.result.outcome c.device_failures-failures.ensures (ap (λ n. n.refusals) r.ensures.steady) r.ensures.done (on_any r.result.outcome r.ensures.steady)
+    c.settle_behind.ensures.settled c.settle_behind.ensures.told

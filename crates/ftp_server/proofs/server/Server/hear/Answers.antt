@@ -28,3 +28,13 @@ returns-clause-most g c = λ fine.
     subst (λ w. IsMostHeard r.count c.args.piece.now w) (sym c.count.ensures.view)
     (unfailed (counts_of failures c.args.self.now) (counts_of failures c.count.new.self) r.outcome
     (on_err r.outcome (λ h e. h (e ∙ sym same)) c.count.ensures.failed) c.hear_octets-taken.ensures.most fine)
+
+pub returns-clause-told : goal.returns-clause-told
+returns-clause-told g c = λ read is fine.
+    let failures = g.T.Tree.failures in
+    let r = c.hear_octets-taken.result in let mid = c.hear_octets-taken.new.self in
+    let before : Counts = record { refusals = mid.refusals; failures = c.device_failures-failures.result } in
+    let same : before ≡ counts_of failures c.args.self.now = λ i. record { refusals = c.hear_octets-taken.ensures.refusals i; failures = c.device_failures-failures.ensures i } in
+    c.count.ensures.told
+    ∙ unfailed (counts_of failures c.args.self.now) (counts_of failures c.count.new.self) r.outcome
+    (on_err r.outcome (λ h e. h (e ∙ sym same)) c.count.ensures.failed) c.hear_octets-taken.ensures.told fine read is

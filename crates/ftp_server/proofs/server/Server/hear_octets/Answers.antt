@@ -2,6 +2,7 @@ use Rattle.std.proofs.Common.{◌+◌, ◌∙◌, ap, arith, inr, subst, sym}
 use Rattle.ftp_server_model.specs.Counting.{MovesOn}
 use Rattle.ftp_server.proofs.CountingLemmas.{stayed}
 use Rattle.ftp_server.proofs.HearLemmas.{of_ok, on_err, piece_lost, piece_more, some_taken}
+use Rattle.ftp_server.proofs.ToldLemmas.{piece_told}
 use Rattle.ftp_server.specs.Server.{view_of}
 use Rattle.ftp_server.proofs.server.Server.hear_octets.Goals as goal
 
@@ -23,6 +24,8 @@ loop-octet-preserved g c =
       count = ap (λ n. n + 1) c.loop-octet.invariant.count;
       heard = piece_more c.args.piece.now c.loop-octet.octet-index v x w c.loop-octet-test.true c.loop-octet.invariant.heard
           (sym c.may_hear.ensures ∙ c.if-not-may_hear.false) (of_ok c.hear_octet-outcome.result fine c.hear_octet-outcome.ensures.done);
+      told = piece_told c.args.piece.now c.loop-octet.octet-index v x c.hear_octet-outcome.new.self.heard c.loop-octet-test.true c.loop-octet.invariant.heard
+          (of_ok c.hear_octet-outcome.result fine c.hear_octet-outcome.ensures.told);
       steady = of_ok c.hear_octet-outcome.result fine c.hear_octet-outcome.ensures.steady ∙ c.loop-octet.invariant.steady;
       first = λ e. absurd (omega (arith, e));
     }

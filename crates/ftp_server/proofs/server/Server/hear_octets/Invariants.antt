@@ -1,5 +1,5 @@
 use Rattle.std.proofs.Common.{◌≡◌, take}
-use Rattle.ftp_server.specs.HearsTo.{HearsTo}
+use Rattle.ftp_server.specs.HearsTo.{HearsTo, TellsTo}
 use Rattle.ftp_server.specs.Server.{counts_of, view_of}
 use Rattle.ftp_server.proofs.server.Server.hear_octets.Given as goal
 
@@ -9,6 +9,7 @@ invariant-loop-octet g l =
     record {
       count : l.count ≡ l.octet-index;
       heard : HearsTo (take l.octet-index l.piece) (view l.fn.self) (view l.self);
+      told : TellsTo (take l.octet-index l.piece) (view l.fn.self) l.self.heard;
       steady : counts_of g.T.Tree.failures l.self ≡ counts_of g.T.Tree.failures l.fn.self;
       first : l.octet-index ≡ 0 → view l.self ≡ view l.fn.self;
     }

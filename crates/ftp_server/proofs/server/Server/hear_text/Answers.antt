@@ -1,6 +1,7 @@
 use Rattle.std.proofs.Common.{◌∙◌, ap, subst}
 use Rattle.ftp_command.specs.declared.fault.CommandFault.TheVariants.{Memory}
 use Rattle.ftp_nvt.specs.Ear.{line_of}
+use Rattle.ftp_server_model.specs.Heard.{heard_by_line}
 use Rattle.ftp_server_model.specs.Machine.{heard_line}
 use Rattle.ftp_server.proofs.HearLemmas.{bad_is_heard, line_not_done, line_not_read, on_err, on_ok}
 use Rattle.ftp_server.specs.Reading.{HoldsText, IsReadAs}
@@ -26,3 +27,9 @@ returns-in-None-clause-lost g c = λ read is.
     let lost = subst (λ r. IsReadAs (read c.line.result.now) r) c.in-None.is (c.read_line.ensures.read read is) in
     line_not_read (read (line_of c.args.self.now.reader.ear)) v w (subst (λ t. HoldsText (read t)) c.line.ensures lost)
     (bad_is_heard c.hear_line-heard.result Memory v w c.hear_line-heard.ensures.done c.hear_line-heard.ensures.lost)
+
+pub returns-in-Some-clause-told : goal.returns-in-Some-clause-told
+returns-in-Some-clause-told g c =
+    let v = view_of g.T.Tree.table g.J.ServerTransfer.view c.args.self.now in
+    on_ok c.hear_line.result (λ e read is. e ∙ ap (λ h. heard_by_line h v) (c.in-Some.ensures.read read is ∙ ap read c.line.ensures))
+    c.hear_line.ensures.told

@@ -1,6 +1,7 @@
-use Rattle.std.proofs.Common.{List, length, ℕ, ap, arith, subst, sym, ◌∙◌}
+use Rattle.std.proofs.Common.{List, Option, Some, length, ℕ, ap, arith, subst, sym, ◌∙◌}
 use Rattle.ftp_server_model.specs.Act.{decided}
 use Rattle.ftp_server_model.specs.Failing.{LineFails}
+use Rattle.ftp_server_model.specs.Heard.{Heard, code_said, unanswered}
 use Rattle.ftp_server_model.specs.Machine.{completed, obeyed, replied, turned, with_session}
 use Rattle.ftp_server_model.specs.View.{Session, View}
 use Rattle.ftp_server_model.specs.declared.heard.HeardLine.{HeardLine}
@@ -91,3 +92,16 @@ returns-in-Err-clause-few g c =
     let v : View = view_of table view c.args.self.now in
     let free = idle_free (view (under (table c.args.self.now.session.tree) c.args.self.now.session.root)) c.args.self.now.session.connection (idle_calm v c.requires.idle) in
     by_fault c.in-Err.field-0 _ _ (c.in-Err.ensures.idle free).1
+
+-- a line with a code
+abbrev coded : Heard → Option ℕ → Heard
+coded line code = record line { code = code }
+
+pub returns-in-Ok-clause-told : goal.returns-in-Ok-clause-told
+returns-in-Ok-clause-told g c =
+    let table = g.T.Tree.table in let view = g.J.ServerTransfer.view in
+    let v : View = view_of table view c.args.self.now in
+    let free = idle_free (view (under (table c.args.self.now.session.tree) c.args.self.now.session.root)) c.args.self.now.session.connection (idle_calm v c.requires.idle) in
+    let session = session_of table view c.decide.new.self in
+    ap Some (c.answered.ensures ∙ ap (λ line. coded line c.reply_code.result) c.of-told.ensures
+    ∙ ap (coded (unanswered c.args.heard)) (c.reply_code.ensures session ∙ ap code_said (c.in-Ok.ensures.idle free).0))

@@ -1,9 +1,11 @@
-use Rattle.std.proofs.Common.{◌<◌, ◌∙◌, List, ℕ, ap, arith, inr, length, subst, sym, take}
+use Rattle.std.proofs.Common.{◌≡◌, ◌<◌, ◌∙◌, List, ℕ, ap, arith, inr, length, subst, sym, take}
 use Rattle.ftp_server_model.specs.Failing.{AreReceived}
 use Rattle.ftp_server_model.specs.Counting.{MovesOn}
 use Rattle.ftp_server.proofs.CountingLemmas.{stayed}
 use Rattle.ftp_server.proofs.HearLemmas.{of_ok, on_err}
 use Rattle.ftp_server.proofs.TakenLemmas.{row_lost, row_more, some_taken}
+use Rattle.ftp_server_model.specs.Heard.{heard_received}
+use Rattle.ftp_server.proofs.ToldLemmas.{row_told}
 use Rattle.ftp_server.specs.Data.{ReceivesTo}
 use Rattle.ftp_server.specs.Server.{view_of}
 use Rattle.ftp_server.proofs.server.Server.receive_octets.Goals as goal
@@ -30,6 +32,9 @@ loop-count-preserved g c =
       count = omega (arith, c.receive-taken.ensures.within, c.split_at.ensures.back_len);
       taken = row_more c.args.piece.now c.loop-count.count n v x w c.loop-count.invariant.taken
           (subst (λ (l : List ℕ). ReceivesTo (take n l) x w) c.split_at.ensures.back (of_ok c.receive-taken.result.outcome fine c.receive-taken.ensures.done));
+      told = row_told c.args.piece.now c.loop-count.count n v x c.loop-count.self.heard c.receive-taken.new.self.heard c.loop-count.invariant.taken.0 c.loop-count.invariant.told
+          (subst (λ (l : List ℕ). c.receive-taken.new.self.heard ≡ heard_received c.loop-count.self.heard x (take n l)) c.split_at.ensures.back
+          (of_ok c.receive-taken.result.outcome fine c.receive-taken.ensures.told));
       steady = of_ok c.receive-taken.result.outcome fine c.receive-taken.ensures.steady ∙ c.loop-count.invariant.steady;
       first = λ e. absurd (omega (arith, e, some));
     }

@@ -1,4 +1,5 @@
-use Rattle.std.proofs.Common.{◌≡◌, ◌≤◌, ◌-◌, length, take}
+use Rattle.std.proofs.Common.{◌≡◌, ◌≤◌, ◌-◌, None, length, take}
+use Rattle.ftp_server_model.specs.Heard.{heard_received}
 use Rattle.ftp_server.specs.Data.{ReceivesTo}
 use Rattle.ftp_server.specs.Server.{counts_of, view_of}
 use Rattle.ftp_server.proofs.server.Server.receive_octets.Given as goal
@@ -9,6 +10,7 @@ invariant-loop-count g l =
     record {
       count : l.count ≤ length l.piece;
       taken : ReceivesTo (take l.count l.piece) (view l.fn.self) (view l.self);
+      told : l.self.heard ≡ heard_received None (view l.fn.self) (take l.count l.piece);
       steady : counts_of g.T.Tree.failures l.self ≡ counts_of g.T.Tree.failures l.fn.self;
       first : l.count ≡ 0 → view l.self ≡ view l.fn.self;
     }

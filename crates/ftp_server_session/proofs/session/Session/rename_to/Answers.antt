@@ -11,5 +11,5 @@ returns g c =
     let old = c.args.self.now in
     let s = session_of g.T.Tree.table g.J.ServerTransfer.view old in
     let found = rw c.in-Some.is at c.in-Ok.ensures in
-    tree_refused g.T.Tree.table g.T.Tree.failures g.J.ServerTransfer.view (rnto c.args.pending.now c.args.text.now) old c.rename.new.self _ _ Texts.NameRefused _ c.in-Err.ensures.refused (rename-no _ _ _)
+    tree_refused g.T.Tree.table g.T.Tree.failures g.J.ServerTransfer.view (rnto c.args.pending.now c.args.text.now) old c.move_to.new.tree _ _ Texts.NameRefused _ c.in-Err.ensures.refused (rename-no _ _ _)
     c.refused.ensures (λ why e. ap (λ pending. rnto pending c.args.text.now s) c.in-Rename.is ∙ rename_due s _ _ c.args.text.now why found.0 found.1 e c.if-not-self.false)

@@ -1,4 +1,4 @@
-use Rattle.std.proofs.Common.{ap, ◌∙◌}
+use Rattle.std.proofs.Common.{inr, ap, ◌∙◌}
 use Rattle.ftp_tree.specs.Tree.{moved, rename_refusal, under, with_part}
 use Rattle.ftp_tree.proofs.PlacingLemmas.{had, move-above, move-absent}
 use Rattle.ftp_tree.proofs.memory.MemTree.move_all.Goals as goal
@@ -10,7 +10,7 @@ pub make_place-requires-clause-above : goal.make_place-requires-clause-above
 make_place-requires-clause-above g c = move-above _ c.args.from.now c.args.to.now c.requires
 
 pub move_over-requires-clause-loose : goal.move_over-requires-clause-loose
-move_over-requires-clause-loose g c = c.in_ok-make_place.ensures.loose
+move_over-requires-clause-loose g c = inr c.in_ok-make_place.ensures.loose
 
 pub move_over-requires-clause-free : goal.move_over-requires-clause-free
 move_over-requires-clause-free g c =

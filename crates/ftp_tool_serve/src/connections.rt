@@ -6,36 +6,19 @@ use crate::journal::Journal;
 use crate::tells::{Fate, Tells};
 use ftp_control::{Accepted, For, Ports, Ready, Spoken, Whole};
 use ftp_endpoint::Endpoint;
-use ftp_tool_sockets::{ControlReader, ControlWriter, Link, SocketPorts};
+use ftp_tool_sockets::{ControlWriter, Link, SocketPorts};
 use std::io;
 use std::io::{Eprint, ErrorKind, Read, Write};
 use std::net::{Net, TcpListener, TcpStream};
 use std::time::Clock;
 
-/// The reading side of a control connection.
-#[derive(Drop)]
-pub(crate) struct HeardReader<'a, R: Tells> {
-    pub(crate) inner: ControlReader<'a>,
-    pub(crate) journal: &'a Journal<'a, R>,
-}
-
-impl<'a, R: Tells> Read for HeardReader<'a, R> {
-    fn read(&mut self, room: &mut [u8]) -> io::Result<usize> {
-        let count = self.inner.read(room)?;
-        let (octets, _) = room.split_at(count);
-        self.journal.hear(octets);
-        Ok(count)
-    }
-}
-
-/// The writing side of a control connection. The journal is told what is said before it is written; after refused logins that is slow, and behind the
-/// last of them nothing is written, also of what was read before.
+/// The writing side of a control connection: after the last refused login nothing more is written, also to what was read before.
 #[derive(Drop)]
 pub(crate) struct SaidWriter<'a, R: Tells> {
     inner: ControlWriter<'a>,
     journal: &'a Journal<'a, R>,
-    /// How many octets at the front of the next write were told already.
-    told: usize,
+    /// Whether the last write took a front of what it was given, whose rest is written next.
+    is_amid: bool,
 }
 
 impl<'a, R: Tells> SaidWriter<'a, R> {
@@ -43,23 +26,20 @@ impl<'a, R: Tells> SaidWriter<'a, R> {
         SaidWriter {
             inner,
             journal,
-            told: 0,
+            is_amid: false,
         }
     }
 }
 
 impl<'a, R: Tells> Write for SaidWriter<'a, R> {
     fn write(&mut self, octets: &[u8]) -> io::Result<usize> {
-        if self.told == 0 && self.journal.is_over() {
+        if !self.is_amid && self.journal.is_over() {
             return Err(io::Error::from(ErrorKind::TimedOut));
         }
-        let (_, fresh) = octets.split_at(self.told.min(octets.len()));
-        self.journal.say(fresh);
-        self.told = octets.len();
         self.journal.write();
         let count = self.inner.write(octets)?;
-        self.told = octets.len().saturating_sub(count);
-        if self.told == 0 {
+        self.is_amid = count < octets.len();
+        if !self.is_amid {
             self.journal.written();
         }
         Ok(count)
@@ -163,7 +143,7 @@ impl<'a, R: Net<Listener = TcpListener, Stream = TcpStream> + Clock + Eprint> Po
     {
         match stream {
             Some(whole) => {
-                self.journal.close(Fate::Ended);
+                self.journal.parted(Fate::Ended);
                 self.inner.close(Some(whole.map(|counted| counted.inner)));
             }
             None => self.inner.close(None),
@@ -171,7 +151,7 @@ impl<'a, R: Net<Listener = TcpListener, Stream = TcpStream> + Clock + Eprint> Po
     }
 
     fn reset(&mut self, stream: CountedLink<'a, R>) {
-        self.journal.close(Fate::Reset);
+        self.journal.parted(Fate::Reset);
         self.inner.reset(stream.inner);
     }
 }

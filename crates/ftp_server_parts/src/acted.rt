@@ -1,0 +1,264 @@
+// A line that was acted on, as it is told: its verb, what it names, and the code of its reply.
+ghost use Rattle.std.specs.Prelude.{◌≡◌, ◌≤◌, length, take};
+ghost use Rattle.ftp_server_model.specs.Heard.{abort_told, code_if_any, lent, text_named, text_or_none, text_told, unanswered, verb_told};
+ghost use Rattle.ftp_server_model.specs.Replies.{reply_said};
+ghost use Rattle.ftp_server_model.specs.Texts.{code_of};
+ghost use Rattle.ftp_server_model.specs.View.{Session};
+ghost use Rattle.ftp_command.specs.Command.{verb_of};
+
+use arrayvec::ArrayVec;
+use ftp_command::{Argument, Command, Verb};
+use ftp_path::Path;
+use ftp_server_model::{Answered, FixedReply, HeardLine, ReplyKind, TOLD_LIMIT};
+use std::alloc::Allocator;
+use std::marker::Model;
+
+/// The code of the reply to an ABOR that is done.
+const ABORT_DONE: u16 = 226;
+
+/// A line that was acted on, with the front of what it names copied: no memory is taken.
+#[derive(Drop)]
+pub struct ActedLine {
+    verb: Option<Verb>,
+    text: ArrayVec<u8, TOLD_LIMIT>,
+    code: Option<u16>,
+}
+
+impl Model for ActedLine {
+    ghost use Rattle.ftp_server_model.specs.Heard.{Heard};
+
+    ghost Value = { Heard };
+
+    ghost view = { λ line. record { verb = line.verb; text = line.text.items; code = line.code } };
+}
+
+impl ActedLine {
+    /// A line before it is acted on.
+    pub fn of<A: Allocator + Copy>(heard: &HeardLine<Argument<A>>) -> ActedLine
+        ensures { result ≡ unanswered heard.now }
+    {
+        ActedLine {
+            verb: verb_told(heard),
+            text: front_of(text_told(heard)),
+            code: None,
+        }
+    }
+
+    /// An ABOR that came during a transfer.
+    pub fn abort() -> ActedLine
+        ensures { result ≡ abort_told }
+    {
+        ActedLine {
+            verb: Some(Verb::Abor),
+            text: ArrayVec::new(),
+            code: Some(ABORT_DONE),
+        }
+    }
+
+    /// The same line, and the code of the reply that it made at once.
+    pub fn answered(self, code: Option<u16>) -> ActedLine
+        ensures { result ≡ record self { code = code } }
+    {
+        let Self {
+            verb,
+            text,
+            code: _,
+        } = self;
+        ActedLine { verb, text, code }
+    }
+
+    /// The line, lent.
+    pub fn lend(&self) -> Answered<'_>
+        ensures { lent result ≡ self.now }
+    {
+        Answered {
+            verb: self.verb,
+            text: self.text.as_slice(),
+            code: self.code,
+        }
+    }
+
+    /// How many octets of what it names are kept, at most 512.
+    pub fn len(&self) -> usize
+        ensures len { result ≡ length self.now.text }
+        ensures short { result ≤ TOLD_LIMIT }
+    {
+        self.text.as_slice().len()
+    }
+}
+
+/// The front of a text, copied.
+fn front_of(text: &[u8]) -> ArrayVec<u8, TOLD_LIMIT>
+    ensures { result.items ≡ take TOLD_LIMIT text.now }
+{
+    let (front, _) = text.split_at(TOLD_LIMIT.min(text.len()));
+    copied(front)
+}
+
+/// A copy of octets.
+fn copied(octets: &[u8]) -> ArrayVec<u8, TOLD_LIMIT>
+    requires { length octets.now ≤ TOLD_LIMIT }
+    ensures { result.items ≡ octets.now }
+{
+    let mut copy = ArrayVec::new();
+    copy.try_extend_from_slice(octets).unwrap();
+    copy
+}
+
+/// The verb of a line that says a command.
+fn verb_told<A: Allocator + Copy>(heard: &HeardLine<Argument<A>>) -> Option<Verb>
+    ensures { result ≡ verb_told heard.now }
+{
+    match heard {
+        HeardLine::TooLong | HeardLine::Bad(_) => None,
+        HeardLine::Asks(command) => Some(verb_of(command)),
+    }
+}
+
+/// The verb of a command.
+fn verb_of<A: Allocator + Copy>(command: &Command<Argument<A>>) -> Verb
+    ensures { result ≡ verb_of command.now }
+{
+    match command {
+        Command::User(_) => Verb::User,
+        Command::Pass(_) => Verb::Pass,
+        Command::Acct(_) => Verb::Acct,
+        Command::Cwd(_) => Verb::Cwd,
+        Command::Cdup => Verb::Cdup,
+        Command::Rein => Verb::Rein,
+        Command::Quit => Verb::Quit,
+        Command::Port(_) => Verb::Port,
+        Command::Pasv => Verb::Pasv,
+        Command::Eprt(_) => Verb::Eprt,
+        Command::Epsv(_) => Verb::Epsv,
+        Command::Repr(_) => Verb::Repr,
+        Command::Stru(_) => Verb::Stru,
+        Command::Mode(_) => Verb::Mode,
+        Command::Retr(_) => Verb::Retr,
+        Command::Stor(_) => Verb::Stor,
+        Command::Appe(_) => Verb::Appe,
+        Command::Allo(_, _) => Verb::Allo,
+        Command::Rest(_) => Verb::Rest,
+        Command::Rnfr(_) => Verb::Rnfr,
+        Command::Rnto(_) => Verb::Rnto,
+        Command::Abor => Verb::Abor,
+        Command::Dele(_) => Verb::Dele,
+        Command::Rmd(_) => Verb::Rmd,
+        Command::Mkd(_) => Verb::Mkd,
+        Command::Pwd => Verb::Pwd,
+        Command::List(_) => Verb::List,
+        Command::Nlst(_) => Verb::Nlst,
+        Command::Mlst(_) => Verb::Mlst,
+        Command::Mlsd(_) => Verb::Mlsd,
+        Command::Size(_) => Verb::Size,
+        Command::Mdtm(_) => Verb::Mdtm,
+        Command::Syst => Verb::Syst,
+        Command::Stat => Verb::Stat,
+        Command::Help(_) => Verb::Help,
+        Command::Noop => Verb::Noop,
+        Command::Feat => Verb::Feat,
+        Command::Opts(_) => Verb::Opts,
+    }
+}
+
+/// The path text that a line gives, or the name of a user; never a password.
+fn text_told<A: Allocator + Copy>(heard: &HeardLine<Argument<A>>) -> &[u8]
+    ensures { result.now ≡ text_told heard.now }
+{
+    match heard {
+        HeardLine::TooLong | HeardLine::Bad(_) => &[],
+        HeardLine::Asks(command) => text_named(command),
+    }
+}
+
+/// The same of a command.
+fn text_named<A: Allocator + Copy>(command: &Command<Argument<A>>) -> &[u8]
+    ensures { result.now ≡ text_named command.now }
+{
+    match command {
+        Command::User(text)
+        | Command::Cwd(text)
+        | Command::Retr(text)
+        | Command::Stor(text)
+        | Command::Appe(text)
+        | Command::Rnfr(text)
+        | Command::Rnto(text)
+        | Command::Dele(text)
+        | Command::Rmd(text)
+        | Command::Mkd(text)
+        | Command::Size(text)
+        | Command::Mdtm(text) => text.octets(),
+        Command::List(text) | Command::Nlst(text) | Command::Mlst(text) | Command::Mlsd(text) =>
+            text_or_none(text),
+        _ => &[],
+    }
+}
+
+/// A text, or nothing.
+fn text_or_none<A: Allocator + Copy>(text: &Option<Argument<A>>) -> &[u8]
+    ensures { result.now ≡ text_or_none text.now }
+{
+    match text {
+        Some(text) => text.octets(),
+        None => &[],
+    }
+}
+
+/// The code of the reply of this kind; none where it follows once a port is had.
+pub fn reply_code<A: Allocator + Copy>(kind: &ReplyKind<Path<A>>) -> Option<u16>
+    ensures { (s : Session) → result ≡ code_if_any (reply_said s kind.now) }
+{
+    match kind {
+        ReplyKind::Nothing => None,
+        ReplyKind::Fixed(text) => Some(fixed_code(*text)),
+        ReplyKind::Here | ReplyKind::Made(_) => Some(257),
+        ReplyKind::Restarting(_) => Some(350),
+        ReplyKind::Passive(_) => Some(227),
+        ReplyKind::Extended(_) => Some(229),
+        ReplyKind::Size(_) | ReplyKind::Stamp(_) => Some(213),
+        ReplyKind::Entry(_) => Some(250),
+        ReplyKind::Features => Some(211),
+        ReplyKind::Chosen => Some(200),
+    }
+}
+
+/// The code of a reply without a computed part (RFC 959, section 4.2).
+pub fn fixed_code(text: FixedReply) -> u16
+    ensures { result ≡ code_of text }
+{
+    match text {
+        FixedReply::Ready => 220,
+        FixedReply::Unknown | FixedReply::LineTooLong => 500,
+        FixedReply::BadArgument => 501,
+        FixedReply::NotImplemented => 502,
+        FixedReply::BadSequence => 503,
+        FixedReply::BadParameter => 504,
+        FixedReply::Protocol | FixedReply::OnlyIpv4 | FixedReply::OnlyIpv6 => 522,
+        FixedReply::NotLoggedIn | FixedReply::LoginRefused => 530,
+        FixedReply::PasswordNeeded => 331,
+        FixedReply::LoggedIn => 230,
+        FixedReply::NotNeeded => 202,
+        FixedReply::Done => 250,
+        FixedReply::NewName => 350,
+        FixedReply::Refused | FixedReply::NotAllowed => 550,
+        FixedReply::NameRefused => 553,
+        FixedReply::NoRoom => 452,
+        FixedReply::TooMuch => 552,
+        FixedReply::Opens => 150,
+        FixedReply::Complete | FixedReply::AbortDone => 226,
+        FixedReply::NoConnection => 425,
+        FixedReply::Broken => 426,
+        FixedReply::LocalFault => 451,
+        FixedReply::TypeSet
+        | FixedReply::StructureSet
+        | FixedReply::ModeSet
+        | FixedReply::Utf8Set
+        | FixedReply::Fine
+        | FixedReply::EndpointTaken
+        | FixedReply::OnlyExtended => 200,
+        FixedReply::System => 215,
+        FixedReply::Help => 214,
+        FixedReply::Serving => 211,
+        FixedReply::Goodbye => 221,
+    }
+}
