@@ -307,7 +307,8 @@ vacant table path tree file =
       absent = at-remove table path path ∙ cond-true (eq_by_cmp path_cmp path path) None (node_at table path) (ap is_eq (tied_itself path_total path));
       above =
           at-remove table path (parent path)
-          ∙ cond-false (eq_by_cmp path_cmp (parent path) path) None (node_at table (parent path)) (false-where _ (λ equal. not-own path (file-below table path tree file) (same (parent path) path equal)))
+          ∙ cond-false (eq_by_cmp path_cmp (parent path) path) None (node_at table (parent path)) (false-where _ (λ equal. not-own path
+          (file-below table path tree file) (same (parent path) path equal)))
           ∙ tree.parents path (file-stands (node_at table path) file);
     }
 
@@ -326,7 +327,8 @@ stays-freed true table from to stays = cond-false (takes_place table from to) (r
 stays-freed false table from to stays = refl
 
 -- what holds of the map, and of it without a file whose place is taken, holds of it once a place is freed
-pub by-freed : (P : Table → Type 0) (onto : Bool) (table : Table) (from to : Names) → P table → (takes_place table from to ≡ true → P (removed table to)) → P (freed onto table from to)
+pub by-freed : (P : Table → Type 0) (onto : Bool) (table : Table) (from to : Names) → P table → (takes_place table from to ≡ true → P (removed table to))
+    → P (freed onto table from to)
 by-freed P false table from to whole without = subst P (sym (not-freed table from to)) whole
 by-freed P true table from to whole without =
     elim (takes_place table from to) as (λ b. takes_place table from to ≡ b → P (freed true table from to)) [
@@ -340,26 +342,32 @@ freed-tree onto table from to tree =
     by-freed IsTree onto table from to tree (λ takes. (vacant table to tree (takes-parts table from to takes).target).tree)
 
 -- no other path changes, and what stands at the path that is freed goes
-pub freed-node : (onto : Bool) (table : Table) (from to path : Names) → eq_by_cmp path_cmp path to ≡ false → node_at (freed onto table from to) path ≡ node_at table path
+pub freed-node : (onto : Bool) (table : Table) (from to path : Names) → eq_by_cmp path_cmp path to ≡ false
+    → node_at (freed onto table from to) path ≡ node_at table path
 unfolding removed
 freed-node onto table from to path other =
-    by-freed (λ t. node_at t path ≡ node_at table path) onto table from to refl (λ takes. at-remove table to path ∙ cond-false (eq_by_cmp path_cmp path to) None (node_at table path) other)
+    by-freed (λ t. node_at t path ≡ node_at table path) onto table from to refl (λ takes. at-remove table to path
+    ∙ cond-false (eq_by_cmp path_cmp path to) None (node_at table path) other)
 
 pub freed-at : (table : Table) (from to : Names) → takes_place table from to ≡ true → node_at (freed true table from to) to ≡ None
 unfolding removed
 freed-at table from to takes =
-    ap (λ t. node_at t to) (takes-freed table from to takes) ∙ at-remove table to to ∙ cond-true (eq_by_cmp path_cmp to to) None (node_at table to) (ap is_eq (tied_itself path_total to))
+    ap (λ t. node_at t to) (takes-freed table from to takes) ∙ at-remove table to to
+    ∙ cond-true (eq_by_cmp path_cmp to to) None (node_at table to) (ap is_eq (tied_itself path_total to))
 
 -- paths of which the second is not within the first are two
 pub beside-other : (from to : Names) (rest : Names) → is_within from to ≡ false → eq_by_cmp path_cmp (from ++ rest) to ≡ false
-beside-other from to rest beside = false-where _ (λ equal. true≢false (sym (within-append from rest) ∙ ap (is_within from) (same (from ++ rest) to equal) ∙ beside))
+beside-other from to rest beside = false-where _ (λ equal. true≢false (sym (within-append from rest) ∙ ap (is_within from) (same (from ++ rest) to equal)
+    ∙ beside))
 
 -- what is moved stands as before
 pub freed-from : (onto : Bool) (table : Table) (from to rest : Names) → node_at (freed onto table from to) (from ++ rest) ≡ node_at table (from ++ rest)
 unfolding removed
 freed-from onto table from to rest =
     by-freed (λ t. node_at t (from ++ rest) ≡ node_at table (from ++ rest)) onto table from to refl
-    (λ takes. at-remove table to (from ++ rest) ∙ cond-false (eq_by_cmp path_cmp (from ++ rest) to) None (node_at table (from ++ rest)) (beside-other from to rest (takes-parts table from to takes).beside))
+    (λ takes. at-remove table to (from ++ rest)
+    ∙ cond-false (eq_by_cmp path_cmp (from ++ rest) to) None (node_at table (from ++ rest)) (beside-other from to rest
+    (takes-parts table from to takes).beside))
 
 -- so what is refused of it is as before
 pub freed-source : (onto : Bool) (table : Table) (from to : Names) → source_refusal (freed onto table from to) from ≡ source_refusal table from
@@ -373,7 +381,8 @@ keeps-replaced table from to tree none =
     let takes = onto-takes table from to none in
     let parts = takes-parts table from to takes in
     let free = vacant table to tree parts.target in
-    subst (λ t. IsTree (moved t from to)) (sym (takes-freed table from to takes)) (keeps-there (removed table to) from to free.tree (ap is_some free.absent) parts.beside free.above)
+    subst (λ t. IsTree (moved t from to)) (sym (takes-freed table from to takes)) (keeps-there (removed table to) from to free.tree
+    (ap is_some free.absent) parts.beside free.above)
 
 pub changes-keep : ChangesKeepTrees
 changes-keep =

@@ -34,7 +34,8 @@ module _ (table : Table) (from to : Names) (node : Node) (tree : IsTree table) (
       by : (more : Names) → from ++ rest ≡ to ++ more → node_at placed (from ++ rest) ≡ node_at table (from ++ rest)
       by [] is = absurd (true≢false (sym (within-append from rest) ∙ ap (is_within from) (is ∙ append-nil to) ∙ beside))
       by (name ∷ more) is =
-          ap (node_at placed) is ∙ part-comes table to alone (name ∷ more) ∙ at-insert fin.empty [] node (name ∷ more) ∙ empty-at (name ∷ more) ∙ sym (none-absent table to tree (not-some _ absent) name more) ∙ ap (node_at table) (sym is)
+          ap (node_at placed) is ∙ part-comes table to alone (name ∷ more) ∙ at-insert fin.empty [] node (name ∷ more) ∙ empty-at (name ∷ more)
+          ∙ sym (none-absent table to tree (not-some _ absent) name more) ∙ ap (node_at table) (sym is)
 
   pub place-stands : node_at placed to ≡ Some node
   place-stands = ap (node_at placed) (sym (append-nil to)) ∙ part-comes table to alone [] ∙ at-insert fin.empty [] node []

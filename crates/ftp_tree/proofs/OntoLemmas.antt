@@ -57,7 +57,8 @@ leaf-fits : (table : Table) (from to : Names) → IsLeaf table from → fits to 
 unfolding moves_fit
 leaf-fits table from to leaf fit =
     all-keys (λ path. not (is_within from path) || fits (moved_path from to path)) (fin.entries table)
-    (each-found (λ path. (not (is_within from path) || fits (moved_path from to path)) ≡ true) (fin.entries table) (λ path found. by path (ap is_some (sym (get-node table path)) ∙ found)))
+    (each-found (λ path. (not (is_within from path) || fits (moved_path from to path)) ≡ true) (fin.entries table) (λ path found. by path (ap is_some (sym
+    (get-node table path)) ∙ found)))
   where
     within : (path rest : Names) → path ≡ from ++ rest → is_some (node_at table path) ≡ true → fits (to ++ rest) ≡ true
     within path [] is some = ap fits (append-nil to) ∙ fit
@@ -71,21 +72,25 @@ leaf-fits table from to leaf fit =
         ] refl
 
 -- A file that takes the place of another is refused nothing once that is gone, if the path of the other is within the limits.
-pub free-onto : (table : Table) (from to : Names) → IsTree table → fits to ≡ true → takes_place table from to ≡ true → rename_refusal (removed table to) from to ≡ None
+pub free-onto : (table : Table) (from to : Names) → IsTree table → fits to ≡ true → takes_place table from to ≡ true
+    → rename_refusal (removed table to) from to ≡ None
 unfolding rename_refusal source_refusal target_refusal
 free-onto table from to tree fit takes =
     let parts = takes-parts table from to takes in
     let free = vacant table to tree parts.target in
     let new = removed table to in
-    let same : node_at new from ≡ node_at table from = removed-node table to from (ap (λ p. eq_by_cmp path_cmp p to) (sym (append-nil from)) ∙ beside-other from to [] parts.beside) in
+    let same : node_at new from ≡ node_at table from = removed-node table to from (ap (λ p. eq_by_cmp path_cmp p to) (sym (append-nil from))
+    ∙ beside-other from to [] parts.beside) in
     let leaf = file-leaf new from (node_at new from) free.tree refl (ap file_refusal same ∙ parts.source) in
-    both-of (source_answer (node_at new from) from) _ (source-of (node_at new from) from (ap is_some same ∙ file-stands (node_at table from) parts.source) (file-below table from tree parts.source))
+    both-of (source_answer (node_at new from) from) _ (source-of (node_at new from) from (ap is_some same
+    ∙ file-stands (node_at table from) parts.source) (file-below table from tree parts.source))
     (both-of (whenever (is_some (node_at new to)) Exists) _ (ap (λ node. whenever (is_some node) Exists) free.absent)
     (both-of (whenever (is_within from to) WrongKind) _ (ap (λ b. whenever b WrongKind) parts.beside)
     (both-of (directory_refusal (node_at new (parent to))) _ (ap directory_refusal free.above)
     (ap (λ b. whenever (not b) TooBig) (leaf-fits new from to leaf fit)))))
 
-pub free-freed : (table : Table) (from to : Names) → IsTree table → fits to ≡ true → takes_place table from to ≡ true → rename_refusal (freed true table from to) from to ≡ None
+pub free-freed : (table : Table) (from to : Names) → IsTree table → fits to ≡ true → takes_place table from to ≡ true
+    → rename_refusal (freed true table from to) from to ≡ None
 free-freed table from to tree fit takes = ap (λ t. rename_refusal t from to) (takes-freed table from to takes) ∙ free-onto table from to tree fit takes
 
 -- ---- the same below a root
@@ -95,13 +100,15 @@ pub part-tree : (table : Table) (root from to : Names) → IsTree table → take
 part-tree table root from to tree takes =
     let parts = takes-parts (under table root) from to takes in
     let some : from ≡ [] → ⊥ = λ none. true≢false (sym (root-inside to) ∙ ap (λ p. is_within p to) (sym none) ∙ parts.beside) in
-    parts-trees.taking table root tree (root-dir table root from tree some (ap is_some (sym (under-stands table root from)) ∙ file-stands (node_at (under table root) from) parts.source))
+    parts-trees.taking table root tree (root-dir table root from tree some (ap is_some (sym (under-stands table root from))
+    ∙ file-stands (node_at (under table root) from) parts.source))
 
 pub onto-loose : (table : Table) (from to : Names) → onto_refusal table from to ≡ None → delete_refusal table to ≡ None
 unfolding delete_refusal
 onto-loose table from to none = (takes-parts table from to (onto-takes table from to none)).target
 
-pub onto-free : (table : Table) (root from to : Names) → IsTree table → fits to ≡ true → onto_refusal (under table root) from to ≡ None → rename_refusal (removed (under table root) to) from to ≡ None
+pub onto-free : (table : Table) (root from to : Names) → IsTree table → fits to ≡ true → onto_refusal (under table root) from to ≡ None
+    → rename_refusal (removed (under table root) to) from to ≡ None
 onto-free table root from to tree fit none =
     let takes = onto-takes (under table root) from to none in
     free-onto (under table root) from to (part-tree table root from to tree takes) fit takes
@@ -128,7 +135,8 @@ named-found : (path : Names) (rows : Rows) → list_all is_sound_entry rows ≡ 
 named-found path [] all some = absurd (true≢false (sym some))
 named-found path (row ∷ rows) all some =
     let both = and_parts (is_sound_entry row) (list_all is_sound_entry rows) all in
-    elim (eq_by_cmp path_cmp path row.0) as (λ b. eq_by_cmp path_cmp path row.0 ≡ b → is_some (cond b (Some row.1) (find path_cmp path rows)) ≡ true → list_all is_name path ≡ true) [
+    elim (eq_by_cmp path_cmp path row.0) as (λ b. eq_by_cmp path_cmp path row.0 ≡ b → is_some (cond b (Some row.1) (find path_cmp path rows)) ≡ true
+    → list_all is_name path ≡ true) [
       | true ↦ λ equal _. ap (list_all is_name) (same path row.0 equal) ∙ (and_parts (list_all is_name row.0) (is_sound_node row.1) both.0).0
       | false ↦ λ _ some. named-found path rows both.1 some
     ] refl some
@@ -141,19 +149,24 @@ freed-sound onto table from to sound =
     let named = named-found to (fin.entries table) sound.entries (ap is_some (get-node table to) ∙ file-stands (node_at table to) target) in
     record {
       tree = (vacant table to sound.tree target).tree;
-      entries = subst IsSoundTable (take-leaf table to (file-leaf table to (node_at table to) sound.tree refl target)) (sound-part table to fin.empty named sound.entries sound-empty);
+      entries = subst IsSoundTable (take-leaf table to (file-leaf table to (node_at table to) sound.tree refl target))
+          (sound-part table to fin.empty named sound.entries sound-empty);
     })
 
 -- no file gets longer
-pub freed-octets : (onto : Bool) (table : Table) (from to path : Names) → length (octets_or_none (freed onto table from to) path) ≤ length (octets_or_none table path)
+pub freed-octets : (onto : Bool) (table : Table) (from to path : Names)
+    → length (octets_or_none (freed onto table from to) path) ≤ length (octets_or_none table path)
 unfolding removed octets_or_none octets_at
 freed-octets onto table from to path =
     by-freed (λ t. length (octets_or_none t path) ≤ length (octets_or_none table path)) onto table from to (omega arith) (λ _.
-    elim (eq_by_cmp path_cmp path to) as (λ b. eq_by_cmp path_cmp path to ≡ b → length (octets_or_none (removed table to) path) ≤ length (octets_or_none table path)) [
+    elim (eq_by_cmp path_cmp path to) as (λ b. eq_by_cmp path_cmp path to ≡ b
+    → length (octets_or_none (removed table to) path) ≤ length (octets_or_none table path)) [
       | true ↦ λ equal.
-          let none : octets_or_none (removed table to) path ≡ [] = ap (λ node. unwrap_or (of_node octets_of node) []) (at-remove table to path ∙ cond-true (eq_by_cmp path_cmp path to) None (node_at table path) equal) in
+          let none : octets_or_none (removed table to) path ≡ [] = ap (λ node. unwrap_or (of_node octets_of node) []) (at-remove table to path
+          ∙ cond-true (eq_by_cmp path_cmp path to) None (node_at table path) equal) in
           let count = ap length none in omega (arith, count)
       | false ↦ λ other.
-          let kept : octets_or_none (removed table to) path ≡ octets_or_none table path = ap (λ node. unwrap_or (of_node octets_of node) []) (removed-node table to path other) in
+          let kept : octets_or_none (removed table to) path ≡ octets_or_none table path = ap (λ node. unwrap_or (of_node octets_of node) [])
+          (removed-node table to path other) in
           let count = ap length kept in omega (arith, count)
     ] refl)

@@ -207,7 +207,8 @@ placed table root from to tree loose none =
       node = stands.0;
       tree = kept.tree;
       free = ap (λ t. rename_refusal t from to) part ∙ none;
-      had = sym (put-leaf was all stands.0 (none-absent was all kept.tree gone) ∙ ap (λ t. fin.insert t all stands.0) whole ∙ taken-put table all stands.0 ∙ put-same table all stands.0 there);
+      had = sym (put-leaf was all stands.0 (none-absent was all kept.tree gone) ∙ ap (λ t. fin.insert t all stands.0) whole ∙ taken-put table all stands.0
+          ∙ put-same table all stands.0 there);
       is = ap (λ t. with_part was root (moved t from to)) part ∙ put_again table root (fin.remove (under table root) to) (moved (fin.remove (under table root) to) from to);
     }
 
@@ -218,7 +219,8 @@ pub record MovesOver (table : Table) (root from to : Names) : Type 0 where
   pub there : is_some (node_at (with_part table (root ++ from) fin.empty) (root ++ to)) ≡ true
   pub done : (new : Table) → new ≡ with_part (with_part table (root ++ from) fin.empty) (root ++ to) (under table (root ++ from)) → Keeps new (with_part table root (moved (removed (under table root) to) from to))
 
-pub moves-over : (table : Table) (root from to : Names) → IsTree table → (delete_refusal (under table root) to ≡ None) ⊎ (remove_refusal (under table root) to ≡ None)
+pub moves-over : (table : Table) (root from to : Names) → IsTree table
+    → (delete_refusal (under table root) to ≡ None) ⊎ (remove_refusal (under table root) to ≡ None)
     → rename_refusal (removed (under table root) to) from to ≡ None → MovesOver table root from to
 moves-over table root from to tree loose none =
     let place = placed table root from to tree loose none in
@@ -232,12 +234,14 @@ moves-over table root from to tree loose none =
       some = can.some;
       top =
           ap (λ t. is_some (node_at (under t old) [])) place.had
-          ∙ ap is_some (under-stands (with_part was all alone) old [] ∙ still was old all node place.tree can.absent can.beside [] ∙ ap (node_at was) (append-nil old)) ∙ can.stands;
+          ∙ ap is_some (under-stands (with_part was all alone) old [] ∙ still was old all node place.tree can.absent can.beside []
+          ∙ ap (node_at was) (append-nil old)) ∙ can.stands;
       there =
           ap (λ t. is_some (node_at (with_part t old fin.empty) all)) place.had
           ∙ ap is_some (part-stays (with_part was all alone) old fin.empty all can.beside ∙ place-stands was old all node place.tree can.absent can.beside);
       done = λ new is.
-          let moved_is = is ∙ ap (λ t. with_part (with_part t old fin.empty) all (under t old)) place.had ∙ moved-so was old all node place.tree can.absent can.beside in
+          let moved_is = is ∙ ap (λ t. with_part (with_part t old fin.empty) all (under t old)) place.had
+          ∙ moved-so was old all node place.tree can.absent can.beside in
           let kept = moved-at was new root from to place.tree place.free moved_is in
           record { tree = kept.tree; is = kept.is ∙ place.is };
     }

@@ -43,7 +43,8 @@ RenameMovesAll = (table : Table) (from to : Names) → IsTree table → rename_r
 
 -- a file that is moved onto another stands there then, no longer where it was, and no other path changes
 abbrev pub OntoMovesAll : Type 0
-OntoMovesAll = (table : Table) (from to : Names) → IsTree table → onto_refusal table from to ≡ None → MovesAll table (moved (freed true table from to) from to) from to
+OntoMovesAll = (table : Table) (from to : Names) → IsTree table → onto_refusal table from to ≡ None
+    → MovesAll table (moved (freed true table from to) from to) from to
 
 -- the names in a directory are those by which something stands directly in it
 abbrev pub ChildrenStand : Type 0

@@ -226,7 +226,8 @@ impl<A: Allocator + Copy, D: Folder> Tree<A> for Mirror<A, D> {
         to: &Path<E>,
     ) -> Result<(), TreeFault>
         ensures done { OnOk result (let part = under self.old.tree root.now in IsDone (onto_refusal part from.now to.now)
-            (with_part self.old.tree root.now (moved (freed true part from.now to.now) from.now to.now)) self.new.tree (D.failures self.old.folder) (D.failures self.new.folder)) }
+            (with_part self.old.tree root.now (moved (freed true part from.now to.now) from.now to.now)) self.new.tree
+            (D.failures self.old.folder) (D.failures self.new.folder)) }
         ensures refused { IfErr result (λ fault. let part = under self.old.tree root.now in IsRefused (onto_refusal part from.now to.now) fault
             self.old.tree self.new.tree (D.failures self.old.folder) (D.failures self.new.folder)) }
         ensures mirrors { Mirrors (D.kept self.old.folder) self.old.tree → Mirrors (D.kept self.new.folder) self.new.tree }

@@ -19,4 +19,5 @@ pub returns : goal.returns
 returns g c =
     let part = under c.args.self.now c.args.root.now in
     c.move_over.ensures
-    ∙ ap (λ t. with_part c.args.self.now c.args.root.now (moved t c.args.from.now c.args.to.now)) (sym (takes-freed part c.args.from.now c.args.to.now (onto-takes part c.args.from.now c.args.to.now c.requires)))
+    ∙ ap (λ t. with_part c.args.self.now c.args.root.now (moved t c.args.from.now c.args.to.now)) (sym (takes-freed part c.args.from.now c.args.to.now
+    (onto-takes part c.args.from.now c.args.to.now c.requires)))

@@ -23,14 +23,16 @@ at-ok {P = P} r x is holds = subst (λ r. OnOk r P) is holds
 pub take_out-requires-clause-some : goal.take_out-requires-clause-some
 take_out-requires-clause-some g c =
     let moves = moves-over c.self.inside.root c.args.root.now c.args.from.now c.args.to.now c.self.invariant.tree
-    (subst (λ t. (delete_refusal (under t c.args.root.now) c.args.to.now ≡ None) ⊎ (remove_refusal (under t c.args.root.now) c.args.to.now ≡ None)) (sym c.self.view_is) c.requires.loose)
+    (subst (λ t. (delete_refusal (under t c.args.root.now) c.args.to.now ≡ None) ⊎ (remove_refusal (under t c.args.root.now) c.args.to.now ≡ None))
+    (sym c.self.view_is) c.requires.loose)
     (ap (λ t. rename_refusal (removed (under t c.args.root.now) c.args.to.now) c.args.from.now c.args.to.now) c.self.view_is ∙ c.requires.free) in
     some-key c.key.result.now c.key.ensures.place (λ none. moves.some (sym (c.key.ensures.names ∙ c.of-old.ensures) ∙ none))
 
 pub unwrap-node-requires : goal.unwrap-node-requires
 unwrap-node-requires g c =
     let moves = moves-over c.self.inside.root c.args.root.now c.args.from.now c.args.to.now c.self.invariant.tree
-    (subst (λ t. (delete_refusal (under t c.args.root.now) c.args.to.now ≡ None) ⊎ (remove_refusal (under t c.args.root.now) c.args.to.now ≡ None)) (sym c.self.view_is) c.requires.loose)
+    (subst (λ t. (delete_refusal (under t c.args.root.now) c.args.to.now ≡ None) ⊎ (remove_refusal (under t c.args.root.now) c.args.to.now ≡ None))
+    (sym c.self.view_is) c.requires.loose)
     (ap (λ t. rename_refusal (removed (under t c.args.root.now) c.args.to.now) c.args.from.now c.args.to.now) c.self.view_is ∙ c.requires.free) in
     let taken : found c.take_out.result ≡ under c.self.inside.root (c.args.root.now ++ c.args.from.now) = c.take_out.ensures.taken ∙ ap (under c.self.inside.root) (c.key.ensures.names ∙ c.of-old.ensures) in
     some-found c.take_out.result (ap (λ t. is_some (node_at t [])) taken ∙ moves.top)
@@ -38,7 +40,8 @@ unwrap-node-requires g c =
 pub put-requires-clause-stands : goal.put-requires-clause-stands
 put-requires-clause-stands g c =
     let moves = moves-over c.self.inside.root c.args.root.now c.args.from.now c.args.to.now c.self.invariant.tree
-    (subst (λ t. (delete_refusal (under t c.args.root.now) c.args.to.now ≡ None) ⊎ (remove_refusal (under t c.args.root.now) c.args.to.now ≡ None)) (sym c.self.view_is) c.requires.loose)
+    (subst (λ t. (delete_refusal (under t c.args.root.now) c.args.to.now ≡ None) ⊎ (remove_refusal (under t c.args.root.now) c.args.to.now ≡ None))
+    (sym c.self.view_is) c.requires.loose)
     (ap (λ t. rename_refusal (removed (under t c.args.root.now) c.args.to.now) c.args.from.now c.args.to.now) c.self.view_is ∙ c.requires.free) in
     let taken : found c.take_out.result ≡ under c.self.inside.root (c.args.root.now ++ c.args.from.now) = c.take_out.ensures.taken ∙ ap (under c.self.inside.root) (c.key.ensures.names ∙ c.of-old.ensures) in
     ap (λ t. is_some (node_at t [])) (ap found (sym c.unwrap-node.ensures) ∙ taken) ∙ moves.top
@@ -46,7 +49,8 @@ put-requires-clause-stands g c =
 pub unwrap-requires : goal.unwrap-requires
 unwrap-requires g c =
     let moves = moves-over c.self.inside.root c.args.root.now c.args.from.now c.args.to.now c.self.invariant.tree
-    (subst (λ t. (delete_refusal (under t c.args.root.now) c.args.to.now ≡ None) ⊎ (remove_refusal (under t c.args.root.now) c.args.to.now ≡ None)) (sym c.self.view_is) c.requires.loose)
+    (subst (λ t. (delete_refusal (under t c.args.root.now) c.args.to.now ≡ None) ⊎ (remove_refusal (under t c.args.root.now) c.args.to.now ≡ None))
+    (sym c.self.view_is) c.requires.loose)
     (ap (λ t. rename_refusal (removed (under t c.args.root.now) c.args.to.now) c.args.from.now c.args.to.now) c.self.view_is ∙ c.requires.free) in
     let node : c.unwrap-node.result ≡ found c.take_out.result = ap found (sym c.unwrap-node.ensures) in
     let left : c.take_out.new.self ≡ with_part c.self.inside.root (c.args.root.now ++ c.args.from.now) fin.empty =
@@ -63,7 +67,8 @@ invariant_of-self g c =
     let old = c.args.root.now ++ c.args.from.now in
     let all = c.args.root.now ++ c.args.to.now in
     let moves = moves-over c.self.inside.root c.args.root.now c.args.from.now c.args.to.now c.self.invariant.tree
-    (subst (λ t. (delete_refusal (under t c.args.root.now) c.args.to.now ≡ None) ⊎ (remove_refusal (under t c.args.root.now) c.args.to.now ≡ None)) (sym c.self.view_is) c.requires.loose)
+    (subst (λ t. (delete_refusal (under t c.args.root.now) c.args.to.now ≡ None) ⊎ (remove_refusal (under t c.args.root.now) c.args.to.now ≡ None))
+    (sym c.self.view_is) c.requires.loose)
     (ap (λ t. rename_refusal (removed (under t c.args.root.now) c.args.to.now) c.args.from.now c.args.to.now) c.self.view_is ∙ c.requires.free) in
     let taken : found c.take_out.result ≡ under c.self.inside.root old = c.take_out.ensures.taken ∙ ap (under c.self.inside.root) (c.key.ensures.names ∙ c.of-old.ensures) in
     let left : c.take_out.new.self ≡ with_part c.self.inside.root old fin.empty = c.take_out.ensures.left ∙ ap (λ p. with_part c.self.inside.root p fin.empty) (c.key.ensures.names ∙ c.of-old.ensures) in
@@ -85,7 +90,8 @@ returns g c =
     let old = c.args.root.now ++ c.args.from.now in
     let all = c.args.root.now ++ c.args.to.now in
     let moves = moves-over c.self.inside.root c.args.root.now c.args.from.now c.args.to.now c.self.invariant.tree
-    (subst (λ t. (delete_refusal (under t c.args.root.now) c.args.to.now ≡ None) ⊎ (remove_refusal (under t c.args.root.now) c.args.to.now ≡ None)) (sym c.self.view_is) c.requires.loose)
+    (subst (λ t. (delete_refusal (under t c.args.root.now) c.args.to.now ≡ None) ⊎ (remove_refusal (under t c.args.root.now) c.args.to.now ≡ None))
+    (sym c.self.view_is) c.requires.loose)
     (ap (λ t. rename_refusal (removed (under t c.args.root.now) c.args.to.now) c.args.from.now c.args.to.now) c.self.view_is ∙ c.requires.free) in
     let taken : found c.take_out.result ≡ under c.self.inside.root old = c.take_out.ensures.taken ∙ ap (under c.self.inside.root) (c.key.ensures.names ∙ c.of-old.ensures) in
     let left : c.take_out.new.self ≡ with_part c.self.inside.root old fin.empty = c.take_out.ensures.left ∙ ap (λ p. with_part c.self.inside.root p fin.empty) (c.key.ensures.names ∙ c.of-old.ensures) in
