@@ -16,7 +16,8 @@ file_none None = refl
 file_none (Some Dir) = refl
 file_none (Some (File octets moment)) = refl
 
-takes_is : (table : Table) (from to : Names) → takes_place table from to ≡ (is_file (node_at table from) && (is_file (node_at table to) && not (is_within from to)))
+takes_is : (table : Table) (from to : Names)
+    → takes_place table from to ≡ (is_file (node_at table from) && (is_file (node_at table to) && not (is_within from to)))
 unfolding takes_place
 takes_is table from to =
     ap (λ b. b && (is_none (file_refusal (node_at table to)) && not (is_within from to))) (file_none (node_at table from))
@@ -25,11 +26,13 @@ takes_is table from to =
 pub no_source : (table : Table) (from to : Names) → is_file (node_at table from) ≡ false → takes_place table from to ≡ false
 no_source table from to none = takes_is table from to ∙ ap (λ b. b && (is_file (node_at table to) && not (is_within from to))) none
 
-pub no_target : (table : Table) (from to : Names) → is_file (node_at table from) ≡ true → is_file (node_at table to) ≡ false → takes_place table from to ≡ false
+pub no_target : (table : Table) (from to : Names) → is_file (node_at table from) ≡ true → is_file (node_at table to) ≡ false
+    → takes_place table from to ≡ false
 no_target table from to some none =
     takes_is table from to ∙ ap (λ b. b && (is_file (node_at table to) && not (is_within from to))) some ∙ ap (λ b. b && not (is_within from to)) none
 
-pub both_files : (table : Table) (from to : Names) → is_file (node_at table from) ≡ true → is_file (node_at table to) ≡ true → takes_place table from to ≡ not (is_within from to)
+pub both_files : (table : Table) (from to : Names) → is_file (node_at table from) ≡ true → is_file (node_at table to) ≡ true
+    → takes_place table from to ≡ not (is_within from to)
 both_files table from to some other =
     takes_is table from to ∙ ap (λ b. b && (is_file (node_at table to) && not (is_within from to))) some ∙ ap (λ b. b && not (is_within from to)) other
 
@@ -41,7 +44,8 @@ onto_free : (table : Table) (root from to : Names) → IsSoundTree table → fit
 onto_free table root from to sound fit takes = free-freed (under table root) from to (part-tree table root from to sound.tree takes) fit takes
 
 -- no file is replaced: it may not be, or none stands there
-pub none_taken : (table : Table) (root from to : Names) (onto : Bool) → takes_place (under table root) from to ≡ false → freed onto (under table root) from to ≡ under table root
+pub none_taken : (table : Table) (root from to : Names) (onto : Bool) → takes_place (under table root) from to ≡ false
+    → freed onto (under table root) from to ≡ under table root
 none_taken table root from to onto stays = stays-freed onto (under table root) from to stays
 
 pub none_may : (table : Table) (root from to : Names) (onto : Bool) → onto ≡ false → freed onto (under table root) from to ≡ under table root
@@ -59,13 +63,15 @@ module _ (table : Table) (root from to : Names) (new : Table) (before after : �
   Refuses refusal fault = IsRefused refusal fault table new before after
 
   -- moved onto a file
-  pub onto_done : {X : Type 0} (onto : Bool) (result : Result X TreeFault) → onto ≡ true → IsSoundTree table → fits to ≡ true → takes_place (under table root) from to ≡ true
+  pub onto_done : {X : Type 0} (onto : Bool) (result : Result X TreeFault) → onto ≡ true → IsSoundTree table → fits to ≡ true
+      → takes_place (under table root) from to ≡ true
       → OnOk result (Moves (seen true) (onto_refusal (under table root) from to)) → OnOk result (Moves (seen onto) (rename_refusal (seen onto) from to))
   onto_done onto (Ok value) is sound fit takes (none, changed, kept) =
       subst (λ b. Moves (seen b) (rename_refusal (seen b) from to)) (sym is) (onto_free table root from to sound fit takes, changed, kept)
   onto_done onto (Err fault) is sound fit takes done = tt
 
-  pub onto_refused : {X : Type 0} (onto : Bool) (result : Result X TreeFault) → onto ≡ true → IsSoundTree table → fits to ≡ true → takes_place (under table root) from to ≡ true
+  pub onto_refused : {X : Type 0} (onto : Bool) (result : Result X TreeFault) → onto ≡ true → IsSoundTree table → fits to ≡ true
+      → takes_place (under table root) from to ≡ true
       → IfErr result (Refuses (onto_refusal (under table root) from to)) → IfErr result (Refuses (rename_refusal (seen onto) from to))
   onto_refused onto (Ok value) is sound fit takes refused = tt
   onto_refused onto (Err fault) is sound fit takes refused =

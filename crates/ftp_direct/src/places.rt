@@ -169,7 +169,7 @@ pub(crate) fn rename<A: Allocator + Copy, T: Tree<A>>(
     }
 }
 
-/// Moves what stands at a path, with all below it; a file onto another too, where that may be.
+/// Moves what stands at a path, with all below it (RFC 959, section 4.1.3); where `onto` says so, a file also into the place of another.
 ///
 /// Refused: as `Tree::rename` says, of the map without the file whose place is taken.
 pub fn move_to<A: Allocator + Copy, T: Tree<A>>(
@@ -202,6 +202,7 @@ fn takes_place<A: Allocator + Copy, T: Tree<A>>(
     ensures is { result ≡ takes_place (under (T.table tree.now) root.now) from.now to.now }
     ensures sound { IsSoundTree (T.table tree.now) }
 {
+    // What it answers is not asked for: it tells, for the map of any tree, that the map is one.
     let _ = tree.fits(root);
     if !is_file(tree, root, from) {
         return false;

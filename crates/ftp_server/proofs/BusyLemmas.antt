@@ -30,7 +30,7 @@ use Rattle.ftp_server_model.specs.Entries.{option_facts}
 use Rattle.ftp_server_model.specs.Setting.{choose, is_utf8_on}
 use Rattle.ftp_server_model.specs.Transfer.{begin, rests, transfer_starts}
 use Rattle.ftp_server_model.specs.View.{Accounts, Footing, Session, Transfer, as_direct, direct_of, how_in_force, seen, with_seen, View}
-use Rattle.ftp_server_model.specs.Walk.{path_of, performs, refused_source, refused_target, rnto, unless}
+use Rattle.ftp_server_model.specs.Walk.{path_of, performs, refused_source, refused_target, rnto, target_seen, unless}
 use Rattle.ftp_server_model.specs.declared.heard.HeardLine.{HeardLine}
 use Rattle.ftp_server_model.specs.declared.heard.HeardLine.TheVariants.{TooLong, Bad, Asks}
 use Rattle.ftp_server_model.specs.declared.reply.ReplyKind.{ReplyKind}
@@ -122,7 +122,7 @@ short_performs op kind s is =
 short_rnto : (pending : Pending Names) (text : List ℕ) (s : Session) → Short (rnto pending text s)
 short_rnto (Pendings.Rename from) text s =
     short_unless (refused_target s from (path_of s text)) s
-    (tells Texts.Done (with_seen (moved (seen s) from (path_of s text)) s)) (λ busy. refl)
+    (tells Texts.Done (with_seen (moved (target_seen s from (path_of s text)) from (path_of s text)) s)) (λ busy. refl)
 short_rnto Pendings.Nothing text s = λ busy. refl
 short_rnto (Pendings.Restart place) text s = λ busy. refl
 

@@ -29,7 +29,7 @@ use Rattle.ftp_server_model.specs.Setting.{choose, is_utf8_on}
 use Rattle.ftp_server_model.specs.Transfer.{begin, rests, transfer_starts}
 use Rattle.ftp_server_model.specs.View.{Accounts, Footing, Session, Transfer, as_direct, direct_of, how_in_force, seen, with_seen}
 use Rattle.ftp_tree.specs.Tree.{moved, node_at}
-use Rattle.ftp_server_model.specs.Walk.{path_of, refused_source, refused_target, rnto, unless}
+use Rattle.ftp_server_model.specs.Walk.{path_of, refused_source, refused_target, rnto, target_seen, unless}
 use Rattle.ftp_server_model.specs.declared.heard.HeardLine.{HeardLine}
 use Rattle.ftp_server_model.specs.declared.heard.HeardLine.TheVariants.{TooLong, Bad, Asks}
 use Rattle.ftp_server_model.specs.declared.reply.ReplyKind.{ReplyKind}
@@ -124,7 +124,7 @@ within_performs most op kind s k = within_unless most (refusal (direct_of s) op)
 within_rnto : (most : ℕ) (pending : Pending Names) (text : List ℕ) (s : Session) → Named most s → Within most (rnto pending text s)
 within_rnto most (Pendings.Rename from) text s k =
     within_unless most (refused_target s from (path_of s text)) s
-    (tells Texts.Done (with_seen (moved (seen s) from (path_of s text)) s)) k k
+    (tells Texts.Done (with_seen (moved (target_seen s from (path_of s text)) from (path_of s text)) s)) k k
 within_rnto most Pendings.Nothing text s k = k
 within_rnto most (Pendings.Restart place) text s k = k
 

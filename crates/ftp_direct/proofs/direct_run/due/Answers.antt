@@ -6,101 +6,135 @@ use Rattle.ftp_direct.proofs.direct_run.due.Goals as goal
 pub returns-in-Where-clause-answer : goal.returns-in-Where-clause-answer
 returns-in-Where-clause-answer g c =
     rw c.in-Where.is
-    (due_else (g.T.Tree.table c.args.tree.now) c.args.root.now c.args.cwd.now c.args.onto c.say_where.result (g.T.Tree.failures c.args.tree.now) (g.T.Tree.failures c.args.tree.now) (g.T.Tree.table c.args.tree.now) c.args.cwd.now Ops.Where 0 tt
+    (due_else (g.T.Tree.table c.args.tree.now) c.args.root.now c.args.cwd.now c.args.onto c.say_where.result
+    (g.T.Tree.failures c.args.tree.now) (g.T.Tree.failures c.args.tree.now) (g.T.Tree.table c.args.tree.now) c.args.cwd.now
+    Ops.Where 0 tt
     (if_gives c.say_where.result _ _ _ _ (c.say_where.ensures (g.T.Tree.table c.args.tree.now) c.args.root.now)))
 
 pub returns-in-ChangeDir-clause-answer : goal.returns-in-ChangeDir-clause-answer
 returns-in-ChangeDir-clause-answer g c =
     rw c.in-ChangeDir.is
-    (due_else (g.T.Tree.table c.args.tree.now) c.args.root.now c.args.cwd.now c.args.onto c.change_dir.result (g.T.Tree.failures c.args.tree.now) (g.T.Tree.failures c.args.tree.now) (g.T.Tree.table c.args.tree.now) c.change_dir.new.cwd (Ops.ChangeDir c.in-ChangeDir.text) 0 tt
+    (due_else (g.T.Tree.table c.args.tree.now) c.args.root.now c.args.cwd.now c.args.onto c.change_dir.result
+    (g.T.Tree.failures c.args.tree.now) (g.T.Tree.failures c.args.tree.now) (g.T.Tree.table c.args.tree.now) c.change_dir.new.cwd
+    (Ops.ChangeDir c.in-ChangeDir.text) 0 tt
     (if_gives c.change_dir.result _ _ _ _ c.change_dir.ensures.answer))
 
 pub returns-in-Up-clause-answer : goal.returns-in-Up-clause-answer
 returns-in-Up-clause-answer g c =
     rw c.in-Up.is
-    (due_else (g.T.Tree.table c.args.tree.now) c.args.root.now c.args.cwd.now c.args.onto c.go_up.result (g.T.Tree.failures c.args.tree.now) (g.T.Tree.failures c.args.tree.now) (g.T.Tree.table c.args.tree.now) c.go_up.new.cwd Ops.Up 0 tt
+    (due_else (g.T.Tree.table c.args.tree.now) c.args.root.now c.args.cwd.now c.args.onto c.go_up.result
+    (g.T.Tree.failures c.args.tree.now) (g.T.Tree.failures c.args.tree.now) (g.T.Tree.table c.args.tree.now) c.go_up.new.cwd
+    Ops.Up 0 tt
     (if_gives c.go_up.result _ _ _ _ (c.go_up.ensures.answer (g.T.Tree.table c.args.tree.now) c.args.root.now)))
 
 pub returns-in-MakeDir-clause-answer : goal.returns-in-MakeDir-clause-answer
 returns-in-MakeDir-clause-answer g c =
     rw c.in-MakeDir.is
-    (due_else (g.T.Tree.table c.args.tree.now) c.args.root.now c.args.cwd.now c.args.onto c.make_dir.result (g.T.Tree.failures c.args.tree.now) (g.T.Tree.failures c.make_dir.new.tree) (g.T.Tree.table c.make_dir.new.tree) c.args.cwd.now (Ops.MakeDir c.in-MakeDir.text) 0 tt
+    (due_else (g.T.Tree.table c.args.tree.now) c.args.root.now c.args.cwd.now c.args.onto c.make_dir.result
+    (g.T.Tree.failures c.args.tree.now) (g.T.Tree.failures c.make_dir.new.tree) (g.T.Tree.table c.make_dir.new.tree) c.args.cwd.now
+    (Ops.MakeDir c.in-MakeDir.text) 0 tt
     c.make_dir.ensures.answer)
 
 pub returns-in-RemoveDir-clause-answer : goal.returns-in-RemoveDir-clause-answer
 returns-in-RemoveDir-clause-answer g c =
     rw c.in-RemoveDir.is
-    (due_else (g.T.Tree.table c.args.tree.now) c.args.root.now c.args.cwd.now c.args.onto c.remove_dir.result (g.T.Tree.failures c.args.tree.now) (g.T.Tree.failures c.remove_dir.new.tree) (g.T.Tree.table c.remove_dir.new.tree) c.args.cwd.now (Ops.RemoveDir c.in-RemoveDir.text) 0 tt
+    (due_else (g.T.Tree.table c.args.tree.now) c.args.root.now c.args.cwd.now c.args.onto c.remove_dir.result
+    (g.T.Tree.failures c.args.tree.now) (g.T.Tree.failures c.remove_dir.new.tree) (g.T.Tree.table c.remove_dir.new.tree) c.args.cwd.now
+    (Ops.RemoveDir c.in-RemoveDir.text) 0 tt
     c.remove_dir.ensures.answer)
 
 pub returns-in-Delete-clause-answer : goal.returns-in-Delete-clause-answer
 returns-in-Delete-clause-answer g c =
     rw c.in-Delete.is
-    (due_else (g.T.Tree.table c.args.tree.now) c.args.root.now c.args.cwd.now c.args.onto c.delete.result (g.T.Tree.failures c.args.tree.now) (g.T.Tree.failures c.delete.new.tree) (g.T.Tree.table c.delete.new.tree) c.args.cwd.now (Ops.Delete c.in-Delete.text) 0 tt
+    (due_else (g.T.Tree.table c.args.tree.now) c.args.root.now c.args.cwd.now c.args.onto c.delete.result
+    (g.T.Tree.failures c.args.tree.now) (g.T.Tree.failures c.delete.new.tree) (g.T.Tree.table c.delete.new.tree) c.args.cwd.now
+    (Ops.Delete c.in-Delete.text) 0 tt
     c.delete.ensures.answer)
 
 pub returns-in-Put-clause-answer : goal.returns-in-Put-clause-answer
 returns-in-Put-clause-answer g c =
     rw c.in-Put.is
-    (due_else (g.T.Tree.table c.args.tree.now) c.args.root.now c.args.cwd.now c.args.onto c.put.result (g.T.Tree.failures c.args.tree.now) (g.T.Tree.failures c.put.new.tree) (g.T.Tree.table c.put.new.tree) c.args.cwd.now (Ops.Put c.in-Put.text c.in-Put.octets c.in-Put.field-2) c.args.moment.seconds tt
+    (due_else (g.T.Tree.table c.args.tree.now) c.args.root.now c.args.cwd.now c.args.onto c.put.result
+    (g.T.Tree.failures c.args.tree.now) (g.T.Tree.failures c.put.new.tree) (g.T.Tree.table c.put.new.tree) c.args.cwd.now
+    (Ops.Put c.in-Put.text c.in-Put.octets c.in-Put.field-2) c.args.moment.seconds tt
     (c.put.ensures.answer c.in-Put.field-2))
 
 pub returns-in-Append-clause-answer : goal.returns-in-Append-clause-answer
 returns-in-Append-clause-answer g c =
     rw c.in-Append.is
-    (due_else (g.T.Tree.table c.args.tree.now) c.args.root.now c.args.cwd.now c.args.onto c.append.result (g.T.Tree.failures c.args.tree.now) (g.T.Tree.failures c.append.new.tree) (g.T.Tree.table c.append.new.tree) c.args.cwd.now (Ops.Append c.in-Append.text c.in-Append.octets c.in-Append.field-2) c.args.moment.seconds tt
+    (due_else (g.T.Tree.table c.args.tree.now) c.args.root.now c.args.cwd.now c.args.onto c.append.result
+    (g.T.Tree.failures c.args.tree.now) (g.T.Tree.failures c.append.new.tree) (g.T.Tree.table c.append.new.tree) c.args.cwd.now
+    (Ops.Append c.in-Append.text c.in-Append.octets c.in-Append.field-2) c.args.moment.seconds tt
     (c.append.ensures.answer c.in-Append.field-2))
 
 pub returns-in-PutFrom-clause-answer : goal.returns-in-PutFrom-clause-answer
 returns-in-PutFrom-clause-answer g c =
     rw c.in-PutFrom.is
-    (due_else (g.T.Tree.table c.args.tree.now) c.args.root.now c.args.cwd.now c.args.onto c.put_from.result (g.T.Tree.failures c.args.tree.now) (g.T.Tree.failures c.put_from.new.tree) (g.T.Tree.table c.put_from.new.tree) c.args.cwd.now (Ops.PutFrom c.in-PutFrom.text c.in-PutFrom.offset c.in-PutFrom.octets c.in-PutFrom.how) c.args.moment.seconds tt
+    (due_else (g.T.Tree.table c.args.tree.now) c.args.root.now c.args.cwd.now c.args.onto c.put_from.result
+    (g.T.Tree.failures c.args.tree.now) (g.T.Tree.failures c.put_from.new.tree) (g.T.Tree.table c.put_from.new.tree) c.args.cwd.now
+    (Ops.PutFrom c.in-PutFrom.text c.in-PutFrom.offset c.in-PutFrom.octets c.in-PutFrom.how) c.args.moment.seconds tt
     c.put_from.ensures.answer)
 
 pub returns-in-Get-clause-answer : goal.returns-in-Get-clause-answer
 returns-in-Get-clause-answer g c =
     rw c.in-Get.is
-    (due_else (g.T.Tree.table c.args.tree.now) c.args.root.now c.args.cwd.now c.args.onto c.get.result (g.T.Tree.failures c.args.tree.now) (g.T.Tree.failures c.args.tree.now) (g.T.Tree.table c.args.tree.now) c.args.cwd.now (Ops.Get c.in-Get.text c.in-Get.field-1) 0 tt
+    (due_else (g.T.Tree.table c.args.tree.now) c.args.root.now c.args.cwd.now c.args.onto c.get.result
+    (g.T.Tree.failures c.args.tree.now) (g.T.Tree.failures c.args.tree.now) (g.T.Tree.table c.args.tree.now) c.args.cwd.now
+    (Ops.Get c.in-Get.text c.in-Get.field-1) 0 tt
     (if_gives c.get.result _ _ _ _ (c.get.ensures c.in-Get.field-1)))
 
 pub returns-in-GetFrom-clause-answer : goal.returns-in-GetFrom-clause-answer
 returns-in-GetFrom-clause-answer g c =
     rw c.in-GetFrom.is
-    (due_else (g.T.Tree.table c.args.tree.now) c.args.root.now c.args.cwd.now c.args.onto c.get_from.result (g.T.Tree.failures c.args.tree.now) (g.T.Tree.failures c.args.tree.now) (g.T.Tree.table c.args.tree.now) c.args.cwd.now (Ops.GetFrom c.in-GetFrom.text c.in-GetFrom.offset c.in-GetFrom.how) 0 tt
+    (due_else (g.T.Tree.table c.args.tree.now) c.args.root.now c.args.cwd.now c.args.onto c.get_from.result
+    (g.T.Tree.failures c.args.tree.now) (g.T.Tree.failures c.args.tree.now) (g.T.Tree.table c.args.tree.now) c.args.cwd.now
+    (Ops.GetFrom c.in-GetFrom.text c.in-GetFrom.offset c.in-GetFrom.how) 0 tt
     (if_gives c.get_from.result _ _ _ _ c.get_from.ensures))
 
 pub returns-in-Peek-clause-answer : goal.returns-in-Peek-clause-answer
 returns-in-Peek-clause-answer g c =
     rw c.in-Peek.is
-    (due_else (g.T.Tree.table c.args.tree.now) c.args.root.now c.args.cwd.now c.args.onto c.peek.result (g.T.Tree.failures c.args.tree.now) (g.T.Tree.failures c.args.tree.now) (g.T.Tree.table c.args.tree.now) c.args.cwd.now (Ops.Peek c.in-Peek.text c.in-Peek.count c.in-Peek.field-2) 0 tt
+    (due_else (g.T.Tree.table c.args.tree.now) c.args.root.now c.args.cwd.now c.args.onto c.peek.result
+    (g.T.Tree.failures c.args.tree.now) (g.T.Tree.failures c.args.tree.now) (g.T.Tree.table c.args.tree.now) c.args.cwd.now
+    (Ops.Peek c.in-Peek.text c.in-Peek.count c.in-Peek.field-2) 0 tt
     (if_gives c.peek.result _ _ _ _ (c.peek.ensures c.in-Peek.field-2)))
 
 pub returns-in-Size-clause-answer : goal.returns-in-Size-clause-answer
 returns-in-Size-clause-answer g c =
     rw c.in-Size.is
-    (due_else (g.T.Tree.table c.args.tree.now) c.args.root.now c.args.cwd.now c.args.onto c.size.result (g.T.Tree.failures c.args.tree.now) (g.T.Tree.failures c.args.tree.now) (g.T.Tree.table c.args.tree.now) c.args.cwd.now (Ops.Size c.in-Size.text c.in-Size.how) 0 tt
+    (due_else (g.T.Tree.table c.args.tree.now) c.args.root.now c.args.cwd.now c.args.onto c.size.result
+    (g.T.Tree.failures c.args.tree.now) (g.T.Tree.failures c.args.tree.now) (g.T.Tree.table c.args.tree.now) c.args.cwd.now
+    (Ops.Size c.in-Size.text c.in-Size.how) 0 tt
     (if_gives c.size.result _ _ _ _ c.size.ensures))
 
 pub returns-in-Modified-clause-answer : goal.returns-in-Modified-clause-answer
 returns-in-Modified-clause-answer g c =
     rw c.in-Modified.is
-    (due_else (g.T.Tree.table c.args.tree.now) c.args.root.now c.args.cwd.now c.args.onto c.modified.result (g.T.Tree.failures c.args.tree.now) (g.T.Tree.failures c.args.tree.now) (g.T.Tree.table c.args.tree.now) c.args.cwd.now (Ops.Modified c.in-Modified.text) 0 tt
+    (due_else (g.T.Tree.table c.args.tree.now) c.args.root.now c.args.cwd.now c.args.onto c.modified.result
+    (g.T.Tree.failures c.args.tree.now) (g.T.Tree.failures c.args.tree.now) (g.T.Tree.table c.args.tree.now) c.args.cwd.now
+    (Ops.Modified c.in-Modified.text) 0 tt
     (if_gives c.modified.result _ _ _ _ c.modified.ensures))
 
 pub returns-in-Facts-clause-answer : goal.returns-in-Facts-clause-answer
 returns-in-Facts-clause-answer g c =
     rw c.in-Facts.is
-    (due_else (g.T.Tree.table c.args.tree.now) c.args.root.now c.args.cwd.now c.args.onto c.facts.result (g.T.Tree.failures c.args.tree.now) (g.T.Tree.failures c.args.tree.now) (g.T.Tree.table c.args.tree.now) c.args.cwd.now (Ops.Facts c.in-Facts.text) 0 tt
+    (due_else (g.T.Tree.table c.args.tree.now) c.args.root.now c.args.cwd.now c.args.onto c.facts.result
+    (g.T.Tree.failures c.args.tree.now) (g.T.Tree.failures c.args.tree.now) (g.T.Tree.table c.args.tree.now) c.args.cwd.now
+    (Ops.Facts c.in-Facts.text) 0 tt
     (if_gives c.facts.result _ _ _ _ c.facts.ensures))
 
 pub returns-in-List-clause-answer : goal.returns-in-List-clause-answer
 returns-in-List-clause-answer g c =
     rw c.in-List.is
-    (due_else (g.T.Tree.table c.args.tree.now) c.args.root.now c.args.cwd.now c.args.onto c.list.result (g.T.Tree.failures c.args.tree.now) (g.T.Tree.failures c.args.tree.now) (g.T.Tree.table c.args.tree.now) c.args.cwd.now (Ops.List c.in-List.text c.in-List.field-1) 0 tt
+    (due_else (g.T.Tree.table c.args.tree.now) c.args.root.now c.args.cwd.now c.args.onto c.list.result
+    (g.T.Tree.failures c.args.tree.now) (g.T.Tree.failures c.args.tree.now) (g.T.Tree.table c.args.tree.now) c.args.cwd.now
+    (Ops.List c.in-List.text c.in-List.field-1) 0 tt
     (if_gives c.list.result _ _ _ _ (c.list.ensures c.in-List.field-1)))
 
 pub returns-in-Names-clause-answer : goal.returns-in-Names-clause-answer
 returns-in-Names-clause-answer g c =
     rw c.in-Names.is
-    (due_else (g.T.Tree.table c.args.tree.now) c.args.root.now c.args.cwd.now c.args.onto c.names.result (g.T.Tree.failures c.args.tree.now) (g.T.Tree.failures c.args.tree.now) (g.T.Tree.table c.args.tree.now) c.args.cwd.now (Ops.Names c.in-Names.text c.in-Names.field-1) 0 tt
+    (due_else (g.T.Tree.table c.args.tree.now) c.args.root.now c.args.cwd.now c.args.onto c.names.result
+    (g.T.Tree.failures c.args.tree.now) (g.T.Tree.failures c.args.tree.now) (g.T.Tree.table c.args.tree.now) c.args.cwd.now
+    (Ops.Names c.in-Names.text c.in-Names.field-1) 0 tt
     (if_gives c.names.result _ _ _ _ (c.names.ensures c.in-Names.field-1)))
