@@ -28,7 +28,7 @@ use Rattle.ftp_server_model.specs.Entries.{option_facts}
 use Rattle.ftp_server_model.specs.Setting.{choose, is_utf8_on}
 use Rattle.ftp_server_model.specs.Transfer.{begin, rests, transfer_starts}
 use Rattle.ftp_server_model.specs.View.{Accounts, Footing, Session, Transfer, as_direct, direct_of, how_in_force, seen, with_seen}
-use Rattle.ftp_server_model.specs.Walk.{path_of, performs, refused_source, refused_target, rnto, unless}
+use Rattle.ftp_server_model.specs.Walk.{path_of, performs, refused_source, refused_target, rnto, target_seen, unless}
 use Rattle.ftp_server_model.specs.declared.heard.HeardLine.{HeardLine}
 use Rattle.ftp_server_model.specs.declared.heard.HeardLine.TheVariants.{TooLong, Bad, Asks}
 use Rattle.ftp_server_model.specs.declared.reply.ReplyKind.{ReplyKind}
@@ -153,7 +153,7 @@ leads_performs op kind s is = leads_unless (refusal (direct_of s) op) s (as_dire
 leads_rnto : (pending : Pending Names) (text : List ℕ) (s : Session) → Rests s → Leads (rnto pending text s)
 leads_rnto (Pendings.Rename from) text s is =
     leads_unless (refused_target s from (path_of s text)) s
-    (tells Texts.Done (with_seen (moved (seen s) from (path_of s text)) s)) is (calm s is)
+    (tells Texts.Done (with_seen (moved (target_seen s from (path_of s text)) from (path_of s text)) s)) is (calm s is)
 leads_rnto Pendings.Nothing text s is = calm s is
 leads_rnto (Pendings.Restart place) text s is = calm s is
 
