@@ -206,8 +206,7 @@ none_received told v (c ∷ cs) none =
     let still : z.waiting ≡ None = octet_waits v c ∙ none in
     let l = none_later z still in
     let on = octet_later v c ∙ l.0 in
-    let rest = none_received told z cs still in
-    (
+    let rest = none_received told z cs still in (
       ap (λ t. heard_received (latest told t) (receives_octet v c) cs) l.1 ∙ ap (λ y. heard_received told y cs) on ∙ rest.0,
       ap (λ y. (receives y cs).waiting) on ∙ rest.1,
     )
@@ -219,8 +218,10 @@ waits_on told v (c ∷ cs) heard waits on = by (waits_on told (by_octet v c) cs 
   where
     z : View
     z = by_octet v c
+
     still : z.waiting ≡ Some heard
     still = octet_waits v c ∙ waits
+
     by : ((receives z cs).waiting ≡ Some heard → heard_received told z cs ≡ told) → (b : Bool) → is_idle z ≡ b → heard_received told v (c ∷ cs) ≡ told
     by rest true idle =
         let acted = ap (λ w. w.waiting) (octet_later v c) ∙ (idle_later z heard still idle).0 in
@@ -308,6 +309,7 @@ octet_on false (Data.Transferring (Transfers.Upload path keep d)) octet v same i
   where
     here : GoesOn v v
     here = record { upload = ap is_upload same; others = refl; footing = refl }
+
     by : (fault : Option FrameFault) → GoesOn v (takes_octet fault path keep (read_on d octet) (octet_says d octet) v) ⊎ IsOver v (takes_octet fault path keep (read_on d octet) (octet_says d octet) v)
     by None = inl (all_on (octet_says d octet) v (with_connection (Data.Transferring (Transfers.Upload path keep (read_on d octet))) v)
         (another (Data.Transferring (Transfers.Upload path keep (read_on d octet))) v v refl here))
@@ -375,17 +377,22 @@ ended_told told v Y (c ∷ cs) heard waits there session footing may is =
   where
     z : View
     z = by_octet v c
+
     still : z.waiting ≡ Some heard
     still = octet_waits v c ∙ waits
+
     -- the octets behind it, where the line waits on
     on : is_idle z ≡ false → heard_received told v (c ∷ cs) ≡ heard_received told z cs
     on busy =
         let l = busy_later z busy in
         ap (λ t. heard_received (latest told t) (receives_octet v c) cs) l.1 ∙ ap (λ y. heard_received told y cs) (octet_later v c ∙ l.0)
+
     there_on : is_idle z ≡ false → receives z cs ≡ later Y
     there_on busy = ap (λ y. receives y cs) (sym (octet_later v c ∙ (busy_later z busy).0)) ∙ is
+
     may_on : is_idle z ≡ false → MayReceive z cs
     may_on busy = subst (λ y. MayReceive y cs) (octet_later v c ∙ (busy_later z busy).0) may.1
+
     over : (os : List ℕ) (b : Bool) → cs ≡ os → IsOver v z → is_idle z ≡ b → heard_received told v (c ∷ cs) ≡ latest told (later_heard Y)
     over os true same ended idle =
         let l = idle_later z heard still idle in
@@ -398,6 +405,7 @@ ended_told told v Y (c ∷ cs) heard waits there session footing may is =
         on busy ∙ ap (heard_received told z) same
         ∙ sym (ap (latest told) (not_idle Y heard there (ap (λ w. w.waiting) (sym (there_on busy) ∙ ap (receives z) same) ∙ still)))
     over (o ∷ os) false same ended busy = absurd (free_takes_none z v.session ended.session (subst (MayReceive z) same (may_on busy)).0)
+
     by : (Y.session ≡ forgotten z.session → Y.footing ≡ z.footing → MayReceive z cs → receives z cs ≡ later Y → heard_received told z cs ≡ latest told (later_heard Y))
         → GoesOn v z ⊎ IsOver v z → heard_received told v (c ∷ cs) ≡ latest told (later_heard Y)
     by rest (inl goes) =

@@ -34,7 +34,9 @@ where
     O: Watches<F>,
     ensures { Drives control.new.failed (beside R.remaining W.contents (held (timed F.server C.told clocked.old) (no_lane (P.history ports.old))) control.old) (beside R.remaining W.contents (held (timed F.server C.told clocked.new) (no_lane (P.history ports.new))) control.new) result }
 {
-    let (data, ended) = drive_end::<Serves<A, T>, Clocked<F, C, O>, R, W, P>(clocked, control, ports);
+    let (data, ended) = drive_end::<Serves<A, T>, Clocked<F, C, O>, R, W, P>(
+        clocked, control, ports,
+    );
     match ended {
         Ok(()) => {
             data.finish(ports);
