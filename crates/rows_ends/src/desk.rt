@@ -25,6 +25,8 @@ pub struct Desk {
     pub left: usize,
     /// Whether each line tells how much is held.
     pub weighs: bool,
+    /// Whether it is told what each call acted on; then control octets are heard one by one, and all that is owed is given at once.
+    pub tells: bool,
     /// How connections go that drive the end: then the control octets wait for that.
     pub drive: Option<Drive>,
     /// What is tried of these.
@@ -58,6 +60,7 @@ impl Desk {
             trees: Vec::new(turn.alloc),
             left: 0,
             weighs: false,
+            tells: false,
             drive: None,
             tried: manner.tried,
             is_broken: false,
@@ -105,7 +108,8 @@ impl Desk {
     pub fn next_piece(&self) -> &[u8] {
         let all = self.octets.as_slice();
         let (_, rest) = all.split_at(self.heard.min(all.len()));
-        rest.split_at(self.size.min(rest.len())).0
+        let size = if self.tells { 1 } else { self.size };
+        rest.split_at(size.min(rest.len())).0
     }
 
     /// Writes on a sheet of its own from here on, until that is laid aside again.

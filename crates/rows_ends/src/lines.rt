@@ -3,7 +3,7 @@ use crate::desk::Desk;
 use crate::driven::{Owner, drive_of, run};
 use crate::event::told_of;
 use crate::plays::Plays;
-use crate::stage::{come, come_to_rest, give, settle};
+use crate::stage::{called, come, come_to_rest, give, settle};
 use crate::turn::Turn;
 use crate::verb::{Verb, verb_of};
 use rows_base::{Paper, cut, number, split};
@@ -89,7 +89,10 @@ fn act<P: Plays>(end: &mut P, desk: &mut Desk, verb: Verb, line: &[u8], rest: &[
             desk.say(LOGIN, b"\r\n");
             settle(end, desk);
         }
-        Verb::Happens(event) => end.happens(event, told_of(rest, desk.side.peer)),
+        Verb::Happens(event) => {
+            end.happens(event, told_of(rest, desk.side.peer));
+            called(end, desk);
+        }
         Verb::Data => come_text(end, desk, rest),
         Verb::Give => give(end, desk, number(rest), u64::MAX),
         Verb::Out => give(end, desk, u64::MAX, number(rest)),
@@ -97,6 +100,7 @@ fn act<P: Plays>(end: &mut P, desk: &mut Desk, verb: Verb, line: &[u8], rest: &[
         Verb::Told => end.show_told(&mut desk.paper),
         Verb::Held => desk.put_number(b"held ", end.held() as u64),
         Verb::Weigh => desk.weighs = true,
+        Verb::Tells => desk.tells = true,
         Verb::Run => run(end, desk, Owner::Drive),
         Verb::Page => run(end, desk, Owner::Page(rest)),
         Verb::Order => end.begin(desk.alloc, line, &mut desk.paper),

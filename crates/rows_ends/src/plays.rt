@@ -44,6 +44,9 @@ pub trait Plays: Drop {
 
     fn held(&self) -> usize;
 
+    /// Writes what its last call acted on, and by which code a transfer ended in it, where it tells such.
+    fn tell(&mut self, paper: &mut Paper);
+
     /// Begins an operation, where it has such; says why it did not.
     fn begin(&mut self, alloc: Global, line: &[u8], paper: &mut Paper);
 

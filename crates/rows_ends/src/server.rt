@@ -3,5 +3,6 @@ mod begun;
 mod cued;
 mod played;
 mod playing;
+mod told;
 
 pub use playing::run;

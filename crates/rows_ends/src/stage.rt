@@ -33,7 +33,7 @@ fn hear_all<P: Plays>(end: &mut P, desk: &mut Desk) {
     for _ in 0..TURNS {
         let count = end.hear(desk.next_piece());
         desk.heard = desk.heard.saturating_add(count);
-        weigh(end, &mut desk.paper);
+        called(end, desk);
         if count == 0 {
             break;
         }
@@ -43,11 +43,20 @@ fn hear_all<P: Plays>(end: &mut P, desk: &mut Desk) {
 /// One call for the control octets that are owed: whether there were any.
 fn owes<P: Plays>(end: &mut P, desk: &mut Desk) -> bool {
     let mut room = [0; ROOM];
-    let (room, _) = room.split_at_mut(desk.size.min(ROOM));
+    let size = if desk.tells { ROOM } else { desk.size };
+    let (room, _) = room.split_at_mut(size.min(ROOM));
     let count = end.control_out(room).min(room.len());
     desk.paper.lines(desk.side.mark, &room[..count]);
-    weigh(end, &mut desk.paper);
+    called(end, desk);
     count != 0
+}
+
+/// Behind a call: says where too much is held, and what was acted on, where the row asks for that.
+pub fn called<P: Plays>(end: &mut P, desk: &mut Desk) {
+    weigh(end, &mut desk.paper);
+    if desk.tells {
+        end.tell(&mut desk.paper);
+    }
 }
 
 /// Says where too much is held.
@@ -63,7 +72,7 @@ pub fn come<P: Plays>(end: &mut P, desk: &mut Desk, octets: &[u8]) {
     for _ in 0..TURNS {
         let (piece, _) = rest.split_at(desk.size.min(rest.len()));
         let count = end.data_hear(piece);
-        weigh(end, &mut desk.paper);
+        called(end, desk);
         (_, rest) = rest.split_at(count.min(rest.len()));
         if rest.is_empty() || count == 0 && !owes(end, desk) {
             break;
@@ -92,7 +101,7 @@ fn gives<P: Plays>(end: &mut P, desk: &mut Desk, size: u64, tally: &mut Tally) -
     let mut room = [0; ROOM];
     let (room, _) = room.split_at_mut(desk.size.min(size.min(ROOM as u64) as usize));
     let count = end.data_out(room).min(room.len());
-    weigh(end, &mut desk.paper);
+    called(end, desk);
     tally.take(&room[..count]);
     count != 0
 }

@@ -28,6 +28,8 @@ pub enum Verb {
     Held,
     /// From here on each line tells how much is held.
     Weigh,
+    /// From here on it is told what each call acted on.
+    Tells,
     /// From here on connections drive the end.
     Drive,
     /// They do.
@@ -78,6 +80,7 @@ const VERBS: &[(&'static [u8], Verb)] = &[
     (b"told", Verb::Told),
     (b"held", Verb::Held),
     (b"weigh", Verb::Weigh),
+    (b"tells", Verb::Tells),
     (b"drive", Verb::Drive),
     (b"run", Verb::Run),
     (b"page", Verb::Page),

@@ -129,6 +129,8 @@ impl<A: Allocator + Copy, C: Near<A> + Holds> Plays for Played<A, C> {
         self.client.held()
     }
 
+    fn tell(&mut self, _paper: &mut Paper) {}
+
     fn begin(&mut self, alloc: Global, line: &[u8], paper: &mut Paper) {
         let past = line.strip_prefix(b"past ");
         match ordered(alloc, self.heap, past.unwrap_or(line)) {

@@ -4,6 +4,7 @@ use crate::embedded::server::serve;
 use crate::event::{Event, Told};
 use crate::peer::{Clock, Peer};
 use crate::plays::{Holds, Plays};
+use crate::server::told::{Was, put_line};
 use ftp_ends::Wants;
 use ftp_server_drive::{Clocked, Control, drive_server};
 use ftp_server_model::Far;
@@ -17,6 +18,7 @@ use std::marker::PhantomData;
 #[derive(Drop)]
 pub struct Played<A, S: Drop> {
     clocked: Clocked<S, Clock, ()>,
+    was: Was,
     growth: PhantomData<A>,
 }
 
@@ -28,6 +30,7 @@ impl<A: Allocator + Copy, S: Far<A, MemTree<A>> + Holds> Played<A, S> {
                 watch: Clock::still(),
                 watcher: (),
             },
+            was: Was::new(),
             growth: PhantomData,
         }
     }
@@ -70,6 +73,15 @@ impl<A: Allocator + Copy, S: Far<A, MemTree<A>> + Holds> Plays for Played<A, S> 
 
     fn held(&self) -> usize {
         self.clocked.server.held()
+    }
+
+    fn tell(&mut self, paper: &mut Paper) {
+        let server = &self.clocked.server;
+        self.was.put_end(server, paper);
+        if let Some(line) = server.answered() {
+            put_line(line, paper);
+        }
+        self.was = Was::of(server);
     }
 
     fn begin(&mut self, _alloc: Global, _line: &[u8], paper: &mut Paper) {
