@@ -1,8 +1,0 @@
-use Rattle.std.proofs.Common.{length, ◌-◌, ◌≤◌}
-use Rattle.ftp_tool_serve.proofs.journal.Journal.say.Given as goal
-
-abbrev pub invariant-loop-taken : goal.invariant-loop-taken
-invariant-loop-taken g l = l.taken ≤ length l.octets
-
-abbrev pub decreases-loop-taken : goal.decreases-loop-taken
-decreases-loop-taken g l = length l.octets - l.taken
