@@ -27,10 +27,10 @@ const ROUNDS: u32 = 1_000_000;
 
 /// Fetches the files of a directory whose names are of the pattern that the path ends in, in the order of their names, each into the folder that
 /// `download` names as its file, by its own name. Gives the worst status; 1 where no name is of the pattern.
-pub(crate) fn get_matching<'a, 'b, R>(
-    rt: &'a R,
+pub(crate) fn get_matching<R>(
+    rt: &R,
     alloc: Global,
-    asked: &Target<'b>,
+    asked: &Target<'_>,
     download: Download<'_>,
     noticed: &mut LastReply,
 ) -> Result<Status, SessionFault>
@@ -61,7 +61,7 @@ fn parted(path: &str) -> (&str, &str)
 
 /// Goes on as long as each round of control connections gets further.
 fn walked<R>(
-    matching: &mut Matching<'_, '_, R>,
+    matching: &mut Matching<'_, R>,
     noticed: &mut LastReply,
 ) -> Result<Answer<Global>, SessionFault>
 where
@@ -104,17 +104,17 @@ impl<'a, R> Drop for Under<'a, R> {
 }
 
 /// The files of a directory whose names are of a pattern.
-struct Matching<'a, 'b, R> {
+struct Matching<'a, R> {
     rt: &'a R,
     alloc: Global,
-    asked: Target<'b>,
+    asked: Target<'a>,
     /// Where the files go.
     folder: String<Global>,
     parts: Parts,
     /// Whether the last change of a file is to be at the server's moment of it.
     moment: bool,
-    dir: &'b str,
-    pattern: &'b str,
+    dir: &'a str,
+    pattern: &'a str,
     /// The names that are still to come, once the directory is listed.
     names: Option<IntoIter<Text<Global>, Global>>,
     /// What was under way when a control connection ended.
@@ -125,7 +125,7 @@ struct Matching<'a, 'b, R> {
 }
 
 /// By hand: a derived drop is proved again, part by part, wherever one is let go.
-impl<'a, 'b, R> Drop for Matching<'a, 'b, R> {
+impl<'a, R> Drop for Matching<'a, R> {
     fn drop(self) {
         let Self {
             rt: _,
@@ -144,14 +144,14 @@ impl<'a, 'b, R> Drop for Matching<'a, 'b, R> {
     }
 }
 
-impl<'a, 'b, R: LocalFiles + Print + Eprint> Matching<'a, 'b, R> {
+impl<'a, R: LocalFiles + Print + Eprint> Matching<'a, R> {
     /// Of which nothing was asked yet.
     fn new(
         rt: &'a R,
         alloc: Global,
-        asked: &Target<'b>,
+        asked: &Target<'a>,
         download: Download<'_>,
-    ) -> io::Result<Matching<'a, 'b, R>> {
+    ) -> io::Result<Matching<'a, R>> {
         let folder = String::from_str(alloc, download.file)?;
         let (dir, pattern) = parted(asked.place.path);
         Ok(Matching {
@@ -207,7 +207,7 @@ impl<'a, 'b, R: LocalFiles + Print + Eprint> Matching<'a, 'b, R> {
         self.single(Wish::Names).asked(seat)
     }
 
-    fn single(&self, wish: Wish<'b>) -> Single<'b> {
+    fn single(&self, wish: Wish<'a>) -> Single<'a> {
         Single {
             alloc: self.alloc,
             path: self.dir,
@@ -345,7 +345,7 @@ impl<'a, 'b, R: LocalFiles + Print + Eprint> Matching<'a, 'b, R> {
     }
 
     /// The download into this file.
-    fn download_into<'c>(&self, file: &'c str) -> Download<'c> {
+    fn download_into<'b>(&self, file: &'b str) -> Download<'b> {
         Download {
             file,
             parts: self.parts,
@@ -354,9 +354,9 @@ impl<'a, 'b, R: LocalFiles + Print + Eprint> Matching<'a, 'b, R> {
     }
 
     /// What is asked of a file at this path.
-    fn asked_at<'c>(&self, path: &'c str) -> Target<'c>
+    fn asked_at<'b>(&self, path: &'b str) -> Target<'b>
     where
-        'b: 'c,
+        'a: 'b,
     {
         Target {
             place: Location {
@@ -414,7 +414,7 @@ impl<'a, 'b, R: LocalFiles + Print + Eprint> Matching<'a, 'b, R> {
     }
 }
 
-impl<'a, 'b, R> SessionTask<Result<Answer<Global>, SessionFault>> for Matching<'a, 'b, R>
+impl<'a, R> SessionTask<Result<Answer<Global>, SessionFault>> for Matching<'a, R>
 where
     R: LocalFiles + Print + Eprint,
 {
