@@ -6,7 +6,7 @@ use ftp_tool_serve::{
     Guesses, Limits, Lines, Log, PassivePorts, Patience, Service, accounts_of, session,
 };
 use ftp_tree::Tree;
-use ftp_tree_folder::{DiskFolder, Mirror, open};
+use ftp_tree_folder::{DiskFolder, Explains, Mirror, open};
 use rows_base::{Paper, cut};
 use std::alloc::Global;
 use std::cell::RefCell;
@@ -122,7 +122,7 @@ fn served_accounts<T>(
     accounts: Accounts<Global>,
 ) -> (T, bool)
 where
-    T: Tree<Global>,
+    T: Tree<Global> + Explains,
 {
     let patience = Patience::new(LIMITS, None);
     let passive = PassivePorts::new(0, 0);
