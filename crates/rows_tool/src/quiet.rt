@@ -22,6 +22,7 @@ const TEXTS: &[(&str, bool)] = &[
 ];
 
 /// Who keeps what is told.
+#[derive(Drop)]
 struct Listener {
     told: RefCell<Paper>,
 }
