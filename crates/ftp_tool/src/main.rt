@@ -12,19 +12,37 @@ use ftp_tool_command::{
     serving_of, settings_of, task_of, told_of, url_in, urls_in,
 };
 use ftp_tool_fetch::{Openings, Target, Task};
-use ftp_tool_quiet::Hushed;
+use ftp_tool_quiet::{Hushed, Told};
 use ftp_tool_shown::Shown;
 use ftp_tool_status::Status;
 use ftp_tool_words::{Location, UrlPlace, place_for, says_directory};
-use programs::{Machine, Programs};
+use programs::{Programs, System};
 use several::{check_places, goes_into, is_any_matched, sources_of, uploads_of};
 use std::alloc::{AllocError, Global};
+use std::env::Env;
 use std::io::{Eprint, IsTerminal, Write};
 use std::process::ExitCode;
 use std::{env, io};
 
 fn main(rt: HostRuntime) -> ExitCode {
     ExitCode::from(run(&rt, &mut rt.stderr()).unwrap_or(Status::Failed.number()))
+}
+
+/// Who does what a command line asks for.
+trait Machine: Env + Print + Eprint + AllocGlobal {
+    /// Does what these words ask for, and tells of it on standard error what is to be told.
+    fn obey_words<F>(&self, words: &ArgMatches<'_>, told: Told, faults: &mut F) -> io::Result<u8>
+    where
+        F: Write + IsTerminal;
+}
+
+impl<R: System> Machine for R {
+    fn obey_words<F>(&self, words: &ArgMatches<'_>, told: Told, faults: &mut F) -> io::Result<u8>
+    where
+        F: Write + IsTerminal,
+    {
+        obey(&Hushed { rt: self, told }, self.alloc(), words, faults)
+    }
 }
 
 /// Does what the command line asks for, and tells the faults of a wire to `faults`.
@@ -36,10 +54,7 @@ where
     let alloc = rt.alloc();
     let words: Vec<String> = env::args(rt)?.collect(alloc)?;
     match matches_of(alloc, words.as_slice()) {
-        Ok(matches) => {
-            let told = told_of(&matches);
-            obey(&Hushed { rt, told }, alloc, &matches, faults)
-        }
+        Ok(matches) => rt.obey_words(&matches, told_of(&matches), faults),
         Err(error) => tell(rt, &error),
     }
 }

@@ -43,7 +43,7 @@ pub(crate) trait Programs {
 }
 
 /// A system that has all that the programs ask for.
-pub(crate) trait Machine: Input
+pub(crate) trait System: Input
     + Print
     + Eprint
     + Env
@@ -55,7 +55,7 @@ pub(crate) trait Machine: Input
     + Clone
     + Drop {}
 
-impl<R> Machine for R
+impl<R> System for R
 where
     R: Input
         + Print
@@ -71,7 +71,7 @@ where
 {}
 
 /// What `get` and its like, and `mirror`, tell on standard error is what is to be told; the others tell all.
-impl<'a, R: Machine> Programs for Hushed<'a, R> {
+impl<'a, R: System> Programs for Hushed<'a, R> {
     fn serve(&self, job: Serving<'_>) -> io::Result<Status> {
         ftp_tool_serve::serve(self.rt, job)
     }
