@@ -16,12 +16,16 @@ use ftp_tool_quiet::{Hushed, Told};
 use ftp_tool_shown::Shown;
 use ftp_tool_status::Status;
 use ftp_tool_words::{Location, UrlPlace, place_for, says_directory};
-use programs::{Programs, System};
+use programs::Programs;
 use several::{check_places, goes_into, is_any_matched, sources_of, uploads_of};
 use std::alloc::{AllocError, Global};
 use std::env::Env;
+use std::fs::Files;
 use std::io::{Eprint, IsTerminal, Write};
+use std::net::{Net, TcpListener, TcpStream};
 use std::process::ExitCode;
+use std::random::RandomSource;
+use std::time::Clock;
 use std::{env, io};
 
 fn main(rt: HostRuntime) -> ExitCode {
@@ -36,7 +40,20 @@ trait Machine: Env + Print + Eprint + AllocGlobal {
         F: Write + IsTerminal;
 }
 
-impl<R: System> Machine for R {
+impl<R> Machine for R
+where
+    R: Input
+        + Print
+        + Eprint
+        + Env
+        + Files
+        + AllocGlobal
+        + Clock
+        + RandomSource
+        + Net<Listener = TcpListener, Stream = TcpStream>
+        + Clone
+        + Drop,
+{
     fn obey_words<F>(&self, words: &ArgMatches<'_>, told: Told, faults: &mut F) -> io::Result<u8>
     where
         F: Write + IsTerminal,

@@ -42,20 +42,8 @@ pub(crate) trait Programs {
     fn is_folder(&self, name: &str) -> bool;
 }
 
-/// A system that has all that the programs ask for.
-pub(crate) trait System: Input
-    + Print
-    + Eprint
-    + Env
-    + Files
-    + AllocGlobal
-    + Clock
-    + RandomSource
-    + Net<Listener = TcpListener, Stream = TcpStream>
-    + Clone
-    + Drop {}
-
-impl<R> System for R
+/// What `get` and its like, and `mirror`, tell on standard error is what is to be told; the others tell all.
+impl<'a, R> Programs for Hushed<'a, R>
 where
     R: Input
         + Print
@@ -68,10 +56,7 @@ where
         + Net<Listener = TcpListener, Stream = TcpStream>
         + Clone
         + Drop,
-{}
-
-/// What `get` and its like, and `mirror`, tell on standard error is what is to be told; the others tell all.
-impl<'a, R: System> Programs for Hushed<'a, R> {
+{
     fn serve(&self, job: Serving<'_>) -> io::Result<Status> {
         ftp_tool_serve::serve(self.rt, job)
     }
