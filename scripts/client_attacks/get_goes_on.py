@@ -258,7 +258,7 @@ def rates(rows):
     took = time.monotonic() - begun
     rows.row("put --limit-rate 4096: the same", (status, b"".join(got)) == (0, WHOLE) and 2 <= took < 8, (status, told, took))
     for word in ("4k", "K", "-1", "4 K", "99999999999G"):
-        status, octets, told, _ = get(rows, File(WHOLE).server(), "--limit-rate", word)
+        status, octets, told, _ = get(rows, File(WHOLE).server(), f"--limit-rate={word}")
         rows.row(f"--limit-rate {word}: refused with its name", (status, octets) == (2, OLDER) and "--limit-rate" in told, (status, told))
 
 
