@@ -35,7 +35,8 @@ cleartext, passwords too.
 A line of the file: user:password:root, where an empty password is none, one as openssl passwd -6 writes it is SHA-crypt, and root is a directory
 of the folder, as /. All may look and fetch; after root nothing, for an account that may change all, or a colon and letters of what it may
 change: r nothing, p put new files, a append to files and replace them, d delete files, m make directories, x remove directories, f rename,
-w both p and m. The file's mode gives its group and others nothing.
+o beside f rename a file onto another, which only o lets, w both p and m. A root may be below that of an account that may change nothing, and of
+no other. The file's mode gives its group and others nothing.
 Output: listening on, the address and the port, once clients can connect. With --log on standard error a line for each session that begins
 or ends, login, refused command, transfer and change: moment, peer, verb, path, octets of data connections, code.
 Each session begins with the folder as it is then: what other programs put there or took away since is seen, and only files that changed
