@@ -13,7 +13,7 @@ use Rattle.ftp_server_model.specs.View.{Transfer, Session, View, line_limit}
 use Rattle.ftp_server_model.specs.Endpoint.{forgotten, disconnected}
 use Rattle.ftp_server_model.specs.Act.{forgets, is_allowed}
 use Rattle.ftp_server_model.specs.Machine.{owes, replied, later, may_hear, is_idle, is_abort, heard_line, abort_said, Reading, faulted}
-use Rattle.ftp_server_model.specs.Calls.{connection_of, may_receive, receives_octet, takes_given, given_step, takes_all, with_connection}
+use Rattle.ftp_server_model.specs.Calls.{connection_of, may_receive, receives_octet, to_give, takes_given, given_step, takes_all, with_connection}
 use Rattle.ftp_server_model.specs.declared.heard.HeardLine.{HeardLine}
 use Rattle.ftp_server_model.specs.declared.heard.HeardLine.TheVariants.{TooLong, Bad, Asks}
 use Rattle.ftp_server_model.specs.declared.reply.FixedReply.TheVariants as Texts
@@ -115,14 +115,10 @@ UploadFails (Data.Transferring (Transfers.Upload path keep d)) octet v w =
     × NoRoom (takes_all taken (with_connection (Data.Transferring (Transfers.Upload path keep (read_on d octet))) v)) w
 UploadFails connection octet v w = ⊥
 
--- so many octets of a listing were given, and its next line had no room
-abbrev pub ListingFails : ServerLink Transfer → ℕ → View → View → Type 0
-ListingFails (Data.Transferring (Transfers.Listing rest)) count v w = (count < length rest) × Late (faulted (takes_given (connection_of v.session) count v)) w
-ListingFails connection count v w = ⊥
-
--- the same, of whatever stands
+-- so many octets of a download or a listing were given, and what comes next was not had: memory was refused, or the device failed.
+-- It ends with 451, and its data connection is to be closed before it is whole
 abbrev pub GiveFails : ℕ → View → View → Type 0
-GiveFails count v w = ListingFails (connection_of v.session) count v w
+GiveFails count v w = (count < length (to_give v)) × Late (faulted (takes_given (connection_of v.session) count v)) w
 
 -- ---- what a call on the data connection leaves where a count changed
 
@@ -130,7 +126,7 @@ GiveFails count v w = ListingFails (connection_of v.session) count v w
 abbrev pub Ended : View → View → View → Type 0
 Ended step old new = EndFails old new ⊎ Late step new
 
--- octets were given: the next of a listing were not had, or the line that waits failed
+-- octets were given: those that come next were not had, or the line that waits failed
 abbrev pub Given : ℕ → View → View → Type 0
 Given count old new = GiveFails count old new ⊎ Late (given_step count old) new
 

@@ -1,5 +1,5 @@
 -- What a transfer does, as the definitions' transfer: octets come or are given, and it ends.
-use Rattle.std.specs.Prelude.{◌≡◌, ◌<◌, ℕ, Bool, true, false, List, [], ◌∷◌, length, drop, Result, Ok, Err}
+use Rattle.std.specs.Prelude.{◌≡◌, ℕ, Bool, true, false, List, [], ◌∷◌, drop, Result, Ok, Err}
 use Rattle.ftp_tree.specs.Tree.{Table}
 use Rattle.ftp_server_model.specs.View.{Session, Transfer, View, seen}
 use Rattle.ftp_server_model.specs.Machine.{Ending, owes, later, faulted, has_room}
@@ -41,13 +41,6 @@ is_out (Transfers.Upload path keep d) = false
 is_out Transfers.OverLimit = false
 is_out (Transfers.Download rest) = is_nothing rest
 is_out (Transfers.Listing rest) = is_nothing rest
-
--- a listing may stop for want of memory, before all of it was given
-abbrev pub MayStop : ℕ → Transfer → Type 0
-MayStop count (Transfers.Upload path keep d) = ⊥
-MayStop count Transfers.OverLimit = ⊥
-MayStop count (Transfers.Download rest) = ⊥
-MayStop count (Transfers.Listing rest) = count < length rest
 
 -- ---- octets come
 

@@ -1,5 +1,5 @@
 // What a transfer does, however it holds what came and what is still to be given.
-ghost use Rattle.std.specs.Prelude.{◌≡◌, ◌≤◌, ◌<◌, ◌^◌, IfOk, OnErr, drop, false, length, min, take, true};
+ghost use Rattle.std.specs.Prelude.{◌≡◌, ◌≤◌, ◌<◌, IfErr, IfOk, OnErr, OnOk, drop, false, length, min, take, true};
 ghost use Rattle.ftp_wire.specs.Decoder.{no_octets};
 ghost use Rattle.ftp_server_model.specs.Ask.{or_empty};
 ghost use Rattle.ftp_server_model.specs.Listing.{entry_lines, list_lines, listing_wire, name_lines};
@@ -7,7 +7,9 @@ ghost use Rattle.ftp_server_model.specs.Machine.{at_break, at_end};
 ghost use Rattle.ftp_server_model.specs.Transfer.{file_wire};
 ghost use Rattle.ftp_server_model.specs.View.{Session as Seen};
 ghost use Rattle.ftp_server_model.specs.declared.session.Transfer.TheVariants as Transfers;
-ghost use Rattle.ftp_server_parts.specs.ServerTransfer.{Comes, Ends, IsUpload, MayStop, behind, given_of, is_out, takes_octets};
+ghost use Rattle.ftp_server_model.specs.Counting.{MovesOn};
+ghost use Rattle.ftp_server_parts.specs.Fault.{Counted};
+ghost use Rattle.ftp_server_parts.specs.ServerTransfer.{Comes, Ends, IsUpload, behind, given_of, is_out, takes_octets};
 ghost use Rattle.ftp_tree.specs.Tree.{octets_or_none, under};
 
 use crate::fault::Fault;
@@ -46,38 +48,46 @@ pub struct Received {
     pub told: Told,
 }
 
-/// How many octets were given, and whether memory was refused for the next of them.
+/// How many octets were given, and whether those that come next were not had, for want of memory or as the device failed.
 #[derive(Clone, Copy)]
 pub struct Given {
     pub count: usize,
     pub lost: bool,
 }
 
-/// A transfer beside a tree `T`. It need not hold what it is still to give: that is read from the tree, which stays as it is meanwhile.
+/// A transfer of a server over trees `T`. What it is still to give is fixed when it begins, whatever becomes of the tree after that.
 pub trait ServerTransfer<A: Allocator + Copy, T: Tree<A>>: Drop {
     ghost use Rattle.ftp_server_model.specs.View.{Transfer};
-    ghost use Rattle.ftp_tree.specs.Tree.{Table};
 
-    /// The transfer of the definitions, beside the part of the tree that the account sees.
-    ghost view: { Table → Self → Transfer };
+    /// The transfer of the definitions.
+    ghost view: { Self → Transfer };
 
-    /// A download of the file at a path, from a place on. The path is taken out, here and below.
+    /// A download of the file at a path, from a place on, as the file is now. Where no file stands that is told as want of memory.
     fn download(
-        alloc: A,
-        path: &mut Path<A>,
+        tree: &mut T,
+        root: &Path<A>,
+        path: &Path<A>,
         place: u64,
         settings: Representation,
-    ) -> Result<Self, AllocError>
-        ensures { IfOk result (λ transfer. (part : Table) → length (octets_or_none part path.old) < 2 ^ 64 → view part transfer ≡ Transfers.Download (file_wire settings place (drop place (octets_or_none part path.old)))) };
+    ) -> Result<Self, Fault>
+        ensures download { IfOk result (λ transfer. view transfer ≡ Transfers.Download (file_wire settings place (drop place (octets_or_none (under (T.table tree.old) root.now) path.now)))) }
+        ensures table { T.table tree.new ≡ T.table tree.old }
+        ensures steady { OnOk result (T.failures tree.new ≡ T.failures tree.old) }
+        ensures failed { IfErr result (λ fault. Counted fault (T.failures tree.old) (T.failures tree.new)) };
 
-    /// An upload to a path, behind so many octets of the file there.
+    /// An upload to a path, behind so many octets of the file there. The path is taken out, here and below.
     fn upload(
         alloc: A,
+        tree: &mut T,
+        root: &Path<A>,
         path: &mut Path<A>,
         keep: u64,
         settings: Representation,
-    ) -> Result<Self, AllocError>
-        ensures { IfOk result (λ transfer. (part : Table) → view part transfer ≡ Transfers.Upload path.old keep (no_octets settings)) };
+    ) -> Result<Self, Fault>
+        ensures upload { IfOk result (λ transfer. view transfer ≡ Transfers.Upload path.old keep (no_octets settings)) }
+        ensures table { T.table tree.new ≡ T.table tree.old }
+        ensures steady { OnOk result (T.failures tree.new ≡ T.failures tree.old) }
+        ensures failed { IfErr result (λ fault. Counted fault (T.failures tree.old) (T.failures tree.new)) };
 
     /// What LIST sends of what stands at a path.
     fn list(
@@ -87,7 +97,7 @@ pub trait ServerTransfer<A: Allocator + Copy, T: Tree<A>>: Drop {
         path: &mut Path<A>,
         mode: Mode,
     ) -> Result<Self, AllocError>
-        ensures { IfOk result (λ listing. let part = under (T.table tree.now) root.now in view part listing ≡ Transfers.Listing (listing_wire mode (list_lines part path.old))) };
+        ensures { IfOk result (λ listing. view listing ≡ Transfers.Listing (listing_wire mode (list_lines (under (T.table tree.now) root.now) path.old))) };
 
     /// What NLST sends of what stands at a path, for the argument that named it.
     fn names(
@@ -98,7 +108,7 @@ pub trait ServerTransfer<A: Allocator + Copy, T: Tree<A>>: Drop {
         text: &Option<Argument<A>>,
         mode: Mode,
     ) -> Result<Self, AllocError>
-        ensures { IfOk result (λ listing. let part = under (T.table tree.now) root.now in view part listing ≡ Transfers.Listing (listing_wire mode (name_lines part path.old (or_empty text.now)))) };
+        ensures { IfOk result (λ listing. view listing ≡ Transfers.Listing (listing_wire mode (name_lines (under (T.table tree.now) root.now) path.old (or_empty text.now)))) };
 
     /// What MLSD sends of the directory at a path, with these facts.
     fn entries(
@@ -109,54 +119,55 @@ pub trait ServerTransfer<A: Allocator + Copy, T: Tree<A>>: Drop {
         facts: Facts,
         mode: Mode,
     ) -> Result<Self, AllocError>
-        ensures { IfOk result (λ listing. let part = under (T.table tree.now) root.now in view part listing ≡ Transfers.Listing (listing_wire mode (entry_lines facts part path.old))) };
+        ensures { IfOk result (λ listing. view listing ≡ Transfers.Listing (listing_wire mode (entry_lines facts (under (T.table tree.now) root.now) path.old))) };
 
     /// Whether it takes octets of the data connection, and does not give them.
     fn takes_octets(&self) -> bool
-        ensures { (part : Table) → result ≡ takes_octets (view part self.now) };
+        ensures { result ≡ takes_octets (view self.now) };
 
     /// Takes octets of the data connection. Where the transfer is over by them, it is of no use any more.
     fn receive(&mut self, tree: &T, root: &Path<A>, piece: &[u8]) -> Received
         ensures within { result.count ≤ length piece.now }
-        ensures comes { let part = under (T.table tree.now) root.now in Comes part (view part self.old) (take result.count piece.now) result.told (view part self.new) }
-        ensures some { takes_octets (view (under (T.table tree.now) root.now) self.old) ≡ true → 0 < length piece.now → 0 < result.count };
+        ensures comes { Comes (under (T.table tree.now) root.now) (view self.old) (take result.count piece.now) result.told (view self.new) }
+        ensures some { takes_octets (view self.old) ≡ true → 0 < length piece.now → 0 < result.count };
 
-    /// Gives octets to the data connection.
-    fn give(&mut self, tree: &T, root: &Path<A>, room: &mut [u8]) -> Given
+    /// Gives octets to the data connection. The tree stays as it is.
+    fn give(&mut self, tree: &mut T, room: &mut [u8]) -> Given
         ensures within { result.count ≤ length room.old }
-        ensures gave { let part = under (T.table tree.now) root.now in take result.count room.new ≡ take result.count (given_of (view part self.old)) }
-        ensures most { let part = under (T.table tree.now) root.now in result.count ≤ length (given_of (view part self.old)) }
-        ensures on { let part = under (T.table tree.now) root.now in view part self.new ≡ behind result.count (view part self.old) }
+        ensures gave { take result.count room.new ≡ take result.count (given_of (view self.old)) }
+        ensures most { result.count ≤ length (given_of (view self.old)) }
+        ensures on { view self.new ≡ behind result.count (view self.old) }
 
-        // It fills the room or gives all that is left, or memory was refused for the next line of a listing.
-        ensures full { result.lost ≡ false → result.count ≡ min (length room.old) (length (given_of (view (under (T.table tree.now) root.now) self.old))) }
-        ensures lost { result.lost ≡ true → MayStop result.count (view (under (T.table tree.now) root.now) self.old) };
+        // It fills the room or gives all that is left, or what comes next was not had.
+        ensures full { result.lost ≡ false → result.count ≡ min (length room.old) (length (given_of (view self.old))) }
+        ensures lost { result.lost ≡ true → result.count < length (given_of (view self.old)) }
+        ensures table { T.table tree.new ≡ T.table tree.old }
+        ensures steady { result.lost ≡ false → T.failures tree.new ≡ T.failures tree.old }
+        ensures few { MovesOn 1 (T.failures tree.old) (T.failures tree.new) };
 
     /// Whether all is given.
-    fn is_given_out(&self, tree: &T, root: &Path<A>) -> bool
-        ensures { result ≡ is_out (view (under (T.table tree.now) root.now) self.now) };
+    fn is_given_out(&self) -> bool
+        ensures { result ≡ is_out (view self.now) };
 
     /// The other end closed the data connection: what came of an upload is put into the tree. The reply that ends the transfer.
     fn at_end(
         self,
-        alloc: A,
         tree: &mut T,
         root: &Path<A>,
         moment: Moment,
     ) -> Result<FixedReply, Fault>
         ensures ends { (s : Seen) → s.table ≡ T.table tree.old → s.root ≡ root.now
-            → Ends (at_end moment.seconds (view (under (T.table tree.old) root.now) self) s) s (T.table tree.new) result (T.failures tree.old) (T.failures tree.new) }
-        ensures upload { OnErr result (IsUpload (view (under (T.table tree.old) root.now) self)) };
+            → Ends (at_end moment.seconds (view self) s) s (T.table tree.new) result (T.failures tree.old) (T.failures tree.new) }
+        ensures upload { OnErr result (IsUpload (view self)) };
 
     /// The data connection broke: what was settled of an upload is put into the tree. The reply that ends the transfer.
     fn at_break(
         self,
-        alloc: A,
         tree: &mut T,
         root: &Path<A>,
         moment: Moment,
     ) -> Result<FixedReply, Fault>
         ensures ends { (s : Seen) → s.table ≡ T.table tree.old → s.root ≡ root.now
-            → Ends (at_break moment.seconds (view (under (T.table tree.old) root.now) self) s) s (T.table tree.new) result (T.failures tree.old) (T.failures tree.new) }
-        ensures upload { OnErr result (IsUpload (view (under (T.table tree.old) root.now) self)) };
+            → Ends (at_break moment.seconds (view self) s) s (T.table tree.new) result (T.failures tree.old) (T.failures tree.new) }
+        ensures upload { OnErr result (IsUpload (view self)) };
 }

@@ -72,6 +72,10 @@ octets_or_none table path = unwrap_or (octets_at table path) []
 unfoldable pub children : Table → Names → List (List ℕ)
 children table path = filter_map (name_in path) (fin.keys table)
 
+-- what a directory shows, in that order: each name and, of a file, its octets counted and its moment
+unfoldable pub entries_at : Table → Names → List (List ℕ × Option (ℕ × ℕ))
+entries_at table path = map (λ name. (name, of_node shown_of (node_at table (path ++ name ∷ [])))) (children table path)
+
 abbrev pub length_of : Node → ℕ
 length_of node = length (unwrap_or (octets_of node) [])
 

@@ -41,6 +41,10 @@ pub enum TreeFault {
     Memory,
 }
 
+/// The tree's device failed at a reading, and that is counted.
+#[derive(Clone, Copy)]
+pub struct Broken;
+
 impl From<PathFault> for TreeFault {
     ghost from_gives = { λ fault told. told ≡ of_path fault };
 

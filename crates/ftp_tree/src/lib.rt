@@ -4,7 +4,10 @@
 
 mod content;
 mod device;
+mod draft;
+mod entries;
 mod fault;
+mod held;
 pub mod laws;
 mod memory;
 mod mirror;
@@ -15,8 +18,11 @@ mod tree;
 
 pub use content::Content;
 pub use device::{Folder, FolderFault};
-pub use fault::TreeFault;
+pub use draft::Draft;
+pub use entries::DirEntries;
+pub use fault::{Broken, TreeFault};
 pub use ftp_path::{Name, Path, PathFault, is_path_text};
+pub use held::HeldTree;
 pub use memory::MemTree;
 pub use mirror::Mirror;
 pub use tree::{DirEntry, FileFacts, NodeKind, Tree};

@@ -1,15 +1,16 @@
 // What a tree answers, as what its clauses say of one map, however the tree is kept.
-ghost use Rattle.std.specs.Prelude.{◌≡◌, ◌≤◌, ◌<◌, ◌∷◌, ◌++◌, ℕ, [], Some, None, IfOk, IfErr, IfSome, OnOk, OnErr, length, nat_le, take, drop, option_map, true};
+ghost use Rattle.std.specs.Prelude.{◌≡◌, ◌≤◌, ◌<◌, ◌++◌, ℕ, List, [], None, IfOk, IfErr, OnOk, OnErr, length, nat_le, take, drop, option_map, true};
 ghost use Rattle.std.specs.List.{slice_get};
-ghost use Rattle.ftp_tree.specs.Tree.{Table, children, delete_refusal, install_refusal, installed, kind_at, made, make_refusal, freed, moved, node_at, octets_in, octets_or_none, onto_refusal, remove_refusal, removed, rename_refusal, room_at, room_refusal, shown_of, size_at, stamp_at, total_limit, under, with_part};
-ghost use Rattle.ftp_tree.specs.Change.{IsDone, IsRefused};
+ghost use Rattle.ftp_tree.specs.Tree.{Table, children, delete_refusal, entries_at, file_refusal, install_refusal, installed, kind_at, made, make_refusal, freed, moved, node_at, octets_in, octets_or_none, onto_refusal, remove_refusal, removed, rename_refusal, room_at, room_refusal, size_at, stamp_at, total_limit, under, with_part};
+ghost use Rattle.ftp_tree.specs.Change.{IsDone, IsRefused, Refuses, next_count};
 ghost use Rattle.ftp_tree.specs.Sound.{IsSoundTree};
 
-use crate::content::Content;
-use crate::fault::TreeFault;
+use crate::draft::Draft;
+use crate::entries::DirEntries;
+use crate::fault::{Broken, TreeFault};
 use ftp_facts::Moment;
 use ftp_path::{Name, Path};
-use std::alloc::Allocator;
+use std::alloc::{AllocError, Allocator};
 
 /// What stands at a path.
 #[derive(Clone, Copy, Debug, PartialEq, Eq)]
@@ -34,12 +35,19 @@ pub struct DirEntry<'a> {
 
 /// A finite map from paths to directories and files (RFC 959, section 4.1.3). A refused call changes nothing; of several
 /// refusals the first of the call's own order is given, then `Memory`, then `Device`, which comes just where the count of
-/// device failures moves on in the call, by one. The calls that read take no memory, and what they lend they lend until the next change.
+/// device failures moves on in the call, by one.
 pub trait Tree<A: Allocator + Copy>: Drop {
+    /// A file as it was when it was opened, whatever became of the tree after that.
+    type Open: Drop;
+    /// Octets that are to become a file.
+    type Draft: Draft;
+
     /// The map that it holds, however it is kept.
     ghost table: { Self → Table };
     /// The count of its device's failures, moved on by wrapping.
     ghost failures: { Self → ℕ };
+    /// The octets of a file as it was opened.
+    ghost opened: { Self.Open → List ℕ };
 
     /// What stands at a path, if anything does.
     fn kind<B: Allocator + Copy, C: Allocator + Copy>(
@@ -65,18 +73,32 @@ pub trait Tree<A: Allocator + Copy>: Drop {
     ) -> Option<Moment>
         ensures { option_map (λ moment. moment.seconds) result ≡ stamp_at (under (table self.now) root.now) path.now };
 
-    /// Some octets of the file at a path from a place on, at most `max` of them: none only at its end, or where `max` is 0,
-    /// or where no file stands.
-    fn piece<B: Allocator + Copy, C: Allocator + Copy>(
-        &self,
+    /// Opens the file at a path. The tree stays as it is.
+    ///
+    /// Refused: `Absent`, `WrongKind` of a directory.
+    fn open<B: Allocator + Copy, C: Allocator + Copy>(
+        &mut self,
         root: &Path<B>,
         path: &Path<C>,
-        at: u64,
-        max: usize,
-    ) -> &[u8]
-        ensures octets { result.now ≡ take (length result.now) (drop at (octets_or_none (under (table self.now) root.now) path.now)) }
-        ensures most { length result.now ≤ max }
-        ensures some { 0 < max → at < length (octets_or_none (under (table self.now) root.now) path.now) → 0 < length result.now };
+    ) -> Result<Self::Open, TreeFault>
+        ensures opened { IfOk result (λ file. opened file ≡ octets_or_none (under (table self.old) root.now) path.now) }
+        ensures done { OnOk result (IsDone (file_refusal (node_at (under (table self.old) root.now) path.now)) (table self.old) (table self.new) (failures self.old) (failures self.new)) }
+        ensures refused { IfErr result (λ fault. IsRefused (file_refusal (node_at (under (table self.old) root.now) path.now)) fault (table self.old) (table self.new) (failures self.old) (failures self.new)) };
+
+    /// How many octets a file had when it was opened.
+    fn open_len(file: &Self::Open) -> u64
+        ensures { result ≡ length (opened file.now) };
+
+    /// Reads octets of an open file from a place on into the front of the room, and says how many: none only at its end, or
+    /// where there is no room. What follows them in the room may be anything. Tree and file stay as they are.
+    fn read(&mut self, file: &mut Self::Open, at: u64, room: &mut [u8]) -> Result<usize, Broken>
+        ensures octets { IfOk result (λ count. take count room.new ≡ take count (drop at (opened file.old))) }
+        ensures most { IfOk result (λ count. (count ≤ length room.old) × (count ≤ length (drop at (opened file.old)))) }
+        ensures some { IfOk result (λ count. 0 < length room.old → at < length (opened file.old) → 0 < count) }
+        ensures file { opened file.new ≡ opened file.old }
+        ensures table { table self.new ≡ table self.old }
+        ensures steady { OnOk result (failures self.new ≡ failures self.old) }
+        ensures failed { OnErr result (failures self.new ≡ next_count (failures self.old)) };
 
     /// The name that comes at a place, counted from 0, among those in a directory in the order of their octets.
     fn nth_name<B: Allocator + Copy, C: Allocator + Copy>(
@@ -87,17 +109,15 @@ pub trait Tree<A: Allocator + Copy>: Drop {
     ) -> Option<Name<'_>>
         ensures { option_map (λ name. name.octets.now) result ≡ slice_get (children (under (table self.now) root.now) path.now) place };
 
-    /// The same name, and what stands there: a listing asks for each of its lines once.
-    fn nth_entry<B: Allocator + Copy, C: Allocator + Copy>(
+    /// What the directory at a path shows, in the order of the octets of the names, as it is now.
+    fn entries<B: Allocator + Copy, C: Allocator + Copy>(
         &self,
         root: &Path<B>,
         path: &Path<C>,
-        place: usize,
-    ) -> Option<DirEntry<'_>>
-        ensures name { option_map (λ entry. entry.name.octets.now) result ≡ slice_get (children (under (table self.now) root.now) path.now) place }
-        ensures file { IfSome result (λ entry. option_map shown_of (node_at (under (table self.now) root.now) (path.now ++ entry.name.octets.now ∷ [])) ≡ Some (option_map (λ file. (file.size, file.moment.seconds)) entry.file)) };
+    ) -> Result<DirEntries<A>, AllocError>
+        ensures { IfOk result (λ entries. entries ≡ entries_at (under (table self.now) root.now) path.now) };
 
-    /// The most octets that `install` takes at a path, or why it takes none: `WrongKind` where a directory stands there or a
+    /// The most octets that `put` takes at a path, or why it takes none: `WrongKind` where a directory stands there or a
     /// file above, `Absent` where nothing stands above, `Full` where 16,384 nodes stand beside the root.
     fn room<B: Allocator + Copy, C: Allocator + Copy>(
         &self,
@@ -111,7 +131,7 @@ pub trait Tree<A: Allocator + Copy>: Drop {
     fn device_failures(&self) -> u64
         ensures { result ≡ failures self.now };
 
-    /// Whether the octets of all files below a root together are within the limit, 67,108,864. `install` keeps each root that
+    /// Whether the octets of all files below a root together are within the limit, 67,108,864. `put` keeps each root that
     /// it is given within it; a root above two of them may be past it.
     ///
     /// Whatever it answers, the map is a tree, and what stands in it is sound: paths of names, and of every file a moment.
@@ -177,21 +197,31 @@ pub trait Tree<A: Allocator + Copy>: Drop {
         to: &Path<D>,
     ) -> Result<(), TreeFault>
         ensures done { OnOk result (let part = under (table self.old) root.now in IsDone (onto_refusal part from.now to.now) (with_part (table self.old) root.now (moved (freed true part from.now to.now) from.now to.now)) (table self.new) (failures self.old) (failures self.new)) }
-        ensures refused { IfErr result (λ fault. IsRefused (onto_refusal (under (table self.old) root.now) from.now to.now) fault (table self.old) (table self.new) (failures self.old) (failures self.new)) };
+        ensures refused { IfErr result (λ fault. IsRefused (onto_refusal (under (table self.old) root.now) from.now to.now) fault (table self.old) (table self.new) (failures self.old) (failures self.new)) }
+        ensures sound { IsSoundTree (table self.old) };
 
-    /// Puts a file at a path, in the place of one that stands there. Its octets are taken out of the content.
-    ///
-    /// Refused: as `room` says, then `TooBig` past 67,108,864 octets, `Full` where all files below the root together would.
-    /// Refused, it leaves the content as it was.
-    fn install<B: Allocator + Copy, C: Allocator + Copy>(
+    /// Begins a file that is to come to a path: none of its octets came yet, and the tree stays as it is until it is put there.
+    fn begin<B: Allocator + Copy, C: Allocator + Copy>(
         &mut self,
         root: &Path<B>,
         path: &Path<C>,
-        content: &mut Content<A>,
+    ) -> Result<Self::Draft, TreeFault>
+        ensures none { IfOk result (λ draft. Self.Draft.octets draft ≡ []) }
+        ensures done { OnOk result ((table self.new ≡ table self.old) × (failures self.new ≡ failures self.old)) }
+        ensures refused { IfErr result (λ fault. IsRefused None fault (table self.old) (table self.new) (failures self.old) (failures self.new)) };
+
+    /// Puts a file at a path, in the place of one that stands there: the first octets of that, `keep` of them if it has so
+    /// many, and then those that came.
+    ///
+    /// Refused: as `room` says, then `TooBig` past 67,108,864 octets, `Full` where all files below the root together would.
+    fn put<B: Allocator + Copy, C: Allocator + Copy>(
+        &mut self,
+        root: &Path<B>,
+        path: &Path<C>,
+        keep: u64,
+        came: Self::Draft,
         moment: Moment,
     ) -> Result<(), TreeFault>
-        ensures done { OnOk result (let part = under (table self.old) root.now in IsDone (install_refusal part path.now (length content.old)) (with_part (table self.old) root.now (installed part path.now content.old moment.seconds)) (table self.new) (failures self.old) (failures self.new)) }
-        ensures refused { IfErr result (λ fault. IsRefused (install_refusal (under (table self.old) root.now) path.now (length content.old)) fault (table self.old) (table self.new) (failures self.old) (failures self.new)) }
-        ensures taken { OnOk result (content.new ≡ []) }
-        ensures back { OnErr result (content.new ≡ content.old) };
+        ensures done { OnOk result (let part = under (table self.old) root.now in let octets = take keep (octets_or_none part path.now) ++ Self.Draft.octets came in IsDone (install_refusal part path.now (length octets)) (with_part (table self.old) root.now (installed part path.now octets moment.seconds)) (table self.new) (failures self.old) (failures self.new)) }
+        ensures refused { IfErr result (λ fault. let part = under (table self.old) root.now in let octets = take keep (octets_or_none part path.now) ++ Self.Draft.octets came in IsRefused (install_refusal part path.now (length octets)) fault (table self.old) (table self.new) (failures self.old) (failures self.new)) };
 }
