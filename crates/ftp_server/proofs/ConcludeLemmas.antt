@@ -17,7 +17,7 @@ with_tree : {A T J : Type 0} (table : T → Table) (view : Table → J → Trans
     → session_of table view (record s { tree = t }) ≡ record (session_of table view s) { table = table t }
 with_tree table view s t none =
     ap (λ c. record (session_of table view s) { table = table t; connection = c })
-    (same_connection (view (under (table t) s.root)) (view (under (table s.tree) s.root)) s.connection none)
+    (same_connection (view (under (table t) s.root)) view s.connection none)
 
 pub concludes : {A T J : Type 0} (table : T → Table) (view : Table → J → Transfer) (s : Held A T J) (t : T) (ending : Ending) (result : Result FixedReply Fault) (before after : ℕ)
     → has_transfer s.connection ≡ false → Ends ending (session_of table view s) (table t) result before after

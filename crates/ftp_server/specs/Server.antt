@@ -9,7 +9,7 @@ use Rattle.ftp_server_model.specs.View.{Transfer, View}
 use Rattle.ftp_server.specs.declared.server.Server.{Server as Held}
 
 -- what it holds, by how its tree and its transfer are seen
-abbrev pub view_of : {A T J : Type 0} → (T → Table) → (Table → J → Transfer) → Held A T J → View
+abbrev pub view_of : {A T J : Type 0} → (T → Table) → (J → Transfer) → Held A T J → View
 view_of table view server = record {
   footing = footing_of server.footing;
   session = session_of table view server.session;
@@ -23,7 +23,7 @@ abbrev pub counts_of : {A T J : Type 0} → (T → ℕ) → Held A T J → Count
 counts_of failures server = record { refusals = server.refusals; failures = failures server.session.tree }
 
 -- the same, and the two counts beside it
-abbrev pub server_of : {A T J : Type 0} → (T → Table) → (T → ℕ) → (Table → J → Transfer) → Held A T J → Server
+abbrev pub server_of : {A T J : Type 0} → (T → Table) → (T → ℕ) → (J → Transfer) → Held A T J → Server
 server_of table failures view server = record {
   view = view_of table view server;
   counts = counts_of failures server;

@@ -4,7 +4,6 @@ ghost use Rattle.ftp_server_model.specs.Machine.{at_break, at_end};
 ghost use Rattle.ftp_server_parts.specs.ServerTransfer.{IsUpload};
 ghost use Rattle.ftp_server_session.specs.Receiving.{Concludes};
 ghost use Rattle.ftp_server_session.specs.Session.{has_transfer, session_of};
-ghost use Rattle.ftp_tree.specs.Tree.{under};
 
 use ftp_facts::Moment;
 use ftp_server_model::FixedReply;
@@ -21,12 +20,12 @@ pub(crate) fn at_end<A: Allocator + Copy, T: Tree<A>, J: ServerTransfer<A, T>>(
 ) -> Result<FixedReply, Fault>
     requires idle { has_transfer session.old.connection ≡ false }
     ensures ends { let s = session_of T.table J.view session.old in
-        Concludes (at_end moment.seconds (J.view (under (T.table session.old.tree) session.old.root) transfer) s) s (session_of T.table J.view session.new) result (T.failures session.old.tree) (T.failures session.new.tree) }
+        Concludes (at_end moment.seconds (J.view transfer) s) s (session_of T.table J.view session.new) result (T.failures session.old.tree) (T.failures session.new.tree) }
     ensures connection { session.new.connection ≡ session.old.connection }
-    ensures upload { OnErr result (IsUpload (J.view (under (T.table session.old.tree) session.old.root) transfer)) }
+    ensures upload { OnErr result (IsUpload (J.view transfer)) }
     ensures access { session.new.access ≡ session.old.access }
 {
-    transfer.at_end(session.alloc, &mut session.tree, &session.root, moment)
+    transfer.at_end(&mut session.tree, &session.root, moment)
 }
 
 /// The data connection of this transfer broke, or it is aborted.
@@ -37,10 +36,10 @@ pub(crate) fn at_break<A: Allocator + Copy, T: Tree<A>, J: ServerTransfer<A, T>>
 ) -> Result<FixedReply, Fault>
     requires idle { has_transfer session.old.connection ≡ false }
     ensures ends { let s = session_of T.table J.view session.old in
-        Concludes (at_break moment.seconds (J.view (under (T.table session.old.tree) session.old.root) transfer) s) s (session_of T.table J.view session.new) result (T.failures session.old.tree) (T.failures session.new.tree) }
+        Concludes (at_break moment.seconds (J.view transfer) s) s (session_of T.table J.view session.new) result (T.failures session.old.tree) (T.failures session.new.tree) }
     ensures connection { session.new.connection ≡ session.old.connection }
-    ensures upload { OnErr result (IsUpload (J.view (under (T.table session.old.tree) session.old.root) transfer)) }
+    ensures upload { OnErr result (IsUpload (J.view transfer)) }
     ensures access { session.new.access ≡ session.old.access }
 {
-    transfer.at_break(session.alloc, &mut session.tree, &session.root, moment)
+    transfer.at_break(&mut session.tree, &session.root, moment)
 }

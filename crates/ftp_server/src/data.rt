@@ -105,14 +105,16 @@ impl<A: Allocator + Copy, T: Tree<A>, J: ServerTransfer<A, T>> Server<A, T, J> {
         }
     }
 
-    /// Gives octets; with the last the transfer is over. It may fail for want of memory for the next line of a listing.
+    /// Gives octets; with the last the transfer is over. It may fail: what comes next was not had, for want of memory or as the device failed.
     pub(crate) fn give(&mut self, room: &mut [u8]) -> Moved
         ensures within { (result.count ≤ length room.old) × (result.count ≤ length (to_give (view_of T.table J.view self.old))) }
         ensures gave { take result.count room.new ≡ take result.count (to_give (view_of T.table J.view self.old)) }
         ensures done { OnOk result.outcome (view_of T.table J.view self.new ≡ given_step result.count (view_of T.table J.view self.old)) }
         ensures lost { OnErr result.outcome ((x : View) → Late (view_of T.table J.view self.new) x → GiveFails result.count (view_of T.table J.view self.old) x) }
         ensures full { OnOk result.outcome (result.count ≡ min (length room.old) (length (to_give (view_of T.table J.view self.old)))) }
-        ensures steady { counts_of T.failures self.new ≡ counts_of T.failures self.old }
+        ensures steady { OnOk result.outcome (counts_of T.failures self.new ≡ counts_of T.failures self.old) }
+        ensures refusals { self.new.refusals ≡ self.old.refusals }
+        ensures few { MovesOn 1 (T.failures self.old.session.tree) (T.failures self.new.session.tree) }
     {
         let ServerLink::Transferring(_) = &self.session.connection else {
             return Moved {

@@ -25,4 +25,4 @@ pub logged : {A T J : Type 0} (table : T → Table) (view : Table → J → Tran
     → session_of table view (record s { access = access; root = root; rights = rights; cwd = cwd }) ≡ record (session_of table view s) { access = access; root = root; rights = rights; cwd = cwd }
 logged table view s access root cwd rights none =
     ap (λ c. record (session_of table view s) { access = access; root = root; rights = rights; cwd = cwd; connection = c })
-    (same_connection (view (under (table s.tree) root)) (view (under (table s.tree) s.root)) s.connection none)
+    (same_connection (view (under (table s.tree) root)) view s.connection none)

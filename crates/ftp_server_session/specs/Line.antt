@@ -58,7 +58,7 @@ LineLost (Asks command) old new =
 
 -- what a command leaves once its turn has come: its row and the login it needs; or it could not be done, and a transfer command has
 -- forgotten the endpoint
-abbrev pub Asked : {A T J : Type 0} → (T → Table) → (T → ℕ) → (Table → J → Transfer) → Footing → Command (List ℕ) → Pending Names → Held A T J → Held A T J → Result (ReplyKind Names) Fault → Type 0
+abbrev pub Asked : {A T J : Type 0} → (T → Table) → (T → ℕ) → (J → Transfer) → Footing → Command (List ℕ) → Pending Names → Held A T J → Held A T J → Result (ReplyKind Names) Fault → Type 0
 Asked table failures view footing command pending old new (Ok kind) =
     ((session_of table view new, kind) ≡ decided footing (Asks command) pending (session_of table view old)) × (failures new.tree ≡ failures old.tree)
 Asked table failures view footing command pending old new (Err fault) =
@@ -66,7 +66,7 @@ Asked table failures view footing command pending old new (Err fault) =
     × (session_of table view new ≡ forgets command (session_of table view old)) × Counted fault (failures old.tree) (failures new.tree)
 
 -- what a line leaves: what was pending is taken, then session and reply are those of the order of decisions; or it could not be done
-abbrev pub Decides : {A T J : Type 0} → (T → Table) → (T → ℕ) → (Table → J → Transfer) → Footing → HeardLine (List ℕ) → Held A T J → Held A T J → Result (ReplyKind Names) Fault → Type 0
+abbrev pub Decides : {A T J : Type 0} → (T → Table) → (T → ℕ) → (J → Transfer) → Footing → HeardLine (List ℕ) → Held A T J → Held A T J → Result (ReplyKind Names) Fault → Type 0
 Decides table failures view footing heard old new (Ok kind) =
     let s = session_of table view old in
     ((session_of table view new, kind) ≡ decided footing heard s.pending (record s { pending = Pendings.Nothing })) × (failures new.tree ≡ failures old.tree)

@@ -22,7 +22,7 @@ ComesIn v octets Faulty s =
     × ((x : View) → Late (replied Texts.LocalFault s v) x → AreReceived v octets x)
 ComesIn v octets NoMemory s = (x : View) → Late (replied Texts.LocalFault s v) x → AreReceived v octets x
 
--- so many octets were given, and this is the session then; where memory was refused for the next, the 451 is to be said
+-- so many octets were given, and this is the session then; where those that come next were not had, the 451 is to be said
 abbrev pub Gives : View → ℕ → Bool → Session → Type 0
 Gives v count false s = takes_given (connection_of v.session) count v ≡ with_session s v
 Gives v count true s = (x : View) → Late (replied Texts.LocalFault s v) x → GiveFails count v x

@@ -38,7 +38,7 @@ has_transfer (Data.Opening transfer way) = true
 has_transfer (Data.Transferring transfer) = true
 
 -- a session, by how its tree is seen, and its transfer beside the part of the tree that the account sees
-abbrev pub session_of : {A T J : Type 0} → (T → Table) → (Table → J → Transfer) → Held A T J → Session
+abbrev pub session_of : {A T J : Type 0} → (T → Table) → (J → Transfer) → Held A T J → Session
 session_of table view s = record {
   table = table s.tree;
   access = s.access;
@@ -49,7 +49,7 @@ session_of table view s = record {
   settings = s.settings;
   facts = s.facts;
   only_extended = s.only_extended;
-  connection = connection_of (view (under (table s.tree) s.root)) s.connection;
+  connection = connection_of view s.connection;
   closing = s.closing;
   life = s.life;
 }
@@ -60,7 +60,7 @@ footing_of f = record { accounts = f.accounts; here = f.here; peer = f.peer; mom
 
 -- what a command leaves: session and reply are its row of the definitions; or nothing has changed, for want of memory or as the
 -- device failed
-abbrev pub Turns : {A T J : Type 0} → (T → Table) → (T → ℕ) → (Table → J → Transfer) → (Session → Turn) → Held A T J → Held A T J → Result (ReplyKind Names) Fault → Type 0
+abbrev pub Turns : {A T J : Type 0} → (T → Table) → (T → ℕ) → (J → Transfer) → (Session → Turn) → Held A T J → Held A T J → Result (ReplyKind Names) Fault → Type 0
 Turns table failures view row old new (Ok kind) = ((session_of table view new, kind) ≡ row (session_of table view old)) × (failures new.tree ≡ failures old.tree)
 Turns table failures view row old new (Err fault) = (session_of table view new ≡ session_of table view old) × Counted fault (failures old.tree) (failures new.tree)
 

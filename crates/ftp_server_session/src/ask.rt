@@ -9,6 +9,7 @@ ghost use Rattle.ftp_server_model.specs.Transfer.{rest};
 ghost use Rattle.ftp_server_model.specs.View.{direct_of, how_in_force};
 
 use crate::session::Session;
+use crate::transfers::lost;
 use ftp_command::Argument;
 use ftp_direct::{absent_fault, file_fault, takes_offset, wire_len};
 use ftp_facts::moment_text;
@@ -64,7 +65,11 @@ impl<A: Allocator + Copy, T: Tree<A>, J: ServerTransfer<A, T>> Session<A, T, J> 
         let Some(path) = found else {
             return Ok(ReplyKind::Fixed(FixedReply::Refused));
         };
-        let size = wire_len(&self.tree, &self.root, &path, self.settings.kind);
+        let kind = self.settings.kind;
+        let size = match wire_len(&mut self.tree, &self.root, &path, kind) {
+            Ok(size) => size,
+            Err(fault) => return Err(lost(fault)),
+        };
         if is_number(size) {
             Ok(ReplyKind::Size(size))
         } else {

@@ -19,7 +19,7 @@ impl<A: Allocator + Copy, T: Tree<A>, J: ServerTransfer<A, T>> Session<A, T, J> 
 
     /// Whether the data connection is open, or a port is listened at.
     pub fn is_standing(&self) -> bool
-        ensures { result ≡ is_standing (connection_of (J.view (under (T.table self.now.tree) self.now.root)) self.now.connection) }
+        ensures { result ≡ is_standing (connection_of J.view self.now.connection) }
     {
         match &self.connection {
             ServerLink::Free | ServerLink::Asked(_) | ServerLink::Active(_) => false,

@@ -1,6 +1,7 @@
 // Octets of the data connection (RFC 959, section 3).
 ghost use Rattle.std.specs.Prelude.{◌≡◌, ◌≤◌, ◌<◌, false, length, min, take, true};
 ghost use Rattle.ftp_server_model.specs.Calls.{connection_of as connection_in, given_by, is_upload};
+ghost use Rattle.ftp_server_model.specs.Counting.{MovesOn};
 ghost use Rattle.ftp_server_model.specs.Endpoint.{forgotten};
 ghost use Rattle.ftp_server_model.specs.Machine.{has_room};
 ghost use Rattle.ftp_ends.specs.Octets.{has_octets};
@@ -61,7 +62,7 @@ impl<A: Allocator + Copy, T: Tree<A>, J: ServerTransfer<A, T>> Session<A, T, J> 
         }
         match &self.connection {
             ServerLink::Transferring(transfer) => {
-                !transfer.takes_octets() && !transfer.is_given_out(&self.tree, &self.root)
+                !transfer.takes_octets() && !transfer.is_given_out()
             }
             _ => false,
         }
@@ -74,7 +75,9 @@ impl<A: Allocator + Copy, T: Tree<A>, J: ServerTransfer<A, T>> Session<A, T, J> 
         ensures most { result.count ≤ length (given_by (connection_in (session_of T.table J.view self.old))) }
         ensures on { (v : View) → v.session ≡ session_of T.table J.view self.old → Gives v result.count result.lost (session_of T.table J.view self.new) }
         ensures full { result.lost ≡ false → result.count ≡ min (length room.old) (length (given_by (connection_in (session_of T.table J.view self.old)))) }
-        ensures tree { self.new.tree ≡ self.old.tree }
+        ensures table { T.table self.new.tree ≡ T.table self.old.tree }
+        ensures steady { result.lost ≡ false → T.failures self.new.tree ≡ T.failures self.old.tree }
+        ensures few { MovesOn 1 (T.failures self.old.tree) (T.failures self.new.tree) }
         ensures free { result.lost ≡ true → self.new.connection ≡ ServerLink.Free }
         ensures busy { has_transfer self.new.connection ≡ true → has_transfer self.old.connection ≡ true }
         ensures access { self.new.access ≡ self.old.access }
@@ -86,7 +89,7 @@ impl<A: Allocator + Copy, T: Tree<A>, J: ServerTransfer<A, T>> Session<A, T, J> 
             };
         }
         let given = match &mut self.connection {
-            ServerLink::Transferring(transfer) => transfer.give(&self.tree, &self.root, room),
+            ServerLink::Transferring(transfer) => transfer.give(&mut self.tree, room),
             _ => Given {
                 count: 0,
                 lost: false,
@@ -109,7 +112,7 @@ impl<A: Allocator + Copy, T: Tree<A>, J: ServerTransfer<A, T>> Session<A, T, J> 
         let ServerLink::Transferring(transfer) = &self.connection else {
             return false;
         };
-        if !transfer.is_given_out(&self.tree, &self.root) {
+        if !transfer.is_given_out() {
             return false;
         }
         self.forget();

@@ -80,7 +80,7 @@ impl<A: Allocator + Copy, T: Tree<A>, J: ServerTransfer<A, T>> Session<A, T, J> 
 
     /// Whether a transfer is under way, or a port was asked for.
     pub fn is_busy(&self) -> bool
-        ensures busy { result ≡ is_connection_busy (connection_of (J.view (under (T.table self.now.tree) self.now.root)) self.now.connection) }
+        ensures busy { result ≡ is_connection_busy (connection_of J.view self.now.connection) }
         ensures idle { result ≡ false → has_transfer self.now.connection ≡ false }
     {
         match &self.connection {

@@ -1,17 +1,17 @@
 // RETR, STOR, APPE, LIST, NLST and MLSD (RFC 959, section 4.1.3; RFC 3659, section 7).
-ghost use Rattle.std.specs.Prelude.{◌≡◌, ◌<◌, ◌≤◌, ◌^◌, false, if◌then◌else◌, length, true};
+ghost use Rattle.std.specs.Prelude.{◌≡◌, IfErr, IfOk, OnOk, false, if◌then◌else◌, true};
 ghost use Rattle.ftp_operation.specs.Rights.{may_put};
 ghost use Rattle.ftp_command.specs.Line.{IfGiven};
-ghost use Rattle.ftp_direct.specs.Direct.{refused_room};
 ghost use Rattle.ftp_direct.specs.Refusal.{listing_refusal, name_refusal};
 ghost use Rattle.ftp_wire.specs.Decoder.{no_octets};
 ghost use Rattle.ftp_path.specs.Path.{IsPathText, fits};
+ghost use Rattle.ftp_server_parts.specs.Fault.{Counted};
 ghost use Rattle.ftp_server_model.specs.Endpoint.{forgotten};
 ghost use Rattle.ftp_server_model.specs.Replies.{tells};
-ghost use Rattle.ftp_server_model.specs.Transfer.{appe, begin, list, mlsd, nlst, place_of, retr, stor, transfer_starts};
+ghost use Rattle.ftp_server_model.specs.Transfer.{appe, begin, list, mlsd, nlst, place_of, refused_to_hold, retr, stor, transfer_starts};
 ghost use Rattle.ftp_server_model.specs.Walk.{refusal_text};
 ghost use Rattle.ftp_server_model.specs.declared.session.Transfer.TheVariants as Transfers;
-ghost use Rattle.ftp_tree.specs.Tree.{octets_or_none, room_refusal, under};
+ghost use Rattle.ftp_tree.specs.Tree.{room_refusal, under};
 
 use crate::session::Session;
 use ftp_command::Argument;
@@ -38,15 +38,13 @@ impl<A: Allocator + Copy, T: Tree<A>, J: ServerTransfer<A, T>> Session<A, T, J> 
         let Ok(found) = self.find_file(text) else {
             return Err(Fault::Memory);
         };
-        let Some(mut path) = found else {
+        let Some(path) = found else {
             return Ok(self.not_begun(FixedReply::Refused));
         };
-        let Some(place) = self.place_of(pending, &path) else {
+        let Some(place) = self.place_of(pending, &path)? else {
             return Ok(self.not_begun(FixedReply::Refused));
         };
-        let Ok(download) = J::download(self.alloc, &mut path, place, self.settings) else {
-            return Err(Fault::Memory);
-        };
+        let download = J::download(&mut self.tree, &self.root, &path, place, self.settings)?;
         Ok(self.begin(download))
     }
 
@@ -70,14 +68,10 @@ impl<A: Allocator + Copy, T: Tree<A>, J: ServerTransfer<A, T>> Session<A, T, J> 
         if !may_put_at(&self.tree, &self.root, &path, self.rights) {
             return Ok(self.not_begun(FixedReply::NotAllowed));
         }
-        let Some(place) = self.place_of(pending, &path) else {
+        let Some(place) = self.place_of(pending, &path)? else {
             return Ok(self.not_begun(FixedReply::NameRefused));
         };
-        let refusal = self.room_fault(&path);
-        let Ok(upload) = J::upload(self.alloc, &mut path, place, self.settings) else {
-            return Err(Fault::Memory);
-        };
-        Ok(self.hold(refusal, upload))
+        self.hold(&mut path, place)
     }
 
     /// APPE: a REST before it is of no matter.
@@ -97,11 +91,7 @@ impl<A: Allocator + Copy, T: Tree<A>, J: ServerTransfer<A, T>> Session<A, T, J> 
             return Ok(self.not_begun(FixedReply::NotAllowed));
         }
         let keep = len_at(&self.tree, &self.root, &path);
-        let refusal = self.room_fault(&path);
-        let Ok(upload) = J::upload(self.alloc, &mut path, keep, self.settings) else {
-            return Err(Fault::Memory);
-        };
-        Ok(self.hold(refusal, upload))
+        self.hold(&mut path, keep)
     }
 
     /// LIST.
@@ -188,20 +178,23 @@ impl<A: Allocator + Copy, T: Tree<A>, J: ServerTransfer<A, T>> Session<A, T, J> 
     }
 
     /// The place in the file at a path where a transfer begins, or `None` where the offset of the REST before it leads to none.
-    fn place_of(&self, pending: &Pending<Path<A>>, path: &Path<A>) -> Option<u64>
-        ensures place { result ≡ place_of pending.now path.now (session_of T.table J.view self.now) }
-        ensures counted { length (octets_or_none (under (T.table self.now.tree) self.now.root) path.now) < 2 ^ 64 }
+    fn place_of(
+        &mut self,
+        pending: &Pending<Path<A>>,
+        path: &Path<A>,
+    ) -> Result<Option<u64>, Fault>
+        ensures place { IfOk result (λ place. place ≡ place_of pending.now path.now (session_of T.table J.view self.old)) }
+        ensures same { session_of T.table J.view self.new ≡ session_of T.table J.view self.old }
+        ensures steady { OnOk result (T.failures self.new.tree ≡ T.failures self.old.tree) }
+        ensures failed { IfErr result (λ fault. Counted fault (T.failures self.old.tree) (T.failures self.new.tree)) }
     {
-        let _octets = len_at(&self.tree, &self.root, path);
-        match pending {
-            Pending::Restart(offset) => place_at(
-                &self.tree,
-                &self.root,
-                path,
-                self.settings.kind,
-                *offset,
-            ),
-            Pending::Nothing | Pending::Rename(_) => Some(0),
+        let Pending::Restart(offset) = pending else {
+            return Ok(Some(0));
+        };
+        let kind = self.settings.kind;
+        match place_at(&mut self.tree, &self.root, path, kind, *offset) {
+            Ok(place) => Ok(place),
+            Err(fault) => Err(lost(fault)),
         }
     }
 
@@ -226,22 +219,29 @@ impl<A: Allocator + Copy, T: Tree<A>, J: ServerTransfer<A, T>> Session<A, T, J> 
         }
     }
 
-    /// An upload begins, if the tree takes a file where it goes.
-    fn hold(&mut self, refusal: Option<TreeFault>, upload: J) -> ReplyKind<Path<A>>
-        ensures turn { let s = session_of T.table J.view self.old in
-            (session_of T.table J.view self.new, result) ≡ transfer_starts (refused_room refusal) (J.view (under (T.table self.old.tree) self.old.root) upload) s }
-        ensures tree { self.new.tree ≡ self.old.tree }
+    /// An upload begins, after so many octets of the file at a path, if the tree takes a file there.
+    fn hold(&mut self, path: &mut Path<A>, keep: u64) -> Result<ReplyKind<Path<A>>, Fault>
+        requires fit { fits path.old ≡ true }
+        ensures { Turns T.table T.failures J.view (λ s. transfer_starts (refused_to_hold s path.old) (Transfers.Upload path.old keep (no_octets s.settings)) s) self.old self.new result }
     {
-        match refusal {
-            Some(fault) => self.not_begun(room_text(fault)),
-            None => self.begin(upload),
+        if let Some(fault) = self.room_fault(path) {
+            return Ok(self.not_begun(room_text(fault)));
         }
+        let upload = J::upload(
+            self.alloc,
+            &mut self.tree,
+            &self.root,
+            path,
+            keep,
+            self.settings,
+        )?;
+        Ok(self.begin(upload))
     }
 
     /// A transfer begins, where there is an endpoint for it.
     fn begin(&mut self, transfer: J) -> ReplyKind<Path<A>>
         ensures turn { let s = session_of T.table J.view self.old in
-            (session_of T.table J.view self.new, result) ≡ begin s.connection (J.view (under (T.table self.old.tree) self.old.root) transfer) s }
+            (session_of T.table J.view self.new, result) ≡ begin s.connection (J.view transfer) s }
         ensures tree { self.new.tree ≡ self.old.tree }
     {
         self.connection = match self.connection {
@@ -263,6 +263,17 @@ impl<A: Allocator + Copy, T: Tree<A>, J: ServerTransfer<A, T>> Session<A, T, J> 
     {
         self.forget();
         ReplyKind::Fixed(text)
+    }
+}
+
+/// What a refused reading makes of a command: want of memory, or a failed device.
+pub(crate) fn lost(fault: TreeFault) -> Fault
+    ensures memory { fault ≡ TreeFault.Memory → result ≡ Fault.Memory }
+    ensures device { fault ≡ TreeFault.Device → result ≡ Fault.Device }
+{
+    match fault {
+        TreeFault::Device => Fault::Device,
+        _ => Fault::Memory,
     }
 }
 

@@ -10,5 +10,5 @@ returns-clause-ends g c =
     let table = g.T.Tree.table in
     let view = g.J.ServerTransfer.view in
     let s = c.args.session.now in
-    concludes table view s c.at_end.new.tree (at_end c.args.moment.seconds (view (under (table s.tree) s.root) c.args.transfer) (session_of table view s))
+    concludes table view s c.at_end.new.tree (at_end c.args.moment.seconds (view c.args.transfer) (session_of table view s))
     c.at_end.result _ _ c.requires.idle (c.at_end.ensures.ends (session_of table view s) refl refl)
