@@ -58,7 +58,7 @@ where
 
 /// Plays a script with a server of its own, over an empty tree, where `guest` and `anonymous` may log in.
 fn play_script<R: Joins + Print>(rt: &R, script: Script<Global>) -> io::Result<Status> {
-    play_by::<R, TreeTransfer<Global>, OperationTransfer<Global>>(rt, script)
+    play_by::<R, TreeTransfer<Global, MemTree<Global>>, OperationTransfer<Global>>(rt, script)
 }
 
 /// The same by ends with such transfers, which are parameters, since named ones cost the proof more.

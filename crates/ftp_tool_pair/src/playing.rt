@@ -102,7 +102,9 @@ fn play_script<A: Allocator + Copy, W: Write>(
 {
     let Script { login, orders } = script;
     let of = beginning_of(alloc, login, settings.roots)?;
-    play_from::<A, OperationTransfer<A>, TreeTransfer<A>, W>(alloc, settings, of, orders, writer)
+    play_from::<A, OperationTransfer<A>, TreeTransfer<A, MemTree<A>>, W>(
+        alloc, settings, of, orders, writer,
+    )
 }
 
 /// Plays orders from a beginning, by ends with such transfers; these are parameters, since named ones cost the proof more.

@@ -73,7 +73,7 @@ where
     T: Tree<Global> + Explains,
 {
     match ends_of(stream) {
-        Ok((reached, peer)) => session_between::<R, T, TreeTransfer<Global>>(
+        Ok((reached, peer)) => session_between::<R, T, TreeTransfer<Global, T>>(
             rt,
             tree,
             accounts,

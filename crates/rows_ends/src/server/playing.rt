@@ -62,7 +62,7 @@ fn plant<A: Allocator + Copy>(
 ) {
     let mut tree = MemTree::new(heaps.server);
     if plants(turn, heaps.server, &mut tree) {
-        serve::<A, TreeTransfer<A>>(heaps, tree, accounts, turn, desk);
+        serve::<A, TreeTransfer<A, MemTree<A>>>(heaps, tree, accounts, turn, desk);
     } else {
         drop(tree);
         drop(accounts);

@@ -45,7 +45,7 @@ pub fn login_line(row: &[u8]) -> &[u8] {
 
 fn enter<A: Allocator + Copy>(heap: A, login: Login<A>, row: &[u8], desk: &mut Desk) {
     match beginning_of(heap, login, false) {
-        Ok(of) => begin::<A, MemTree<A>, OperationTransfer<A>, TreeTransfer<A>>(
+        Ok(of) => begin::<A, MemTree<A>, OperationTransfer<A>, TreeTransfer<A, MemTree<A>>>(
             heap, of, row, desk,
         ),
         Err(_) => desk.paper.line(NO_WORLD),
