@@ -11,13 +11,12 @@ use Rattle.std.specs.FinMap as fin
 use Rattle.std.specs.FinMap.{is_sorted}
 use Rattle.std.specs.FinMap.Entries.{find, put, below_all, by_order}
 use Rattle.std.proofs.lemmas.Bool.{and_parts, cases_lt, true≢false}
-use Rattle.std.specs.Option.{option_map}
-use Rattle.ftp_tree.specs.Tree.{Table, node_at, shown_of}
+use Rattle.ftp_tree.specs.Tree.{Table}
 use Rattle.std.proofs.Common.{Box}
 use Rattle.std.proofs.lemmas.List.{length-map, map-append, map-set, take_more, take-append-drop}
 use Rattle.std.proofs.Math.Seq.{drop-cons}
 use Rattle.ftp_tree.specs.declared.node.Child.{Child}
-use Rattle.ftp_tree.specs.Branch.{Part, found, part, parts, name_cmp, StandsAt, HasGap}
+use Rattle.ftp_tree.specs.Branch.{Part, part, parts, name_cmp, StandsAt, HasGap}
 use Rattle.ftp_tree.proofs.BranchLemmas.{name_total, name_same, but}
 
 pub after-before : (a b : List ℕ) → name_cmp a b ≡ Less → name_cmp b a ≡ Greater
@@ -181,13 +180,6 @@ module _ {A : Type 0} where
   find-child es q at x there stands within =
       find-stands (parts es) q at ([], fin.empty) stands ∙ ap (λ (p : Part). Some p.1) (part-or es at x ([], fin.empty) within ∙ ap part (sym there))
 
-  -- what stands by the name of the child at a place is its node
-  pub find-at : (es : List (Box (Child A) A)) (place : ℕ) (x : Box (Child A) A) → is_sorted name_cmp (parts es) ≡ true → x ≡ get_or es place x → place < length es → find name_cmp x.value.name (parts es) ≡ Some x.value.node
-  find-at es place x sorted there within =
-      let inside : place < length (parts es) = subst (λ n. place < n) (sym (parts-length es)) within in
-      let tied = ap (λ (p : Part). name_cmp p.0 x.value.name) (part-or es place x ([], fin.empty) within ∙ ap part (sym there)) ∙ tied_itself name_total x.value.name in
-      find-child es x.value.name place x there (stands-here (parts es) x.value.name sorted place inside tied) within
-
   pub child-name : (es : List (Box (Child A) A)) (q : List ℕ) (at : ℕ) (x : Box (Child A) A) → x ≡ get_or es at x → StandsAt (parts es) q at → x.value.name ≡ q
   child-name [] q at x there stands = absurd stands
   child-name (e ∷ es) q zero x there stands = ap (λ (b : Box (Child A) A). b.value.name) there ∙ stands
@@ -224,22 +216,6 @@ module _ {A : Type 0} where
       (ap (λ (b : Box (Child A) A). is_name b.value.name) there ∙ both.0, ap (λ (b : Box (Child A) A). Some b.value.name) (sym there))
   name-get (e ∷ es) (suc place) x within there named =
       name-get es place x (omega arith) there (and_parts (is_name e.value.name) (list_all (λ p. is_name p.0) (parts es)) named).1
-
-  within-names : (es : List (Box (Child A) A)) (place : ℕ) (name : List ℕ) → Some name ≡ slice_get (map (λ (p : Part). p.0) (parts es)) place → place < length es
-  within-names [] place name is = cc
-  within-names (e ∷ es) zero name is = omega arith
-  within-names (e ∷ es) (suc place) name is = let less = within-names es place name is in omega arith
-
-  -- what a directory shows of the child whose name comes at a place
-  pub shown-at : (es : List (Box (Child A) A)) (place : ℕ) (x : Box (Child A) A) (name : List ℕ) (shown : Option (Option (ℕ × ℕ))) → is_sorted name_cmp (parts es) ≡ true → list_all (λ p. is_name p.0) (parts es) ≡ true → x ≡ get_or es place x
-      → Some name ≡ slice_get (map (λ (p : Part). p.0) (parts es)) place → option_map shown_of (node_at x.value.node []) ≡ shown → option_map shown_of (node_at (found (find name_cmp name (parts es))) []) ≡ shown
-  shown-at es place x name shown sorted named there is shows =
-      let within = within-names es place name is in
-      let same : name ≡ x.value.name = some-same name x.value.name (is ∙ (name-get es place x within there named).1) in
-      ap (λ n. option_map shown_of (node_at (found (find name_cmp n (parts es))) [])) same ∙ ap (λ t. option_map shown_of (node_at (found t) [])) (find-at es place x sorted there within) ∙ shows
-    where
-      some-same : (a b : List ℕ) → Some a ≡ Some b → a ≡ b
-      some-same a b e = cc
 
   -- the child of a name, changed where it stands
   pub record IsChanged (items new_items : List (Box (Child A) A)) (n : List ℕ) (old new : Table) : Type 0 where

@@ -1,16 +1,19 @@
 -- What a directory shows, from its parts.
-use Rattle.std.proofs.Common.{ℕ, ◌≡◌, ◌&&◌, true, cond, Option, Some, List, [], ◌∷◌, refl, sym, ap, ◌∙◌}
+use Rattle.std.proofs.Common.{ℕ, ◌≡◌, ◌&&◌, true, cond, Option, Some, List, [], ◌∷◌, ◌++◌, refl, sym, ap, ◌∙◌}
 use Rattle.std.specs.Prelude.{map}
 use Rattle.std.specs.Cmp.{tied_itself}
+use Rattle.std.specs.FinMap as fin
 use Rattle.std.specs.FinMap.{is_sorted}
 use Rattle.std.specs.FinMap.Entries.{find, below_all}
-use Rattle.std.specs.Option.{option_map}
 use Rattle.std.specs.Ordering.{is_eq, is_lt}
 use Rattle.std.proofs.lemmas.Bool.{and_parts}
-use Rattle.ftp_tree.specs.Tree.{Node, Table, entries_at, node_at, of_node, shown_of}
+use Rattle.ftp_path.specs.Path.{Names}
+use Rattle.ftp_tree.specs.Tree.{Node, Table, children, entries_at, node_at, of_node, shown_of, under}
 use Rattle.ftp_tree.specs.Branch.{IsDirectory, Part, file_alone, found, name_cmp, parts_table}
 use Rattle.ftp_tree.specs.Entries.{shown_part}
 use Rattle.ftp_tree.proofs.BranchLemmas.{at-name, file-names, name_total, names-top}
+use Rattle.ftp_tree.proofs.LawLemmas.{under-stands}
+use Rattle.ftp_tree.proofs.LeafLemmas.{names-here, none-named}
 use Rattle.ftp_tree.proofs.NameLemmas.{after-before, less-from}
 
 module _ (shown : Option Table → Option (ℕ × ℕ)) where
@@ -55,3 +58,15 @@ entries-top ps nodes octets here =
 pub entries-file : (octets : List ℕ) (moment : ℕ) → entries_at (file_alone octets moment) [] ≡ []
 unfolding entries_at
 entries-file octets moment = ap (map (shown_by (file_alone octets moment))) (file-names octets moment)
+
+-- what the directory at a path shows is what the part below it shows at its top
+pub entries-here : (part : Table) (path : Names) → entries_at (under part path) [] ≡ entries_at part path
+unfolding entries_at
+entries-here part path =
+    ap (map (shown_by (under part path))) (names-here part path)
+    ∙ (λ i. map (λ name. shown_with name (under-stands part path (name ∷ []) i)) (children part path))
+
+-- where nothing stands, nothing is shown
+pub entries-none : (path : Names) → entries_at fin.empty path ≡ []
+unfolding entries_at
+entries-none path = ap (map (λ name. shown_with name (node_at fin.empty (path ++ name ∷ [])))) (none-named path)

@@ -62,11 +62,7 @@ impl<A: Allocator + Copy> DirEntries<A> {
     }
 
     /// Puts an entry behind those that it has.
-    pub(crate) fn push(
-        &mut self,
-        name: Label<A>,
-        file: Option<FileFacts>,
-    ) -> Result<(), AllocError>
+    pub(crate) fn push(&mut self, name: Label<A>, file: Option<FileFacts>) -> Result<(), AllocError>
         requires { IsTrue (is_name name) }
         ensures { OnOk result (self.new ≡ self.old ++ (name, shown_file file) ∷ []) }
     {
