@@ -1,6 +1,5 @@
 // The octets of a file that is not installed yet.
 ghost use Rattle.std.specs.Prelude.{◌≡◌, ◌≤◌, ◌<◌, ◌+◌, ◌^◌, ◌++◌, [], None, IfErr, IfOk, OnErr, OnOk, drop, length, take, unwrap_or};
-ghost use Rattle.ftp_tree.specs.Kept.{octets_of};
 ghost use Rattle.ftp_tree.specs.Tree.{front_refusal, octets_or_none, under};
 
 use crate::draft::Draft;

@@ -1,4 +1,4 @@
-use Rattle.std.proofs.Common.{◌++◌, ap, ◌∙◌, length, arith}
+use Rattle.std.proofs.Common.{◌++◌, ap, ◌∙◌, arith}
 use Rattle.ftp_tree.proofs.ContentLemmas.{filled-more}
 use Rattle.ftp_tree.proofs.content.Content.fill.Goals as goal
 
