@@ -2,7 +2,8 @@
 use Rattle.std.proofs.Common.{ℕ, ◌+◌, ◌≤◌, ◌≡◌, not, Option, Some, None, List, [], ◌++◌, length, take, drop, nat_le, refl, sym, ap, ◌∙◌, arith}
 use Rattle.std.specs.Option.{option_map, unwrap_or}
 use Rattle.std.proofs.lemmas.Bool.{leb-true}
-use Rattle.std.proofs.lemmas.List.{length-append, take-append-drop, take-take, drop-take}
+use Rattle.std.proofs.Math.Seq.{take-add}
+use Rattle.std.proofs.lemmas.List.{length-append, take-append-drop, take-take, drop-take, drop-drop}
 use Rattle.ftp_path.specs.Path.{Names}
 use Rattle.ftp_tree.specs.Tree.{Node, Dir, File, Table, node_at, kind_of, octets_of, of_node, octets_at, octets_or_none, whenever, front_answer, front_refusal}
 use Rattle.ftp_tree.specs.declared.fault.TreeFault.TheVariants.{Absent, WrongKind, BadOffset}
@@ -45,3 +46,8 @@ front-more octets content piece new at front here next push =
     push ∙ ap (λ l. l ++ piece) front ∙ ap (λ l. take k octets ++ l) (next ∙ ap (λ n. take m (drop n octets)) here)
     ∙ sym (ap (λ n. take n octets) whole ∙ sym (take-append-drop k (take (k + m) octets)) ∙ ap (λ l. l ++ drop k (take (k + m) octets)) (take-take k (k + m) octets le)
     ∙ ap (λ l. take k octets ++ l) (drop-take k m octets))
+
+-- what is read from a place on, and one more piece
+pub filled-more : (octets piece : List ℕ) (at done : ℕ) → piece ≡ take (length piece) (drop (at + done) octets) → take done (drop at octets) ++ piece ≡ take (done + length piece) (drop at octets)
+filled-more octets piece at done next =
+    ap (λ l. take done (drop at octets) ++ l) (next ∙ ap (take (length piece)) (sym (drop-drop done at octets))) ∙ sym (take-add done (length piece) (drop at octets))

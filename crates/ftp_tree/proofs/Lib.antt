@@ -12,6 +12,7 @@ pub mod OntoLemmas
 pub mod PartLemmas
 pub mod PlaceLemmas
 pub mod PlacingLemmas
+pub mod ShownLemmas
 pub mod SoundLemmas
 pub mod TableLemmas
 pub mod UnderLemmas

@@ -1,5 +1,5 @@
 -- Parts in the order of their names: where a name stands among them, and what a change there makes of them.
-use Rattle.std.proofs.Common.{ℕ, zero, suc, ◌+◌, ◌<◌, ◌≤◌, ◌≡◌, Bool, true, false, not, ◌&&◌, cond, Option, Some, None, inl, inr, List, [], ◌∷◌, ◌++◌, length, take, drop, get_or, set, refl, sym, ap, ◌∙◌, subst, arith}
+use Rattle.std.proofs.Common.{ℕ, zero, suc, ◌+◌, ◌<◌, ◌≤◌, ◌≡◌, Bool, true, false, not, ◌&&◌, cond, Some, None, inl, inr, List, [], ◌∷◌, ◌++◌, length, take, drop, get_or, set, refl, sym, ap, ◌∙◌, subst, arith}
 use Rattle.std.specs.Prelude.{map}
 use Rattle.std.specs.List.{insert, list_all, remove, slice_get, take-map, drop-map}
 use Rattle.ftp_path.specs.Path.{is_name}
@@ -11,13 +11,12 @@ use Rattle.std.specs.FinMap as fin
 use Rattle.std.specs.FinMap.{is_sorted}
 use Rattle.std.specs.FinMap.Entries.{find, put, below_all, by_order}
 use Rattle.std.proofs.lemmas.Bool.{and_parts, cases_lt, true≢false}
-use Rattle.std.specs.Option.{option_map}
-use Rattle.ftp_tree.specs.Tree.{Table, node_at, shown_of}
+use Rattle.ftp_tree.specs.Tree.{Table}
 use Rattle.std.proofs.Common.{Box}
 use Rattle.std.proofs.lemmas.List.{length-map, map-append, map-set, take_more, take-append-drop}
 use Rattle.std.proofs.Math.Seq.{drop-cons}
 use Rattle.ftp_tree.specs.declared.node.Child.{Child}
-use Rattle.ftp_tree.specs.Branch.{Part, found, part, parts, name_cmp, StandsAt, HasGap}
+use Rattle.ftp_tree.specs.Branch.{Part, part, parts, name_cmp, StandsAt, HasGap}
 use Rattle.ftp_tree.proofs.BranchLemmas.{name_total, name_same, but}
 
 pub after-before : (a b : List ℕ) → name_cmp a b ≡ Less → name_cmp b a ≡ Greater
@@ -171,7 +170,7 @@ module _ {A : Type 0} where
   part-or (e ∷ es) (suc i) x d within = part-or es i x d (omega arith)
 
   -- how the name of a child compares
-  pub compared : (es : List (Box (Child A) A)) (i : ℕ) (x : Box (Child A) A) (q names : List ℕ) (r s : Ordering) → i < length es → x ≡ get_or es i x → names ≡ x.value.name.items → r ≡ name_cmp names q → r ≡ s
+  pub compared : (es : List (Box (Child A) A)) (i : ℕ) (x : Box (Child A) A) (q names : List ℕ) (r s : Ordering) → i < length es → x ≡ get_or es i x → names ≡ x.value.name → r ≡ name_cmp names q → r ≡ s
       → name_cmp (get_or (parts es) i ([], fin.empty)).0 q ≡ s
   compared es i x q names r s within there named compares answer =
       ap (λ (p : Part). name_cmp p.0 q) (part-or es i x ([], fin.empty) within ∙ ap part (sym there)) ∙ ap (λ n. name_cmp n q) (sym named) ∙ sym compares ∙ answer
@@ -181,16 +180,9 @@ module _ {A : Type 0} where
   find-child es q at x there stands within =
       find-stands (parts es) q at ([], fin.empty) stands ∙ ap (λ (p : Part). Some p.1) (part-or es at x ([], fin.empty) within ∙ ap part (sym there))
 
-  -- what stands by the name of the child at a place is its node
-  pub find-at : (es : List (Box (Child A) A)) (place : ℕ) (x : Box (Child A) A) → is_sorted name_cmp (parts es) ≡ true → x ≡ get_or es place x → place < length es → find name_cmp x.value.name.items (parts es) ≡ Some x.value.node
-  find-at es place x sorted there within =
-      let inside : place < length (parts es) = subst (λ n. place < n) (sym (parts-length es)) within in
-      let tied = ap (λ (p : Part). name_cmp p.0 x.value.name.items) (part-or es place x ([], fin.empty) within ∙ ap part (sym there)) ∙ tied_itself name_total x.value.name.items in
-      find-child es x.value.name.items place x there (stands-here (parts es) x.value.name.items sorted place inside tied) within
-
-  pub child-name : (es : List (Box (Child A) A)) (q : List ℕ) (at : ℕ) (x : Box (Child A) A) → x ≡ get_or es at x → StandsAt (parts es) q at → x.value.name.items ≡ q
+  pub child-name : (es : List (Box (Child A) A)) (q : List ℕ) (at : ℕ) (x : Box (Child A) A) → x ≡ get_or es at x → StandsAt (parts es) q at → x.value.name ≡ q
   child-name [] q at x there stands = absurd stands
-  child-name (e ∷ es) q zero x there stands = ap (λ (b : Box (Child A) A). b.value.name.items) there ∙ stands
+  child-name (e ∷ es) q zero x there stands = ap (λ (b : Box (Child A) A). b.value.name) there ∙ stands
   child-name (e ∷ es) q (suc at) x there stands = child-name es q at x there stands.1
 
   parts-insert : (es : List (Box (Child A) A)) (at : ℕ) (e : Box (Child A) A) → parts (insert es at e) ≡ insert (parts es) at (part e)
@@ -204,11 +196,11 @@ module _ {A : Type 0} where
       ∙ ap (λ back. take at (parts es) ++ back) (sym (drop-map part (suc at) es))
 
   -- what an edit of children puts
-  pub put-child : (es gs : List (Box (Child A) A)) (q : List ℕ) (at : ℕ) (e : Box (Child A) A) → e.value.name.items ≡ q → StandsAt (parts es) q at → gs ≡ set es at e → parts gs ≡ put name_cmp q e.value.node (parts es)
+  pub put-child : (es gs : List (Box (Child A) A)) (q : List ℕ) (at : ℕ) (e : Box (Child A) A) → e.value.name ≡ q → StandsAt (parts es) q at → gs ≡ set es at e → parts gs ≡ put name_cmp q e.value.node (parts es)
   put-child es gs q at e named stands edit =
       ap parts edit ∙ map-set part es at e ∙ ap (λ (n : List ℕ). set (parts es) at (n, e.value.node)) named ∙ sym (put-stands (parts es) q e.value.node at stands)
 
-  pub new-child : (es gs : List (Box (Child A) A)) (q : List ℕ) (at : ℕ) (e : Box (Child A) A) → e.value.name.items ≡ q → HasGap (parts es) q at → gs ≡ insert es at e → parts gs ≡ put name_cmp q e.value.node (parts es)
+  pub new-child : (es gs : List (Box (Child A) A)) (q : List ℕ) (at : ℕ) (e : Box (Child A) A) → e.value.name ≡ q → HasGap (parts es) q at → gs ≡ insert es at e → parts gs ≡ put name_cmp q e.value.node (parts es)
   new-child es gs q at e named gap edit =
       ap parts edit ∙ parts-insert es at e ∙ ap (λ (n : List ℕ). insert (parts es) at (n, e.value.node)) named ∙ sym (put-gap (parts es) q e.value.node at gap)
 
@@ -217,29 +209,13 @@ module _ {A : Type 0} where
 
   -- the name of the child at a place
   pub name-get : (es : List (Box (Child A) A)) (place : ℕ) (x : Box (Child A) A) → place < length es → x ≡ get_or es place x → list_all (λ p. is_name p.0) (parts es) ≡ true
-      → (is_name x.value.name.items ≡ true) × (slice_get (map (λ (p : Part). p.0) (parts es)) place ≡ Some x.value.name.items)
+      → (is_name x.value.name ≡ true) × (slice_get (map (λ (p : Part). p.0) (parts es)) place ≡ Some x.value.name)
   name-get [] place x within there named = absurd (omega arith)
   name-get (e ∷ es) zero x within there named =
-      let both = and_parts (is_name e.value.name.items) (list_all (λ p. is_name p.0) (parts es)) named in
-      (ap (λ (b : Box (Child A) A). is_name b.value.name.items) there ∙ both.0, ap (λ (b : Box (Child A) A). Some b.value.name.items) (sym there))
+      let both = and_parts (is_name e.value.name) (list_all (λ p. is_name p.0) (parts es)) named in
+      (ap (λ (b : Box (Child A) A). is_name b.value.name) there ∙ both.0, ap (λ (b : Box (Child A) A). Some b.value.name) (sym there))
   name-get (e ∷ es) (suc place) x within there named =
-      name-get es place x (omega arith) there (and_parts (is_name e.value.name.items) (list_all (λ p. is_name p.0) (parts es)) named).1
-
-  within-names : (es : List (Box (Child A) A)) (place : ℕ) (name : List ℕ) → Some name ≡ slice_get (map (λ (p : Part). p.0) (parts es)) place → place < length es
-  within-names [] place name is = cc
-  within-names (e ∷ es) zero name is = omega arith
-  within-names (e ∷ es) (suc place) name is = let less = within-names es place name is in omega arith
-
-  -- what a directory shows of the child whose name comes at a place
-  pub shown-at : (es : List (Box (Child A) A)) (place : ℕ) (x : Box (Child A) A) (name : List ℕ) (shown : Option (Option (ℕ × ℕ))) → is_sorted name_cmp (parts es) ≡ true → list_all (λ p. is_name p.0) (parts es) ≡ true → x ≡ get_or es place x
-      → Some name ≡ slice_get (map (λ (p : Part). p.0) (parts es)) place → option_map shown_of (node_at x.value.node []) ≡ shown → option_map shown_of (node_at (found (find name_cmp name (parts es))) []) ≡ shown
-  shown-at es place x name shown sorted named there is shows =
-      let within = within-names es place name is in
-      let same : name ≡ x.value.name.items = some-same name x.value.name.items (is ∙ (name-get es place x within there named).1) in
-      ap (λ n. option_map shown_of (node_at (found (find name_cmp n (parts es))) [])) same ∙ ap (λ t. option_map shown_of (node_at (found t) [])) (find-at es place x sorted there within) ∙ shows
-    where
-      some-same : (a b : List ℕ) → Some a ≡ Some b → a ≡ b
-      some-same a b e = cc
+      name-get es place x (omega arith) there (and_parts (is_name e.value.name) (list_all (λ p. is_name p.0) (parts es)) named).1
 
   -- the child of a name, changed where it stands
   pub record IsChanged (items new_items : List (Box (Child A) A)) (n : List ℕ) (old new : Table) : Type 0 where
@@ -253,7 +229,7 @@ module _ {A : Type 0} where
       let within_here : at < length items = subst (λ l. at < length l) same within in
       record {
         there = find-child items n at x there stands_here within_here ∙ ap (λ c. Some c.node) (sym inside);
-        is = put-child items (set items at new) n at new (ap (λ v. v.items) named ∙ ap (λ c. c.name.items) inside ∙ child-name items n at x there stands_here) stands_here refl;
+        is = put-child items (set items at new) n at new (named ∙ ap (λ c. c.name) inside ∙ child-name items n at x there stands_here) stands_here refl;
       }
 
   -- a test of each part, at a child

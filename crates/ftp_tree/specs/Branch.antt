@@ -39,7 +39,7 @@ abbrev pub file_alone : List ℕ → ℕ → Table
 file_alone octets moment = fin.insert fin.empty [] (File octets moment)
 
 abbrev pub part : {A : Type 0} → Box (Child A) A → Part
-part child = (child.value.name.items, child.value.node)
+part child = (child.value.name, child.value.node)
 
 abbrev pub parts : {A : Type 0} → List (Box (Child A) A) → List Part
 parts = map part

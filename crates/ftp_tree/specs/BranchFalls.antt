@@ -28,8 +28,8 @@ module _ (A : Type 0) (laws : Ghosts A) where
   most-le (x ∷ items) =
       let rest = most-le items in
       let part = fin.len-entries x.value.node in
-      let rows : length (behind (x.value.name.items, x.value.node)) ≡ length (fin.entries x.value.node) = length-map (fin.entries x.value.node) (λ entry. (x.value.name.items ∷ entry.0, entry.1)) in
-      let whole = length-append (behind (x.value.name.items, x.value.node)) (part_rows (parts items)) in
+      let rows : length (behind (x.value.name, x.value.node)) ≡ length (fin.entries x.value.node) = length-map (fin.entries x.value.node) (λ entry. (x.value.name ∷ entry.0, entry.1)) in
+      let whole = length-append (behind (x.value.name, x.value.node)) (part_rows (parts items)) in
       omega arith
 
 pub falls : (A : Type 0) (laws : Ghosts A) (kept : Branch A) → IsBranch kept → max (deep-Branch A laws kept) 0 ≤ fin.len (branch_table kept)

@@ -1,7 +1,9 @@
 pub mod Branch
 pub mod BranchFalls
 pub mod Change
+pub mod Entries
 pub mod Folder
+pub mod Kept
 pub mod Laws
 pub mod Sound
 pub mod Store

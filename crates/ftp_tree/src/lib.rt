@@ -8,6 +8,8 @@ mod draft;
 mod entries;
 mod fault;
 mod held;
+mod kept;
+mod label;
 pub mod laws;
 mod memory;
 mod mirror;

@@ -8,15 +8,18 @@ ghost use Rattle.std.specs.Option.{option_map};
 ghost use Rattle.ftp_path.specs.Kept.{names_of};
 ghost use Rattle.ftp_path.specs.Path.{is_name};
 ghost use Rattle.ftp_tree.specs.Branch.{HasGap, StandsAt, file_alone, found, is_within_room, name_cmp, parts};
+ghost use Rattle.ftp_tree.specs.Entries.{shown_file, shown_part};
 ghost use Rattle.ftp_tree.specs.Store.{IsPlace, standing_node};
-ghost use Rattle.ftp_tree.specs.Tree.{children, node_at, octets_in, root_alone, shown_of, under, with_part};
+ghost use Rattle.ftp_tree.specs.Tree.{children, entries_at, node_at, octets_in, of_node, root_alone, shown_of, under, with_part};
 
 use crate::content::Content;
+use crate::entries::DirEntries;
+use crate::label::Label;
 use crate::place::first_name;
-use crate::tree::{DirEntry, FileFacts};
+use crate::tree::FileFacts;
 use ftp_facts::Moment;
 use ftp_path::Name;
-use std::alloc::Allocator;
+use std::alloc::{AllocError, Allocator};
 use std::cmp::Ordering;
 use std::marker::Model;
 
@@ -59,7 +62,7 @@ enum Branch<A: Allocator + Copy> {
 #[cycle(node)]
 #[derive(Drop)]
 struct Child<A: Allocator + Copy> {
-    name: Vec<u8, A>,
+    name: Label<A>,
     node: Node<A>,
 }
 
@@ -183,20 +186,19 @@ impl<A: Allocator + Copy> Node<A> {
         }
     }
 
-    /// The same name, and what stands there.
-    pub(crate) fn nth_entry(&self, place: usize) -> Option<DirEntry<'_>>
-        ensures name { option_map (λ entry. entry.name.octets.now) result ≡ slice_get (children self.now []) place }
-        ensures file { IfSome result (λ entry. option_map shown_of (node_at self.now (entry.name.octets.now ∷ [])) ≡ Some (option_map (λ file. (file.size, file.moment.seconds)) entry.file)) }
+    /// What a directory here shows, as it is now; memory for all of it is had at once. A file shows nothing.
+    pub(crate) fn entries(&self, alloc: A) -> Result<DirEntries<A>, AllocError>
+        ensures { IfOk result (λ entries. entries ≡ entries_at self.now []) }
     {
         match &self.kept {
-            Branch::File { .. } => None,
-            Branch::Dir { children, .. } => entry_at(children.as_slice(), place),
+            Branch::File { .. } => Ok(DirEntries::new(alloc)),
+            Branch::Dir { children, .. } => entries_of(alloc, children.as_slice()),
         }
     }
 
     /// What a directory shows of what stands here.
     fn shown(&self) -> Option<FileFacts>
-        ensures { option_map shown_of (node_at self.now []) ≡ Some (option_map (λ file. (file.size, file.moment.seconds)) result) }
+        ensures { shown_file result ≡ of_node shown_of (node_at self.now []) }
     {
         match self.standing() {
             Standing::File(content, moment) => Some(FileFacts {
@@ -352,7 +354,7 @@ fn put_new<A: Allocator + Copy>(
     if !rest.is_empty() {
         return Err(node);
     }
-    let Ok(name) = Vec::from_slice(alloc, name) else {
+    let Ok(name) = Label::new(alloc, name) else {
         return Err(node);
     };
     let child = match Box::new(alloc, Child { name, node }) {
@@ -385,23 +387,19 @@ fn name_at<A: Allocator + Copy>(children: &[Box<Child<A>, A>], place: usize) -> 
     Name::new(children[place].name.as_slice())
 }
 
-/// The name of a child, and what stands there.
-fn entry_at<A: Allocator + Copy>(
+/// What a directory of some children shows.
+fn entries_of<A: Allocator + Copy>(
+    alloc: A,
     children: &[Box<Child<A>, A>],
-    place: usize,
-) -> Option<DirEntry<'_>>
-    requires named { IsTrue (list_all (λ part. is_name part.0) (parts children.now)) }
-    requires sorted { IsTrue (is_sorted name_cmp (parts children.now)) }
-    ensures name { option_map (λ entry. entry.name.octets.now) result ≡ slice_get (map (λ part. part.0) (parts children.now)) place }
-    ensures file { IfSome result (λ entry. option_map shown_of (node_at (found (looked_up name_cmp entry.name.octets.now (parts children.now))) []) ≡ Some (option_map (λ file. (file.size, file.moment.seconds)) entry.file)) }
+) -> Result<DirEntries<A>, AllocError>
+    requires { IsTrue (list_all (λ part. is_name part.0) (parts children.now)) }
+    ensures { IfOk result (λ entries. entries ≡ map shown_part (parts children.now)) }
 {
-    let Some(name) = name_at(children, place) else {
-        return None;
-    };
-    Some(DirEntry {
-        name,
-        file: children[place].node.shown(),
-    })
+    let mut entries = DirEntries::with_capacity(alloc, children.len())?;
+    for child in children {
+        entries.push(child.name.share()?, child.node.shown())?;
+    }
+    Ok(entries)
 }
 
 /// What stands by a name among children.

@@ -8,7 +8,7 @@ use Rattle.ftp_tree.proofs.node.put_new.Goals as goal
 pub returns-in-Ok-insert-clause-ok : goal.returns-in-Ok-insert-clause-ok
 returns-in-Ok-insert-clause-ok g c =
     let none : length c.args.rest.now ≡ 0 = grind (arith, common_steps) in
-    let named = ap (λ x. x.name.items) c.in-Ok-new.ensures.ok ∙ c.in-Ok.ensures.items in (
+    let named = ap (λ x. x.name) c.in-Ok-new.ensures.ok ∙ c.in-Ok.ensures in (
       new-child c.args.children.now.items c.insert.new.self.items c.args.name.now c.args.at c.in-Ok-new.child named c.requires.gap c.in-Ok-insert.ensures.items
           ∙ ap (λ x. put name_cmp c.args.name.now x.node (parts c.args.children.now.items)) c.in-Ok-new.ensures.ok,
       none,

@@ -14,7 +14,7 @@ loop-low-preserved-in-Less g c =
       upright = omega arith;
       inside = c.loop-low.invariant.inside;
       before = more-before (parts es) c.args.name.now c.requires middle inside
-          (compared es middle c.index-children-middle.result _ _ _ _ within c.index-children-middle.is (c.as_slice.ensures.value ∙ ap (λ x. x.name.items) c.deref.ensures) c.name_order.ensures c.in-Less.is);
+          (compared es middle c.index-children-middle.result _ _ _ _ within c.index-children-middle.is (c.as_slice.ensures ∙ ap (λ x. x.name) c.deref.ensures) c.name_order.ensures c.in-Less.is);
       behind = c.loop-low.invariant.behind;
     }
 
@@ -26,7 +26,7 @@ returns-in-Equal-clause-there g c =
     let within : middle < length es = omega arith in
     let inside : middle < length (parts es) = omega arith in
     stands-here (parts es) c.args.name.now c.requires middle inside
-    (compared es middle c.index-children-middle.result _ _ _ _ within c.index-children-middle.is (c.as_slice.ensures.value ∙ ap (λ x. x.name.items) c.deref.ensures) c.name_order.ensures c.in-Equal.is)
+    (compared es middle c.index-children-middle.result _ _ _ _ within c.index-children-middle.is (c.as_slice.ensures ∙ ap (λ x. x.name) c.deref.ensures) c.name_order.ensures c.in-Equal.is)
 
 pub loop-low-preserved : goal.loop-low-preserved
 loop-low-preserved g c =
@@ -40,7 +40,7 @@ loop-low-preserved g c =
       inside = omega arith;
       before = c.loop-low.invariant.before;
       behind = more-behind (parts es) c.args.name.now c.requires middle inside
-          (compared es middle c.index-children-middle.result _ _ _ _ within c.index-children-middle.is (c.as_slice.ensures.value ∙ ap (λ x. x.name.items) c.deref.ensures) c.name_order.ensures c.in-Greater.is);
+          (compared es middle c.index-children-middle.result _ _ _ _ within c.index-children-middle.is (c.as_slice.ensures ∙ ap (λ x. x.name) c.deref.ensures) c.name_order.ensures c.in-Greater.is);
     }
 
 pub returns-clause-gap : goal.returns-clause-gap

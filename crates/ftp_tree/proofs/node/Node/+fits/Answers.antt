@@ -17,10 +17,10 @@ use Rattle.ftp_tree.proofs.node.Node.+fits.Goals.{then-len-room-via-then-len-roo
 module _ {A : Type 0} (room nodes octets : ℕ) (items lent : List (Box (Child A) A)) (same : lent ≡ items) (kept : IsDirectory (parts items) nodes octets) (place : ℕ) (x : Box (Child A) A)
     (within : place < length lent) (there : x ≡ get_or lent place x) where
   abbrev here : Bool
-  here = list_all (λ q. is_within_room room (x.value.name.items ∷ q)) (fin.keys x.value.node)
+  here = list_all (λ q. is_within_room room (x.value.name ∷ q)) (fin.keys x.value.node)
 
-  name-short : is_short x.value.name.items ≡ true
-  name-short = (and_parts (is_component x.value.name.items) _ (name-get lent place x within there (ap (λ l. list_all (λ p. is_name p.0) (parts l)) same ∙ kept.named)).0).1
+  name-short : is_short x.value.name ≡ true
+  name-short = (and_parts (is_component x.value.name) _ (name-get lent place x within there (ap (λ l. list_all (λ p. is_name p.0) (parts l)) same ∙ kept.named)).0).1
 
   name-stands : ◌≡◌ {A = Bool} (is_some (node_at x.value.node [])) true
   name-stands = part-test (λ p. is_some (node_at p.1 [])) lent place x within there (ap (λ l. list_all (λ p. is_some (node_at p.1 [])) (parts l)) same ∙ kept.standing)
@@ -65,13 +65,13 @@ returns-then-len-room g t c =
     let stands = name-stands c.args.room _ _ items c.deref-child-items.result.now same kept c.loop-child.child-index x c.loop-child-test.true c.child-item.is in
     let short = name-short c.args.room _ _ items c.deref-child-items.result.now same kept c.loop-child.child-index x c.loop-child-test.true c.child-item.is in
     let one = one-long c.args.room _ _ items c.deref-child-items.result.now same kept c.loop-child.child-index x c.loop-child-test.true c.child-item.is c.args.self.now whole in
-    let long : c.len.result ≡ length x.value.name.items = c.len.ensures ∙ ap (λ k. k.name.len) c.deref.ensures ∙ x.value.name.ok.0 in
+    let long : c.len.result ≡ length x.value.name = c.len.ensures ∙ ap (λ k. length k.name) c.deref.ensures in
     elim c.then-len-room.branch [
-      | then-len-room-via-then-len-room w ↦ one (too-long c.args.room x.value.name.items x.value.node stands (omega (arith, long, w.if-len-room.true)))
+      | then-len-room-via-then-len-room w ↦ one (too-long c.args.room x.value.name x.value.node stands (omega (arith, long, w.if-len-room.true)))
       | then-len-room-via-else-len-room+then-not-fits w ↦
-          let less : length x.value.name.items < c.args.room = omega (arith, long, w.if-len-room.false) in
-          let count : w.len-else-len-room.result ≡ length x.value.name.items = w.len-else-len-room.ensures ∙ ap (λ k. k.name.len) w.deref-else-len-room-2.ensures ∙ x.value.name.ok.0 in
-          one (room-behind c.args.room x.value.name.items x.value.node short less
+          let less : length x.value.name < c.args.room = omega (arith, long, w.if-len-room.false) in
+          let count : w.len-else-len-room.result ≡ length x.value.name = w.len-else-len-room.ensures ∙ ap (λ k. length k.name) w.deref-else-len-room-2.ensures in
+          one (room-behind c.args.room x.value.name x.value.node short less
           ∙ ap (λ k. list_all (is_within_room (c.args.room - k - 1)) (fin.keys x.value.node)) (sym count)
           ∙ ap (λ k. list_all (is_within_room (c.args.room - w.len-else-len-room.result - 1)) (fin.keys k.node)) (sym w.deref-else-len-room.ensures)
           ∙ sym w.fits.ensures ∙ w.if-not-fits.true)
@@ -84,11 +84,11 @@ loop-child-preserved g t c =
     let x = c.child-item.result in
     let same = c.deref-child-items.ensures.value in
     let short = name-short c.args.room _ _ items c.deref-child-items.result.now same kept c.loop-child.child-index x c.loop-child-test.true c.child-item.is in
-    let long : c.len.result ≡ length x.value.name.items = c.len.ensures ∙ ap (λ k. k.name.len) c.deref.ensures ∙ x.value.name.ok.0 in
-    let less : length x.value.name.items < c.args.room = omega (arith, long, c.if-len-room.false) in
-    let count : c.len-else-len-room.result ≡ length x.value.name.items = c.len-else-len-room.ensures ∙ ap (λ k. k.name.len) c.deref-else-len-room-2.ensures ∙ x.value.name.ok.0 in
+    let long : c.len.result ≡ length x.value.name = c.len.ensures ∙ ap (λ k. length k.name) c.deref.ensures in
+    let less : length x.value.name < c.args.room = omega (arith, long, c.if-len-room.false) in
+    let count : c.len-else-len-room.result ≡ length x.value.name = c.len-else-len-room.ensures ∙ ap (λ k. length k.name) c.deref-else-len-room-2.ensures in
     more-fits c.args.room _ _ items c.deref-child-items.result.now same kept c.loop-child.child-index x c.loop-child-test.true c.child-item.is
-    (room-behind c.args.room x.value.name.items x.value.node short less
+    (room-behind c.args.room x.value.name x.value.node short less
     ∙ ap (λ k. list_all (is_within_room (c.args.room - k - 1)) (fin.keys x.value.node)) (sym count)
     ∙ ap (λ k. list_all (is_within_room (c.args.room - c.len-else-len-room.result - 1)) (fin.keys k.node)) (sym c.deref-else-len-room.ensures)
     ∙ sym c.fits.ensures ∙ c.if-not-fits.false)
