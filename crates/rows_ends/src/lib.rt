@@ -15,6 +15,7 @@ mod programs;
 mod row;
 mod server;
 mod stage;
+mod transfers;
 mod turn;
 mod verb;
 
@@ -28,6 +29,7 @@ use turn::{CLIENT, SERVER, Side};
 enum On {
     End(Side),
     Program,
+    Transfer,
 }
 
 /// Plays each row of a script. Rows are paragraphs; they are a server's at first.
@@ -55,6 +57,8 @@ fn divider(row: &[u8]) -> Option<On> {
         Some(On::End(CLIENT))
     } else if row == b"== on a program".as_slice() {
         Some(On::Program)
+    } else if row == b"== on a transfer".as_slice() {
+        Some(On::Transfer)
     } else {
         None
     }
@@ -64,5 +68,6 @@ fn play(alloc: Global, on: On, row: &[u8], paper: &mut Paper) {
     match on {
         On::End(side) => row::play_row(alloc, side, row, paper),
         On::Program => programs::play_row(alloc, row, paper),
+        On::Transfer => transfers::play_row(alloc, row, paper),
     }
 }

@@ -29,6 +29,14 @@ impl<A: Allocator + Copy> FailingTree<A> {
         }
     }
 
+    /// It fails at the call of that number, counted from 1 from here on, or at none for 0.
+    pub fn fails_at(&mut self, left: u64)
+        ensures tree { self.new.tree ≡ self.old.tree }
+        ensures failures { self.new.failures ≡ self.old.failures }
+    {
+        self.left = left;
+    }
+
     /// The tree.
     pub fn memory(&self) -> &MemTree<A>
         ensures { result.now ≡ self.now.tree }

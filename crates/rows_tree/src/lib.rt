@@ -5,6 +5,7 @@
 mod accounts;
 mod change;
 mod failing_folder;
+mod failing_tree;
 mod keys;
 mod octets;
 mod operation;
@@ -21,6 +22,7 @@ mod verb;
 mod words;
 
 pub use change::make_dirs;
+pub use failing_tree::FailingTree;
 pub use paths::place;
 pub use row::play_all;
 pub use tree::show_tree;

@@ -5,7 +5,7 @@ use ftp_facts::Text;
 use ftp_operation::{Account, Accounts, Rights};
 use ftp_operation_secret::Secret;
 use ftp_path::Path;
-use ftp_tree::{Content, MemTree, Tree};
+use ftp_tree::{Content, HeldTree, MemTree, Tree};
 use rows_base::{cut, found, number, octets_of, split};
 use rows_tree::{make_dirs, place};
 use std::alloc::{AllocError, Allocator, Global};

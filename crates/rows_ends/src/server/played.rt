@@ -8,9 +8,8 @@ use crate::server::told::{Was, put_line};
 use ftp_ends::Wants;
 use ftp_server_drive::{Clocked, Control, drive_server};
 use ftp_server_model::Far;
-use ftp_tree::MemTree;
 use rows_base::{FailingReader, FailingWriter, Paper};
-use rows_tree::show_tree;
+use rows_tree::{FailingTree, show_tree};
 use std::alloc::{Allocator, Global};
 use std::marker::PhantomData;
 
@@ -22,7 +21,7 @@ pub struct Played<A, S: Drop> {
     growth: PhantomData<A>,
 }
 
-impl<A: Allocator + Copy, S: Far<A, MemTree<A>> + Holds> Played<A, S> {
+impl<A: Allocator + Copy, S: Far<A, FailingTree<A>> + Holds> Played<A, S> {
     pub fn new(server: S) -> Played<A, S> {
         Played {
             clocked: Clocked {
@@ -36,7 +35,7 @@ impl<A: Allocator + Copy, S: Far<A, MemTree<A>> + Holds> Played<A, S> {
     }
 }
 
-impl<A: Allocator + Copy, S: Far<A, MemTree<A>> + Holds> Plays for Played<A, S> {
+impl<A: Allocator + Copy, S: Far<A, FailingTree<A>> + Holds> Plays for Played<A, S> {
     fn hear(&mut self, piece: &[u8]) -> usize {
         self.clocked.server.hear(piece)
     }
@@ -93,7 +92,7 @@ impl<A: Allocator + Copy, S: Far<A, MemTree<A>> + Holds> Plays for Played<A, S> 
     fn show_told(&self, _paper: &mut Paper) {}
 
     fn show_tree(&self, alloc: Global, paper: &mut Paper) {
-        show_tree(alloc, self.clocked.server.tree(), paper);
+        show_tree(alloc, self.clocked.server.tree().memory(), paper);
     }
 
     fn drive(

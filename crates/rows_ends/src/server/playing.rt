@@ -14,7 +14,8 @@ use ftp_server_parts::{Counted, ServerTransfer};
 use ftp_server_play::{Cue, Played as Made, Plays};
 use ftp_server_transfer::TreeTransfer;
 use ftp_tree::{MemTree, Tree};
-use rows_base::{Refusing, said};
+use rows_base::{Refusing, number, said};
+use rows_tree::FailingTree;
 use std::alloc::{AllocError, Allocator};
 
 /// What is written where the server was not had.
@@ -62,7 +63,8 @@ fn plant<A: Allocator + Copy>(
 ) {
     let mut tree = MemTree::new(heaps.server);
     if plants(turn, heaps.server, &mut tree) {
-        serve::<A, TreeTransfer<A, MemTree<A>>>(heaps, tree, accounts, turn, desk);
+        let tree = FailingTree::new(tree, number(said(turn.row, b"device").unwrap_or(b"")));
+        serve::<A, TreeTransfer<A, FailingTree<A>>>(heaps, tree, accounts, turn, desk);
     } else {
         drop(tree);
         drop(accounts);
@@ -71,15 +73,15 @@ fn plant<A: Allocator + Copy>(
 }
 
 /// Plays a row on a server with such transfers: who names a server does not name them.
-fn serve<A: Allocator + Copy, J: Counted<A, MemTree<A>>>(
+fn serve<A: Allocator + Copy, J: Counted<A, FailingTree<A>>>(
     heaps: Heaps<A>,
-    tree: MemTree<A>,
+    tree: FailingTree<A>,
     accounts: Accounts<A>,
     turn: Turn<'_>,
     desk: &mut Desk,
 ) {
     let (here, peer) = turn.hosts();
-    let begun: Result<Server<A, MemTree<A>, J>, _> = Server::new(
+    let begun: Result<Server<A, FailingTree<A>, J>, _> = Server::new(
         heaps.server,
         tree,
         accounts,
@@ -105,7 +107,7 @@ impl<A: Allocator + Copy, T: Tree<A>, J: ServerTransfer<A, T>> Lists<A> for Serv
 }
 
 /// Makes the calls that a row lists, and plays the lines behind them in the year 2000.
-fn begin<A: Allocator + Copy, S: Far<A, MemTree<A>> + Holds + Lists<A>>(
+fn begin<A: Allocator + Copy, S: Far<A, FailingTree<A>> + Holds + Lists<A>>(
     heaps: Heaps<A>,
     mut server: S,
     turn: Turn<'_>,

@@ -1,0 +1,272 @@
+// Rows of a server's transfers alone, on a tree that others change between their calls, or whose device fails.
+use ftp_facts::Moment;
+use ftp_path::Path;
+use ftp_server_model::{Facts, FixedReply};
+use ftp_server_parts::{Fault, ServerTransfer, Told, fixed_code};
+use ftp_server_transfer::TreeTransfer;
+use ftp_settings::{Kind, Mode, Representation, Structure};
+use ftp_tree::{Draft, MemTree, Tree, TreeFault};
+use rows_base::{Paper, cut, found, number, octets_of, split};
+use rows_tree::{FailingTree, place, show_tree};
+use std::alloc::{AllocError, Global};
+
+/// The second in which what comes is put.
+const NOW: Moment = Moment {
+    seconds: 946_684_800,
+};
+
+/// What stands on the stage of a row.
+#[derive(Drop)]
+struct Stage<J: Drop> {
+    alloc: Global,
+    tree: FailingTree<Global>,
+    transfer: Option<J>,
+    settings: Representation,
+}
+
+/// What a line does.
+#[derive(Clone, Copy)]
+enum Step {
+    Type,
+    Dir,
+    File,
+    Delete,
+    Remove,
+    Rename,
+    Device,
+    Download,
+    Upload,
+    List,
+    Names,
+    Entries,
+    Give,
+    Data,
+    End,
+    Break,
+    Tree,
+    Nothing,
+}
+
+const STEPS: &[(&'static [u8], Step)] = &[
+    (b"type", Step::Type),
+    (b"dir", Step::Dir),
+    (b"file", Step::File),
+    (b"delete", Step::Delete),
+    (b"remove", Step::Remove),
+    (b"rename", Step::Rename),
+    (b"device", Step::Device),
+    (b"download", Step::Download),
+    (b"upload", Step::Upload),
+    (b"list", Step::List),
+    (b"names", Step::Names),
+    (b"entries", Step::Entries),
+    (b"give", Step::Give),
+    (b"data", Step::Data),
+    (b"end", Step::End),
+    (b"break", Step::Break),
+    (b"tree", Step::Tree),
+];
+
+/// The most octets of one `give`.
+const ROOM: usize = 4_096;
+
+/// Plays a row: each line, and what came of it behind it.
+pub fn play_row(alloc: Global, row: &[u8], paper: &mut Paper) {
+    play::<TreeTransfer<Global, FailingTree<Global>>>(alloc, row, paper);
+    paper.put(b"\n");
+}
+
+/// The same by such transfers: who names a tree's does not name these.
+fn play<J: ServerTransfer<Global, FailingTree<Global>>>(
+    alloc: Global,
+    row: &[u8],
+    paper: &mut Paper,
+) {
+    let mut stage: Stage<J> = Stage::new(alloc);
+    let mut rest = row;
+    for _ in 0..row.len() {
+        let (line, behind) = cut(rest, b'\n');
+        if line.is_empty() {
+            break;
+        }
+        paper.line(line);
+        stage.play(line, paper);
+        rest = behind;
+    }
+}
+
+impl<J: ServerTransfer<Global, FailingTree<Global>>> Stage<J> {
+    /// Nothing stands in the tree, and its device does not fail; files go in type I, file structure and stream mode.
+    fn new(alloc: Global) -> Stage<J> {
+        Stage {
+            alloc,
+            tree: FailingTree::new(MemTree::new(alloc), 0),
+            transfer: None,
+            settings: Representation {
+                kind: Kind::Image,
+                structure: Structure::File,
+                mode: Mode::Stream,
+            },
+        }
+    }
+
+    fn play(&mut self, line: &[u8], paper: &mut Paper) {
+        let (word, rest) = split(line);
+        match found(STEPS, word, Step::Nothing) {
+            Step::Nothing => {}
+            Step::Type => self.settings.kind = Kind::Ascii,
+            Step::Device => self.tree.fails_at(number(rest)),
+            Step::Give => self.give(number(rest), paper),
+            Step::Data => self.data(rest, paper),
+            Step::End => self.ends(false, paper),
+            Step::Break => self.ends(true, paper),
+            Step::Tree => show_tree(self.alloc, self.tree.memory(), paper),
+            step => self.at_path(step, rest, paper),
+        }
+    }
+
+    /// A line that names a path, and perhaps something more.
+    fn at_path(&mut self, step: Step, rest: &[u8], paper: &mut Paper) {
+        let (text, more) = split(rest);
+        match place(self.alloc, text) {
+            Ok(path) => self.do_at(step, path, more, paper),
+            Err(_) => paper.fill(),
+        }
+    }
+
+    fn do_at(&mut self, step: Step, path: Path<Global>, more: &[u8], paper: &mut Paper) {
+        let root = Path::root(self.alloc);
+        let changed = match step {
+            Step::Dir => self.tree.make_dir(&root, &path),
+            Step::Delete => self.tree.delete(&root, &path),
+            Step::Remove => self.tree.remove_dir(&root, &path),
+            Step::File => self.file(&path, more),
+            Step::Rename => self.rename(&path, more),
+            _ => return self.begin(step, path, number(more), paper),
+        };
+        if changed.is_err() {
+            paper.line(b"! refused");
+        }
+    }
+
+    fn rename(&mut self, path: &Path<Global>, to: &[u8]) -> Result<(), TreeFault> {
+        let to = place(self.alloc, to)?;
+        self.tree.rename(&Path::root(self.alloc), path, &to)
+    }
+
+    /// Puts a file, as another session does.
+    fn file(&mut self, path: &Path<Global>, octets: &[u8]) -> Result<(), TreeFault> {
+        let root = Path::root(self.alloc);
+        let Ok(octets) = octets_of(self.alloc, octets) else {
+            return Err(TreeFault::Memory);
+        };
+        let mut came = self.tree.begin(&root, path)?;
+        if came.push(octets.as_slice()).is_err() {
+            return Err(TreeFault::Memory);
+        }
+        self.tree.put(&root, path, 0, came, NOW)
+    }
+
+    fn begin(&mut self, step: Step, path: Path<Global>, at: u64, paper: &mut Paper) {
+        match self.begun(step, path, at) {
+            Ok(transfer) => self.transfer = Some(transfer),
+            Err(Fault::Memory) => paper.line(b"! no memory"),
+            Err(Fault::Device) => paper.line(b"! the device failed"),
+        }
+    }
+
+    fn begun(&mut self, step: Step, mut path: Path<Global>, at: u64) -> Result<J, Fault> {
+        let (alloc, settings) = (self.alloc, self.settings);
+        let root = Path::root(alloc);
+        match step {
+            Step::Download => J::download(&mut self.tree, &root, &path, at, settings),
+            Step::Upload => J::upload(alloc, &mut self.tree, &root, &mut path, at, settings),
+            _ => match self.listing(step, &mut path) {
+                Ok(listing) => Ok(listing),
+                Err(_) => Err(Fault::Memory),
+            },
+        }
+    }
+
+    fn listing(&mut self, step: Step, path: &mut Path<Global>) -> Result<J, AllocError> {
+        let (alloc, mode) = (self.alloc, self.settings.mode);
+        let root = Path::root(alloc);
+        match step {
+            Step::List => J::list(alloc, &self.tree, &root, path, mode),
+            Step::Names => J::names(alloc, &self.tree, &root, path, &None, mode),
+            _ => J::entries(alloc, &self.tree, &root, path, ALL_FACTS, mode),
+        }
+    }
+
+    /// Gives at most so many octets, and says which, and whether those that come next were not had, or all is given.
+    fn give(&mut self, most: u64, paper: &mut Paper) {
+        let Some(transfer) = &mut self.transfer else {
+            return paper.line(b"! nothing stands");
+        };
+        let mut room = [0; ROOM];
+        let (front, _) = room.split_at_mut((most as usize).min(ROOM));
+        let given = transfer.give(&mut self.tree, front);
+        paper.put(b"gave ");
+        paper.quote(&front[..given.count]);
+        if given.lost {
+            paper.put(b", lost");
+        }
+        if transfer.is_given_out() {
+            paper.put(b", all");
+        }
+        paper.line(b"");
+    }
+
+    /// Octets come: all are taken but where something is to be said first.
+    fn data(&mut self, text: &[u8], paper: &mut Paper) {
+        let Some(transfer) = &mut self.transfer else {
+            return paper.line(b"! nothing stands");
+        };
+        let Ok(octets) = octets_of(self.alloc, text) else {
+            return paper.fill();
+        };
+        let received = transfer.receive(&self.tree, &Path::root(self.alloc), octets.as_slice());
+        paper.put(b"took ");
+        paper.number(received.count as u64);
+        paper.line(match received.told {
+            Told::Nothing => b"".as_slice(),
+            Told::Mark(_) => b", a marker",
+            Told::Faulty => b", a fault",
+            Told::NoMemory => b", no memory",
+        });
+    }
+
+    /// The data connection ended or broke: the code that ends the transfer.
+    fn ends(&mut self, breaks: bool, paper: &mut Paper) {
+        let Some(transfer) = self.transfer.take() else {
+            return paper.line(b"! nothing stands");
+        };
+        let root = Path::root(self.alloc);
+        let ended = if breaks {
+            transfer.at_break(&mut self.tree, &root, NOW)
+        } else {
+            transfer.at_end(&mut self.tree, &root, NOW)
+        };
+        put_end(ended, paper);
+    }
+}
+
+/// All facts.
+const ALL_FACTS: Facts = Facts {
+    kind: true,
+    size: true,
+    modify: true,
+    perm: true,
+};
+
+fn put_end(ended: Result<FixedReply, Fault>, paper: &mut Paper) {
+    match ended {
+        Ok(text) => {
+            paper.put(b"= ");
+            paper.number(fixed_code(text) as u64);
+            paper.line(b"");
+        }
+        Err(Fault::Memory) => paper.line(b"! no memory"),
+        Err(Fault::Device) => paper.line(b"! the device failed"),
+    }
+}
