@@ -1,5 +1,5 @@
 // What a directory shows, as it was when it was asked.
-ghost use Rattle.std.specs.Prelude.{◌≡◌, option_map};
+ghost use Rattle.std.specs.Prelude.{◌≡◌, [], option_map};
 ghost use Rattle.std.specs.List.{slice_get};
 ghost use Rattle.ftp_tree.specs.Entries.{shown_entry};
 
@@ -23,6 +23,15 @@ pub struct DirEntries<A: Allocator + Copy> {
 }
 
 impl<A: Allocator + Copy> DirEntries<A> {
+    /// No entries. Takes no memory.
+    pub fn none(alloc: A) -> DirEntries<A>
+        ensures { result ≡ [] }
+    {
+        DirEntries {
+            rows: Vec::new(alloc),
+        }
+    }
+
     /// The entry that comes at a place, counted from 0.
     pub fn nth(&self, place: usize) -> Option<DirEntry<'_>>
         ensures { option_map shown_entry result ≡ slice_get self.now place }
