@@ -1,8 +1,7 @@
 -- How long the lines of a listing are at most.
-use Rattle.std.proofs.Common.{◌≡◌, ℕ, zero, suc, ◌+◌, ◌-◌, ◌<◌, ◌≤◌, ◌^◌, ◌/◌, ◌%◌, List, [], ◌∷◌, ◌++◌, length, Bool, true, false, nat_lt, Option, Some, None, refl, ap, sym, subst, ◌∙◌, arith, length-append, append-nil}
-use Rattle.std.specs.Prelude.{IsTrue, codes, decimal, cond, nat_eq, nat_le, replicate, if◌then◌else◌, ◌||◌, ◌==◌}
-use Rattle.std.specs.List.{ends_with}
-use Rattle.std.specs.Option.{option_map, unwrap_or}
+use Rattle.std.proofs.Common.{◌≡◌, ℕ, zero, suc, ◌+◌, ◌-◌, ◌<◌, ◌≤◌, ◌^◌, ◌/◌, ◌%◌, List, [], ◌∷◌, ◌++◌, length, Bool, true, false, nat_lt, Option, Some, None, refl, ap, arith, length-append, append-nil}
+use Rattle.std.specs.Prelude.{IsTrue, codes, decimal, cond, nat_le, replicate, if◌then◌else◌}
+use Rattle.std.specs.Option.{option_map}
 use Rattle.std.proofs.lemmas.Fmt.{length-decimal-le}
 use Rattle.std.proofs.lemmas.List.{length-replicate}
 use Rattle.std.proofs.lemmas.Bool.{and_parts, leb-true}
@@ -14,14 +13,12 @@ use Rattle.ftp_facts.specs.Listed.{Listed}
 use Rattle.ftp_facts.specs.declared.moment.Moment.{Moment}
 use Rattle.ftp_facts.specs.Moment.{day_digits, four_digits, moment_digits, second_digits}
 use Rattle.ftp_operation.specs.Operation.{is_number}
-use Rattle.ftp_path.specs.Path.{Names, is_component, is_name}
-use Rattle.ftp_tree.specs.Tree.{Node, Dir, File, shown_of}
-use Rattle.ftp_tree.specs.declared.tree.FileFacts.{FileFacts}
-use Rattle.ftp_direct.specs.Direct.{behind, child, listed, perm_of, size_fact}
+use Rattle.ftp_path.specs.Path.{is_component, is_name}
+use Rattle.ftp_direct.specs.Direct.{size_fact}
 use Rattle.ftp_server_model.specs.Entries.{if_chosen, listed_line}
-use Rattle.ftp_server_model.specs.Listing.{date_text, day_text, list_line, month_text, month_word, right_in}
+use Rattle.ftp_server_model.specs.Listing.{date_text, list_line, month_word, right_in}
 use Rattle.ftp_server_model.specs.declared.session.Facts.{Facts}
-use Rattle.ftp_server_transfer.specs.Lines.{IsOf}
+use Rattle.ftp_server_transfer.specs.Lines.{entry_facts}
 
 -- ---- LIST
 
@@ -91,15 +88,6 @@ line_few rights count moment name small early =
       date_few moment early,
     )
 
--- ---- NLST
-
-pub name_few : (text name : List ℕ) → length (behind text name) ≤ length text + 1 + length name
-name_few text name = by_test ((length text == 0) || ends_with nat_eq text (47 ∷ []))
-  where
-    by_test : (b : Bool) → length (if b then text ++ name else text ++ 47 ∷ name) ≤ length text + 1 + length name
-    by_test true = omega (arith, length-append text name)
-    by_test false = omega (arith, length-append text (47 ∷ name))
-
 -- ---- MLSD
 
 -- the octets of a value, where there is one
@@ -125,11 +113,6 @@ size_few count = by_test (is_number count) refl
 
 moment_few : (moment : ℕ) → length (moment_digits moment) ≤ 14
 moment_few moment = omega (arith, length-append (day_digits (year_and_place 10_000 1970 (moment / 86_400))) (second_digits (moment % 86_400)))
-
-perm_few : (path : Names) (node : Node) → length (perm_of path node) ≤ 7
-perm_few path (File octets moment) = omega arith
-perm_few [] Dir = omega arith
-perm_few (name ∷ names) Dir = omega arith
 
 facts_few : (kind size modify perm : Option (List ℕ)) → length (facts_text (facts_of kind size modify perm)) ≤ 26 + (len_of kind + len_of size + len_of modify + len_of perm)
 facts_few kind size modify perm =
@@ -163,25 +146,11 @@ chosen_line_few facts entry most few =
       chosen_few facts.perm entry.perm,
     )
 
-entry_few : (facts : Facts) (name : List ℕ) (path : Names) (node : Node) → length (listed_line facts (listed name path node)) ≤ 72 + length name
-entry_few facts name path (File octets moment) =
-    chosen_line_few facts (listed name path (File octets moment)) 45 (omega (arith, size_few (length octets), moment_few moment, perm_few path (File octets moment)))
-entry_few facts name path Dir = chosen_line_few facts (listed name path Dir) 45 (omega (arith, perm_few path Dir))
-
--- a node of which these are the facts
-abbrev node_for : Option FileFacts → Node
-node_for None = Dir
-node_for (Some file) = File (replicate file.size 0) file.moment.seconds
-
-node_is : (file : Option FileFacts) → IsOf file (Some (node_for file))
-node_is None = refl
-node_is (Some file) = ap (λ n. Some (Some (n, file.moment.seconds))) (length-replicate file.size 0)
-
--- what was listed of a name, by whatever facts
-pub listed_few : (facts : Facts) (name : List ℕ) (file : Option FileFacts) (said : Listed)
-    → ((path : Names) (node : Option Node) → IsOf file node → said ≡ listed name (child path name) (unwrap_or node Dir)) → length (listed_line facts said) ≤ 72 + length name
-listed_few facts name file said is =
-    subst (λ entry. length (listed_line facts entry) ≤ 72 + length name) (sym (is [] (Some (node_for file)) (node_is file))) (entry_few facts name (child [] name) (node_for file))
+-- of an entry
+pub entry_few : (facts : Facts) (entry : List ℕ × Option (ℕ × ℕ)) → length (listed_line facts (entry_facts entry)) ≤ 72 + length entry.0
+entry_few facts (name, None) = chosen_line_few facts (entry_facts (name, None)) 45 (omega arith)
+entry_few facts (name, Some (size, moment)) =
+    chosen_line_few facts (entry_facts (name, Some (size, moment))) 45 (omega (arith, size_few size, moment_few moment))
 
 -- ---- what is put
 

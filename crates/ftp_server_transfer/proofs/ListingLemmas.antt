@@ -1,25 +1,24 @@
--- The lines of a listing, name by name.
-use Rattle.std.proofs.Common.{◌≡◌, ℕ, suc, ◌+◌, ◌-◌, ◌<◌, ◌≤◌, min, List, [], ◌∷◌, ◌++◌, length, take, drop, Bool, true, false, ◌&&◌, nat_le, nat_lt, Option, Some, None, refl, ap, sym, subst, ◌∙◌, arith, append_assoc, append-nil, length-append, length-drop}
+-- The lines of a listing, entry by entry.
+use Rattle.std.proofs.Common.{◌≡◌, ℕ, zero, suc, ◌+◌, ◌-◌, ◌<◌, ◌≤◌, min, List, [], ◌∷◌, ◌++◌, length, take, drop, Bool, true, false, ◌&&◌, nat_le, nat_lt, Option, Some, None, refl, ap, sym, subst, ◌∙◌, arith, append_assoc, append-nil, length-append, length-drop}
 use Rattle.std.specs.Prelude.{codes, decimal, map, is_some, if◌then◌else◌}
 use Rattle.std.specs.List.{filter_map, cons_option, slice_get}
 use Rattle.std.specs.Option.{option_map, option_to_list, unwrap_or}
 use Rattle.std.proofs.lemmas.Bool.{and_parts}
 use Rattle.std.proofs.lemmas.Bool.Decides.{nat_tests}
 use Rattle.std.proofs.lemmas.List.{drop_more, drop_all}
-use Rattle.std.proofs.lemmas.Option.{get_or_from_slice_get}
+use Rattle.std.proofs.lemmas.Option.{get_or_from_slice_get, slice_get_within}
 use Rattle.ftp_path.specs.Kept.{IsKept, names_of}
 use Rattle.ftp_path.specs.Path.{Names, fits, is_component, is_name, joined, parent}
 use Rattle.ftp_path.proofs.PathLemmas.{kept-le}
-use Rattle.ftp_tree.specs.Tree.{Node, Dir, File, Table, node_at, children, octets_of, moment_of, of_node, kind_of, kind_at, shown_of}
+use Rattle.ftp_tree.specs.Tree.{Node, Dir, File, Table, node_at, children, entries_at, octets_of, moment_of, of_node, kind_of, kind_at, shown_of}
 use Rattle.ftp_tree.proofs.LeafLemmas.{fits-room}
 use Rattle.ftp_tree.proofs.PlaceLemmas.{kept-place}
 use Rattle.ftp_tree.specs.declared.tree.NodeKind.TheVariants as Kinds
 use Rattle.ftp_wire.specs.Encoding.{still_to_give}
 use Rattle.ftp_wire.specs.declared.encoder.Encoder.{Encoder}
 use Rattle.ftp_wire.proofs.EncodingLemmas.{behind_front}
-use Rattle.ftp_direct.specs.Direct.{behind, child, entry_at, is_file, file_in, entry_in, entries_in, listed, names_for, perm_of, size_fact}
-use Rattle.ftp_direct.proofs.ListingLemmas.{names_within, names_end}
-use Rattle.ftp_server_model.specs.Listing.{child_line, node_line, list_line, list_lines, list_lines_at, entry_lines, last_name, lines_file, text_line}
+use Rattle.ftp_direct.specs.Direct.{behind, child, entry_at, is_file, file_in, entry_in, entries_in, listed, names_for}
+use Rattle.ftp_server_model.specs.Listing.{child_line, node_line, list_line, list_lines, list_lines_at, last_name, lines_file, text_line}
 use Rattle.ftp_server_model.specs.Entries.{listed_line, if_chosen}
 use Rattle.ftp_server_model.specs.declared.session.Facts.{Facts}
 use Rattle.ftp_facts.specs.Fact.{facts_text}
@@ -30,7 +29,7 @@ use Rattle.ftp_facts.specs.declared.entry.EntryKind.{EntryKind}
 use Rattle.ftp_server_transfer.specs.Rest.{text_left}
 use Rattle.ftp_server_transfer.specs.declared.line.What.{What}
 use Rattle.ftp_server_transfer.specs.declared.listing.Listing.{Listing}
-use Rattle.ftp_server_transfer.specs.Lines.{Puts, lines_from, lines_of}
+use Rattle.ftp_server_transfer.specs.Lines.{Puts, columns_of, entry_facts, entry_line, lines_from, lines_of, pathname_of}
 use Rattle.ftp_server_transfer.specs.declared.line.What.TheVariants as Whats
 
 -- ---- what stands at a path
@@ -59,19 +58,12 @@ no_moment name (Some (File octets at)) s = absurd (cc)
 pub ended : (old mid new line : List ℕ) → mid ≡ old ++ line → new ≡ mid ++ 10 ∷ [] → new ≡ old ++ text_line line
 ended old mid new line put end = end ∙ ap (λ l. l ++ 10 ∷ []) put ∙ append_assoc old line (10 ∷ [])
 
--- a line that there is, or none
-pub put_some : (o : Option (List ℕ)) (old mid new line : List ℕ) → o ≡ Some line → mid ≡ old ++ line → new ≡ mid ++ 10 ∷ [] → Puts o old new
-put_some o old mid new line is put end = subst (λ o. Puts o old new) (sym is) (ended old mid new line put end)
-
-pub put_none : (o : Option (List ℕ)) (old : List ℕ) → o ≡ None → Puts o old old
-put_none o old is = subst (λ o. Puts o old old) (sym is) refl
-
 -- what was put, as lines
 pub put_is : (o : Option (List ℕ)) (old new : List ℕ) → Puts o old new → new ≡ old ++ lines_file (option_to_list o)
 put_is None old new put = put ∙ sym (append-nil old)
 put_is (Some line) old new put = put ∙ ap (λ l. old ++ l) (sym (append-nil (text_line line)))
 
--- ---- what an entry of a directory says
+-- ---- whether a path is within the limits
 
 -- the path of a name in a directory is within the limits where the name is short enough for what the path leaves
 pub fits_child : (key : List ℕ) (path : Names) (name : List ℕ) → IsKept key → names_of key ≡ path → is_name name ≡ true → fits (child path name) ≡ nat_lt (length name) (900 - length key)
@@ -83,88 +75,33 @@ fits_child key path name kept is named =
     less : (a b : ℕ) → nat_le (suc a) b ≡ nat_lt a b
     less a b = grind (arith, nat_tests)
 
-pub file_shown : (name : List ℕ) (node : Option Node) (size moment : ℕ) → option_map shown_of node ≡ Some (Some (size, moment)) → list_line (codes "-rw-r--r--") size moment name ≡ node_line name (unwrap_or node Dir)
-file_shown name None size moment is = absurd (cc)
-file_shown name (Some Dir) size moment is = absurd (cc)
-file_shown name (Some (File octets at)) size moment is =
-    let same = ap (λ o. unwrap_or (unwrap_or o None) (0, 0)) is in
-    ap (λ s. list_line (codes "-rw-r--r--") s moment name) (ap (λ p. p.0) (sym same)) ∙ ap (λ m. list_line (codes "-rw-r--r--") (length octets) m name) (ap (λ p. p.1) (sym same))
-
-pub dir_shown : (node : Option Node) → option_map shown_of node ≡ Some None → node ≡ Some Dir
-dir_shown None is = absurd (cc)
-dir_shown (Some Dir) is = refl
-dir_shown (Some (File octets at)) is = absurd (cc)
-
--- a file stands there just where the entry has its facts
-pub is_shown : {X : Type 0} (f : X → ℕ × ℕ) (node : Option Node) (file : Option X) → option_map shown_of node ≡ Some (option_map f file) → is_file node ≡ is_some file
-is_shown f None file is = absurd (cc)
-is_shown f (Some Dir) None is = refl
-is_shown f (Some Dir) (Some x) is = absurd (cc)
-is_shown f (Some (File octets at)) None is = absurd (cc)
-is_shown f (Some (File octets at)) (Some x) is = refl
-
-module _ (table : Table) (path : Names) (name : List ℕ) where
-  pub child_long : fits (child path name) ≡ false → child_line table path name ≡ None
-  child_long long = ap (λ b. if b then Some (node_line name (unwrap_or (node_at table (child path name)) Dir)) else None) long
-
-  pub child_fits : fits (child path name) ≡ true → child_line table path name ≡ Some (node_line name (unwrap_or (node_at table (child path name)) Dir))
-  child_fits fit = ap (λ b. if b then Some (node_line name (unwrap_or (node_at table (child path name)) Dir)) else None) fit
-
-  pub file_long : (text : List ℕ) → fits (child path name) ≡ false → file_in table path text name ≡ None
-  file_long text long = ap (λ b. if b && is_file (node_at table (child path name)) then Some (behind text name) else None) long
-
-  pub file_fits : (text : List ℕ) → fits (child path name) ≡ true → (file : Bool) → is_file (node_at table (child path name)) ≡ file → file_in table path text name ≡ (if file then Some (behind text name) else None)
-  file_fits text fit file is =
-      ap (λ b. if b && is_file (node_at table (child path name)) then Some (behind text name) else None) fit ∙ ap (λ b. if b then Some (behind text name) else None) is
-
-  pub entry_long : (facts : Facts) → fits (child path name) ≡ false → option_map (listed_line facts) (entry_in table path name) ≡ None
-  entry_long facts long = ap (λ b. option_map (listed_line facts) (if b then Some (entry_at table (child path name) name) else None)) long
-
-  pub entry_fits : (facts : Facts) → fits (child path name) ≡ true → option_map (listed_line facts) (entry_in table path name) ≡ Some (listed_line facts (entry_at table (child path name) name))
-  entry_fits facts fit = ap (λ b. option_map (listed_line facts) (if b then Some (entry_at table (child path name) name) else None)) fit
-
-pub listed_dir : (name perm : List ℕ) (path : Names) (node : Option Node) → option_map shown_of node ≡ Some None → perm ≡ codes "cdeflmp"
-    → record { name = name; kind = Some (codes "dir"); size = None; modify = None; perm = Some perm } ≡ listed name (child path name) (unwrap_or node Dir)
-listed_dir name perm path node is same =
-    ap (λ p. record { name = name; kind = Some (codes "dir"); size = None; modify = None; perm = Some p }) (same ∙ sym (below path))
-    ∙ ap (λ n. listed name (child path name) (unwrap_or n Dir)) (sym (dir_shown node is))
-  where
-    below : (path : Names) → perm_of (child path name) Dir ≡ codes "cdeflmp"
-    below [] = refl
-    below (first ∷ path) = refl
-
-pub listed_file : (name perm : List ℕ) (path : Names) (node : Option Node) (size moment : ℕ) (said : Option ℕ) → option_map shown_of node ≡ Some (Some (size, moment)) → said ≡ size_fact size → perm ≡ codes "adfrw"
-    → record { name = name; kind = Some (codes "file"); size = said; modify = Some moment; perm = Some perm } ≡ listed name (child path name) (unwrap_or node Dir)
-listed_file name perm path None size moment said is fact same = absurd (cc)
-listed_file name perm path (Some Dir) size moment said is fact same = absurd (cc)
-listed_file name perm path (Some (File octets at)) size moment said is fact same =
-    let shown = ap (λ o. unwrap_or (unwrap_or o None) (0, 0)) is in
-    ap (λ s. record { name = name; kind = Some (codes "file"); size = s; modify = Some moment; perm = Some perm }) (fact ∙ ap (λ (p : ℕ × ℕ). size_fact p.0) (sym shown))
-    ∙ ap (λ m. record { name = name; kind = Some (codes "file"); size = size_fact (length octets); modify = Some m; perm = Some perm }) (ap (λ (p : ℕ × ℕ). p.1) (sym shown))
-    ∙ ap (λ p. record { name = name; kind = Some (codes "file"); size = size_fact (length octets); modify = Some at; perm = Some p }) same
-
--- ---- names one after another
+-- ---- entries one after another
 
 lines_cons : (o : Option (List ℕ)) (lines : List (List ℕ)) → lines_file (cons_option o lines) ≡ lines_file (option_to_list o) ++ lines_file lines
 lines_cons None lines = refl
 lines_cons (Some line) lines = ap (λ l. l ++ lines_file lines) (sym (append-nil (text_line line)))
 
-pub one_more : (f : List ℕ → Option (List ℕ)) (all : List (List ℕ)) (n : ℕ) (name : List ℕ) → Some name ≡ slice_get all n
-    → lines_file (filter_map f (drop n all)) ≡ lines_file (option_to_list (f name)) ++ lines_file (filter_map f (drop (n + 1) all))
-one_more f all n name is =
-    ap (λ l. lines_file (filter_map f l)) (drop_more all n [] (names_within all n name is))
-    ∙ ap (λ x. lines_file (filter_map f (x ∷ drop (n + 1) all))) (get_or_from_slice_get all n name [] (sym is))
-    ∙ lines_cons (f name) (filter_map f (drop (n + 1) all))
+one_more : {X : Type 0} (f : X → Option (List ℕ)) (all : List X) (n : ℕ) (x : X) → Some x ≡ slice_get all n
+    → lines_file (filter_map f (drop n all)) ≡ lines_file (option_to_list (f x)) ++ lines_file (filter_map f (drop (n + 1) all))
+one_more f all n x is =
+    ap (λ l. lines_file (filter_map f l)) (drop_more all n x (slice_get_within all n x (sym is)))
+    ∙ ap (λ y. lines_file (filter_map f (y ∷ drop (n + 1) all))) (get_or_from_slice_get all n x x (sym is))
+    ∙ lines_cons (f x) (filter_map f (drop (n + 1) all))
 
--- with the line of one more name
-pub with_line : (f : List ℕ → Option (List ℕ)) (all : List (List ℕ)) (n m : ℕ) (name whole old new : List ℕ) → Some name ≡ slice_get all n → n + 1 ≡ m → Puts (f name) old new
+-- with the line of one more entry
+pub with_line : {X : Type 0} (f : X → Option (List ℕ)) (all : List X) (n m : ℕ) (x : X) (whole old new : List ℕ) → Some x ≡ slice_get all n → n + 1 ≡ m → Puts (f x) old new
     → whole ≡ old ++ lines_file (filter_map f (drop n all)) → whole ≡ new ++ lines_file (filter_map f (drop m all))
-with_line f all n m name whole old new is next put left =
-    left ∙ ap (λ l. old ++ l) (one_more f all n name is) ∙ sym (append_assoc old (lines_file (option_to_list (f name))) (lines_file (filter_map f (drop (n + 1) all))))
-    ∙ ap (λ l. l ++ lines_file (filter_map f (drop (n + 1) all))) (sym (put_is (f name) old new put)) ∙ ap (λ k. new ++ lines_file (filter_map f (drop k all))) next
+with_line f all n m x whole old new is next put left =
+    left ∙ ap (λ l. old ++ l) (one_more f all n x is) ∙ sym (append_assoc old (lines_file (option_to_list (f x))) (lines_file (filter_map f (drop (n + 1) all))))
+    ∙ ap (λ l. l ++ lines_file (filter_map f (drop (n + 1) all))) (sym (put_is (f x) old new put)) ∙ ap (λ k. new ++ lines_file (filter_map f (drop k all))) next
 
-pub no_more : (f : List ℕ → Option (List ℕ)) (all : List (List ℕ)) (n : ℕ) → None ≡ slice_get all n → lines_file (filter_map f (drop n all)) ≡ []
-no_more f all n none = ap (λ l. lines_file (filter_map f l)) (drop_all n all (names_end all n none))
+ends : {X : Type 0} (all : List X) (n : ℕ) → None ≡ slice_get all n → length all ≤ n
+ends [] n none = omega arith
+ends (x ∷ all) zero none = absurd (cc)
+ends (x ∷ all) (suc n) none = omega (arith, ends all n none)
+
+pub no_more : {X : Type 0} (f : X → Option (List ℕ)) (all : List X) (n : ℕ) → None ≡ slice_get all n → lines_file (filter_map f (drop n all)) ≡ []
+no_more f all n none = ap (λ l. lines_file (filter_map f l)) (drop_all n all (ends all n none))
 
 -- ---- the last name
 
@@ -190,7 +127,7 @@ last_cut (name ∷ names) key above is up =
     let long : min (length above + 1) (length key) ≡ length above + 1 = omega (arith, ap length whole, length-append above (47 ∷ last_name (name ∷ names))) in
     ap (λ k. drop k key) long ∙ ap (drop (length above + 1)) whole ∙ behind_seam above 47 (last_name (name ∷ names))
 
--- ---- the first line
+-- ---- a file's own line
 
 pub own_line : (node : Option Node) (table : Table) (path : Names) → Some Kinds.File ≡ option_map kind_of node
     → lines_file (list_lines_at node table path) ≡ text_line (node_line (last_name path) (unwrap_or node Dir))
@@ -198,26 +135,81 @@ own_line None table path is = absurd (cc)
 own_line (Some Dir) table path is = absurd (cc)
 own_line (Some (File octets at)) table path is = append-nil (text_line (node_line (last_name path) (File octets at)))
 
-pub dir_lines : (node : Option Node) (table : Table) (path : Names) → Some Kinds.Dir ≡ option_map kind_of node
+dir_lines : (node : Option Node) (table : Table) (path : Names) → option_map kind_of node ≡ Some Kinds.Dir
     → list_lines_at node table path ≡ filter_map (child_line table path) (children table path)
 dir_lines None table path is = absurd (cc)
 dir_lines (Some Dir) table path is = refl
 dir_lines (Some (File octets at)) table path is = absurd (cc)
 
-pub no_lines : (node : Option Node) (table : Table) (path : Names) → None ≡ option_map kind_of node → list_lines_at node table path ≡ []
+no_lines : (node : Option Node) (table : Table) (path : Names) → None ≡ option_map kind_of node → list_lines_at node table path ≡ []
 no_lines None table path is = refl
 no_lines (Some Dir) table path is = absurd (cc)
 no_lines (Some (File octets at)) table path is = absurd (cc)
 
-pub own_name : (table : Table) (path : Names) (text : List ℕ) → is_file (node_at table path) ≡ true → lines_file (names_for table path text) ≡ text_line text
-unfolding names_for
-own_name table path text is =
-    ap (λ b. lines_file (if b then text ∷ [] else filter_map (file_in table path text) (children table path))) is ∙ append-nil (text_line text)
+-- LIST: of a file its own line
+pub first_own : (table : Table) (path : Names) (name old mid new : List ℕ) → Some Kinds.File ≡ kind_at table path → name ≡ last_name path → old ≡ []
+    → mid ≡ old ++ node_line name (unwrap_or (node_at table path) Dir) → new ≡ mid ++ 10 ∷ [] → lines_file (list_lines table path) ≡ new
+unfolding kind_at
+first_own table path name old mid new is last none put end =
+    let node = unwrap_or (node_at table path) Dir in
+    own_line (node_at table path) table path is
+    ∙ sym (ended old mid new (node_line (last_name path) node) (put ∙ ap (λ n. old ++ node_line n node) last) end ∙ ap (λ l. l ++ text_line (node_line (last_name path) node)) none)
 
-pub dir_names : (table : Table) (path : Names) (text : List ℕ) → is_file (node_at table path) ≡ false
-    → names_for table path text ≡ filter_map (file_in table path text) (children table path)
+-- and where nothing stands none
+pub first_none : (table : Table) (path : Names) (old : List ℕ) → None ≡ kind_at table path → old ≡ [] → lines_file (list_lines table path) ≡ old
+unfolding kind_at
+first_none table path old is none = ap lines_file (no_lines (node_at table path) table path is) ∙ sym none
+
+-- NLST: of a file its text
+pub first_name : (table : Table) (path : Names) (text old mid new : List ℕ) → is_file (node_at table path) ≡ true → old ≡ [] → mid ≡ old ++ text → new ≡ mid ++ 10 ∷ []
+    → lines_file (names_for table path text) ≡ new
 unfolding names_for
-dir_names table path text other = ap (λ b. if b then text ∷ [] else filter_map (file_in table path text) (children table path)) other
+first_name table path text old mid new is none put end =
+    ap (λ b. lines_file (if b then text ∷ [] else filter_map (file_in table path text) (children table path))) is ∙ append-nil (text_line text)
+    ∙ sym (ended old mid new text put end ∙ ap (λ l. l ++ text_line text) none)
+
+-- ---- the lines of a directory's names are those of its entries
+
+lines_shown : {X Y Z : Type 0} (f : X → Option Z) (g : Y → Option Z) (h : X → Y) (xs : List X) → ((x : X) → f x ≡ g (h x))
+    → filter_map f xs ≡ filter_map g (map h xs)
+lines_shown f g h [] same = refl
+lines_shown f g h (x ∷ xs) same = ap (λ o. cons_option o (filter_map f xs)) (same x) ∙ ap (cons_option (g (h x))) (lines_shown f g h xs same)
+
+of_directory : {A : Type 0} (what : What A) (f : List ℕ → Option (List ℕ)) (table : Table) (path : Names)
+    → ((name : List ℕ) → f name ≡ entry_line what path (name, of_node shown_of (node_at table (child path name))))
+    → filter_map f (children table path) ≡ lines_from what path (entries_at table path) (Some 0)
+unfolding entries_at
+of_directory what f table path same =
+    lines_shown f (entry_line what path) (λ name. (name, of_node shown_of (node_at table (child path name)))) (children table path) same
+
+-- of a name, whatever stands there
+child_shown : (path : Names) (name : List ℕ) (node : Option Node)
+    → (if fits (child path name) then Some (node_line name (unwrap_or node Dir)) else None)
+    ≡ (if fits (child path name) then Some (columns_of (name, of_node shown_of node)) else None)
+child_shown path name None = refl
+child_shown path name (Some Dir) = refl
+child_shown path name (Some (File octets moment)) = refl
+
+file_shown : (fit : Bool) (text name : List ℕ) (node : Option Node)
+    → (if fit && is_file node then Some (behind text name) else None) ≡ (if fit then pathname_of text (name, of_node shown_of node) else None)
+file_shown false text name _ = refl
+file_shown true text name None = refl
+file_shown true text name (Some Dir) = refl
+file_shown true text name (Some (File octets moment)) = refl
+
+facts_shown : (path : Names) (name : List ℕ) (node : Option Node)
+    → listed name (child path name) (unwrap_or node Dir) ≡ entry_facts (name, of_node shown_of node)
+facts_shown path name (Some (File octets moment)) = refl
+facts_shown [] name None = refl
+facts_shown (first ∷ path) name None = refl
+facts_shown [] name (Some Dir) = refl
+facts_shown (first ∷ path) name (Some Dir) = refl
+
+entry_shown : (fit : Bool) (facts : Facts) (path : Names) (name : List ℕ) (node : Option Node)
+    → option_map (listed_line facts) (if fit then Some (listed name (child path name) (unwrap_or node Dir)) else None)
+    ≡ (if fit then Some (listed_line facts (entry_facts (name, of_node shown_of node))) else None)
+entry_shown false facts path name _ = refl
+entry_shown true facts path name node = ap (λ said. Some (listed_line facts said)) (facts_shown path name node)
 
 mapped : {X Y : Type 0} (f : X → Y) (o : Option X) (xs : List X) → map f (cons_option o xs) ≡ cons_option (option_map f o) (map f xs)
 mapped f None xs = refl
@@ -227,58 +219,37 @@ mapped_all : {X Y Z : Type 0} (f : Y → Z) (h : X → Option Y) (xs : List X) �
 mapped_all f h [] = refl
 mapped_all f h (x ∷ xs) = mapped f (h x) (filter_map h xs) ∙ ap (cons_option (option_map f (h x))) (mapped_all f h xs)
 
-pub all_entries : (facts : Facts) (table : Table) (path : Names) → entry_lines facts table path ≡ filter_map (λ name. option_map (listed_line facts) (entry_in table path name)) (children table path)
-unfolding entries_in
-all_entries facts table path = mapped_all (listed_line facts) (entry_in table path) (children table path)
-
--- of a file its own line
-pub first_own : (table : Table) (path : Names) (name old mid new : List ℕ) → Some Kinds.File ≡ kind_at table path → name ≡ last_name path → old ≡ []
-    → mid ≡ old ++ node_line name (unwrap_or (node_at table path) Dir) → new ≡ mid ++ 10 ∷ [] → lines_file (list_lines table path) ≡ new ++ []
+-- LIST
+pub of_lines : {A : Type 0} (what : What A) (table : Table) (path : Names) → what ≡ Whats.Lines → kind_at table path ≡ Some Kinds.Dir
+    → lines_of what table path ≡ lines_from what path (entries_at table path) (Some 0)
 unfolding kind_at
-first_own table path name old mid new is last none put end =
-    let node = unwrap_or (node_at table path) Dir in
-    own_line (node_at table path) table path is
-    ∙ sym (ended old mid new (node_line (last_name path) node) (put ∙ ap (λ n. old ++ node_line n node) last) end ∙ ap (λ l. l ++ text_line (node_line (last_name path) node)) none)
-    ∙ sym (append-nil new)
+of_lines {A} what table path is dir =
+    let P : What A → Type 0 = λ w. lines_of w table path ≡ lines_from w path (entries_at table path) (Some 0) in
+    subst P (sym is)
+    (dir_lines (node_at table path) table path dir
+    ∙ of_directory {A = A} Whats.Lines (child_line table path) table path (λ name. child_shown path name (node_at table (child path name))))
 
--- of a directory those of its names
-pub first_dir : {A : Type 0} (what : What A) (table : Table) (path : Names) (new rest : List ℕ) → what ≡ Whats.Lines → Some Kinds.Dir ≡ kind_at table path
-    → lines_file (lines_from what table path (Some 0)) ≡ new ++ rest → lines_file (list_lines table path) ≡ new ++ rest
-unfolding kind_at
-first_dir what table path new rest is dir lines =
-    ap lines_file (dir_lines (node_at table path) table path dir) ∙ ap (λ w. lines_file (lines_from w table path (Some 0))) (sym is) ∙ lines
-
--- and where nothing stands none
-pub first_none : (table : Table) (path : Names) (old : List ℕ) → None ≡ kind_at table path → old ≡ [] → lines_file (list_lines table path) ≡ old ++ []
-unfolding kind_at
-first_none table path old is none = ap lines_file (no_lines (node_at table path) table path is) ∙ ap (λ l. l ++ []) (sym none)
-
--- NLST: of a file its text
-pub first_name : (table : Table) (path : Names) (text old mid new : List ℕ) → is_file (node_at table path) ≡ true → old ≡ [] → mid ≡ old ++ text → new ≡ mid ++ 10 ∷ []
-    → lines_file (names_for table path text) ≡ new ++ []
-first_name table path text old mid new is none put end =
-    own_name table path text is ∙ sym (ended old mid new text put end ∙ ap (λ l. l ++ text_line text) none) ∙ sym (append-nil new)
-
-pub first_names : {A : Type 0} (what : What A) (table : Table) (path : Names) (text new rest : List ℕ) → what ≡ Whats.Names text → is_file (node_at table path) ≡ false
-    → lines_file (lines_from what table path (Some 0)) ≡ new ++ rest → lines_file (names_for table path text) ≡ new ++ rest
-first_names what table path text new rest is other lines =
-    ap lines_file (dir_names table path text other) ∙ ap (λ w. lines_file (lines_from w table path (Some 0))) (sym is) ∙ lines
+-- NLST
+pub of_names : {A : Type 0} (what : What A) (table : Table) (path : Names) (text : List ℕ) → what ≡ Whats.Names text → is_file (node_at table path) ≡ false
+    → lines_of what table path ≡ lines_from what path (entries_at table path) (Some 0)
+unfolding names_for
+of_names {A} what table path text is other =
+    let P : What A → Type 0 = λ w. lines_of w table path ≡ lines_from w path (entries_at table path) (Some 0) in
+    subst P (sym is)
+    (ap (λ b. if b then text ∷ [] else filter_map (file_in table path text) (children table path)) other
+    ∙ of_directory {A = A} (Whats.Names text) (file_in table path text) table path
+    (λ name. file_shown (fits (child path name)) text name (node_at table (child path name))))
 
 -- MLSD
-pub first_entries : {A : Type 0} (what : What A) (facts : Facts) (table : Table) (path : Names) (new rest : List ℕ) → what ≡ Whats.Entries facts
-    → lines_file (lines_from what table path (Some 0)) ≡ new ++ rest → lines_file (lines_of what table path) ≡ new ++ rest
-first_entries what facts table path new rest is lines =
-    ap (λ w. lines_file (lines_of w table path)) is ∙ ap lines_file (all_entries facts table path)
-    ∙ ap (λ w. lines_file (lines_from w table path (Some 0))) (sym is) ∙ lines
-
--- which lines they are
-pub of_lines : {A : Type 0} (what : What A) (table : Table) (path : Names) (text : List ℕ) → what ≡ Whats.Lines → lines_file (list_lines table path) ≡ text
-    → lines_file (lines_of what table path) ≡ text
-of_lines what table path text is lines = ap (λ w. lines_file (lines_of w table path)) is ∙ lines
-
-pub of_names : {A : Type 0} (what : What A) (table : Table) (path : Names) (name text : List ℕ) → what ≡ Whats.Names name → lines_file (names_for table path name) ≡ text
-    → lines_file (lines_of what table path) ≡ text
-of_names what table path name text is lines = ap (λ w. lines_file (lines_of w table path)) is ∙ lines
+pub of_entries : {A : Type 0} (what : What A) (facts : Facts) (table : Table) (path : Names) → what ≡ Whats.Entries facts
+    → lines_of what table path ≡ lines_from what path (entries_at table path) (Some 0)
+unfolding entries_in entry_at
+of_entries {A} what facts table path is =
+    let P : What A → Type 0 = λ w. lines_of w table path ≡ lines_from w path (entries_at table path) (Some 0) in
+    subst P (sym is)
+    (mapped_all (listed_line facts) (entry_in table path) (children table path)
+    ∙ of_directory {A = A} (Whats.Entries facts) (λ name. option_map (listed_line facts) (entry_in table path name)) table path
+    (λ name. entry_shown (fits (child path name)) facts path name (node_at table (child path name))))
 
 -- ---- what is left of the text
 
@@ -286,22 +257,24 @@ empty_of : (xs : List ℕ) → length xs ≡ 0 → xs ≡ []
 empty_of [] none = refl
 empty_of (x ∷ xs) none = absurd (omega (arith, none))
 
-over_from : {A : Type 0} (what : What A) (table : Table) (path : Names) (place : Option ℕ) (n : ℕ) → (is_some place ≡ true → 0 < n) → n ≡ 0 → lines_from what table path place ≡ []
-over_from what table path None n known none = refl
-over_from what table path (Some place) n known none = absurd (omega (arith, known refl, none))
+over_from : {A : Type 0} (what : What A) (path : Names) (entries : List (List ℕ × Option (ℕ × ℕ))) (place : Option ℕ) (n : ℕ)
+    → (is_some place ≡ true → 0 < n) → n ≡ 0 → lines_from what path entries place ≡ []
+over_from what path entries None n known none = refl
+over_from what path entries (Some place) n known none = absurd (omega (arith, known refl, none))
 
-pub text_none : {A : Type 0} (l : Listing A) (table : Table) → l.given ≡ length l.lines.items → length l.ahead.items ≡ 0 → text_left table l ≡ []
-text_none l table used none =
+pub text_none : {A : Type 0} (l : Listing A) → l.given ≡ length l.lines.items → length l.ahead.items ≡ 0 → text_left l ≡ []
+text_none l used none =
     let nothing : l.ahead.items ≡ [] = empty_of l.ahead.items none in
-    ap (λ k. k ++ (l.ahead.items ++ lines_file (lines_from l.what table l.path l.place))) (drop_all l.given l.lines.items (omega (arith, used)))
-    ∙ ap (λ k. k ++ lines_file (lines_from l.what table l.path l.place)) nothing
-    ∙ ap lines_file (over_from l.what table l.path l.place (length l.ahead.items) l.known none)
+    let later = lines_file (lines_from l.what l.path l.entries l.place) in
+    ap (λ k. k ++ (l.ahead.items ++ later)) (drop_all l.given l.lines.items (omega (arith, used)))
+    ∙ ap (λ k. k ++ later) nothing
+    ∙ ap lines_file (over_from l.what l.path l.entries l.place (length l.ahead.items) l.known none)
 
-pub text_used : {A : Type 0} (l : Listing A) (table : Table) → text_left table l ≡ [] → (l.given ≡ length l.lines.items) × (length l.ahead.items ≡ 0)
-text_used l table none =
-    let behind = l.ahead.items ++ lines_file (lines_from l.what table l.path l.place) in
-    let whole = length-append (drop l.given l.lines.items) behind in
-    let parts = length-append l.ahead.items (lines_file (lines_from l.what table l.path l.place)) in
+pub text_used : {A : Type 0} (l : Listing A) → text_left l ≡ [] → (l.given ≡ length l.lines.items) × (length l.ahead.items ≡ 0)
+text_used l none =
+    let later = lines_file (lines_from l.what l.path l.entries l.place) in
+    let whole = length-append (drop l.given l.lines.items) (l.ahead.items ++ later) in
+    let parts = length-append l.ahead.items later in
     let left = length-drop l.given l.lines.items in
     let nothing = ap length none in
     (omega (arith, whole, left, nothing, l.within), omega (arith, whole, parts, nothing))

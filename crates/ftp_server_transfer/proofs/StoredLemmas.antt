@@ -7,10 +7,11 @@ use Rattle.ftp_server_transfer.specs.Stored.{IsWholeListing}
 use Rattle.ftp_server_transfer.specs.declared.listing.Listing.{Listing}
 
 pub whole_listing : {A : Type 0} (l : Listing A) → IsWholeListing l
-whole_listing l e alloc what path encoder lines given ahead place = λ i. record {
+whole_listing l e alloc what path entries encoder lines given ahead place = λ i. record {
   alloc = alloc i;
   what = what i;
   path = path i;
+  entries = entries i;
   encoder = encoder i;
   lines = lines i;
   given = given i;

@@ -24,7 +24,8 @@ what_len Whats.Lines = 0
 what_len (Whats.Names text) = length text
 what_len (Whats.Entries facts) = 0
 
--- a listing: its path, the argument, what its encoder stores, the lines that are given, and those after them
+-- a listing: its path, the argument, what its encoder stores, the lines that are given, and those after them. The names of its entries are not
+-- among it: they are the tree's own octets, held with it by counting, also where the tree lets go of one; beside its name an entry has numbers
 abbrev pub listing_len : {A : Type 0} → Listing A → ℕ
 listing_len l = path_len l.path + (what_len l.what + (encoder_len l.encoder + (length l.lines.items + length l.ahead.items)))
 
@@ -45,9 +46,9 @@ IsWholeDownload {A} d = (e : Download A) → e.path ≡ d.path → e.at ≡ d.at
 abbrev pub IsWholeUpload : {A : Type 0} → Upload A → Type 0
 IsWholeUpload {A} u = (e : Upload A) → e.path ≡ u.path → e.keep ≡ u.keep → e.decoder ≡ u.decoder → e ≡ u
 
--- a listing is its allocator, what is listed, its encoder, the lines, how many of their octets were taken, those after them, and a place in the
--- directory
+-- a listing is its allocator, what is listed, the entries of the directory, its encoder, the lines, how many of their octets were taken, those after
+-- them, and a place among the entries
 abbrev pub IsWholeListing : {A : Type 0} → Listing A → Type 0
 IsWholeListing {A} l =
-    (e : Listing A) → e.alloc ≡ l.alloc → e.what ≡ l.what → e.path ≡ l.path → e.encoder ≡ l.encoder
+    (e : Listing A) → e.alloc ≡ l.alloc → e.what ≡ l.what → e.path ≡ l.path → e.entries ≡ l.entries → e.encoder ≡ l.encoder
     → e.lines ≡ l.lines → e.given ≡ l.given → e.ahead ≡ l.ahead → e.place ≡ l.place → e ≡ l

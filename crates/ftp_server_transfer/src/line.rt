@@ -1,17 +1,18 @@
 // One line of a listing.
-ghost use Rattle.std.specs.Prelude.{◌≡◌, ◌+◌, ◌<◌, ◌≤◌, ◌++◌, [], IfOk, OnOk, true, length, Some, None, Option, is_some, option_map, if◌then◌else◌, List, ℕ};
+ghost use Rattle.std.specs.Prelude.{◌≡◌, ◌+◌, ◌<◌, ◌≤◌, ◌++◌, [], IfOk, OnOk, true, length, Some, None, Option, is_some, if◌then◌else◌, List, ℕ};
 ghost use Rattle.std.specs.Option.{ForSome, unwrap_or};
 ghost use Rattle.ftp_endpoint.specs.Number.{IsShort};
 ghost use Rattle.ftp_facts.specs.Fact.{IsOtherWord, IsValue};
 ghost use Rattle.ftp_facts.specs.declared.entry.EntryKind.TheVariants.{Other};
-ghost use Rattle.ftp_path.specs.Path.{IsPathText, Names, fits, text_limit};
-ghost use Rattle.ftp_tree.specs.Tree.{Dir, Node, Table, node_at, under};
+ghost use Rattle.ftp_path.specs.Path.{fits, text_limit};
+ghost use Rattle.ftp_tree.specs.Entries.{shown_entry};
+ghost use Rattle.ftp_tree.specs.Tree.{Dir, node_at, under};
 ghost use Rattle.ftp_operation.specs.Answer.{listed_of};
-ghost use Rattle.ftp_direct.specs.Direct.{behind, child, entry_in, file_in, listed, size_fact};
+ghost use Rattle.ftp_direct.specs.Direct.{behind, child, size_fact};
 ghost use Rattle.ftp_server_model.specs.Entries.{listed_line};
 ghost use Rattle.ftp_server_model.specs.Held.{lines_limit};
-ghost use Rattle.ftp_server_model.specs.Listing.{child_line, last_name, lines_file, node_line};
-ghost use Rattle.ftp_server_transfer.specs.Lines.{IsOf, Puts, line_of, lines_from};
+ghost use Rattle.ftp_server_model.specs.Listing.{last_name, lines_file, node_line, text_line};
+ghost use Rattle.ftp_server_transfer.specs.Lines.{Puts, columns_of, entry_facts, entry_line, lines_from, pathname_of};
 
 use crate::list_line::{put_dir_line, put_file_line};
 use crate::named::Named;
@@ -19,7 +20,7 @@ use ftp_facts::{Entry, EntryKind, Moment, Text, write_entry};
 use ftp_operation::is_number;
 use ftp_path::{Name, Path};
 use ftp_server_model::Facts;
-use ftp_tree::{DirEntry, FileFacts, Tree};
+use ftp_tree::{DirEntries, DirEntry, FileFacts, Tree};
 use std::alloc::{AllocError, Allocator};
 
 /// The most octets of a canonical text of a path (own choice).
@@ -39,25 +40,23 @@ pub enum What<A: Allocator + Copy> {
     Entries(Facts),
 }
 
-/// Puts the next lines from a place on, with LF behind each, and says where to go on; none where no line is left. These are as
-/// many as it takes to have some octets: what follows each line is done once for all of them.
-pub(crate) fn put_next<A: Allocator + Copy, T: Tree<A>>(
+/// Puts the lines of the next entries from a place on, with LF behind each, and says where to go on; none where no entry is left.
+/// These are as many as it takes to have some octets: what follows each line is done once for all of them.
+pub(crate) fn put_next<A: Allocator + Copy>(
     alloc: A,
-    tree: &T,
-    root: &Path<A>,
     path: &Path<A>,
     what: &What<A>,
+    entries: &DirEntries<A>,
     from: usize,
     line: &mut Vec<u8, A>,
 ) -> Result<Option<usize>, AllocError>
     requires empty { line.old.items ≡ [] }
-    ensures lines { IfOk result (λ next. let part = under (T.table tree.now) root.now in
-        lines_file (lines_from what.now part path.now (Some from)) ≡ line.new.items ++ lines_file (lines_from what.now part path.now next)) }
+    ensures lines { IfOk result (λ next. lines_file (lines_from what.now path.now entries.now (Some from)) ≡ line.new.items ++ lines_file (lines_from what.now path.now entries.now next)) }
     ensures some { IfOk result (λ next. is_some next ≡ true → 0 < length line.new.items) }
     ensures few { OnOk result (length line.new.items ≤ lines_limit) }
 {
     let mut place = from;
-    while let Some(found) = tree.nth_entry(root, path, place) {
+    while let Some(found) = entries.nth(place) {
         let Some(next) = place.checked_add(1) else {
             return Err(AllocError);
         };
@@ -78,13 +77,16 @@ fn put_line<A: Allocator + Copy>(
     found: DirEntry<'_>,
     line: &mut Vec<u8, A>,
 ) -> Result<(), AllocError>
-    ensures line { (table : Table) → IsOf found.entry.file (node_at table (child path.now found.entry.name.octets.now)) → OnOk result (Puts (line_of what.now table path.now found.entry.name.octets.now) line.old.items line.new.items) }
+    ensures line { OnOk result (Puts (entry_line what.now path.now (shown_entry found.entry)) line.old.items line.new.items) }
     ensures few { OnOk result (length line.new.items ≤ length line.old.items + (text_limit + 257)) }
 {
+    if !fits_below(path, found.name) {
+        return Ok(());
+    }
     match what {
-        What::Lines => put_child(path, found, line),
-        What::Names(text) => put_file(path, text.as_slice(), found, line),
-        What::Entries(facts) => put_entry(alloc, path, *facts, found, line),
+        What::Lines => put_columns_of(found, line),
+        What::Names(text) => put_file(text.as_slice(), found, line),
+        What::Entries(facts) => put_entry(alloc, *facts, found, line),
     }
 }
 
@@ -96,49 +98,30 @@ fn fits_below<A: Allocator + Copy>(path: &Path<A>, name: Name<'_>) -> bool
 }
 
 /// Puts the line of LIST for an entry.
-fn put_child<A: Allocator + Copy>(
-    path: &Path<A>,
+fn put_columns_of<A: Allocator + Copy>(
     found: DirEntry<'_>,
     line: &mut Vec<u8, A>,
 ) -> Result<(), AllocError>
-    ensures line { (table : Table) → IsOf found.entry.file (node_at table (child path.now found.entry.name.octets.now)) → OnOk result (Puts (child_line table path.now found.entry.name.octets.now) line.old.items line.new.items) }
+    ensures line { OnOk result (line.new.items ≡ line.old.items ++ text_line (columns_of (shown_entry found.entry))) }
     ensures few { OnOk result (length line.new.items ≤ length line.old.items + (text_limit + 257)) }
 {
-    if !fits_below(path, found.name) {
-        return Ok(());
+    match found.file {
+        Some(file) => put_file_line(found.name.octets(), file.size, file.moment, line)?,
+        None => put_dir_line(found.name.octets(), line)?,
     }
-    put_shown(found, line)?;
     line.push(b'\n')?;
     Ok(())
 }
 
-/// Puts the columns of LIST for an entry.
-fn put_shown<A: Allocator + Copy>(
-    found: DirEntry<'_>,
-    line: &mut Vec<u8, A>,
-) -> Result<(), AllocError>
-    ensures line { (node : Option Node) → IsOf found.entry.file node → OnOk result (line.new.items ≡ line.old.items ++ node_line found.entry.name.octets.now (unwrap_or node Dir)) }
-    ensures few { OnOk result (length line.new.items ≤ length line.old.items + (100 + length found.entry.name.octets.now)) }
-{
-    match found.file {
-        Some(file) => put_file_line(found.name.octets(), file.size, file.moment, line),
-        None => put_dir_line(found.name.octets(), line),
-    }
-}
-
 /// Puts the pathname of an entry, where it is a file's.
 fn put_file<A: Allocator + Copy>(
-    path: &Path<A>,
     text: &[u8],
     found: DirEntry<'_>,
     line: &mut Vec<u8, A>,
 ) -> Result<(), AllocError>
-    ensures line { (table : Table) → IsOf found.entry.file (node_at table (child path.now found.entry.name.octets.now)) → OnOk result (Puts (file_in table path.now text.now found.entry.name.octets.now) line.old.items line.new.items) }
+    ensures line { OnOk result (Puts (pathname_of text.now (shown_entry found.entry)) line.old.items line.new.items) }
     ensures few { OnOk result (length line.new.items ≤ length line.old.items + (length text.now + 257)) }
 {
-    if !fits_below(path, found.name) {
-        return Ok(());
-    }
     if found.file.is_none() {
         return Ok(());
     }
@@ -150,18 +133,14 @@ fn put_file<A: Allocator + Copy>(
 /// Puts the facts in force of an entry, a space and the name.
 fn put_entry<A: Allocator + Copy>(
     alloc: A,
-    path: &Path<A>,
     facts: Facts,
     found: DirEntry<'_>,
     line: &mut Vec<u8, A>,
 ) -> Result<(), AllocError>
-    ensures line { (table : Table) → IsOf found.entry.file (node_at table (child path.now found.entry.name.octets.now)) → OnOk result (Puts (option_map (listed_line facts) (entry_in table path.now found.entry.name.octets.now)) line.old.items line.new.items) }
+    ensures line { OnOk result (line.new.items ≡ line.old.items ++ text_line (listed_line facts (entry_facts (shown_entry found.entry)))) }
     ensures few { OnOk result (length line.new.items ≤ length line.old.items + (text_limit + 257)) }
 {
-    if !fits_below(path, found.name) {
-        return Ok(());
-    }
-    let entry = listed(alloc, found.name.octets(), found.file)?;
+    let entry = listed(alloc, found)?;
     put_chosen(entry, facts, line)?;
     line.push(b'\n')?;
     Ok(())
@@ -185,16 +164,11 @@ fn put_behind<A: Allocator + Copy>(
 }
 
 /// All that MLSD may say of an entry of a directory.
-fn listed<A: Allocator + Copy>(
-    alloc: A,
-    name: &[u8],
-    file: Option<FileFacts>,
-) -> Result<Entry<A>, AllocError>
-    requires { IsPathText name.now }
-    ensures { (path : Names) (node : Option Node) → IsOf file node → IfOk result (λ said. listed_of said ≡ listed name.now (child path name.now) (unwrap_or node Dir)) }
+fn listed<A: Allocator + Copy>(alloc: A, found: DirEntry<'_>) -> Result<Entry<A>, AllocError>
+    ensures { IfOk result (λ said. listed_of said ≡ entry_facts (shown_entry found.entry)) }
 {
-    let name = Text::copy_of(alloc, name)?;
-    let Some(file) = file else {
+    let name = Text::copy_of(alloc, found.name.octets())?;
+    let Some(file) = found.file else {
         let perm = Text::copy_of(alloc, b"cdeflmp")?;
         return Ok(Entry {
             name,

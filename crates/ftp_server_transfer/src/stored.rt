@@ -34,6 +34,7 @@ impl<A: Allocator + Copy> Upload<A> {
 
 impl<A: Allocator + Copy> Listing<A> {
     /// How many octets it stores: its path, the argument of NLST, the lines that are given and those after them, and what its encoder does.
+    /// The names of its entries are the tree's own octets, and not counted.
     pub fn stored(&self) -> usize
         ensures sum { result ≡ listing_len self.now }
         ensures whole { IsWholeListing self.now }

@@ -45,7 +45,7 @@ impl<A: Allocator + Copy> Model for DirEntries<A> {
 
 impl<A: Allocator + Copy> DirEntries<A> {
     /// No entries. Takes no memory.
-    pub(crate) fn new(alloc: A) -> DirEntries<A>
+    pub fn none(alloc: A) -> DirEntries<A>
         ensures { result ≡ [] }
     {
         DirEntries {

@@ -191,7 +191,7 @@ impl<A: Allocator + Copy> Node<A> {
         ensures { IfOk result (λ entries. entries ≡ entries_at self.now []) }
     {
         match &self.kept {
-            Branch::File { .. } => Ok(DirEntries::new(alloc)),
+            Branch::File { .. } => Ok(DirEntries::none(alloc)),
             Branch::Dir { children, .. } => entries_of(alloc, children.as_slice()),
         }
     }

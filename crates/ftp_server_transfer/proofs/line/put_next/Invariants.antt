@@ -1,16 +1,14 @@
 use Rattle.std.proofs.Common.{◌≡◌, ◌≤◌, ◌-◌, ◌++◌, length, Some}
-use Rattle.ftp_tree.specs.Tree.{children, under}
 use Rattle.ftp_server_model.specs.Listing.{lines_file}
 use Rattle.ftp_server_transfer.specs.Lines.{lines_from}
 use Rattle.ftp_server_transfer.proofs.line.put_next.Given as goal
 
 abbrev pub invariant-loop-found : goal.invariant-loop-found
 invariant-loop-found g l =
-    let part = under (g.T.Tree.table l.tree) l.root in
     record {
       few : length l.line.items ≤ 511;
-      left : lines_file (lines_from l.what part l.path (Some l.from)) ≡ l.line.items ++ lines_file (lines_from l.what part l.path (Some l.place));
+      left : lines_file (lines_from l.what l.path l.entries (Some l.from)) ≡ l.line.items ++ lines_file (lines_from l.what l.path l.entries (Some l.place));
     }
 
 abbrev pub decreases-loop-found : goal.decreases-loop-found
-decreases-loop-found g l = length (children (under (g.T.Tree.table l.tree) l.root) l.path) - l.place
+decreases-loop-found g l = length l.entries - l.place
