@@ -14,14 +14,14 @@ use Rattle.ftp_server_session.specs.Session.{Turns, session_of}
 use Rattle.ftp_server_session.specs.declared.session.Session.{Session as Held}
 
 -- so its row is that of the arm
-pub by_row : {A T J : Type 0} (table : T → Table) (failures : T → ℕ) (view : Table → J → Transfer) (footing : Footing) (pending : Pending Names) (old new : Held A T J)
+pub by_row : {A T J : Type 0} (table : T → Table) (failures : T → ℕ) (view : J → Transfer) (footing : Footing) (pending : Pending Names) (old new : Held A T J)
     (result : Result (ReplyKind Names) Fault) (command arm : Command (List ℕ)) → command ≡ arm
     → Turns table failures view (act footing arm pending) old new result → Turns table failures view (act footing command pending) old new result
 by_row table failures view footing pending old new result command arm is turns =
     subst (λ k. Turns table failures view (act footing k pending) old new result) (sym is) turns
 
 -- where it has a fixed reply and changes nothing
-pub by_reply : {A T J : Type 0} (table : T → Table) (failures : T → ℕ) (view : Table → J → Transfer) (footing : Footing) (pending : Pending Names) (old : Held A T J)
+pub by_reply : {A T J : Type 0} (table : T → Table) (failures : T → ℕ) (view : J → Transfer) (footing : Footing) (pending : Pending Names) (old : Held A T J)
     (kind : ReplyKind Names) (command arm : Command (List ℕ)) → command ≡ arm
     → (session_of table view old, kind) ≡ act footing arm pending (session_of table view old) → Turns table failures view (act footing command pending) old old (Ok kind)
 by_reply table failures view footing pending old kind command arm is same =

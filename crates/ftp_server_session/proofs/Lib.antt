@@ -1,5 +1,4 @@
 pub mod AskLemmas
 pub mod RefusedLemmas
-pub mod SessionLemmas
 pub mod ActLemmas
 pub mod GivenLemmas

@@ -2,7 +2,7 @@
 use Rattle.std.proofs.Common.{◌≡◌, ◌∙◌, ℕ, Bool, true, false, if◌then◌else◌, inl, inr, List, Option, Some, None, is_some, Result, Ok, Err, ap, refl, sym}
 use Rattle.ftp_path.specs.Path.{Names, fits, resolved}
 use Rattle.ftp_tree.specs.Change.{IsRefused}
-use Rattle.ftp_tree.specs.Tree.{Table, moved, rename_refusal, under}
+use Rattle.ftp_tree.specs.Tree.{Table, moved, rename_refusal}
 use Rattle.ftp_tree.specs.declared.fault.TreeFault.{TreeFault}
 use Rattle.ftp_tree.specs.declared.fault.TreeFault.TheVariants as Faults
 use Rattle.ftp_direct.specs.Direct.{barred, limited, or_refused, refused_name, refused_there}
@@ -16,19 +16,19 @@ use Rattle.ftp_server_model.specs.declared.reply.ReplyKind.{ReplyKind}
 use Rattle.ftp_server_model.specs.declared.reply.ReplyKind.TheVariants as Replies
 use Rattle.ftp_server_model.specs.declared.reply.FixedReply.{FixedReply}
 use Rattle.ftp_server_model.specs.declared.reply.FixedReply.TheVariants as Texts
-use Rattle.ftp_server_session.specs.Session.{RefusedAs, Turns, connection_of, session_of}
+use Rattle.ftp_server_session.specs.Session.{RefusedAs, Turns, session_of}
 use Rattle.ftp_server_parts.specs.declared.fault.Fault.{Fault}
 use Rattle.ftp_server_parts.specs.declared.fault.Fault.TheVariants.{Memory, Device}
 use Rattle.ftp_server_session.specs.declared.session.Session.{Session as Held}
 
 -- a tree that holds the same is seen as the same session
-same_session : {A T J : Type 0} (table : T → Table) (view : Table → J → Transfer) (old : Held A T J) (tree : T) → table tree ≡ table old.tree
+same_session : {A T J : Type 0} (table : T → Table) (view : J → Transfer) (old : Held A T J) (tree : T) → table tree ≡ table old.tree
     → session_of table view (record old { tree = tree }) ≡ session_of table view old
 same_session table view old tree same =
-    ap (λ t. record (session_of table view old) { table = t; connection = connection_of (view (under t old.root)) old.connection }) same
+    ap (λ t. record (session_of table view old) { table = t }) same
 
 -- what a refused call leaves and answers is the row: where the map gave a reason, this reply is due
-pub tree_refused : {A T J : Type 0} (table : T → Table) (failures : T → ℕ) (view : Table → J → Transfer) (row : Session → Turn) (old : Held A T J) (tree : T)
+pub tree_refused : {A T J : Type 0} (table : T → Table) (failures : T → ℕ) (view : J → Transfer) (row : Session → Turn) (old : Held A T J) (tree : T)
     (refusal : Option TreeFault) (fault : TreeFault) (text : FixedReply) (result : Result (ReplyKind Names) Fault)
     → IsRefused refusal fault (table old.tree) (table tree) (failures old.tree) (failures tree) → NoDevice refusal → RefusedAs fault text result
     → ((why : TreeFault) → refusal ≡ Some why → row (session_of table view old) ≡ (session_of table view old, Replies.Fixed text))

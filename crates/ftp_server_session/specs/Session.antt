@@ -1,7 +1,7 @@
 -- How a session that is held is seen by the definitions of the server.
 use Rattle.std.specs.Prelude.{◌≡◌, ◌≢◌, ℕ, Bool, true, false, Result, Ok, Err}
 use Rattle.ftp_path.specs.Path.{Names}
-use Rattle.ftp_tree.specs.Tree.{Table, under}
+use Rattle.ftp_tree.specs.Tree.{Table}
 use Rattle.ftp_tree.specs.declared.fault.TreeFault.{TreeFault}
 use Rattle.ftp_tree.specs.declared.fault.TreeFault.TheVariants as Faults
 use Rattle.ftp_server_model.specs.Replies.{Turn}
@@ -37,7 +37,7 @@ has_transfer Data.Ready = false
 has_transfer (Data.Opening transfer way) = true
 has_transfer (Data.Transferring transfer) = true
 
--- a session, by how its tree is seen, and its transfer beside the part of the tree that the account sees
+-- a session, by how its tree and its transfer are seen
 abbrev pub session_of : {A T J : Type 0} → (T → Table) → (J → Transfer) → Held A T J → Session
 session_of table view s = record {
   table = table s.tree;
@@ -69,3 +69,8 @@ abbrev pub RefusedAs : TreeFault → FixedReply → Result (ReplyKind Names) Fau
 RefusedAs fault text (Ok kind) = (kind ≡ Replies.Fixed text) × (fault ≢ Faults.Memory) × (fault ≢ Faults.Device)
 RefusedAs fault text (Err Memory) = fault ≡ Faults.Memory
 RefusedAs fault text (Err Device) = fault ≡ Faults.Device
+
+-- what a refused reading of the tree makes of a command: a failed device, or want of memory
+abbrev pub lost_as : TreeFault → Fault
+lost_as Faults.Device = Device
+lost_as other = Memory

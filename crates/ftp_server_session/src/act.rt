@@ -14,7 +14,7 @@ use ftp_tree::Tree;
 use std::alloc::Allocator;
 
 impl<A: Allocator + Copy, T: Tree<A>, J: ServerTransfer<A, T>> Session<A, T, J> {
-    ghost use Rattle.ftp_server_session.specs.Session.{Turns, footing_of, has_transfer};
+    ghost use Rattle.ftp_server_session.specs.Session.{Turns, footing_of};
 
     /// Does a command, after what the line before left pending for it. An ABOR during a transfer is not done here. The name of USER is
     /// kept; any other command is lent, and let go here alone.
@@ -24,7 +24,6 @@ impl<A: Allocator + Copy, T: Tree<A>, J: ServerTransfer<A, T>> Session<A, T, J> 
         command: Command<Argument<A>>,
         pending: &Pending<Path<A>>,
     ) -> Result<ReplyKind<Path<A>>, Fault>
-        requires idle { has_transfer self.old.connection ≡ false }
         requires paths { HasPathTexts command }
         ensures turn { Turns T.table T.failures J.view (act (footing_of footing.now) command pending.now) self.old self.new result }
         ensures may_fail { OnErr result (may_fail command ≡ true) }
@@ -46,7 +45,6 @@ impl<A: Allocator + Copy, T: Tree<A>, J: ServerTransfer<A, T>> Session<A, T, J> 
         command: &Command<Argument<A>>,
         pending: &Pending<Path<A>>,
     ) -> Result<ReplyKind<Path<A>>, Fault>
-        requires idle { has_transfer self.old.connection ≡ false }
         requires paths { HasPathTexts command.now }
         requires other { is_user command.now ≡ false }
         ensures turn { Turns T.table T.failures J.view (act (footing_of footing.now) command.now pending.now) self.old self.new result }

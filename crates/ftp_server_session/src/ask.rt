@@ -9,7 +9,7 @@ ghost use Rattle.ftp_server_model.specs.Transfer.{rest};
 ghost use Rattle.ftp_server_model.specs.View.{direct_of, how_in_force};
 
 use crate::session::Session;
-use crate::transfers::lost;
+use crate::walk::lost;
 use ftp_command::Argument;
 use ftp_direct::{absent_fault, file_fault, takes_offset, wire_len};
 use ftp_facts::moment_text;

@@ -42,7 +42,6 @@ impl<A: Allocator + Copy, T: Tree<A>, J: ServerTransfer<A, T>> Session<A, T, J> 
         footing: &Footing<A>,
         heard: HeardLine<Argument<A>>,
     ) -> Result<ReplyKind<Path<A>>, Fault>
-        requires idle { has_transfer self.old.connection ≡ false }
         requires paths { HeardPaths heard }
         ensures { Decides T.table T.failures J.view (footing_of footing.now) heard self.old self.new result }
     {
@@ -62,7 +61,6 @@ impl<A: Allocator + Copy, T: Tree<A>, J: ServerTransfer<A, T>> Session<A, T, J> 
         command: Command<Argument<A>>,
         pending: &Pending<Path<A>>,
     ) -> Result<ReplyKind<Path<A>>, Fault>
-        requires idle { has_transfer self.old.connection ≡ false }
         requires paths { HasPathTexts command }
         ensures { Asked T.table T.failures J.view (footing_of footing.now) command pending.now self.old self.new result }
     {

@@ -1,7 +1,6 @@
 // PORT, EPRT, PASV and EPSV (RFC 959, section 4.1.2; RFC 2428).
 ghost use Rattle.std.specs.Prelude.{◌≡◌};
 ghost use Rattle.ftp_server_model.specs.Endpoint.{asks, disconnected, epsv, forgotten, is_standing, pasv, port};
-ghost use Rattle.ftp_tree.specs.Tree.{under};
 
 use crate::footing::Footing;
 use crate::session::Session;

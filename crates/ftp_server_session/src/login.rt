@@ -1,5 +1,5 @@
 // USER, PASS, REIN and QUIT (RFC 959, sections 4.1.1 and 5.4).
-ghost use Rattle.std.specs.Prelude.{◌≡◌, [], false};
+ghost use Rattle.std.specs.Prelude.{◌≡◌, []};
 ghost use Rattle.ftp_operation.specs.Rights.{no_rights};
 ghost use Rattle.ftp_server_model.specs.Login.{logged_out, logs_in, pass, quit, rein, user};
 
@@ -15,11 +15,10 @@ use ftp_tree::Tree;
 use std::alloc::Allocator;
 
 impl<A: Allocator + Copy, T: Tree<A>, J: ServerTransfer<A, T>> Session<A, T, J> {
-    ghost use Rattle.ftp_server_session.specs.Session.{Turns, has_transfer, session_of};
+    ghost use Rattle.ftp_server_session.specs.Session.{Turns, session_of};
 
     /// Who is logged in, the root of his account and what he may change, from now on; that root is the current directory.
     fn enter(&mut self, access: Access<Argument<A>>, root: Path<A>, rights: Rights)
-        requires { has_transfer self.old.connection ≡ false }
         ensures view { session_of T.table J.view self.new ≡ record (session_of T.table J.view self.old) { access = access; root = root; rights = rights; cwd = [] } }
         ensures tree { self.new.tree ≡ self.old.tree }
     {
@@ -31,7 +30,6 @@ impl<A: Allocator + Copy, T: Tree<A>, J: ServerTransfer<A, T>> Session<A, T, J> 
 
     /// Nobody is logged in any longer.
     fn log_out(&mut self)
-        requires { has_transfer self.old.connection ≡ false }
         ensures view { session_of T.table J.view self.new ≡ logged_out (session_of T.table J.view self.old) }
         ensures tree { self.new.tree ≡ self.old.tree }
     {
@@ -40,7 +38,6 @@ impl<A: Allocator + Copy, T: Tree<A>, J: ServerTransfer<A, T>> Session<A, T, J> 
 
     /// A login is done where a directory stands at the root of its account.
     fn log_in(&mut self, account: &Account<Text<A>, Path<A>>) -> Result<ReplyKind<Path<A>>, Fault>
-        requires { has_transfer self.old.connection ≡ false }
         ensures { Turns T.table T.failures J.view (logs_in account.now) self.old self.new result }
     {
         if !is_dir(&self.tree, &Path::root(self.alloc), &account.root) {
@@ -60,7 +57,6 @@ impl<A: Allocator + Copy, T: Tree<A>, J: ServerTransfer<A, T>> Session<A, T, J> 
         accounts: &Accounts<A>,
         name: Argument<A>,
     ) -> Result<ReplyKind<Path<A>>, Fault>
-        requires { has_transfer self.old.connection ≡ false }
         ensures { Turns T.table T.failures J.view (user accounts.now name) self.old self.new result }
     {
         if let Some(account) = accounts.open_account(name.octets()) {
@@ -80,7 +76,6 @@ impl<A: Allocator + Copy, T: Tree<A>, J: ServerTransfer<A, T>> Session<A, T, J> 
         accounts: &Accounts<A>,
         word: &[u8],
     ) -> Result<ReplyKind<Path<A>>, Fault>
-        requires { has_transfer self.old.connection ≡ false }
         ensures { Turns T.table T.failures J.view (λ s. pass s.access accounts.now word.now s) self.old self.new result }
     {
         let account = match &self.access {

@@ -3,7 +3,6 @@ ghost use Rattle.std.specs.Prelude.{◌≡◌, IfOk, MatchOption, false, true};
 ghost use Rattle.ftp_path.specs.Path.{IsPathText, fits, resolved};
 ghost use Rattle.ftp_server_model.specs.Machine.{is_connection_busy};
 ghost use Rattle.ftp_server_model.specs.View.{first_session};
-ghost use Rattle.ftp_tree.specs.Tree.{under};
 
 use ftp_command::Argument;
 use ftp_operation::Rights;

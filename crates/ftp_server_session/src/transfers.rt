@@ -14,6 +14,7 @@ ghost use Rattle.ftp_server_model.specs.declared.session.Transfer.TheVariants as
 ghost use Rattle.ftp_tree.specs.Tree.{room_refusal, under};
 
 use crate::session::Session;
+use crate::walk::lost;
 use ftp_command::Argument;
 use ftp_direct::{absent_fault, directory_fault, len_at, may_put_at, place_at};
 use ftp_path::Path;
@@ -23,7 +24,7 @@ use ftp_tree::{Tree, TreeFault};
 use std::alloc::Allocator;
 
 impl<A: Allocator + Copy, T: Tree<A>, J: ServerTransfer<A, T>> Session<A, T, J> {
-    ghost use Rattle.ftp_server_session.specs.Session.{Turns, connection_of, has_transfer, session_of};
+    ghost use Rattle.ftp_server_session.specs.Session.{Turns, session_of};
 
     /// RETR, where the REST before it put it.
     pub(crate) fn retr(
@@ -31,8 +32,7 @@ impl<A: Allocator + Copy, T: Tree<A>, J: ServerTransfer<A, T>> Session<A, T, J> 
         pending: &Pending<Path<A>>,
         text: &[u8],
     ) -> Result<ReplyKind<Path<A>>, Fault>
-        requires idle { has_transfer self.old.connection ≡ false }
-        requires path { IsPathText text.now }
+        requires { IsPathText text.now }
         ensures { Turns T.table T.failures J.view (retr pending.now text.now) self.old self.new result }
     {
         let Ok(found) = self.find_file(text) else {
@@ -54,8 +54,7 @@ impl<A: Allocator + Copy, T: Tree<A>, J: ServerTransfer<A, T>> Session<A, T, J> 
         pending: &Pending<Path<A>>,
         text: &[u8],
     ) -> Result<ReplyKind<Path<A>>, Fault>
-        requires idle { has_transfer self.old.connection ≡ false }
-        requires path { IsPathText text.now }
+        requires { IsPathText text.now }
         ensures { Turns T.table T.failures J.view (stor pending.now text.now) self.old self.new result }
     {
         let Ok(found) = self.find(text) else {
@@ -76,8 +75,7 @@ impl<A: Allocator + Copy, T: Tree<A>, J: ServerTransfer<A, T>> Session<A, T, J> 
 
     /// APPE: a REST before it is of no matter.
     pub(crate) fn appe(&mut self, text: &[u8]) -> Result<ReplyKind<Path<A>>, Fault>
-        requires idle { has_transfer self.old.connection ≡ false }
-        requires path { IsPathText text.now }
+        requires { IsPathText text.now }
         ensures { Turns T.table T.failures J.view (appe text.now) self.old self.new result }
     {
         let Ok(found) = self.find(text) else {
@@ -96,8 +94,7 @@ impl<A: Allocator + Copy, T: Tree<A>, J: ServerTransfer<A, T>> Session<A, T, J> 
 
     /// LIST.
     pub(crate) fn list(&mut self, text: &Option<Argument<A>>) -> Result<ReplyKind<Path<A>>, Fault>
-        requires idle { has_transfer self.old.connection ≡ false }
-        requires path { IfGiven IsPathText text.now }
+        requires { IfGiven IsPathText text.now }
         ensures { Turns T.table T.failures J.view (list text.now) self.old self.new result }
     {
         let Ok(found) = self.find_here(text) else {
@@ -123,8 +120,7 @@ impl<A: Allocator + Copy, T: Tree<A>, J: ServerTransfer<A, T>> Session<A, T, J> 
 
     /// NLST.
     pub(crate) fn nlst(&mut self, text: &Option<Argument<A>>) -> Result<ReplyKind<Path<A>>, Fault>
-        requires idle { has_transfer self.old.connection ≡ false }
-        requires path { IfGiven IsPathText text.now }
+        requires { IfGiven IsPathText text.now }
         ensures { Turns T.table T.failures J.view (nlst text.now) self.old self.new result }
     {
         let Ok(found) = self.find_here(text) else {
@@ -151,8 +147,7 @@ impl<A: Allocator + Copy, T: Tree<A>, J: ServerTransfer<A, T>> Session<A, T, J> 
 
     /// MLSD.
     pub(crate) fn mlsd(&mut self, text: &Option<Argument<A>>) -> Result<ReplyKind<Path<A>>, Fault>
-        requires idle { has_transfer self.old.connection ≡ false }
-        requires path { IfGiven IsPathText text.now }
+        requires { IfGiven IsPathText text.now }
         ensures { Turns T.table T.failures J.view (mlsd text.now) self.old self.new result }
     {
         let Ok(found) = self.find_here(text) else {
@@ -178,11 +173,7 @@ impl<A: Allocator + Copy, T: Tree<A>, J: ServerTransfer<A, T>> Session<A, T, J> 
     }
 
     /// The place in the file at a path where a transfer begins, or `None` where the offset of the REST before it leads to none.
-    fn place_of(
-        &mut self,
-        pending: &Pending<Path<A>>,
-        path: &Path<A>,
-    ) -> Result<Option<u64>, Fault>
+    fn place_of(&mut self, pending: &Pending<Path<A>>, path: &Path<A>) -> Result<Option<u64>, Fault>
         ensures place { IfOk result (λ place. place ≡ place_of pending.now path.now (session_of T.table J.view self.old)) }
         ensures same { session_of T.table J.view self.new ≡ session_of T.table J.view self.old }
         ensures steady { OnOk result (T.failures self.new.tree ≡ T.failures self.old.tree) }
@@ -221,7 +212,7 @@ impl<A: Allocator + Copy, T: Tree<A>, J: ServerTransfer<A, T>> Session<A, T, J> 
 
     /// An upload begins, after so many octets of the file at a path, if the tree takes a file there.
     fn hold(&mut self, path: &mut Path<A>, keep: u64) -> Result<ReplyKind<Path<A>>, Fault>
-        requires fit { fits path.old ≡ true }
+        requires { fits path.old ≡ true }
         ensures { Turns T.table T.failures J.view (λ s. transfer_starts (refused_to_hold s path.old) (Transfers.Upload path.old keep (no_octets s.settings)) s) self.old self.new result }
     {
         if let Some(fault) = self.room_fault(path) {
@@ -263,17 +254,6 @@ impl<A: Allocator + Copy, T: Tree<A>, J: ServerTransfer<A, T>> Session<A, T, J> 
     {
         self.forget();
         ReplyKind::Fixed(text)
-    }
-}
-
-/// What a refused reading makes of a command: want of memory, or a failed device.
-pub(crate) fn lost(fault: TreeFault) -> Fault
-    ensures memory { fault ≡ TreeFault.Memory → result ≡ Fault.Memory }
-    ensures device { fault ≡ TreeFault.Device → result ≡ Fault.Device }
-{
-    match fault {
-        TreeFault::Device => Fault::Device,
-        _ => Fault::Memory,
     }
 }
 

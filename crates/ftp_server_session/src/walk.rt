@@ -1,8 +1,8 @@
 // CWD, CDUP, MKD, RMD, DELE, RNFR and RNTO (RFC 959, section 4.1.3).
-ghost use Rattle.std.specs.Prelude.{◌≡◌, false};
+ghost use Rattle.std.specs.Prelude.{◌≡◌};
 ghost use Rattle.ftp_path.specs.Path.{IsPathText};
 ghost use Rattle.ftp_server_model.specs.Walk.{cdup, cwd, dele, mkd, rmd, rnfr, rnto};
-ghost use Rattle.ftp_server_session.specs.Session.{RefusedAs};
+ghost use Rattle.ftp_server_session.specs.Session.{RefusedAs, lost_as};
 
 use crate::session::Session;
 use ftp_direct::{directory_fault, is_busy, is_held, move_to};
@@ -13,7 +13,7 @@ use ftp_tree::{Tree, TreeFault};
 use std::alloc::Allocator;
 
 impl<A: Allocator + Copy, T: Tree<A>, J: ServerTransfer<A, T>> Session<A, T, J> {
-    ghost use Rattle.ftp_server_session.specs.Session.{Turns, has_transfer, session_of};
+    ghost use Rattle.ftp_server_session.specs.Session.{Turns, session_of};
 
     /// CWD.
     pub(crate) fn change_dir(&mut self, text: &[u8]) -> Result<ReplyKind<Path<A>>, Fault>
@@ -44,8 +44,7 @@ impl<A: Allocator + Copy, T: Tree<A>, J: ServerTransfer<A, T>> Session<A, T, J> 
 
     /// MKD.
     pub(crate) fn make_dir(&mut self, text: &[u8]) -> Result<ReplyKind<Path<A>>, Fault>
-        requires idle { has_transfer self.old.connection ≡ false }
-        requires path { IsPathText text.now }
+        requires { IsPathText text.now }
         ensures { Turns T.table T.failures J.view (mkd text.now) self.old self.new result }
     {
         if !self.rights.make_dir {
@@ -65,8 +64,7 @@ impl<A: Allocator + Copy, T: Tree<A>, J: ServerTransfer<A, T>> Session<A, T, J> 
 
     /// RMD.
     pub(crate) fn remove_dir(&mut self, text: &[u8]) -> Result<ReplyKind<Path<A>>, Fault>
-        requires idle { has_transfer self.old.connection ≡ false }
-        requires path { IsPathText text.now }
+        requires { IsPathText text.now }
         ensures { Turns T.table T.failures J.view (rmd text.now) self.old self.new result }
     {
         if !self.rights.remove_dir {
@@ -89,8 +87,7 @@ impl<A: Allocator + Copy, T: Tree<A>, J: ServerTransfer<A, T>> Session<A, T, J> 
 
     /// DELE.
     pub(crate) fn delete(&mut self, text: &[u8]) -> Result<ReplyKind<Path<A>>, Fault>
-        requires idle { has_transfer self.old.connection ≡ false }
-        requires path { IsPathText text.now }
+        requires { IsPathText text.now }
         ensures { Turns T.table T.failures J.view (dele text.now) self.old self.new result }
     {
         if !self.rights.delete {
@@ -135,8 +132,7 @@ impl<A: Allocator + Copy, T: Tree<A>, J: ServerTransfer<A, T>> Session<A, T, J> 
         pending: &Pending<Path<A>>,
         text: &[u8],
     ) -> Result<ReplyKind<Path<A>>, Fault>
-        requires idle { has_transfer self.old.connection ≡ false }
-        requires path { IsPathText text.now }
+        requires { IsPathText text.now }
         ensures { Turns T.table T.failures J.view (rnto pending.now text.now) self.old self.new result }
     {
         let Pending::Rename(from) = pending else {
@@ -170,5 +166,16 @@ fn refused<A: Allocator + Copy>(
         TreeFault::Memory => Err(Fault::Memory),
         TreeFault::Device => Err(Fault::Device),
         _ => Ok(ReplyKind::Fixed(text)),
+    }
+}
+
+/// What a reading that the tree refused makes of a command: a failed device is told as such, and all else as want of memory, since a
+/// reading is refused for no other reason.
+pub(crate) fn lost(fault: TreeFault) -> Fault
+    ensures { result ≡ lost_as fault }
+{
+    match fault {
+        TreeFault::Device => Fault::Device,
+        _ => Fault::Memory,
     }
 }
