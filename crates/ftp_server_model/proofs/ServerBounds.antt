@@ -1,11 +1,12 @@
 -- No call of the server that takes no octets makes more to do.
 use Rattle.std.proofs.Common.{◌≡◌, ℕ, ◌+◌, ◌<◌, ◌≤◌, ◌⊎◌, inl, inr, List, [], ◌∷◌, ◌++◌, Bool, true, false, Option, Some, None, refl, sym, ap, subst, ◌∙◌, append-nil, arith, length}
 use Rattle.std.specs.Prelude.{if◌then◌else◌}
+use Rattle.std.proofs.lemmas.Bool.{cond_both}
 use Rattle.std.proofs.lemmas.List.{length-drop}
 use Rattle.ftp_ends.specs.Link.{same_host}
-use Rattle.ftp_server_model.specs.Calls.{connection_of, given_by, listening_turn, unheard, port_opens_for, opens, refuses, takes_given, ends, breaks, control_end, clock_step, control_step, listening_step, no_port_step, opened_step, refused_step, end_step, break_step, close_step, given_step}
+use Rattle.ftp_server_model.specs.Calls.{connection_of, given_by, listening_turn, unheard, port_opens_for, opens, refuses, takes_given, ends, breaks, control_end, clock_step, control_step, listening_step, no_port_step, opened_step, refused_step, end_step, break_step, close_step, given_step, to_give, with_connection}
 use Rattle.ftp_server_model.specs.Endpoint.{is_standing, disconnected}
-use Rattle.ftp_server_model.specs.Failing.{LineFails, WaitingFails, Late, InstallFails, ListingFails, install_lost, Ended, Given}
+use Rattle.ftp_server_model.specs.Failing.{LineFails, WaitingFails, Late, InstallFails, install_lost, Ended, Given}
 use Rattle.ftp_server_model.specs.Machine.{given_out, completed, obeyed, waited, later, is_idle, turned, concluded, faulted, Ending, is_over, put_in, installs, at_break, at_end}
 use Rattle.ftp_server_model.specs.View.{Session, Transfer, View}
 use Rattle.ftp_path.specs.Path.{Names}
@@ -196,7 +197,7 @@ refuses_lowers Data.Ready v is = same v
 refuses_lowers (Data.Transferring transfer) v is = same v
 
 -- the end of a transfer leaves the data connection as it was before
-installs_gone : (moment : ℕ) (path : Names) (keep : ℕ) (d : Decoder) (text : FixedReply) (s : Session)
+installs_gone : (moment : ℕ) (path : Names) (keep : Keep) (d : Decoder) (text : FixedReply) (s : Session)
     → (installs moment path keep d text s).0.connection ≡ s.connection
 installs_gone moment path keep d text s = by_over (is_over path keep d s)
   where
@@ -324,42 +325,37 @@ given_step_lowers count v few = by_case (finds v)
         let Q : ServerLink Transfer → Type 0 = λ connection. count ≤ length (given_by connection) in
         subst P (sym e) (takes_given_lowers count v.session.connection v refl (subst Q e few))
 
-takes_given_waits : (connection : ServerLink Transfer) (count : ℕ) (v : View) → (takes_given connection count v).waiting ≡ v.waiting
-takes_given_waits (Data.Transferring (Transfers.Download rest)) count v = refl
-takes_given_waits (Data.Transferring (Transfers.Listing rest)) count v = refl
-takes_given_waits (Data.Transferring (Transfers.Upload path keep d)) count v = refl
-takes_given_waits (Data.Transferring Transfers.OverLimit) count v = refl
-takes_given_waits Data.Free count v = refl
-takes_given_waits (Data.Active endpoint) count v = refl
-takes_given_waits (Data.Asked asked) count v = refl
-takes_given_waits Data.Passive count v = refl
-takes_given_waits (Data.Opening transfer way) count v = refl
-takes_given_waits Data.Ready count v = refl
+-- more is to be given than that: a transfer stands, and nothing but what is left of it is another
+pub record GivesMore (count : ℕ) (connection : ServerLink Transfer) (v : View) : Type 0 where
+  pub transfer : Transfer
+  pub left : ServerLink Transfer
+  pub stood : v.session.connection ≡ Data.Transferring transfer
+  pub gives : takes_given connection count v ≡ with_connection left v
 
--- a listing whose next octets were not had
-listing_falls : (count : ℕ) (connection : ServerLink Transfer) (v w : View) → v.session.connection ≡ connection → ListingFails connection count v w → Lowers count v w
-listing_falls count (Data.Transferring (Transfers.Listing rest)) v w is fails =
-    let u : View = takes_given (connection_of v.session) count v in
-    late_lowers count v (faulted u) w
-    (link_falls count v (faulted u) (Data.Transferring (Transfers.Listing rest)) is (takes_given_waits (connection_of v.session) count v) (omega arith)) fails.1
-listing_falls count (Data.Transferring (Transfers.Download rest)) v w is fails = absurd fails
-listing_falls count (Data.Transferring (Transfers.Upload path keep d)) v w is fails = absurd fails
-listing_falls count (Data.Transferring Transfers.OverLimit) v w is fails = absurd fails
-listing_falls count Data.Free v w is fails = absurd fails
-listing_falls count (Data.Active endpoint) v w is fails = absurd fails
-listing_falls count (Data.Asked asked) v w is fails = absurd fails
-listing_falls count Data.Passive v w is fails = absurd fails
-listing_falls count (Data.Opening transfer way) v w is fails = absurd fails
-listing_falls count Data.Ready v w is fails = absurd fails
+link_gives_more : (count : ℕ) (connection : ServerLink Transfer) (v : View) → v.session.connection ≡ connection → count < length (given_by connection) → GivesMore count connection v
+link_gives_more count (Data.Transferring (Transfers.Download rest)) v is more = record { transfer = Transfers.Download rest; left = Data.Transferring _; stood = is; gives = refl }
+link_gives_more count (Data.Transferring (Transfers.Listing rest)) v is more = record { transfer = Transfers.Listing rest; left = Data.Transferring _; stood = is; gives = refl }
+link_gives_more count (Data.Transferring (Transfers.Upload path keep d)) v is more = absurd (omega (arith, more))
+link_gives_more count (Data.Transferring Transfers.OverLimit) v is more = absurd (omega (arith, more))
+link_gives_more count Data.Free v is more = absurd (omega (arith, more))
+link_gives_more count (Data.Active endpoint) v is more = absurd (omega (arith, more))
+link_gives_more count (Data.Asked asked) v is more = absurd (omega (arith, more))
+link_gives_more count Data.Passive v is more = absurd (omega (arith, more))
+link_gives_more count (Data.Opening transfer way) v is more = absurd (omega (arith, more))
+link_gives_more count Data.Ready v is more = absurd (omega (arith, more))
+
+pub gives_more : (count : ℕ) (v : View) → count < length (to_give v) → GivesMore count (connection_of v.session) v
+gives_more count v =
+    cond_both v.session.closing Data.Free v.session.connection (λ connection. count < length (given_by connection) → GivesMore count connection v) (λ is more. absurd (omega (arith, more)))
+    (λ is. link_gives_more count v.session.connection v refl)
 
 gave_lowers : (count : ℕ) (v w : View) → count ≤ length (given_by (connection_of v.session)) → Given count v w → Lowers count v w
 gave_lowers count v w few (inr late) =
     late_lowers count v (given_step count v) w (completed_lowers count v (takes_given (connection_of v.session) count v) (given_step_lowers count v few)) late
-gave_lowers count v w few (inl fails) = by_case (finds v)
-  where
-    by_case : Finds v → Lowers count v w
-    by_case (nothing e) = absurd (let P : ServerLink Transfer → Type 0 = λ connection. ListingFails connection count v w in subst P e fails)
-    by_case (that e) = listing_falls count v.session.connection v w refl (let P : ServerLink Transfer → Type 0 = λ connection. ListingFails connection count v w in subst P e fails)
+gave_lowers count v w few (inl fails) =
+    let more = gives_more count v fails.0 in
+    let less = link_falls count v (faulted (with_connection more.left v)) (Data.Transferring more.transfer) more.stood refl (omega arith) in
+    late_lowers count v (faulted (takes_given (connection_of v.session) count v)) w (subst (λ (u : View). Lowers count v (faulted u)) (sym more.gives) less) fails.1
 
 -- ---- all calls
 
