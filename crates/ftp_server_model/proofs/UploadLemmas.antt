@@ -23,6 +23,8 @@ use Rattle.ftp_server_model.specs.Machine.{is_connection_busy, is_over, has_room
 use Rattle.ftp_server_model.specs.Replies.{mark_reply}
 use Rattle.ftp_server_model.specs.Told.{ConnectionKeeps, TransferKeeps}
 use Rattle.ftp_server_model.specs.View.{Session, Transfer, View}
+use Rattle.ftp_server_model.specs.Keep.{kept_count}
+use Rattle.ftp_server_model.specs.declared.session.Keep.{Keep}
 use Rattle.ftp_server_model.specs.declared.reply.FixedReply.TheVariants as Texts
 use Rattle.ftp_server_model.specs.declared.session.ServerLink.{ServerLink}
 use Rattle.ftp_server_model.specs.declared.session.ServerLink.TheVariants as Data
