@@ -8,7 +8,7 @@ use Rattle.ftp_ends.specs.Ear.{ear_out, ear_step}
 use Rattle.ftp_nvt.specs.Lines.{NvtEvent, line, too_long, owed}
 use Rattle.ftp_tree.specs.Tree.{Table}
 use Rattle.ftp_server_model.specs.Calls.{break_step, clock_step, close_step, connection_of, control_step, end_step, given_step, listening_step, no_port_step, opened_step, refused_step, takes_given}
-use Rattle.ftp_server_model.specs.Failing.{AbortFails, ActingFails, AreHeard, AreReceived, EndFails, EventIsHeard, EventsAreHeard, GiveFails, InstallFails, Late, LineFails, LineIsHeard, as_ever, not_read, not_done, ListingFails, OctetIsHeard, OctetIsReceived, ReadingFails, UploadFails, WaitingFails, line_lost}
+use Rattle.ftp_server_model.specs.Failing.{AbortFails, ActingFails, AreHeard, AreReceived, EndFails, EventIsHeard, EventsAreHeard, GiveFails, InstallFails, Late, LineFails, LineIsHeard, as_ever, not_read, not_done, OctetIsHeard, OctetIsReceived, ReadingFails, UploadFails, WaitingFails, line_lost}
 use Rattle.ftp_server_model.specs.Far.{Acts, Hears, Receives, Server, Steps}
 use Rattle.ftp_server_model.specs.Machine.{Reading, faulted, is_abort}
 use Rattle.ftp_server_model.specs.View.{Session, Transfer, View, line_limit}
@@ -75,21 +75,12 @@ module _ (table : Table) where
   late_looks v w (inl is) k = subst (OnlyLooks table) (sym is) (later_looks table v k)
   late_looks v w (inr is) k = waiting_fails v.waiting v w is k
 
-  -- ---- a listing whose next line had no room
+  -- ---- a download or a listing of which the next octets were not had
 
-  listing_fails : (count : ℕ) (connection : ServerLink Transfer) (v w : View) → ListingFails connection count v w → OnlyLooks table v → OnlyLooks table w
-  listing_fails count (Data.Transferring (Transfers.Listing rest)) v w lost k =
+  give_fails : (count : ℕ) (v w : View) → GiveFails count v w → OnlyLooks table v → OnlyLooks table w
+  give_fails count v w lost k =
       let x : View = takes_given (connection_of v.session) count v in
       late_looks (faulted x) w lost.1 (forgets_with table Texts.LocalFault x (given_by_looks table count v k))
-  listing_fails count (Data.Transferring Transfers.OverLimit) v w lost k = absurd lost
-  listing_fails count (Data.Transferring (Transfers.Download rest)) v w lost k = absurd lost
-  listing_fails count (Data.Transferring (Transfers.Upload path keep d)) v w lost k = absurd lost
-  listing_fails count (Data.Opening transfer way) v w lost k = absurd lost
-  listing_fails count (Data.Asked asked) v w lost k = absurd lost
-  listing_fails count (Data.Active endpoint) v w lost k = absurd lost
-  listing_fails count Data.Free v w lost k = absurd lost
-  listing_fails count Data.Passive v w lost k = absurd lost
-  listing_fails count Data.Ready v w lost k = absurd lost
 
   -- ---- control octets
 
@@ -181,6 +172,6 @@ far_leaves_the_map table old new k =
       ended = λ is. steps_look table EndFails end_step old new (end_step_looks table v k) (λ lost. absurd (none.install lost)) is;
       broke = λ is. steps_look table EndFails break_step old new (break_step_looks table v k) (λ lost. absurd (none.install lost)) is;
       gave = λ count is. steps_look table (GiveFails count) (given_step count) old new (given_looks table count v k)
-          (λ lost. listing_fails table count (connection_of v.session) v new.view lost k) is;
+          (λ lost. give_fails table count v new.view lost k) is;
       closed = λ is. acts_look table close_step old new (close_looks table v k) is;
     }

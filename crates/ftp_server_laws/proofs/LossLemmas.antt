@@ -20,7 +20,7 @@ use Rattle.ftp_settings.specs.Marker.{is_marker_octet}
 use Rattle.ftp_server_model.specs.Act.{forgets, is_transfer}
 use Rattle.ftp_server_model.specs.Calls.{connection_of, is_upload, may_receive, takes_all, takes_given, takes_said, with_connection}
 use Rattle.ftp_server_model.specs.Endpoint.{disconnected, forgotten}
-use Rattle.ftp_server_model.specs.Failing.{AbortFails, ActingFails, EndFails, EventIsHeard, EventsAreHeard, GiveFails, InstallFails, Late, LineFails, LineIsHeard, as_ever, not_read, not_done, ListingFails, OctetIsHeard, OctetIsReceived, ReadingFails, UploadFails, WaitingFails, install_lost, line_lost}
+use Rattle.ftp_server_model.specs.Failing.{AbortFails, ActingFails, EndFails, EventIsHeard, EventsAreHeard, GiveFails, InstallFails, Late, LineFails, LineIsHeard, as_ever, not_read, not_done, OctetIsHeard, OctetIsReceived, ReadingFails, UploadFails, WaitingFails, install_lost, line_lost}
 use Rattle.ftp_server_model.specs.Held.{waiting_len}
 use Rattle.ftp_server_model.specs.Kept.{ServerKeeps}
 use Rattle.ftp_server_model.specs.Machine.{IsReading, Reading, abort_said, faulted, has_room, heard_event, heard_events, heard_line, hears_octet, is_abort, is_connection_busy, is_idle, later, may_hear}
@@ -37,13 +37,14 @@ use Rattle.ftp_server_model.specs.declared.session.ServerLink.TheVariants as Dat
 use Rattle.ftp_server_model.specs.declared.session.Transfer.TheVariants as Transfers
 use Rattle.ftp_server_model.proofs.CallLemmas.{busy_owed, later_keeps, replied_keeps}
 use Rattle.ftp_server_model.proofs.RepliesWritten.{lines_short}
+use Rattle.ftp_server_model.proofs.ServerBounds.{gives_more}
 use Rattle.ftp_server_model.proofs.TurnLemmas.{connection_keeps, forgotten_keeps, pending_keeps, read_can_be_heard}
 use Rattle.ftp_server_laws.specs.Small.{IsShort, IsShortConnection, IsSmall}
 use Rattle.ftp_ends.proofs.EventLemmas.{out_one}
 use Rattle.ftp_ends.proofs.ReadLemmas.{IsShortEvent, AreShortEvents, ear_says, ear_short}
 use Rattle.ftp_server_laws.proofs.SaidLemmas.{heard_short}
 use Rattle.ftp_server_laws.proofs.SessionLemmas.{disconnected_short, forgets_short}
-use Rattle.ftp_server_laws.proofs.ViewLemmas.{all_short, forgets_with, later_short, moves_short, replied_short, said_short}
+use Rattle.ftp_server_laws.proofs.ViewLemmas.{all_short, forgets_with, given_by_short, later_short, moves_short, replied_short, said_short}
 use Rattle.ftp_server_laws.proofs.Theorems.{hears_small, receives_small}
 
 -- ---- the line that waits
@@ -167,29 +168,14 @@ faulted_small v x same few short k =
       short = forgets_with Texts.LocalFault x short;
     }
 
-listing_fails : (count : ℕ) (connection : ServerLink Transfer) (v w : View) → v.session.connection ≡ connection → connection_of v.session ≡ connection → ListingFails connection count v w → IsSmall v → IsSmall w
-listing_fails count (Data.Transferring (Transfers.Listing rest)) v w is at lost k =
-    let c : ServerLink Transfer = Data.Transferring (Transfers.Listing rest) in
-    let x : View = takes_given c count v in
-    let few = busy_owed v k.keeps (ap is_connection_busy is) in
-    let small : IsSmall (faulted x) = faulted_small v x refl (omega (arith, few)) (moves_short _ v tt k.short) k in
-    late_small (faulted (takes_given (connection_of v.session) count v)) w lost.1 (subst (λ (d : ServerLink Transfer). IsSmall (faulted (takes_given d count v))) (sym at) small)
-listing_fails count (Data.Transferring Transfers.OverLimit) v w is at lost k = absurd lost
-listing_fails count (Data.Transferring (Transfers.Download rest)) v w is at lost k = absurd lost
-listing_fails count (Data.Transferring (Transfers.Upload path keep d)) v w is at lost k = absurd lost
-listing_fails count (Data.Opening transfer way) v w is at lost k = absurd lost
-listing_fails count (Data.Asked asked) v w is at lost k = absurd lost
-listing_fails count (Data.Active endpoint) v w is at lost k = absurd lost
-listing_fails count Data.Free v w is at lost k = absurd lost
-listing_fails count Data.Passive v w is at lost k = absurd lost
-listing_fails count Data.Ready v w is at lost k = absurd lost
-
+-- a download or a listing of which the next octets were not had
 pub give_fails : (count : ℕ) (v w : View) → GiveFails count v w → IsSmall v → IsSmall w
-give_fails count v w lost k = by v.session.closing refl lost
-  where
-    by : (b : Bool) → v.session.closing ≡ b → ListingFails (if b then Data.Free else v.session.connection) count v w → IsSmall w
-    by true is lost = absurd lost
-    by false is lost = listing_fails count v.session.connection v w refl (ap (λ b. if b then Data.Free else v.session.connection) is) lost k
+give_fails count v w lost k =
+    let x : View = takes_given (connection_of v.session) count v in
+    let more = gives_more count v lost.0 in
+    let few = busy_owed v k.keeps (ap is_connection_busy more.stood) in
+    let same : length x.owed ≡ length v.owed = ap (λ (u : View). length u.owed) more.gives in
+    late_small (faulted x) w lost.1 (faulted_small v x (ap erased more.gives) (omega (arith, few, same)) (given_by_short count v k.short) k)
 
 -- ---- an octet of an upload that is lost
 

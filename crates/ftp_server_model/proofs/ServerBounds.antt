@@ -4,7 +4,7 @@ use Rattle.std.specs.Prelude.{if◌then◌else◌}
 use Rattle.std.proofs.lemmas.Bool.{cond_both}
 use Rattle.std.proofs.lemmas.List.{length-drop}
 use Rattle.ftp_ends.specs.Link.{same_host}
-use Rattle.ftp_server_model.specs.Calls.{connection_of, given_by, listening_turn, unheard, port_opens_for, opens, refuses, takes_given, ends, breaks, control_end, clock_step, control_step, listening_step, no_port_step, opened_step, refused_step, end_step, break_step, close_step, given_step, to_give, with_connection}
+use Rattle.ftp_server_model.specs.Calls.{connection_of, given_by, to_give, listening_turn, unheard, port_opens_for, opens, refuses, takes_given, ends, breaks, control_end, clock_step, control_step, listening_step, no_port_step, opened_step, refused_step, end_step, break_step, close_step, given_step, with_connection}
 use Rattle.ftp_server_model.specs.Endpoint.{is_standing, disconnected}
 use Rattle.ftp_server_model.specs.Failing.{LineFails, WaitingFails, Late, InstallFails, install_lost, Ended, Given}
 use Rattle.ftp_server_model.specs.Machine.{given_out, completed, obeyed, waited, later, is_idle, turned, concluded, faulted, Ending, end_refusal, ends_by, installs, at_break, at_end}

@@ -1,5 +1,5 @@
 -- The worked rows of a server, computed.
-use Rattle.std.proofs.Common.{◌≡◌, ℕ, List, [], ◌∷◌, ◌++◌, Bool, true, false, Option, Some, None, refl, ap, ◌∙◌}
+use Rattle.std.proofs.Common.{◌≡◌, ℕ, List, [], ◌∷◌, ◌++◌, ◌⊎◌, Bool, true, false, Option, Some, None, inl, inr, refl, sym, ap, ◌∙◌, arith, length}
 use Rattle.std.specs.Prelude.{codes, decimal, drop, filter_map, unwrap_or}
 use Rattle.ftp_command.specs.declared.command.Command.TheVariants as command
 use Rattle.ftp_settings.specs.declared.representation.Kind.TheVariants as Kinds
@@ -26,10 +26,12 @@ use Rattle.ftp_server_model.specs.Transfer.{transfer_starts, file_wire, misplace
 use Rattle.ftp_server_model.specs.Listing.{entry_lines, listing_wire, list_lines, name_lines, list_lines_at, child_line, node_line, right_in, month_word}
 use Rattle.ftp_facts.specs.Calendar.{year_and_place, month_and_place}
 use Rattle.ftp_facts.specs.Moment.{four_digits}
-use Rattle.ftp_server_model.specs.Machine.{obeyed, completed, turned, owes, with_session}
-use Rattle.ftp_server_model.specs.Calls.{gives_control, listening, listen_refused, data_opened, data_refused, gives_data, to_give, wants}
+use Rattle.ftp_server_model.specs.Failing.{GiveFails, WaitingFails}
+use Rattle.ftp_server_model.specs.Machine.{obeyed, completed, faulted, turned, owes, waited, with_session}
+use Rattle.ftp_server_model.specs.Calls.{connection_of, gives_control, listening, listen_refused, data_opened, data_refused, gives_data, takes_given, to_give, wants}
 use Rattle.ftp_ends.specs.RowWords.{here, elsewhere}
-use Rattle.ftp_server_model.specs.Rows.{RowEvent, after_events, server, member, logged_in, at, of, five, asks, opened, refused, LoginAnswered, OpenLogin, RootMissing, RootIsTop, MadeBelowRoot, WrongPassword, OrderOfDecisions, BeforeLogin, FeaturesTold, Utf8Chosen, FactsChosen, FeaturesBehindOptions, EntryTold, RecordsSent, NamesSent, EntriesSent, OnlyExtended, Reinitialized, QuitHeard, ByFamily, ForeignEndpoint, RefusedOpening, RefusedListen, ForeignOpener, RenameDone, OntoRefused, OntoDone, LateRename, DownloadSent, RestartSent, LateRestart, RestartInAscii, RestartInPair, RestartInRecords, ListingSent, EarlyAbort, WaitingLine}
+use Rattle.ftp_server_model.specs.Rows.{RowEvent, after_events, server, member, logged_in, at, of, five, asks, opened, refused, LoginAnswered, OpenLogin, RootMissing, RootIsTop, MadeBelowRoot, WrongPassword, OrderOfDecisions, BeforeLogin, FeaturesTold, Utf8Chosen, FactsChosen, FeaturesBehindOptions, EntryTold, RecordsSent, NamesSent, EntriesSent, OnlyExtended, Reinitialized, QuitHeard, ByFamily, ForeignEndpoint, RefusedOpening, RefusedListen, ForeignOpener, RenameDone, OntoRefused, OntoDone, LateRename, DownloadSent, DownloadCut, RestartSent, LateRestart, RestartInAscii, RestartInPair, RestartInRecords, ListingSent, EarlyAbort, WaitingLine}
+use Rattle.ftp_server_model.specs.declared.heard.HeardLine.{HeardLine}
 use Rattle.ftp_server_model.specs.declared.session.Pending.TheVariants as Pendings
 use Rattle.ftp_server_model.specs.declared.session.ServerLink.TheVariants as Data
 use Rattle.ftp_server_model.specs.declared.session.Transfer.TheVariants as Transfers
@@ -150,6 +152,31 @@ onto_done table root octets other moment later tree d e =
 pub active_download : DownloadSent
 unfolding obeyed fits text_of resolved octets_at data_opened gives_data
 active_download table root moment f = (rw f refl, rw f refl, rw f refl, rw f refl, rw f refl)
+
+-- a call behind which no line waits leaves its step
+still : (waiting : Option (HeardLine (List ℕ))) (v w : View) → waiting ≡ None → (w ≡ waited waiting v) ⊎ WaitingFails waiting v w → w ≡ v
+still None v w is (inl same) = same
+still None v w is (inr fails) = absurd fails
+still (Some heard) v w is late = absurd (cc)
+
+-- what comes of a failure behind two of three octets, where no line waits
+abbrev cut_of : View → View
+cut_of v = faulted (takes_given (connection_of v.session) 2 v)
+
+cuts : (v : View) → length (to_give v) ≡ 3 → (cut_of v).waiting ≡ None
+    → GiveFails 2 v (cut_of v) × ((w : View) → GiveFails 2 v w → w ≡ cut_of v) × ((w : View) → GiveFails 3 v w → ⊥)
+cuts v three none = (
+  (omega (arith, three), inl (sym (ap (λ waiting. waited waiting (cut_of v)) none))),
+  λ w fails. still (cut_of v).waiting (cut_of v) w none fails.1,
+  λ w fails. absurd (omega (arith, three, fails.0)),
+)
+
+pub cut_download : DownloadCut
+unfolding obeyed fits text_of resolved octets_at data_opened
+cut_download table root moment f =
+    let v : View = member table root (asks (command.Repr Kinds.Image) ∷ asks (command.Port (at here)) ∷ asks (command.Retr (codes "f")) ∷ opened here ∷ []) in
+    let one = cuts v (rw f refl) (rw f refl) in
+    (one.0, one.1, one.2, rw f refl, rw f refl, rw f refl, rw f refl)
 
 -- ---- a command that the map decides: its code first, and then the rest computes
 

@@ -342,17 +342,15 @@ abort_past_room table root f room =
 
 -- ---- an end before the end of file
 
--- how an upload ends behind octets of the file that stands there
-abbrev ends_behind : Footing → Session → Keep → List ℕ → List ℕ → FixedReply → Option Refusal → Ending
-ends_behind footing s keep old content text (Some why) = (s, refusal_text why)
-ends_behind footing s keep old content text None = (with_seen (installed (seen s) f_path (kept_of keep old ++ content) footing.moment) s, text)
+-- how an upload ends behind octets of the file that stands there, where it is put in
+abbrev ends_behind : Footing → Session → Keep → List ℕ → List ℕ → FixedReply → Ending
+ends_behind footing s keep old content text = (with_seen (installed (seen s) f_path (kept_of keep old ++ content) footing.moment) s, text)
 
-ends_early : (footing : Footing) (place : Place) (said : List ℕ) (why : Option Refusal) → end_refusal f_path (Keeps.All 3) (codes "d") (after place block_settings false) ≡ why
+ends_early : (footing : Footing) (place : Place) (said : List ℕ) → end_refusal f_path (Keeps.All 3) (codes "d") (after place block_settings false) ≡ None
     → data_end (uploading footing place block_settings said (appending (blocks (0 ∷ 0 ∷ 1 ∷ 100 ∷ [])) false))
-    ≡ left footing said (ends_behind footing (after place block_settings false) (Keeps.All 3) (octets_or_none (part_at place) f_path) (codes "d") Texts.Broken why)
+    ≡ left footing said (ending footing (after place block_settings false) (Keeps.All 3) (codes "d") Texts.Broken None)
 unfolding data_end
-ends_early footing place said why is =
-    ap (λ w. left footing said (ends_behind footing (after place block_settings false) (Keeps.All 3) (octets_or_none (part_at place) f_path) (codes "d") Texts.Broken w)) is
+ends_early footing place said is = ap (λ why. left footing said (ending footing (after place block_settings false) (Keeps.All 3) (codes "d") Texts.Broken why)) is
 
 abc_octets : (table : Table) → node_at table f_path ≡ Some (File (codes "abc") 0) → octets_or_none table f_path ≡ codes "abc"
 unfolding octets_at
@@ -363,8 +361,8 @@ early_end table root f room =
     let over : is_over f_path (Keeps.All 3) (blocks (0 ∷ 0 ∷ 1 ∷ 100 ∷ [])) (after (table, root) block_settings false) ≡ false = rw room refl in
     let is = ap (λ w. data_end (receives w (0 ∷ 0 ∷ 1 ∷ 100 ∷ []))) (begun_append table root f)
     ∙ ap (λ w. data_end w) (block_comes (standing root) (table, root) block_said false over)
-    ∙ ends_early (standing root) (table, root) block_said None (ends_well (table, root) block_settings (Keeps.All 3) (codes "abc") (codes "d") f room refl refl refl)
-    ∙ ap (λ o. left (standing root) block_said (ends_behind (standing root) (after (table, root) block_settings false) (Keeps.All 3) o (codes "d") Texts.Broken None))
+    ∙ ends_early (standing root) (table, root) block_said (ends_well (table, root) block_settings (Keeps.All 3) (codes "abc") (codes "d") f room refl refl refl)
+    ∙ ap (λ o. left (standing root) block_said (ends_behind (standing root) (after (table, root) block_settings false) (Keeps.All 3) o (codes "d") Texts.Broken))
     (abc_octets (under table root) f) in
     (ap (λ w. w.owed) is, ap (λ w. w.session.table) is)
 
@@ -434,19 +432,18 @@ z_comes : (footing : Footing) (place : Place) (said : List ℕ) (over : Bool) �
 unfolding receives_octet
 z_comes footing place said over is = ap (λ b. uploading footing place image_settings said (behind_one (image (122 ∷ [])) b)) is
 
-ends_from : (footing : Footing) (place : Place) (said : List ℕ) (why : Option Refusal) → end_refusal f_path (Keeps.First 1) (codes "z") (after place image_settings false) ≡ why
+ends_from : (footing : Footing) (place : Place) (said : List ℕ) → end_refusal f_path (Keeps.First 1) (codes "z") (after place image_settings false) ≡ None
     → data_end (uploading footing place image_settings said (behind_one (image (122 ∷ [])) false))
-    ≡ left footing said (ends_behind footing (after place image_settings false) (Keeps.First 1) (octets_or_none (part_at place) f_path) (codes "z") Texts.Complete why)
+    ≡ left footing said (ending footing (after place image_settings false) (Keeps.First 1) (codes "z") Texts.Complete None)
 unfolding data_end
-ends_from footing place said why is =
-    ap (λ w. left footing said (ends_behind footing (after place image_settings false) (Keeps.First 1) (octets_or_none (part_at place) f_path) (codes "z") Texts.Complete w)) is
+ends_from footing place said is = ap (λ why. left footing said (ending footing (after place image_settings false) (Keeps.First 1) (codes "z") Texts.Complete why)) is
 
 pub upload_from_place : UploadFromPlace
 upload_from_place table root f room =
     let over : is_over f_path (Keeps.First 1) (image (122 ∷ [])) (after (table, root) image_settings false) ≡ false = rw room refl in
     let is = ap (λ w. data_end (receives w (codes "z"))) (begun_from table root f)
     ∙ ap (λ w. data_end w) (z_comes (standing root) (table, root) from_said false over)
-    ∙ ends_from (standing root) (table, root) from_said None (ends_well (table, root) image_settings (Keeps.First 1) (codes "abc") (codes "z") f room refl refl refl)
-    ∙ ap (λ o. left (standing root) from_said (ends_behind (standing root) (after (table, root) image_settings false) (Keeps.First 1) o (codes "z") Texts.Complete None))
+    ∙ ends_from (standing root) (table, root) from_said (ends_well (table, root) image_settings (Keeps.First 1) (codes "abc") (codes "z") f room refl refl refl)
+    ∙ ap (λ o. left (standing root) from_said (ends_behind (standing root) (after (table, root) image_settings false) (Keeps.First 1) o (codes "z") Texts.Complete))
     (abc_octets (under table root) f) in
     (ap (λ w. w.owed) is, ap (λ w. w.session.table) is)

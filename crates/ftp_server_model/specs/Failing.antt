@@ -116,7 +116,7 @@ UploadFails (Data.Transferring (Transfers.Upload path keep d)) octet v w =
 UploadFails connection octet v w = ⊥
 
 -- so many octets of a download or a listing were given, and what comes next was not had: memory was refused, or the device failed.
--- It ends with 451, and its data connection is to be closed before it is whole
+-- It ends with 451, and its data connection is to be closed before it is whole (own choice: 451 and not 426, since the fault is this end's)
 abbrev pub GiveFails : ℕ → View → View → Type 0
 GiveFails count v w = (count < length (to_give v)) × Late (faulted (takes_given (connection_of v.session) count v)) w
 

@@ -145,7 +145,7 @@ at_end moment transfer s = at_break moment transfer s
 abbrev pub concluded : Ending → View → View
 concluded ending v = replied ending.1 ending.0 v
 
--- a fault of the wire, or refused memory: 451, the map is as it was, and the data connection is to be closed
+-- a fault of the wire, a device that failed, or refused memory: 451, the map is as it was, and the data connection is to be closed
 abbrev pub faulted : View → View
 faulted v = replied Texts.LocalFault (forgotten v.session) v
 

@@ -17,8 +17,9 @@ use Rattle.ftp_path.specs.Path.{Names}
 use Rattle.ftp_tree.specs.Tree.{Dir, File, Table, IsTree, node_at, children, installed, made, moved, removed, make_refusal, moves_fit, room_at, under, with_part}
 use Rattle.ftp_ends.specs.RowWords.{here, elsewhere, lines}
 use Rattle.ftp_server_model.specs.View.{Accounts, View}
-use Rattle.ftp_server_model.specs.Machine.{heard_line, may_hear}
-use Rattle.ftp_server_model.specs.Calls.{start, control_end, gives_control, listening, listen_refused, data_opened, data_refused, receives, gives_data, data_end, data_fault, data_closed, may_receive, to_give, wants}
+use Rattle.ftp_server_model.specs.Failing.{GiveFails}
+use Rattle.ftp_server_model.specs.Machine.{faulted, heard_line, may_hear}
+use Rattle.ftp_server_model.specs.Calls.{connection_of, start, control_end, gives_control, listening, listen_refused, data_opened, data_refused, receives, gives_data, data_end, data_fault, data_closed, may_receive, takes_given, to_give, wants}
 use Rattle.ftp_ends.specs.declared.link.Wants.TheVariants as Want
 use Rattle.ftp_server_model.specs.declared.session.Access.TheVariants.{Known}
 use Rattle.ftp_server_model.specs.declared.heard.HeardLine.{HeardLine}
@@ -297,6 +298,17 @@ DownloadSent =
     × (wants (member table root (asked ++ opened here ∷ given 2 ∷ given 1 ∷ [])) ≡ Want.CloseData)
     × ((member table root (asked ++ opened here ∷ given 2 ∷ given 1 ∷ [])).owed
     ≡ said_to_member (codes "200 Type set" ∷ codes "200 Endpoint taken" ∷ codes "150 Opening data connection" ∷ codes "226 Transfer complete" ∷ []))
+
+-- 451: behind two of three octets the next one is not had. One view comes of that: the file stands, the data connection is to be closed, and
+-- nothing more is to be given. Where all three were given nothing can fail
+abbrev pub DownloadCut : Type 0
+DownloadCut =
+    (table : Table) (root : Names) (moment : ℕ) → node_at (under table root) (of (codes "f")) ≡ Some (File (codes "abc") moment)
+    → let v = member table root (asks (command.Repr Kinds.Image) ∷ asks (command.Port (at here)) ∷ asks (command.Retr (codes "f")) ∷ opened here ∷ []) in
+    let cut = faulted (takes_given (connection_of v.session) 2 v) in
+    GiveFails 2 v cut × ((w : View) → GiveFails 2 v w → w ≡ cut) × ((w : View) → GiveFails 3 v w → ⊥)
+    × (cut.owed ≡ said_to_member (codes "200 Type set" ∷ codes "200 Endpoint taken" ∷ codes "150 Opening data connection" ∷ codes "451 Local fault" ∷ []))
+    × (wants cut ≡ Want.CloseData) × (to_give cut ≡ []) × (cut.session.table ≡ table)
 
 -- REST right before RETR
 abbrev pub RestartSent : Type 0

@@ -96,7 +96,7 @@ pub trait Far<A: Allocator + Copy, T: Tree<A>>: Drop {
         ensures acts { Steps EndFails break_step (server self.old) (server self.new) }
         ensures told { Tells break_step (heard self.new) (server self.old) (server self.new) };
 
-    /// Gives octets of the data connection, and says how many.
+    /// Gives octets of the data connection, and says how many. Where what comes next of a download or a listing is not had, that ends with 451.
     fn data_out(&mut self, room: &mut [u8]) -> usize
         ensures within { (result ≤ length room.old) × (result ≤ length (to_give (server self.old).view)) }
         ensures gave { take result room.new ≡ take result (to_give (server self.old).view) }

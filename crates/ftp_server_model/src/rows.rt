@@ -1,5 +1,5 @@
 //! Worked rows of a server: functions that do nothing, whose contracts are rows of `specs/Rows`.
-ghost use Rattle.ftp_server_model.specs.Rows.{AbortAnswered, AbortPastRoom, BeforeLogin, BrokenUploadKept, ByFamily, DownloadSent, EarlyAbort, EarlyEnd, EntriesSent, EntryTold, FactsChosen, FaultyUpload, FeaturesBehindOptions, FeaturesTold, ForeignEndpoint, ForeignOpener, LateRename, LateRestart, ListingSent, LoginAnswered, MadeBelowRoot, MarkerAnswered, NamesSent, OnlyExtended, OntoDone, OntoRefused, OpenLogin, OrderOfDecisions, QuitHeard, RecordsSent, RefusedListen, RefusedOpening, Reinitialized, RenameDone, RestartInAscii, RestartInPair, RestartInRecords, RestartSent, RootIsTop, RootMissing, TooMuchRefused, UploadDropped, UploadFromPlace, UploadInstalled, Utf8Chosen, WaitingLine, WrongPassword};
+ghost use Rattle.ftp_server_model.specs.Rows.{AbortAnswered, AbortPastRoom, BeforeLogin, BrokenUploadKept, ByFamily, DownloadCut, DownloadSent, EarlyAbort, EarlyEnd, EntriesSent, EntryTold, FactsChosen, FaultyUpload, FeaturesBehindOptions, FeaturesTold, ForeignEndpoint, ForeignOpener, LateRename, LateRestart, ListingSent, LoginAnswered, MadeBelowRoot, MarkerAnswered, NamesSent, OnlyExtended, OntoDone, OntoRefused, OpenLogin, OrderOfDecisions, QuitHeard, RecordsSent, RefusedListen, RefusedOpening, Reinitialized, RenameDone, RestartInAscii, RestartInPair, RestartInRecords, RestartSent, RootIsTop, RootMissing, TooMuchRefused, UploadDropped, UploadFromPlace, UploadInstalled, Utf8Chosen, WaitingLine, WrongPassword};
 
 /// A login with a password.
 pub fn login()
@@ -119,6 +119,11 @@ pub fn late_rename()
 /// A download that the server opens.
 pub fn active_download()
     ensures { DownloadSent }
+{}
+
+/// A download whose next octet is not had.
+pub fn cut_download()
+    ensures { DownloadCut }
 {}
 
 /// REST right before RETR.
