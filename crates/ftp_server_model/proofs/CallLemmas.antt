@@ -23,11 +23,13 @@ use Rattle.ftp_reply.specs.Reply.{last_line}
 use Rattle.ftp_server_model.specs.Calls.{connection_of, listening_turn, unheard, port_opens_for, opens, refuses, takes_given, ends, breaks, clocked, gives_control, control_end, listening, listen_refused, data_opened, data_refused, gives_data, data_end, data_fault, data_closed, clock_step, control_step, listening_step, no_port_step, opened_step, refused_step, end_step, break_step, close_step, given_step}
 use Rattle.ftp_server_model.specs.Endpoint.{forgotten, disconnected}
 use Rattle.ftp_server_model.specs.Kept.{owed_limit, WaitingKeeps, ServerKeeps, StartKeeps, EachCallKeeps}
-use Rattle.ftp_server_model.specs.Machine.{Reading, IsReading, Ending, given_out, completed, obeyed, waited, later, is_idle, is_connection_busy, is_transferring, is_abort, has_room, turned, replied, concluded, is_over, put_in, installs, at_break, at_end, aborts, abort_said, aborted, heard_line, heard_event, heard_events, hears_octet, may_hear, with_session}
+use Rattle.ftp_server_model.specs.Machine.{Reading, IsReading, Ending, given_out, completed, obeyed, waited, later, is_idle, is_connection_busy, is_transferring, is_abort, has_room, turned, replied, concluded, end_refusal, ends_by, installs, at_break, at_end, aborts, abort_said, aborted, heard_line, heard_event, heard_events, hears_octet, may_hear, with_session}
 use Rattle.ftp_server_model.specs.Replies.{Turn, said_octets, fixed_reply, passive_text, extended_text}
 use Rattle.ftp_server_model.specs.Texts.{text_of, code_of}
 use Rattle.ftp_server_model.specs.Told.{CanBeHeard, ConnectionKeeps, TransferKeeps, Keeps, IsBrief, TurnKeeps}
 use Rattle.ftp_server_model.specs.View.{Session, Transfer, View, line_limit}
+use Rattle.ftp_server_model.specs.declared.session.Keep.{Keep}
+use Rattle.ftp_direct.specs.declared.refusal.Refusal.{Refusal}
 use Rattle.ftp_server_model.specs.declared.heard.HeardLine.{HeardLine}
 use Rattle.ftp_server_model.specs.declared.heard.HeardLine.TheVariants.{TooLong}
 use Rattle.ftp_server_model.specs.declared.reply.FixedReply.{FixedReply}
@@ -218,11 +220,13 @@ unchanged : (s : Session) (text : FixedReply) → Keeps s → EndingKeeps s (s, 
 unfolding EndingKeeps
 unchanged s text k = (k, refl)
 
-installs_keeps : (moment : ℕ) (path : Names) (keep : ℕ) (d : Decoder) (text : FixedReply) (s : Session) → Keeps s → EndingKeeps s (installs moment path keep d text s)
+installs_keeps : (moment : ℕ) (path : Names) (keep : Keep) (d : Decoder) (text : FixedReply) (s : Session) → Keeps s → EndingKeeps s (installs moment path keep d text s)
 unfolding EndingKeeps
-installs_keeps moment path keep d text s k =
-    cond_both (is_over path keep d s) (s, Texts.TooMuch) (put_in moment path keep d.content s, text) (λ (e : Ending). Keeps e.0 × (e.0.connection ≡ s.connection))
-    (λ is. (k, refl)) (λ is. (record { access = k.access; root = k.root; cwd = k.cwd; pending = k.pending; connection = k.connection }, refl))
+installs_keeps moment path keep d text s k = by_why (end_refusal path keep d.content s)
+  where
+    by_why : (why : Option Refusal) → (let ending = ends_by why moment path keep d.content text s in Keeps ending.0 × (ending.0.connection ≡ s.connection))
+    by_why None = (record { access = k.access; root = k.root; cwd = k.cwd; pending = k.pending; connection = k.connection }, refl)
+    by_why (Some why) = (k, refl)
 
 break_keeps : (moment : ℕ) (transfer : Transfer) (s : Session) → Keeps s → EndingKeeps s (at_break moment transfer s)
 break_keeps moment (Transfers.Upload path keep d) s k = installs_keeps moment path keep (broken d) Texts.Broken s k

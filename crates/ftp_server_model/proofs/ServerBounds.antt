@@ -7,8 +7,10 @@ use Rattle.ftp_ends.specs.Link.{same_host}
 use Rattle.ftp_server_model.specs.Calls.{connection_of, given_by, to_give, listening_turn, unheard, port_opens_for, opens, refuses, takes_given, ends, breaks, control_end, clock_step, control_step, listening_step, no_port_step, opened_step, refused_step, end_step, break_step, close_step, given_step, with_connection}
 use Rattle.ftp_server_model.specs.Endpoint.{is_standing, disconnected}
 use Rattle.ftp_server_model.specs.Failing.{LineFails, WaitingFails, Late, InstallFails, install_lost, Ended, Given}
-use Rattle.ftp_server_model.specs.Machine.{given_out, completed, obeyed, waited, later, is_idle, turned, concluded, faulted, Ending, is_over, put_in, installs, at_break, at_end}
+use Rattle.ftp_server_model.specs.Machine.{given_out, completed, obeyed, waited, later, is_idle, turned, concluded, faulted, Ending, end_refusal, ends_by, installs, at_break, at_end}
 use Rattle.ftp_server_model.specs.View.{Session, Transfer, View}
+use Rattle.ftp_server_model.specs.declared.session.Keep.{Keep}
+use Rattle.ftp_direct.specs.declared.refusal.Refusal.{Refusal}
 use Rattle.ftp_path.specs.Path.{Names}
 use Rattle.ftp_wire.specs.Decoder.{Decoder, broken, ended, is_whole}
 use Rattle.ftp_server_model.specs.declared.reply.FixedReply.{FixedReply}
@@ -197,13 +199,13 @@ refuses_lowers Data.Ready v is = same v
 refuses_lowers (Data.Transferring transfer) v is = same v
 
 -- the end of a transfer leaves the data connection as it was before
-installs_gone : (moment : ℕ) (path : Names) (keep : ℕ) (d : Decoder) (text : FixedReply) (s : Session)
+installs_gone : (moment : ℕ) (path : Names) (keep : Keep) (d : Decoder) (text : FixedReply) (s : Session)
     → (installs moment path keep d text s).0.connection ≡ s.connection
-installs_gone moment path keep d text s = by_over (is_over path keep d s)
+installs_gone moment path keep d text s = by_why (end_refusal path keep d.content s)
   where
-    by_over : (over : Bool) → (let ending : Ending = if over then (s, Texts.TooMuch) else (put_in moment path keep d.content s, text) in ending.0.connection ≡ s.connection)
-    by_over true = refl
-    by_over false = refl
+    by_why : (why : Option Refusal) → (ends_by why moment path keep d.content text s).0.connection ≡ s.connection
+    by_why None = refl
+    by_why (Some why) = refl
 
 pub break_gone : (moment : ℕ) (transfer : Transfer) (s : Session) → (at_break moment transfer s).0.connection ≡ s.connection
 break_gone moment (Transfers.Upload path keep d) s = installs_gone moment path keep (broken d) Texts.Broken s

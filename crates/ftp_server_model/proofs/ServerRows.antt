@@ -147,7 +147,7 @@ onto_done table root octets other moment later tree d e =
     let to = of (codes "e") in
     let takes : takes_place part from to ≡ true = rw d (rw e refl) in
     let none = free-freed part from to tree refl takes in
-    (rw d (rw none refl), rw d (rw none (ap (λ part. with_part table root (moved part from to)) (takes-freed part from to takes))))
+    (rw d (rw d (rw none refl)), rw d (rw d (rw none (ap (λ part. with_part table root (moved part from to)) (takes-freed part from to takes)))))
 
 pub active_download : DownloadSent
 unfolding obeyed fits text_of resolved octets_at data_opened gives_data

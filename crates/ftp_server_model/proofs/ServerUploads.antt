@@ -16,7 +16,9 @@ use Rattle.ftp_ends.specs.Ear.{quiet}
 use Rattle.ftp_server_model.specs.View.{Footing, Session, Transfer, View, all_facts, seen, with_seen}
 use Rattle.ftp_server_model.specs.Replies.{reply_octets, reply_of, fixed_reply}
 use Rattle.ftp_server_model.specs.Transfer.{misplaced, place_of, refused_to_hold}
-use Rattle.ftp_server_model.specs.Machine.{may_hear, obeyed, Ending, is_over, put_in, owes, with_session}
+use Rattle.ftp_server_model.specs.Keep.{kept_of, lacks}
+use Rattle.ftp_server_model.specs.Walk.{refusal_text}
+use Rattle.ftp_server_model.specs.Machine.{may_hear, obeyed, Ending, end_refusal, ends_by, is_over, owes, with_session}
 use Rattle.ftp_server_model.specs.Calls.{control_end, listening, data_opened, receives, receives_octet, data_end, data_fault, may_receive, wants}
 use Rattle.ftp_ends.specs.RowWords.{here}
 use Rattle.ftp_server_model.specs.Rows.{RowEvent, accounts, after_events, said_to_member, member, at, of, asks, opened, octets, port, ended as ends, broken as breaks, UploadDropped, UploadFromPlace, UploadInstalled, BrokenUploadKept, TooMuchRefused, MarkerAnswered, AbortAnswered, AbortPastRoom, EarlyEnd, FaultyUpload}
@@ -25,6 +27,8 @@ use Rattle.ftp_server_model.specs.declared.reply.FixedReply.TheVariants as Texts
 use Rattle.ftp_settings.specs.declared.representation.Representation.{Representation}
 use Rattle.ftp_server_model.specs.declared.session.Access.TheVariants as Accesses
 use Rattle.ftp_server_model.specs.declared.session.Pending.TheVariants as Pendings
+use Rattle.ftp_server_model.specs.declared.session.Keep.{Keep}
+use Rattle.ftp_server_model.specs.declared.session.Keep.TheVariants as Keeps
 use Rattle.ftp_server_model.specs.declared.session.Life.TheVariants as Lives
 use Rattle.ftp_server_model.specs.declared.session.ServerLink.{ServerLink}
 use Rattle.ftp_server_model.specs.declared.session.ServerLink.TheVariants as Data
@@ -43,7 +47,7 @@ unfolding fits text_of room_refusal
 stor_code s f = rw f refl
 
 abbrev stored : View → Option Refusal → View
-stored v code = started v (Transfers.Upload f_path 0 (no_octets v.session.settings)) (or_refused (refused_name None) code)
+stored v code = started v (Transfers.Upload f_path (Keeps.First 0) (no_octets v.session.settings)) (or_refused (refused_name None) code)
 
 -- the map and the account's root: where an upload goes
 abbrev Place : Type 0
@@ -80,7 +84,7 @@ uploading footing place settings said connection = record {
 }
 
 abbrev up : Decoder → ServerLink Transfer
-up d = Data.Transferring (Transfers.Upload f_path 0 d)
+up d = Data.Transferring (Transfers.Upload f_path (Keeps.First 0) d)
 
 -- the same once a limit was looked at
 abbrev limited : Decoder → Bool → ServerLink Transfer
@@ -100,8 +104,15 @@ left footing said ending = record {
 abbrev after : Place → Representation → Bool → Session
 after place settings closing = uploads place settings Data.Free closing
 
-abbrev ending : Footing → Session → List ℕ → FixedReply → Bool → Ending
-ending footing s content text over = if over then (s, Texts.TooMuch) else (put_in footing.moment f_path 0 content s, text)
+abbrev ending : Footing → Session → Keep → List ℕ → FixedReply → Option Refusal → Ending
+ending footing s keep content text why = ends_by why footing.moment f_path keep content text s
+
+-- what came can be put there: a file stands there, and there is room
+ends_well : (place : Place) (settings : Representation) (keep : Keep) (old content : List ℕ) → node_at (part_at place) f_path ≡ Some (File old 0)
+    → room_at (part_at place) f_path ≡ 1000 → lacks keep old ≡ false → nat_le (length (kept_of keep old ++ content)) 67108864 ≡ true
+    → nat_le (length (kept_of keep old ++ content)) 1000 ≡ true → end_refusal f_path keep content (after place settings false) ≡ None
+unfolding fits text_of room_refusal octets_at
+ends_well place settings keep old content f room none small fit = rw f (rw none (rw small (rw room (rw fit refl))))
 
 -- decoders of a file in type I and of one in type A
 abbrev image_settings : Representation
@@ -115,75 +126,75 @@ ascii w = decoder_of defaults w
 
 -- so many octets pass no limit
 fits_room : (place : Place) (room : ℕ) (d : Decoder) → room_at (part_at place) f_path ≡ room → nat_le (0 + length d.content) 67108864 ≡ true
-    → nat_le (0 + length d.content) room ≡ true → is_over f_path 0 d (after place defaults false) ≡ false
+    → nat_le (0 + length d.content) room ≡ true → is_over f_path (Keeps.First 0) d (after place defaults false) ≡ false
 fits_room place room d is small fit = rw small (rw is (rw fit refl))
 
 -- ---- octets: what each of them settles, where that passes no limit or does
 
-a_comes : (footing : Footing) (place : Place) (said : List ℕ) (over : Bool) → is_over f_path 0 (ascii (97 ∷ [])) (after place defaults false) ≡ over
+a_comes : (footing : Footing) (place : Place) (said : List ℕ) (over : Bool) → is_over f_path (Keeps.First 0) (ascii (97 ∷ [])) (after place defaults false) ≡ over
     → receives_octet (uploading footing place defaults said (up (ascii ([])))) 97 ≡ uploading footing place defaults said (limited (ascii (97 ∷ [])) over)
 unfolding receives_octet
 a_comes footing place said over is = ap (λ b. uploading footing place defaults said (limited (ascii (97 ∷ [])) b)) is
 
-b_comes : (footing : Footing) (place : Place) (said : List ℕ) (over : Bool) → is_over f_path 0 (ascii (97 ∷ 98 ∷ [])) (after place defaults false) ≡ over
+b_comes : (footing : Footing) (place : Place) (said : List ℕ) (over : Bool) → is_over f_path (Keeps.First 0) (ascii (97 ∷ 98 ∷ [])) (after place defaults false) ≡ over
     → receives_octet (uploading footing place defaults said (up (ascii (97 ∷ [])))) 98 ≡ uploading footing place defaults said (limited (ascii (97 ∷ 98 ∷ [])) over)
 unfolding receives_octet
 b_comes footing place said over is = ap (λ b. uploading footing place defaults said (limited (ascii (97 ∷ 98 ∷ [])) b)) is
 
-c_comes : (footing : Footing) (place : Place) (said : List ℕ) (over : Bool) → is_over f_path 0 (ascii (97 ∷ 98 ∷ 99 ∷ [])) (after place defaults false) ≡ over
+c_comes : (footing : Footing) (place : Place) (said : List ℕ) (over : Bool) → is_over f_path (Keeps.First 0) (ascii (97 ∷ 98 ∷ 99 ∷ [])) (after place defaults false) ≡ over
     → receives_octet (uploading footing place defaults said (up (ascii (97 ∷ 98 ∷ [])))) 99 ≡ uploading footing place defaults said (limited (ascii (97 ∷ 98 ∷ 99 ∷ [])) over)
 unfolding receives_octet
 c_comes footing place said over is = ap (λ b. uploading footing place defaults said (limited (ascii (97 ∷ 98 ∷ 99 ∷ [])) b)) is
 
-x_comes : (footing : Footing) (place : Place) (said : List ℕ) (over : Bool) → is_over f_path 0 (ascii (120 ∷ [])) (after place defaults false) ≡ over
+x_comes : (footing : Footing) (place : Place) (said : List ℕ) (over : Bool) → is_over f_path (Keeps.First 0) (ascii (120 ∷ [])) (after place defaults false) ≡ over
     → receives_octet (uploading footing place defaults said (up (ascii ([])))) 120 ≡ uploading footing place defaults said (limited (ascii (120 ∷ [])) over)
 unfolding receives_octet
 x_comes footing place said over is = ap (λ b. uploading footing place defaults said (limited (ascii (120 ∷ [])) b)) is
 
-return_comes : (footing : Footing) (place : Place) (said : List ℕ) (over : Bool) → is_over f_path 0 (ascii (120 ∷ 13 ∷ [])) (after place defaults false) ≡ over
+return_comes : (footing : Footing) (place : Place) (said : List ℕ) (over : Bool) → is_over f_path (Keeps.First 0) (ascii (120 ∷ 13 ∷ [])) (after place defaults false) ≡ over
     → receives_octet (uploading footing place defaults said (up (ascii (120 ∷ [])))) 13 ≡ uploading footing place defaults said (limited (ascii (120 ∷ 13 ∷ [])) over)
 unfolding receives_octet
 return_comes footing place said over is = ap (λ b. uploading footing place defaults said (limited (ascii (120 ∷ 13 ∷ [])) b)) is
 
-image_a : (footing : Footing) (place : Place) (said : List ℕ) (over : Bool) → is_over f_path 0 (image (97 ∷ [])) (after place defaults false) ≡ over
+image_a : (footing : Footing) (place : Place) (said : List ℕ) (over : Bool) → is_over f_path (Keeps.First 0) (image (97 ∷ [])) (after place defaults false) ≡ over
     → receives_octet (uploading footing place image_settings said (up (image ([])))) 97 ≡ uploading footing place image_settings said (limited (image (97 ∷ [])) over)
 unfolding receives_octet
 image_a footing place said over is = ap (λ b. uploading footing place image_settings said (limited (image (97 ∷ [])) b)) is
 
-image_b : (footing : Footing) (place : Place) (said : List ℕ) (over : Bool) → is_over f_path 0 (image (97 ∷ 98 ∷ [])) (after place defaults false) ≡ over
+image_b : (footing : Footing) (place : Place) (said : List ℕ) (over : Bool) → is_over f_path (Keeps.First 0) (image (97 ∷ 98 ∷ [])) (after place defaults false) ≡ over
     → receives_octet (uploading footing place image_settings said (up (image (97 ∷ [])))) 98 ≡ uploading footing place image_settings said (limited (image (97 ∷ 98 ∷ [])) over)
 unfolding receives_octet
 image_b footing place said over is = ap (λ b. uploading footing place image_settings said (limited (image (97 ∷ 98 ∷ [])) b)) is
 
-image_c : (footing : Footing) (place : Place) (said : List ℕ) (over : Bool) → is_over f_path 0 (image (97 ∷ 98 ∷ 99 ∷ [])) (after place defaults false) ≡ over
+image_c : (footing : Footing) (place : Place) (said : List ℕ) (over : Bool) → is_over f_path (Keeps.First 0) (image (97 ∷ 98 ∷ 99 ∷ [])) (after place defaults false) ≡ over
     → receives_octet (uploading footing place image_settings said (up (image (97 ∷ 98 ∷ [])))) 99 ≡ uploading footing place image_settings said (limited (image (97 ∷ 98 ∷ 99 ∷ [])) over)
 unfolding receives_octet
 image_c footing place said over is = ap (λ b. uploading footing place image_settings said (limited (image (97 ∷ 98 ∷ 99 ∷ [])) b)) is
 
 -- ---- ends
 
-aborts : (footing : Footing) (place : Place) (said : List ℕ) → is_over f_path 0 (ascii (97 ∷ 98 ∷ [])) (after place defaults false) ≡ false
+aborts : (footing : Footing) (place : Place) (said : List ℕ) → end_refusal f_path (Keeps.First 0) (codes "ab") (after place defaults false) ≡ None
     → after_events (asks command.Abor ∷ []) (uploading footing place defaults said (up (ascii (97 ∷ 98 ∷ []))))
-    ≡ owes (reply_octets (fixed_reply Texts.AbortDone)) (left footing said (ending footing (after place defaults true) (codes "ab") Texts.Broken false))
+    ≡ owes (reply_octets (fixed_reply Texts.AbortDone)) (left footing said (ending footing (after place defaults true) (Keeps.First 0) (codes "ab") Texts.Broken None))
 aborts footing place said is =
-    ap (λ b. owes (reply_octets (fixed_reply Texts.AbortDone)) (left footing said (ending footing (after place defaults true) (codes "ab") Texts.Broken b))) is
+    ap (λ why. owes (reply_octets (fixed_reply Texts.AbortDone)) (left footing said (ending footing (after place defaults true) (Keeps.First 0) (codes "ab") Texts.Broken why))) is
 
-breaks_off : (footing : Footing) (place : Place) (said : List ℕ) → is_over f_path 0 (ascii (120 ∷ 13 ∷ [])) (after place defaults false) ≡ false
+breaks_off : (footing : Footing) (place : Place) (said : List ℕ) → end_refusal f_path (Keeps.First 0) (codes "x") (after place defaults false) ≡ None
     → data_fault (uploading footing place defaults said (up (ascii (120 ∷ 13 ∷ []))))
-    ≡ left footing said (ending footing (after place defaults false) (codes "x") Texts.Broken false)
+    ≡ left footing said (ending footing (after place defaults false) (Keeps.First 0) (codes "x") Texts.Broken None)
 unfolding data_fault
-breaks_off footing place said is = ap (λ b. left footing said (ending footing (after place defaults false) (codes "x") Texts.Broken b)) is
+breaks_off footing place said is = ap (λ why. left footing said (ending footing (after place defaults false) (Keeps.First 0) (codes "x") Texts.Broken why)) is
 
 ends_past : (footing : Footing) (place : Place) (said : List ℕ)
     → data_end (uploading footing place defaults said (Data.Transferring Transfers.OverLimit)) ≡ left footing said (after place defaults false, Texts.TooMuch)
 unfolding data_end
 ends_past footing place said = refl
 
-ends_whole : (footing : Footing) (place : Place) (said : List ℕ) → is_over f_path 0 (ended (image (97 ∷ 98 ∷ 99 ∷ []))) (after place defaults false) ≡ false
+ends_whole : (footing : Footing) (place : Place) (said : List ℕ) → end_refusal f_path (Keeps.First 0) (codes "abc") (after place image_settings false) ≡ None
     → data_end (uploading footing place image_settings said (up (image (97 ∷ 98 ∷ 99 ∷ []))))
-    ≡ left footing said (ending footing (after place image_settings false) (codes "abc") Texts.Complete false)
+    ≡ left footing said (ending footing (after place image_settings false) (Keeps.First 0) (codes "abc") Texts.Complete None)
 unfolding data_end
-ends_whole footing place said is = ap (λ b. left footing said (ending footing (after place image_settings false) (codes "abc") Texts.Complete b)) is
+ends_whole footing place said is = ap (λ why. left footing said (ending footing (after place image_settings false) (Keeps.First 0) (codes "abc") Texts.Complete why)) is
 
 -- ---- the rows
 
@@ -207,7 +218,7 @@ abort table root f room =
     let is = ap (λ w. after_events (octets (codes "ab") ∷ rest) w) (begun table root f)
     ∙ ap (λ w. after_events rest (receives_octet w 98)) (a_comes (standing root) (table, root) active_said false (fits_room (table, root) 1000 (ascii (97 ∷ [])) room refl refl))
     ∙ ap (λ w. after_events rest w) (b_comes (standing root) (table, root) active_said false (fits_room (table, root) 1000 (ascii (97 ∷ 98 ∷ [])) room refl refl))
-    ∙ aborts (standing root) (table, root) active_said (fits_room (table, root) 1000 (ascii (97 ∷ 98 ∷ [])) room refl refl) in
+    ∙ aborts (standing root) (table, root) active_said (ends_well (table, root) defaults (Keeps.First 0) [] (codes "ab") f room refl refl refl) in
     (ap (λ w. w.owed) is, ap (λ w. w.session.table) is, ap wants is)
 
 pub broken_upload : BrokenUploadKept
@@ -215,10 +226,10 @@ broken_upload table root f room =
     let is = ap (λ w. after_events (octets (120 ∷ 13 ∷ []) ∷ breaks ∷ []) w) (begun table root f)
     ∙ ap (λ w. after_events (breaks ∷ []) (receives_octet w 13)) (x_comes (standing root) (table, root) active_said false (fits_room (table, root) 1000 (ascii (120 ∷ [])) room refl refl))
     ∙ ap (λ w. after_events (breaks ∷ []) w) (return_comes (standing root) (table, root) active_said false (fits_room (table, root) 1000 (ascii (120 ∷ 13 ∷ [])) room refl refl))
-    ∙ breaks_off (standing root) (table, root) active_said (fits_room (table, root) 1000 (ascii (120 ∷ 13 ∷ [])) room refl refl) in
+    ∙ breaks_off (standing root) (table, root) active_said (ends_well (table, root) defaults (Keeps.First 0) [] (codes "x") f room refl refl refl) in
     (ap (λ w. w.owed) is, ap (λ w. w.session.table) is)
 
-past_room : (place : Place) → room_at (part_at place) f_path ≡ 2 → is_over f_path 0 (ascii (97 ∷ 98 ∷ 99 ∷ [])) (after place defaults false) ≡ true
+past_room : (place : Place) → room_at (part_at place) f_path ≡ 2 → is_over f_path (Keeps.First 0) (ascii (97 ∷ 98 ∷ 99 ∷ [])) (after place defaults false) ≡ true
 past_room place room = rw room refl
 
 pub too_much : TooMuchRefused
@@ -256,7 +267,7 @@ passive_upload table root f room =
     ∙ ap (λ w. after_events rest (receives_octet w 98)) (image_a (standing root) (table, root) passive_said false (fits_room (table, root) 1000 (image (97 ∷ [])) room refl refl))
     ∙ ap (λ w. after_events rest w) (image_b (standing root) (table, root) passive_said false (fits_room (table, root) 1000 (image (97 ∷ 98 ∷ [])) room refl refl))
     ∙ ap (λ w. after_events (ends ∷ []) w) (image_c (standing root) (table, root) passive_said false (fits_room (table, root) 1000 (image (97 ∷ 98 ∷ 99 ∷ [])) room refl refl))
-    ∙ ends_whole (standing root) (table, root) passive_said (fits_room (table, root) 1000 (ended (image (97 ∷ 98 ∷ 99 ∷ []))) room refl refl) in
+    ∙ ends_whole (standing root) (table, root) passive_said (ends_well (table, root) image_settings (Keeps.First 0) [] (codes "abc") f room refl refl refl) in
     (ap (λ w. w.owed) is, ap (λ w. w.session.table) is, ap wants is)
 
 -- ---- APPE with a marker
@@ -268,7 +279,7 @@ abbrev blocks : List ℕ → Decoder
 blocks w = decoder_of block_settings w
 
 abbrev appending : Decoder → Bool → ServerLink Transfer
-appending d over = if over then Data.Transferring Transfers.OverLimit else Data.Transferring (Transfers.Upload f_path 3 d)
+appending d over = if over then Data.Transferring Transfers.OverLimit else Data.Transferring (Transfers.Upload f_path (Keeps.All 3) d)
 
 appe_code : (s : Session) → node_at (seen s) f_path ≡ Some (File (codes "abc") 0) → refused_to_hold s f_path ≡ None
 unfolding fits text_of room_refusal
@@ -279,7 +290,7 @@ unfolding octets_at
 abc_length table f = rw f refl
 
 abbrev appended : View → Option Refusal → ℕ → View
-appended v code keep = after_events (opened here ∷ []) (started v (Transfers.Upload f_path keep (no_octets v.session.settings)) code)
+appended v code keep = after_events (opened here ∷ []) (started v (Transfers.Upload f_path (Keeps.All keep) (no_octets v.session.settings)) code)
 
 abbrev block_said : List ℕ
 block_said = said_to_member (codes "200 Type set" ∷ codes "200 Mode set" ∷ codes "200 Endpoint taken" ∷ codes "150 Opening data connection" ∷ [])
@@ -292,7 +303,7 @@ begun_append table root f =
     let v : View = member table root (asks (command.Repr Kinds.Image) ∷ asks (command.Mode Modes.Block) ∷ asks (command.Port (at here)) ∷ []) in
     ap (λ c. appended v c (length (octets_or_none (under table root) f_path))) (appe_code v.session f) ∙ ap (λ n. appended v None n) (abc_length (under table root) f)
 
-block_comes : (footing : Footing) (place : Place) (said : List ℕ) (over : Bool) → is_over f_path 3 (blocks (0 ∷ 0 ∷ 1 ∷ 100 ∷ [])) (after place block_settings false) ≡ over
+block_comes : (footing : Footing) (place : Place) (said : List ℕ) (over : Bool) → is_over f_path (Keeps.All 3) (blocks (0 ∷ 0 ∷ 1 ∷ 100 ∷ [])) (after place block_settings false) ≡ over
     → receives (uploading footing place block_settings said (appending (blocks []) false)) (0 ∷ 0 ∷ 1 ∷ 100 ∷ [])
     ≡ uploading footing place block_settings said (appending (blocks (0 ∷ 0 ∷ 1 ∷ 100 ∷ [])) over)
 unfolding receives_octet
@@ -306,7 +317,7 @@ marker_comes footing place said = refl
 
 pub marker : MarkerAnswered
 marker table root f room =
-    let over : is_over f_path 3 (blocks (0 ∷ 0 ∷ 1 ∷ 100 ∷ [])) (after (table, root) block_settings false) ≡ false = rw room refl in
+    let over : is_over f_path (Keeps.All 3) (blocks (0 ∷ 0 ∷ 1 ∷ 100 ∷ [])) (after (table, root) block_settings false) ≡ false = rw room refl in
     ap (λ w. (receives w (0 ∷ 0 ∷ 1 ∷ 100 ∷ 16 ∷ 0 ∷ 1 ∷ 77 ∷ [])).owed) (begun_append table root f)
     ∙ ap (λ w. (receives w (16 ∷ 0 ∷ 1 ∷ 77 ∷ [])).owed) (block_comes (standing root) (table, root) block_said false over)
     ∙ marker_comes (standing root) (table, root) block_said
@@ -331,17 +342,15 @@ abort_past_room table root f room =
 
 -- ---- an end before the end of file
 
--- so many octets of a file that stands there are kept
-abbrev kept_of : Footing → Place → List ℕ → Bool → Ending
-kept_of footing place old over =
-    let s = after place block_settings false in
-    if over then (s, Texts.TooMuch) else (with_seen (installed (part_at place) f_path (take 3 old ++ codes "d") footing.moment) s, Texts.Broken)
+-- how an upload ends behind octets of the file that stands there, where it is put in
+abbrev ends_behind : Footing → Session → Keep → List ℕ → List ℕ → FixedReply → Ending
+ends_behind footing s keep old content text = (with_seen (installed (seen s) f_path (kept_of keep old ++ content) footing.moment) s, text)
 
-ends_early : (footing : Footing) (place : Place) (said : List ℕ) (over : Bool) → is_over f_path 3 (blocks (0 ∷ 0 ∷ 1 ∷ 100 ∷ [])) (after place block_settings false) ≡ over
+ends_early : (footing : Footing) (place : Place) (said : List ℕ) → end_refusal f_path (Keeps.All 3) (codes "d") (after place block_settings false) ≡ None
     → data_end (uploading footing place block_settings said (appending (blocks (0 ∷ 0 ∷ 1 ∷ 100 ∷ [])) false))
-    ≡ left footing said (kept_of footing place (octets_or_none (part_at place) f_path) over)
+    ≡ left footing said (ending footing (after place block_settings false) (Keeps.All 3) (codes "d") Texts.Broken None)
 unfolding data_end
-ends_early footing place said over is = ap (λ b. left footing said (kept_of footing place (octets_or_none (part_at place) f_path) b)) is
+ends_early footing place said is = ap (λ why. left footing said (ending footing (after place block_settings false) (Keeps.All 3) (codes "d") Texts.Broken why)) is
 
 abc_octets : (table : Table) → node_at table f_path ≡ Some (File (codes "abc") 0) → octets_or_none table f_path ≡ codes "abc"
 unfolding octets_at
@@ -349,11 +358,12 @@ abc_octets table f = rw f refl
 
 pub early_end : EarlyEnd
 early_end table root f room =
-    let over : is_over f_path 3 (blocks (0 ∷ 0 ∷ 1 ∷ 100 ∷ [])) (after (table, root) block_settings false) ≡ false = rw room refl in
+    let over : is_over f_path (Keeps.All 3) (blocks (0 ∷ 0 ∷ 1 ∷ 100 ∷ [])) (after (table, root) block_settings false) ≡ false = rw room refl in
     let is = ap (λ w. data_end (receives w (0 ∷ 0 ∷ 1 ∷ 100 ∷ []))) (begun_append table root f)
     ∙ ap (λ w. data_end w) (block_comes (standing root) (table, root) block_said false over)
-    ∙ ends_early (standing root) (table, root) block_said false over
-    ∙ ap (λ o. left (standing root) block_said (kept_of (standing root) (table, root) o false)) (abc_octets (under table root) f) in
+    ∙ ends_early (standing root) (table, root) block_said (ends_well (table, root) block_settings (Keeps.All 3) (codes "abc") (codes "d") f room refl refl refl)
+    ∙ ap (λ o. left (standing root) block_said (ends_behind (standing root) (after (table, root) block_settings false) (Keeps.All 3) o (codes "d") Texts.Broken))
+    (abc_octets (under table root) f) in
     (ap (λ w. w.owed) is, ap (λ w. w.session.table) is)
 
 -- ---- a fault of the wire
@@ -386,7 +396,7 @@ dropped_upload table root f room =
 
 -- behind the first octet of a file
 abbrev behind_one : Decoder → Bool → ServerLink Transfer
-behind_one d over = if over then Data.Transferring Transfers.OverLimit else Data.Transferring (Transfers.Upload f_path 1 d)
+behind_one d over = if over then Data.Transferring Transfers.OverLimit else Data.Transferring (Transfers.Upload f_path (Keeps.First 1) d)
 
 first_place : (s : Session) → s.settings ≡ image_settings → node_at (seen s) f_path ≡ Some (File (codes "abc") 0) → place_of (Pendings.Restart 1) f_path s ≡ Some 1
 unfolding octets_at place_in
@@ -395,7 +405,7 @@ first_place s kind f = rw kind (rw f refl)
 -- the view behind STOR and the opening of the data connection, by its place and its code
 abbrev stored_from : View → Option ℕ → Option Refusal → View
 stored_from v place code =
-    after_events (opened here ∷ []) (started v (Transfers.Upload f_path (unwrap_or place 0) (no_octets v.session.settings)) (or_refused (refused_name (misplaced place)) code))
+    after_events (opened here ∷ []) (started v (Transfers.Upload f_path (Keeps.First (unwrap_or place 0)) (no_octets v.session.settings)) (or_refused (refused_name (misplaced place)) code))
 
 abbrev restarted : View → List ℕ → View
 restarted v number = owes (reply_octets (reply_of 350 (codes "Restarting at " ++ number))) (with_session (record v.session { pending = Pendings.Restart 1 }) v)
@@ -416,30 +426,24 @@ begun_from table root f =
     ∙ ap (λ p. stored_from v p (refused_to_hold v.session f_path)) (first_place v.session refl f)
     ∙ ap (λ c. stored_from v (Some 1) c) (appe_code v.session f)
 
-z_comes : (footing : Footing) (place : Place) (said : List ℕ) (over : Bool) → is_over f_path 1 (image (122 ∷ [])) (after place image_settings false) ≡ over
+z_comes : (footing : Footing) (place : Place) (said : List ℕ) (over : Bool) → is_over f_path (Keeps.First 1) (image (122 ∷ [])) (after place image_settings false) ≡ over
     → receives_octet (uploading footing place image_settings said (behind_one (image []) false)) 122
     ≡ uploading footing place image_settings said (behind_one (image (122 ∷ [])) over)
 unfolding receives_octet
 z_comes footing place said over is = ap (λ b. uploading footing place image_settings said (behind_one (image (122 ∷ [])) b)) is
 
--- the first octet of the file that stands there is kept
-abbrev first_kept : Footing → Place → List ℕ → Bool → Ending
-first_kept footing place old over =
-    let s = after place image_settings false in
-    if over then (s, Texts.TooMuch) else (with_seen (installed (part_at place) f_path (take 1 old ++ codes "z") footing.moment) s, Texts.Complete)
-
-ends_behind : (footing : Footing) (place : Place) (said : List ℕ) (over : Bool) → is_over f_path 1 (ended (image (122 ∷ []))) (after place image_settings false) ≡ over
+ends_from : (footing : Footing) (place : Place) (said : List ℕ) → end_refusal f_path (Keeps.First 1) (codes "z") (after place image_settings false) ≡ None
     → data_end (uploading footing place image_settings said (behind_one (image (122 ∷ [])) false))
-    ≡ left footing said (first_kept footing place (octets_or_none (part_at place) f_path) over)
+    ≡ left footing said (ending footing (after place image_settings false) (Keeps.First 1) (codes "z") Texts.Complete None)
 unfolding data_end
-ends_behind footing place said over is = ap (λ b. left footing said (first_kept footing place (octets_or_none (part_at place) f_path) b)) is
+ends_from footing place said is = ap (λ why. left footing said (ending footing (after place image_settings false) (Keeps.First 1) (codes "z") Texts.Complete why)) is
 
 pub upload_from_place : UploadFromPlace
 upload_from_place table root f room =
-    let over : is_over f_path 1 (image (122 ∷ [])) (after (table, root) image_settings false) ≡ false = rw room refl in
-    let whole : is_over f_path 1 (ended (image (122 ∷ []))) (after (table, root) image_settings false) ≡ false = rw room refl in
+    let over : is_over f_path (Keeps.First 1) (image (122 ∷ [])) (after (table, root) image_settings false) ≡ false = rw room refl in
     let is = ap (λ w. data_end (receives w (codes "z"))) (begun_from table root f)
     ∙ ap (λ w. data_end w) (z_comes (standing root) (table, root) from_said false over)
-    ∙ ends_behind (standing root) (table, root) from_said false whole
-    ∙ ap (λ o. left (standing root) from_said (first_kept (standing root) (table, root) o false)) (abc_octets (under table root) f) in
+    ∙ ends_from (standing root) (table, root) from_said (ends_well (table, root) image_settings (Keeps.First 1) (codes "abc") (codes "z") f room refl refl refl)
+    ∙ ap (λ o. left (standing root) from_said (ends_behind (standing root) (after (table, root) image_settings false) (Keeps.First 1) o (codes "z") Texts.Complete))
+    (abc_octets (under table root) f) in
     (ap (λ w. w.owed) is, ap (λ w. w.session.table) is)

@@ -52,6 +52,7 @@ use Rattle.ftp_server_model.specs.declared.session.Pending.{Pending}
 use Rattle.ftp_server_model.specs.declared.session.Pending.TheVariants as Pendings
 use Rattle.ftp_server_model.specs.declared.session.ServerLink.{ServerLink}
 use Rattle.ftp_server_model.specs.declared.session.ServerLink.TheVariants as Data
+use Rattle.ftp_server_model.specs.declared.session.Keep.TheVariants as Keeps
 use Rattle.ftp_server_model.specs.declared.session.Transfer.TheVariants as Transfers
 use Rattle.ftp_server_model.proofs.PathTexts.{is_path-text, is_path-led, is_path-parent}
 
@@ -230,7 +231,7 @@ starts_keeps (Some why) transfer s kept k = tells_keeps _ _ (forgotten_keeps s k
 
 stor_keeps : (place : Option ℕ) (path : Names) (s : Session) → Keeps s → TurnKeeps (stor_at place path s)
 stor_keeps place path s k =
-    starts_keeps _ (Transfers.Upload path (unwrap_or place 0) _) s (λ is. room_fits path _ (second_none _ (refused_to_hold s path) (second_none _ _ is))) k
+    starts_keeps _ (Transfers.Upload path (Keeps.First (unwrap_or place 0)) _) s (λ is. room_fits path _ (second_none _ (refused_to_hold s path) (second_none _ _ is))) k
 
 appe_keeps : (path : Names) (s : Session) → Keeps s → TurnKeeps (appe_at path s)
 appe_keeps path s k = starts_keeps _ (Transfers.Upload path _ _) s (λ is. room_fits path _ (second_none _ (refused_to_hold s path) is)) k

@@ -23,6 +23,8 @@ use Rattle.ftp_server_model.specs.Machine.{is_connection_busy, is_over, has_room
 use Rattle.ftp_server_model.specs.Replies.{mark_reply}
 use Rattle.ftp_server_model.specs.Told.{ConnectionKeeps, TransferKeeps}
 use Rattle.ftp_server_model.specs.View.{Session, Transfer, View}
+use Rattle.ftp_server_model.specs.Keep.{kept_count}
+use Rattle.ftp_server_model.specs.declared.session.Keep.{Keep}
 use Rattle.ftp_server_model.specs.declared.reply.FixedReply.TheVariants as Texts
 use Rattle.ftp_server_model.specs.declared.session.ServerLink.{ServerLink}
 use Rattle.ftp_server_model.specs.declared.session.ServerLink.TheVariants as Data
@@ -92,11 +94,11 @@ mark_room text held short few =
     omega (arith, length-append (codes "MARK ") (text ++ (codes " = " ++ decimal held)), length-append text (codes " = " ++ decimal held), length-append (codes " = ") (decimal held), short, (decimal_fits held few).short) in
     omega (arith, lines_short (last_line 110 said ∷ []), size)
 
-grown_keeps : (path : Names) (keep : ℕ) (d : Decoder) (s : Session) → TransferKeeps (Transfers.Upload path keep d) → ConnectionKeeps (grown path keep d s)
+grown_keeps : (path : Names) (keep : Keep) (d : Decoder) (s : Session) → TransferKeeps (Transfers.Upload path keep d) → ConnectionKeeps (grown path keep d s)
 grown_keeps path keep d s kept =
     cond_both (is_over path keep d s) (Data.Transferring Transfers.OverLimit) (Data.Transferring (Transfers.Upload path keep d)) ConnectionKeeps (λ is. tt) (λ is. kept)
 
-busy_grown : (path : Names) (keep : ℕ) (d : Decoder) (s : Session) → is_connection_busy (grown path keep d s) ≡ true
+busy_grown : (path : Names) (keep : Keep) (d : Decoder) (s : Session) → is_connection_busy (grown path keep d s) ≡ true
 busy_grown path keep d s =
     cond_both (is_over path keep d s) (Data.Transferring Transfers.OverLimit) (Data.Transferring (Transfers.Upload path keep d)) (λ c. is_connection_busy c ≡ true) (λ is. refl) (λ is. refl)
 
@@ -124,8 +126,8 @@ signs_keep (says sign ∷ more) v are k = signs_keep more (takes_said v.session.
 signs_keep (marker text ∷ more) v are k = absurd are
 
 -- an upload whose octets that are held can be told
-marker_keeps : (path : Names) (keep : ℕ) (d : Decoder) (text : List ℕ) (v : View) → v.session.connection ≡ Data.Transferring (Transfers.Upload path keep d) → length text ≤ 255
-    → keep + length d.content < 10 ^ 18 → length v.owed ≤ 4096 → ServerKeeps v → ServerKeeps (takes_said (Data.Transferring (Transfers.Upload path keep d)) (marker text) v)
+marker_keeps : (path : Names) (keep : Keep) (d : Decoder) (text : List ℕ) (v : View) → v.session.connection ≡ Data.Transferring (Transfers.Upload path keep d) → length text ≤ 255
+    → kept_count keep + length d.content < 10 ^ 18 → length v.owed ≤ 4096 → ServerKeeps v → ServerKeeps (takes_said (Data.Transferring (Transfers.Upload path keep d)) (marker text) v)
 marker_keeps path keep d text v is short few small k =
     let c : ServerLink Transfer = Data.Transferring (Transfers.Upload path keep d) in
     record {
@@ -133,11 +135,11 @@ marker_keeps path keep d text v is short few small k =
       host = k.host;
       session = connection_keeps c v.session (subst ConnectionKeeps is k.session.connection) k.session;
       waiting = k.waiting;
-      owed = omega (arith, length-append v.owed (reply_octets (mark_reply text (keep + length d.content))), mark_room text (keep + length d.content) short few, small);
+      owed = omega (arith, length-append v.owed (reply_octets (mark_reply text (kept_count keep + length d.content))), mark_room text (kept_count keep + length d.content) short few, small);
     }
 
-said_keeps : (path : Names) (keep : ℕ) (d : Decoder) (said : List Said) (v : View) → SaysOne said → v.session.connection ≡ Data.Transferring (Transfers.Upload path keep d)
-    → keep + length d.content < 10 ^ 18 → length v.owed ≤ 4096 → ServerKeeps v → ServerKeeps (takes_all said v)
+said_keeps : (path : Names) (keep : Keep) (d : Decoder) (said : List Said) (v : View) → SaysOne said → v.session.connection ≡ Data.Transferring (Transfers.Upload path keep d)
+    → kept_count keep + length d.content < 10 ^ 18 → length v.owed ≤ 4096 → ServerKeeps v → ServerKeeps (takes_all said v)
 said_keeps path keep d said v one is few small k =
     let P : List Said → Type 0 = λ s. ServerKeeps (takes_all s v) in
     elim one [
@@ -147,8 +149,8 @@ said_keeps path keep d said v one is few small k =
           subst Q (sym is) (signs_keep e.1 _ e.4 (marker_keeps path keep d e.0 v is e.3 few small k)))
     ]
 
-octet_keeps : (fault : Option FrameFault) (path : Names) (keep : ℕ) (d : Decoder) (said : List Said) (v : View) → SaysOne said → v.session.connection ≡ Data.Transferring (Transfers.Upload path keep d)
-    → keep + length d.content < 10 ^ 18 → length v.owed ≤ 4096 → ServerKeeps v → (octet : ℕ) → ServerKeeps (takes_octet fault path keep (read_on d octet) said v)
+octet_keeps : (fault : Option FrameFault) (path : Names) (keep : Keep) (d : Decoder) (said : List Said) (v : View) → SaysOne said → v.session.connection ≡ Data.Transferring (Transfers.Upload path keep d)
+    → kept_count keep + length d.content < 10 ^ 18 → length v.owed ≤ 4096 → ServerKeeps v → (octet : ℕ) → ServerKeeps (takes_octet fault path keep (read_on d octet) said v)
 octet_keeps None path keep d said v one is few small k octet =
     let c : ServerLink Transfer = Data.Transferring (Transfers.Upload path keep (read_on d octet)) in
     said_keeps path keep (read_on d octet) said (with_connection c v) one refl few small

@@ -11,6 +11,8 @@ use Rattle.ftp_ends.specs.Ear.{quiet}
 use Rattle.ftp_wire.specs.Decoder.{Decoder, with_sign, with_said, read_on, octet_says, fault_of}
 use Rattle.ftp_ends.specs.Link.{same_host}
 use Rattle.ftp_server_model.specs.View.{Accounts, Footing, Transfer, Session, View, first_session}
+use Rattle.ftp_server_model.specs.Keep.{kept_count}
+use Rattle.ftp_server_model.specs.declared.session.Keep.{Keep}
 use Rattle.ftp_server_model.specs.Replies.{Turn, fixed_reply, reply_octets, mark_reply}
 use Rattle.ftp_server_model.specs.Endpoint.{forgotten, disconnected}
 use Rattle.ftp_server_model.specs.Machine.{with_session, owes, turned, replied, completed, has_room, later, is_over, at_end, at_break, concluded, faulted}
@@ -137,7 +139,7 @@ data_refused v = later (refused_step v)
 -- ---- the octets of an upload
 
 -- an upload with more octets settled, or past a limit: from then on the rest is dropped unread (own choice)
-abbrev pub grown : Names → ℕ → Decoder → Session → ServerLink Transfer
+abbrev pub grown : Names → Keep → Decoder → Session → ServerLink Transfer
 grown path keep d s = if is_over path keep d s then Data.Transferring Transfers.OverLimit else Data.Transferring (Transfers.Upload path keep d)
 
 -- the data connection is in another state; all else stays
@@ -152,7 +154,7 @@ marker_answered theirs held v = owes (reply_octets (mark_reply theirs held)) v
 abbrev pub takes_said : ServerLink Transfer → Said → View → View
 takes_said (Data.Transferring (Transfers.Upload path keep d)) (says sign) v = with_connection (grown path keep (with_sign d sign) v.session) v
 takes_said (Data.Transferring (Transfers.Upload path keep d)) (marker text) v =
-    marker_answered text (keep + length d.content) (with_connection (Data.Transferring (Transfers.Upload path keep (with_said d (marker text)))) v)
+    marker_answered text (kept_count keep + length d.content) (with_connection (Data.Transferring (Transfers.Upload path keep (with_said d (marker text)))) v)
 takes_said connection said v = v
 
 -- all that an octet says, in order
@@ -161,7 +163,7 @@ takes_all [] v = v
 takes_all (said ∷ more) v = takes_all more (takes_said v.session.connection said v)
 
 -- an octet with which a fault is met ends the transfer, and the map is as it was
-abbrev pub takes_octet : Option FrameFault → Names → ℕ → Decoder → List Said → View → View
+abbrev pub takes_octet : Option FrameFault → Names → Keep → Decoder → List Said → View → View
 takes_octet None path keep d said v = takes_all said (with_connection (Data.Transferring (Transfers.Upload path keep d)) v)
 takes_octet (Some fault) path keep d said v = faulted v
 

@@ -7,6 +7,7 @@ use Rattle.ftp_server_model.specs.Calls.{start, clocked, gives_control, control_
 use Rattle.ftp_server_model.specs.Machine.{Reading, IsReading, is_connection_busy, hears_octet, may_hear}
 use Rattle.ftp_server_model.specs.Told.{AreWithinLimits, CanBeHeard, Keeps}
 use Rattle.ftp_server_model.specs.View.{Accounts, Transfer, View}
+use Rattle.ftp_server_model.specs.Keep.{kept_count}
 use Rattle.ftp_server_model.specs.declared.heard.HeardLine.{HeardLine}
 use Rattle.ftp_server_model.specs.declared.room.TheConstants.{FREE_ROOM, OUTPUT_ROOM}
 use Rattle.ftp_server_model.specs.declared.session.ServerLink.{ServerLink}
@@ -57,7 +58,7 @@ EachCallKeeps = (v : View) → ServerKeeps v → CallsKeep v
 
 -- the octets that an upload holds can be told in 18 digits, as a marker asks for
 abbrev pub CanTell : ServerLink Transfer → Type 0
-CanTell (Data.Transferring (Transfers.Upload path keep d)) = keep + length d.content < 10 ^ 18
+CanTell (Data.Transferring (Transfers.Upload path keep d)) = kept_count keep + length d.content < 10 ^ 18
 CanTell connection = Unit {0}
 
 -- and after such an octet

@@ -1,6 +1,7 @@
 -- The server's machine. The files are in the order in which they are to be read.
 pub mod Texts
 pub mod View
+pub mod Keep
 pub mod Entries
 pub mod Replies
 pub mod Endpoint

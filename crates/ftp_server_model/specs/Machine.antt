@@ -1,16 +1,22 @@
 -- Lines of the control connection, as functions of the view: a line is acted on, or waits; how an upload ends; ABOR; control octets
 -- (RFC 959, sections 4.1.3 and 5.4). Each call ends by `later`: the line that waits is acted on once it may be.
-use Rattle.std.specs.Prelude.{◌≡◌, ℕ, ◌+◌, ◌-◌, Bool, true, false, not, ◌&&◌, List, [], ◌∷◌, ◌++◌, length, take, nat_le, Option, Some, None, is_some, is_none, if◌then◌else◌}
+use Rattle.std.specs.Prelude.{◌≡◌, ℕ, ◌+◌, ◌-◌, Bool, true, false, not, ◌&&◌, List, [], ◌∷◌, ◌++◌, length, nat_le, Option, Some, None, is_some, is_none, if◌then◌else◌}
 use Rattle.ftp_nvt.specs.Lines.{NvtEvent, line, too_long, owed}
 use Rattle.ftp_command.specs.Command.{Says, Refuses}
 use Rattle.ftp_command.specs.Line.{IsStated, IsTyped, line_of}
 use Rattle.ftp_command.specs.declared.command.Command.{Command}
 use Rattle.ftp_command.specs.declared.command.Command.TheVariants as command
 use Rattle.ftp_path.specs.Path.{Names}
-use Rattle.ftp_tree.specs.Tree.{octets_or_none, octets_refusal, installed}
+use Rattle.ftp_tree.specs.Tree.{octets_or_none, octets_refusal, installed, whenever}
+use Rattle.ftp_tree.specs.declared.fault.TreeFault.TheVariants as Faults
+use Rattle.ftp_direct.specs.Direct.{barred_put, or_refused, put_refusal, refused_name}
+use Rattle.ftp_direct.specs.declared.refusal.Refusal.{Refusal}
 use Rattle.ftp_ends.specs.Ear.{ear_step, ear_out}
 use Rattle.ftp_wire.specs.Decoder.{Decoder, is_whole, ended, broken}
-use Rattle.ftp_server_model.specs.View.{Session, Transfer, View, line_limit, seen, with_seen}
+use Rattle.ftp_server_model.specs.View.{Session, Transfer, View, direct_of, line_limit, seen, with_seen}
+use Rattle.ftp_server_model.specs.Keep.{kept_count, kept_of, lacks}
+use Rattle.ftp_server_model.specs.Walk.{refusal_text}
+use Rattle.ftp_server_model.specs.declared.session.Keep.{Keep}
 use Rattle.ftp_server_model.specs.Replies.{Turn, fixed_reply, reply_octets, said_octets}
 use Rattle.ftp_server_model.specs.Endpoint.{forgotten}
 use Rattle.ftp_server_model.specs.Act.{decided}
@@ -95,16 +101,32 @@ abbrev pub Ending : Type 0
 Ending = Session × FixedReply
 
 -- the octets kept and these pass a limit of octets
-abbrev pub is_over : Names → ℕ → Decoder → Session → Bool
-is_over path keep d s = is_some (octets_refusal (seen s) path (keep + length d.content))
+abbrev pub is_over : Names → Keep → Decoder → Session → Bool
+is_over path keep d s = is_some (octets_refusal (seen s) path (kept_count keep + length d.content))
 
--- the file is in the map: the octets kept and then those that came, at this moment
-abbrev pub put_in : (moment : ℕ) → Names → ℕ → List ℕ → Session → Session
-put_in moment path keep octets s = with_seen (installed (seen s) path (take keep (octets_or_none (seen s) path) ++ octets) moment) s
+-- the file as it is to be: the octets kept of the one that stands there, and then those that came
+abbrev pub put_together : Names → Keep → List ℕ → Session → List ℕ
+put_together path keep octets s = kept_of keep (octets_or_none (seen s) path) ++ octets
 
--- what came is installed and answered so; past a limit of octets nothing is, and the reply is 552 (own choice)
-abbrev pub installs : (moment : ℕ) → Names → ℕ → Decoder → FixedReply → Session → Ending
-installs moment path keep d text s = if is_over path keep d s then (s, Texts.TooMuch) else (put_in moment path keep d.content s, text)
+-- Why what came can't be put there now, as the direct run would say: the account may not, fewer octets stand there than are kept, or the
+-- map takes no such file there. Since the transfer began others may have changed what stands there.
+abbrev pub end_refusal : Names → Keep → List ℕ → Session → Option Refusal
+end_refusal path keep octets s =
+    or_refused (barred_put (direct_of s) path)
+    (or_refused (refused_name (whenever (lacks keep (octets_or_none (seen s) path)) Faults.BadOffset))
+    (put_refusal (direct_of s) path (length (put_together path keep octets s))))
+
+-- the file is in the map, at this moment
+abbrev pub put_in : (moment : ℕ) → Names → Keep → List ℕ → Session → Session
+put_in moment path keep octets s = with_seen (installed (seen s) path (put_together path keep octets s) moment) s
+
+-- what came is installed and answered so, or it is refused and nothing is: past a limit of octets by 552 (own choice)
+abbrev pub ends_by : Option Refusal → (moment : ℕ) → Names → Keep → List ℕ → FixedReply → Session → Ending
+ends_by (Some why) moment path keep octets text s = (s, refusal_text why)
+ends_by None moment path keep octets text s = (put_in moment path keep octets s, text)
+
+abbrev pub installs : (moment : ℕ) → Names → Keep → Decoder → FixedReply → Session → Ending
+installs moment path keep d text s = ends_by (end_refusal path keep d.content s) moment path keep d.content text s
 
 -- the data connection broke, or the transfer is aborted: what was settled of an upload is kept (own choice)
 abbrev pub at_break : (moment : ℕ) → Transfer → Session → Ending

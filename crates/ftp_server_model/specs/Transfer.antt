@@ -23,6 +23,7 @@ use Rattle.ftp_server_model.specs.declared.reply.FixedReply.TheVariants as Texts
 use Rattle.ftp_server_model.specs.declared.reply.ReplyKind.TheVariants as Replies
 use Rattle.ftp_server_model.specs.declared.session.Pending.{Pending}
 use Rattle.ftp_server_model.specs.declared.session.Pending.TheVariants as Pendings
+use Rattle.ftp_server_model.specs.declared.session.Keep.TheVariants as Keeps
 use Rattle.ftp_server_model.specs.declared.session.Transfer.TheVariants as Transfers
 use Rattle.ftp_server_model.specs.declared.session.Way.TheVariants as Ways
 use Rattle.ftp_server_model.specs.declared.session.ServerLink.{ServerLink}
@@ -119,17 +120,17 @@ refused_to_hold s path = refused_room (limited path (room_refusal (seen s) path)
 abbrev pub stor_at : Option ℕ → Names → Session → Turn
 stor_at place path s =
     transfer_starts (or_refused (barred_put (direct_of s) path) (or_refused (refused_name (misplaced place)) (refused_to_hold s path)))
-    (Transfers.Upload path (unwrap_or place 0) (no_octets s.settings)) s
+    (Transfers.Upload path (Keeps.First (unwrap_or place 0)) (no_octets s.settings)) s
 
 -- STOR, where REST put it
 abbrev pub stor : Pending Names → List ℕ → Session → Turn
 stor pending text s = stor_at (place_of pending (path_of s text) s) (path_of s text) s
 
--- APPE: after all octets of the file there
+-- APPE: after all octets of the file there, those that stand when it ends
 abbrev pub appe_at : Names → Session → Turn
 appe_at path s =
     transfer_starts (or_refused (barred_put (direct_of s) path) (refused_to_hold s path))
-    (Transfers.Upload path (length (octets_or_none (seen s) path)) (no_octets s.settings)) s
+    (Transfers.Upload path (Keeps.All (length (octets_or_none (seen s) path))) (no_octets s.settings)) s
 
 -- APPE: a REST before it is of no matter
 abbrev pub appe : List ℕ → Session → Turn

@@ -76,9 +76,9 @@ rnfr text s = unless (refused_source s (path_of s text)) s (tells Texts.NewName 
 abbrev pub target_seen : Session → Names → Names → Table
 target_seen s from to = freed s.rights.onto (seen s) from to
 
--- RNTO, the second half, right after it, of an account that may rename
+-- RNTO, the second half, right after it: what RNFR named is asked for again, since others may have taken it away
 abbrev pub refused_target : Session → Names → Names → Option Refusal
-refused_target s from to = or_refused (barred s.rights.rename) (refused_name (limited to (rename_refusal (target_seen s from to) from to)))
+refused_target s from to = or_refused (refused_source s from) (refused_name (limited to (rename_refusal (target_seen s from to) from to)))
 
 abbrev pub renames : Names → Names → Session → Turn
 renames from to s = unless (refused_target s from to) s (tells Texts.Done (with_seen (moved (target_seen s from to) from to) s))

@@ -74,11 +74,20 @@ pub enum ServerLink<J> {
     Transferring(J),
 }
 
+/// What an upload keeps of the file that stands at its path, in front of what comes.
+#[derive(Clone, Copy)]
+pub enum Keep {
+    /// The octets before a place: none at 0.
+    First(u64),
+    /// All that stand there when it ends (APPE); so many stood when it began, which its restart markers count.
+    All(u64),
+}
+
 /// A transfer; `D` is what came of an upload, `W` what is still to be given of a download, `L` of a listing.
 #[derive(Drop)]
 pub enum Transfer<P, D, W, L> {
-    /// An upload to a path, behind so many octets of the file there.
-    Upload { path: P, keep: u64, decoder: D },
+    /// An upload to a path.
+    Upload { path: P, keep: Keep, decoder: D },
     /// An upload that passed a limit of octets.
     OverLimit,
     Download(W),
