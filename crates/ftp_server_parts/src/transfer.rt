@@ -17,7 +17,8 @@ use arrayvec::ArrayVec;
 use ftp_command::Argument;
 use ftp_facts::Moment;
 use ftp_path::Path;
-use ftp_server_model::{Facts, FixedReply};
+use ftp_operation::Rights;
+use ftp_server_model::{Facts, FixedReply, Keep};
 use ftp_settings::{MARKER_LIMIT, Mode, Representation};
 use ftp_tree::Tree;
 use std::alloc::{AllocError, Allocator};
@@ -75,13 +76,13 @@ pub trait ServerTransfer<A: Allocator + Copy, T: Tree<A>>: Drop {
         ensures steady { OnOk result (T.failures tree.new ≡ T.failures tree.old) }
         ensures failed { IfErr result (λ fault. Counted fault (T.failures tree.old) (T.failures tree.new)) };
 
-    /// An upload to a path, behind so many octets of the file there. The path is taken out, here and below.
+    /// An upload to a path, which keeps so much of the file there. The path is taken out, here and below.
     fn upload(
         alloc: A,
         tree: &mut T,
         root: &Path<A>,
         path: &mut Path<A>,
-        keep: u64,
+        keep: Keep,
         settings: Representation,
     ) -> Result<Self, Fault>
         ensures upload { IfOk result (λ transfer. view transfer ≡ Transfers.Upload path.old keep (no_octets settings)) }
@@ -149,25 +150,28 @@ pub trait ServerTransfer<A: Allocator + Copy, T: Tree<A>>: Drop {
     fn is_given_out(&self) -> bool
         ensures { result ≡ is_out (view self.now) };
 
-    /// The other end closed the data connection: what came of an upload is put into the tree. The reply that ends the transfer.
+    /// The other end closed the data connection: what came of an upload is put into the tree, or refused there, by an account that
+    /// may change so much. The reply that ends the transfer.
     fn at_end(
         self,
         tree: &mut T,
         root: &Path<A>,
+        rights: Rights,
         moment: Moment,
     ) -> Result<FixedReply, Fault>
-        ensures ends { (s : Seen) → s.table ≡ T.table tree.old → s.root ≡ root.now
+        ensures ends { (s : Seen) → s.table ≡ T.table tree.old → s.root ≡ root.now → s.rights ≡ rights
             → Ends (at_end moment.seconds (view self) s) s (T.table tree.new) result (T.failures tree.old) (T.failures tree.new) }
         ensures upload { OnErr result (IsUpload (view self)) };
 
-    /// The data connection broke: what was settled of an upload is put into the tree. The reply that ends the transfer.
+    /// The data connection broke: what was settled of an upload is put into the tree, or refused there. The reply that ends the transfer.
     fn at_break(
         self,
         tree: &mut T,
         root: &Path<A>,
+        rights: Rights,
         moment: Moment,
     ) -> Result<FixedReply, Fault>
-        ensures ends { (s : Seen) → s.table ≡ T.table tree.old → s.root ≡ root.now
+        ensures ends { (s : Seen) → s.table ≡ T.table tree.old → s.root ≡ root.now → s.rights ≡ rights
             → Ends (at_break moment.seconds (view self) s) s (T.table tree.new) result (T.failures tree.old) (T.failures tree.new) }
         ensures upload { OnErr result (IsUpload (view self)) };
 }

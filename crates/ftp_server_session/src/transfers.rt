@@ -18,7 +18,7 @@ use crate::walk::lost;
 use ftp_command::Argument;
 use ftp_direct::{absent_fault, directory_fault, len_at, may_put_at, place_at};
 use ftp_path::Path;
-use ftp_server_model::{FixedReply, Pending, ReplyKind, ServerLink, Way};
+use ftp_server_model::{FixedReply, Keep, Pending, ReplyKind, ServerLink, Way};
 use ftp_server_parts::{Fault, ServerTransfer};
 use ftp_tree::{Tree, TreeFault};
 use std::alloc::Allocator;
@@ -70,7 +70,7 @@ impl<A: Allocator + Copy, T: Tree<A>, J: ServerTransfer<A, T>> Session<A, T, J> 
         let Some(place) = self.place_of(pending, &path)? else {
             return Ok(self.not_begun(FixedReply::NameRefused));
         };
-        self.hold(&mut path, place)
+        self.hold(&mut path, Keep::First(place))
     }
 
     /// APPE: a REST before it is of no matter.
@@ -88,8 +88,8 @@ impl<A: Allocator + Copy, T: Tree<A>, J: ServerTransfer<A, T>> Session<A, T, J> 
         if !may_put_at(&self.tree, &self.root, &path, self.rights) {
             return Ok(self.not_begun(FixedReply::NotAllowed));
         }
-        let keep = len_at(&self.tree, &self.root, &path);
-        self.hold(&mut path, keep)
+        let stands = len_at(&self.tree, &self.root, &path);
+        self.hold(&mut path, Keep::All(stands))
     }
 
     /// LIST.
@@ -211,7 +211,7 @@ impl<A: Allocator + Copy, T: Tree<A>, J: ServerTransfer<A, T>> Session<A, T, J> 
     }
 
     /// An upload begins, after so many octets of the file at a path, if the tree takes a file there.
-    fn hold(&mut self, path: &mut Path<A>, keep: u64) -> Result<ReplyKind<Path<A>>, Fault>
+    fn hold(&mut self, path: &mut Path<A>, keep: Keep) -> Result<ReplyKind<Path<A>>, Fault>
         requires { fits path.old ≡ true }
         ensures { Turns T.table T.failures J.view (λ s. transfer_starts (refused_to_hold s path.old) (Transfers.Upload path.old keep (no_octets s.settings)) s) self.old self.new result }
     {

@@ -141,6 +141,9 @@ impl<A: Allocator + Copy, T: Tree<A>, J: ServerTransfer<A, T>> Session<A, T, J> 
         if !self.rights.rename {
             return Ok(ReplyKind::Fixed(FixedReply::NotAllowed));
         }
+        if is_held(&self.tree, &self.root, from, &self.cwd) {
+            return Ok(ReplyKind::Fixed(FixedReply::Refused));
+        }
         let Ok(found) = self.find(text) else {
             return Err(Fault::Memory);
         };
