@@ -3,6 +3,7 @@ pub mod FaultLemmas
 pub mod ListingLemmas
 pub mod NodeLemmas
 pub mod OntoLemmas
+pub mod OpenLemmas
 pub mod PieceLemmas
 pub mod PlaceLemmas
 pub mod PutLemmas
