@@ -1,4 +1,5 @@
 pub mod BelowLemmas
+pub mod DueLemmas
 pub mod FaultLemmas
 pub mod ListingLemmas
 pub mod NodeLemmas
