@@ -15,7 +15,7 @@ use Rattle.ftp_direct.proofs.RefusalLemmas.{if_refused}
 use Rattle.ftp_direct.specs.Direct.{State, chosen, here, or_refused, put, put_refusal, refused_octets, refused_room}
 use Rattle.ftp_direct.specs.Run.{Gives, IsAnswer}
 
-pub none_never : (refusal : Option TreeFault) (why : TreeFault) → refusal ≡ None → refusal ≡ Some why → ⊥
+none_never : (refusal : Option TreeFault) (why : TreeFault) → refusal ≡ None → refusal ≡ Some why → ⊥
 none_never refusal why none some = cc
 
 or_none : (first second : Option TreeFault) → or_else first second ≡ None → (first ≡ None) × (second ≡ None)
@@ -23,7 +23,7 @@ or_none None second none = (refl, none)
 or_none (Some fault) second none = absurd (none_never (Some fault) fault none refl)
 
 -- a file's front and some octets
-pub put_len : (file octets content : List ℕ) (kept : ℕ) → kept ≤ length file → content ≡ take kept file ++ octets → length content ≡ kept + length octets
+put_len : (file octets content : List ℕ) (kept : ℕ) → kept ≤ length file → content ≡ take kept file ++ octets → length content ≡ kept + length octets
 put_len file octets content kept within is =
     ap length is ∙ length-append (take kept file) octets ∙ ap (λ n. n + length octets) (length-take-le kept file within)
 
@@ -36,7 +36,7 @@ octets_clear table path count le =
     ap (λ b. or_else (whenever (not b) TooBig) (whenever (not (nat_le count (room_at table path))) Full)) (le-leb count 67108864 (omega (arith, room_le table path)))
     ∙ ap (λ b. whenever (not b) Full) (le-leb count (room_at table path) le)
 
-pub install_clear : (table : Table) (path : Names) (count room : ℕ) → room_refusal table path ≡ None → room ≡ room_at table path → nat_le count room ≡ true
+install_clear : (table : Table) (path : Names) (count room : ℕ) → room_refusal table path ≡ None → room ≡ room_at table path → nat_le count room ≡ true
     → install_refusal table path count ≡ None
 unfolding install_refusal
 install_clear table path count room none is le =
@@ -46,7 +46,7 @@ parts : (table : Table) (path : Names) (count : ℕ) → install_refusal table p
 unfolding install_refusal
 parts table path count none = or_none (room_refusal table path) (octets_refusal table path count) none
 
-pub put_done : (table : Table) (root path cwd : Names) (count : ℕ) (content kept octets : List ℕ) (moment : ℕ) → fits path ≡ true → content ≡ kept ++ octets
+put_done : (table : Table) (root path cwd : Names) (count : ℕ) (content kept octets : List ℕ) (moment : ℕ) → fits path ≡ true → content ≡ kept ++ octets
     → length content ≡ count → install_refusal (under table root) path (length content) ≡ None
     → Gives (chosen (put_refusal (here table root cwd) path count) (here table root cwd) (put (here table root cwd) path kept octets moment)) Done
     (here (with_part table root (installed (under table root) path content moment)) root cwd)

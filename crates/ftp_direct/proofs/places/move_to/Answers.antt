@@ -7,12 +7,12 @@ use Rattle.ftp_direct.proofs.places.move_to.Goals.{else-onto-via-then-onto+else-
 
 pub returns-then-takes_place-clause-done : goal.returns-then-takes_place-clause-done
 returns-then-takes_place-clause-done g c =
-    onto_done _ _ _ _ _ _ _ c.args.onto c.rename_onto.result c.if-onto.true c.takes_place.ensures.sound c.requires
+    onto_done _ _ _ _ _ _ _ c.args.onto c.rename_onto.result c.if-onto.true c.rename_onto.ensures.sound c.requires
     (sym c.takes_place.ensures.is ∙ c.if-takes_place.true) c.rename_onto.ensures.done
 
 pub returns-then-takes_place-clause-refused : goal.returns-then-takes_place-clause-refused
 returns-then-takes_place-clause-refused g c =
-    onto_refused _ _ _ _ _ _ _ c.args.onto c.rename_onto.result c.if-onto.true c.takes_place.ensures.sound c.requires
+    onto_refused _ _ _ _ _ _ _ c.args.onto c.rename_onto.result c.if-onto.true c.rename_onto.ensures.sound c.requires
     (sym c.takes_place.ensures.is ∙ c.if-takes_place.true) c.rename_onto.ensures.refused
 
 -- no file is replaced
