@@ -197,7 +197,7 @@ fn takes_place<A: Allocator + Copy, T: Tree<A>>(
     from: &Path<A>,
     to: &Path<A>,
 ) -> bool
-    ensures is { result ≡ takes_place (under (T.table tree.now) root.now) from.now to.now }
+    ensures { result ≡ takes_place (under (T.table tree.now) root.now) from.now to.now }
 {
     if !is_file(tree, root, from) {
         return false;

@@ -1,4 +1,4 @@
-use Rattle.std.proofs.Common.{◌∙◌, ◌++◌, ◌+◌, ap, arith, drop, length, sym, take}
+use Rattle.std.proofs.Common.{◌∙◌, ◌++◌, ◌+◌, ap, arith, drop, take}
 use Rattle.ftp_direct.proofs.OpenLemmas.{front_of, piece_of}
 use Rattle.ftp_direct.proofs.PieceLemmas.{read_more}
 use Rattle.ftp_direct.proofs.reading.read_open.Goals as goal
