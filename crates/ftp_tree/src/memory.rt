@@ -153,7 +153,7 @@ impl<A: Allocator + Copy> Tree<A> for MemTree<A> {
     ) -> Result<DirEntries<A>, AllocError> {
         let above = Joined::of(root, path);
         let Some(node) = self.root.find(above.key()) else {
-            return Ok(DirEntries::new(self.alloc));
+            return Ok(DirEntries::none(self.alloc));
         };
         node.entries(self.alloc)
     }
