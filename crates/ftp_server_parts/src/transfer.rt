@@ -150,23 +150,13 @@ pub trait ServerTransfer<A: Allocator + Copy, T: Tree<A>>: Drop {
         ensures { result ≡ is_out (view self.now) };
 
     /// The other end closed the data connection: what came of an upload is put into the tree. The reply that ends the transfer.
-    fn at_end(
-        self,
-        tree: &mut T,
-        root: &Path<A>,
-        moment: Moment,
-    ) -> Result<FixedReply, Fault>
+    fn at_end(self, tree: &mut T, root: &Path<A>, moment: Moment) -> Result<FixedReply, Fault>
         ensures ends { (s : Seen) → s.table ≡ T.table tree.old → s.root ≡ root.now
             → Ends (at_end moment.seconds (view self) s) s (T.table tree.new) result (T.failures tree.old) (T.failures tree.new) }
         ensures upload { OnErr result (IsUpload (view self)) };
 
     /// The data connection broke: what was settled of an upload is put into the tree. The reply that ends the transfer.
-    fn at_break(
-        self,
-        tree: &mut T,
-        root: &Path<A>,
-        moment: Moment,
-    ) -> Result<FixedReply, Fault>
+    fn at_break(self, tree: &mut T, root: &Path<A>, moment: Moment) -> Result<FixedReply, Fault>
         ensures ends { (s : Seen) → s.table ≡ T.table tree.old → s.root ≡ root.now
             → Ends (at_break moment.seconds (view self) s) s (T.table tree.new) result (T.failures tree.old) (T.failures tree.new) }
         ensures upload { OnErr result (IsUpload (view self)) };

@@ -24,7 +24,7 @@ returns-then-given-clause-gave g c =
     let room = c.split_at_mut-free.result.0.now ++ given.new.room in
     let few : c.loop-made.made + given.result.count ≤ length room = search rules in
     let made = more_made (rest c.args.self.now) (rest c.loop-made.self) (rest given.new.self) c.loop-made.room c.split_at_mut-free.result.0.now given.new.room
-        c.loop-made.made given.result.count c.loop-made.invariant.made c.split_at_mut-free.ensures.front c.loop-made.invariant.text given.ensures.text in
+    c.loop-made.made given.result.count c.loop-made.invariant.made c.split_at_mut-free.ensures.front c.loop-made.invariant.text given.ensures.text in
     (given_front (rest c.args.self.now) (rest given.new.self) room (c.loop-made.made + given.result.count) few made).0
 
 pub returns-then-given-clause-rest : goal.returns-then-given-clause-rest
@@ -34,5 +34,5 @@ returns-then-given-clause-rest g c =
     let room = c.split_at_mut-free.result.0.now ++ given.new.room in
     let few : c.loop-made.made + given.result.count ≤ length room = search rules in
     let made = more_made (rest c.args.self.now) (rest c.loop-made.self) (rest given.new.self) c.loop-made.room c.split_at_mut-free.result.0.now given.new.room
-        c.loop-made.made given.result.count c.loop-made.invariant.made c.split_at_mut-free.ensures.front c.loop-made.invariant.text given.ensures.text in
+    c.loop-made.made given.result.count c.loop-made.invariant.made c.split_at_mut-free.ensures.front c.loop-made.invariant.text given.ensures.text in
     (given_front (rest c.args.self.now) (rest given.new.self) room (c.loop-made.made + given.result.count) few made).1
