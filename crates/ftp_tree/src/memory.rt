@@ -169,6 +169,14 @@ impl<A: Allocator + Copy> Tree<A> for MemTree<A> {
         }
     }
 
+    fn most<B: Allocator + Copy, C: Allocator + Copy>(
+        &self,
+        root: &Path<B>,
+        path: &Path<C>,
+    ) -> u64 {
+        self.room_at(root, path)
+    }
+
     fn device_failures(&self) -> u64 {
         0
     }

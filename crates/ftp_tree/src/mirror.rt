@@ -133,6 +133,14 @@ impl<A: Allocator + Copy, D: Folder> Tree<A> for Mirror<A, D> {
         self.tree.room(root, path)
     }
 
+    fn most<B: Allocator + Copy, C: Allocator + Copy>(
+        &self,
+        root: &Path<B>,
+        path: &Path<C>,
+    ) -> u64 {
+        self.tree.most(root, path)
+    }
+
     fn device_failures(&self) -> u64 {
         self.folder.failures()
     }
