@@ -1,8 +1,10 @@
 pub mod BelowLemmas
+pub mod DueLemmas
 pub mod FaultLemmas
 pub mod ListingLemmas
 pub mod NodeLemmas
 pub mod OntoLemmas
+pub mod OpenLemmas
 pub mod PieceLemmas
 pub mod PlaceLemmas
 pub mod PutLemmas

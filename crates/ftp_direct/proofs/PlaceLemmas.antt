@@ -1,7 +1,8 @@
 -- Where an offset leads to in a file, found piece by piece.
-use Rattle.std.proofs.Common.{◌≡◌, ◌≢◌, ℕ, zero, suc, ◌+◌, ◌<◌, ◌≤◌, ◌⊎◌, inl, inr, Bool, true, false, ◌==◌, List, ◌++◌, length, take, drop, Some, None, refl, ap, sym, subst, ◌∙◌, arith, zero-add, if◌then◌else◌}
+use Rattle.std.proofs.Common.{◌≡◌, ◌≢◌, ℕ, zero, suc, ◌+◌, ◌<◌, ◌≤◌, ◌⊎◌, inl, inr, Bool, true, false, ◌==◌, List, [], ◌++◌, length, take, drop, nat_le, leb-false, Option, Some, None, IfSome, refl, ap, sym, subst, ◌∙◌, arith, zero-add, if◌then◌else◌}
 use Rattle.std.specs.List.{find, range_with_len}
-use Rattle.std.proofs.lemmas.List.{take-append-drop, length-drop, length-take}
+use Rattle.std.proofs.lemmas.Bool.{leb-true}
+use Rattle.std.proofs.lemmas.List.{take-append-drop, length-drop, length-take, length-take-le}
 use Rattle.std.proofs.lemmas.Bool.Decides.{Decides-eqb}
 use Rattle.std.proofs.Math.Seq.{take-add}
 use Rattle.ftp_repr.specs.Signs.{wire_row}
@@ -9,6 +10,7 @@ use Rattle.ftp_repr.specs.Skipping.{IsPlace, Skips}
 use Rattle.ftp_repr.specs.declared.skipping.Skipped.TheVariants.{Within, Left, Inside}
 use Rattle.ftp_repr.proofs.SkipLemmas.{goes_up, place_once, row_append, within_stays, inside_stays}
 use Rattle.ftp_settings.specs.declared.representation.Kind.{Kind}
+use Rattle.ftp_settings.specs.declared.representation.Kind.TheVariants.{Ascii, Image}
 use Rattle.ftp_direct.specs.Direct.{place_in, size_in}
 use Rattle.ftp_direct.specs.Laws.{OffsetsLead}
 use Rattle.ftp_direct.proofs.SizeLemmas.{size_piece}
@@ -75,6 +77,37 @@ module _ (kind : Kind) (file : List ℕ) (offset : ℕ) where
 
 pub offsets_lead : OffsetsLead
 offsets_lead kind octets offset place = (led kind octets offset place, leads kind octets offset place)
+
+pub within_of : (kind : Kind) (octets : List ℕ) (offset : ℕ) (found : Option ℕ) → found ≡ place_in kind octets offset → IfSome found (λ place. place ≤ length octets)
+within_of kind octets offset None is = tt
+within_of kind octets offset (Some place) is = (led kind octets offset place (sym is)).within
+
+-- octets that go each as itself
+pub in_image : (octets : List ℕ) (offset : ℕ) → place_in Image octets offset ≡ (if nat_le offset (length octets) then Some offset else None)
+in_image octets offset =
+    elim (nat_le offset (length octets)) as (λ b. nat_le offset (length octets) ≡ b → place_in Image octets offset ≡ (if b then Some offset else None)) [
+      | true ↦ λ yes. let within = leb-true offset (length octets) yes in
+          leads Image octets offset offset (record { within = within; goes = size_piece Image (take offset octets) ∙ length-take-le offset octets within })
+      | false ↦ λ no. let past = leb-false offset (length octets) no in
+          leads_nowhere Image octets offset (λ place other.
+          absurd (omega (arith, past, other.within, other.goes, size_piece Image (take place octets), length-take-le place octets other.within)))
+    ] refl
+
+-- no octets
+pub in_none : (kind : Kind) (offset : ℕ) → place_in kind [] offset ≡ (if nat_le offset 0 then Some offset else None)
+in_none Image offset = in_image [] offset
+in_none Ascii zero = leads Ascii [] 0 0 (record { within = omega arith; goes = refl })
+in_none Ascii (suc offset) =
+    leads_nowhere Ascii [] (suc offset) (λ place other.
+    absurd (omega (arith, other.goes, ap (λ octets. length (wire_row Ascii octets)) (take_none place))))
+    ∙ ap (λ b. if b then Some (suc offset) else None) (sym (no_le offset))
+  where
+    take_none : (place : ℕ) → take {A = ℕ} place [] ≡ []
+    take_none zero = refl
+    take_none (suc place) = refl
+
+    no_le : (offset : ℕ) → nat_le (suc offset) 0 ≡ false
+    no_le offset = elim (nat_le (suc offset) 0) as (λ b. nat_le (suc offset) 0 ≡ b → b ≡ false) [ true ↦ λ yes. absurd (omega (arith, leb-true (suc offset) 0 yes)) | false ↦ λ _. refl ] refl
 
 -- ---- piece by piece
 

@@ -13,7 +13,7 @@ use crate::offsets::{place_at, takes_offset};
 use crate::refusal::{Refusal, find, refused, tell};
 use ftp_facts::{Moment, Text};
 use ftp_operation::{Answer, How, Op};
-use ftp_tree::{Content, Path, Tree, TreeFault};
+use ftp_tree::{Draft, Path, Tree, TreeFault};
 use std::alloc::{AllocError, Allocator};
 
 /// Puts a file with these octets.
@@ -34,7 +34,7 @@ pub(crate) fn put<A: Allocator + Copy, T: Tree<A>>(
     let Some(path) = find(alloc, cwd, text)? else {
         return Ok(tell(Refusal::BadName));
     };
-    install(alloc, tree, root, &path, 0, octets, moment)
+    put_behind(tree, root, &path, 0, octets, moment)
 }
 
 /// Puts these octets behind those of a file, or a new file.
@@ -56,7 +56,7 @@ pub(crate) fn append<A: Allocator + Copy, T: Tree<A>>(
         return Ok(tell(Refusal::BadName));
     };
     let kept = len_at(tree, root, &path);
-    install(alloc, tree, root, &path, kept, octets, moment)
+    put_behind(tree, root, &path, kept, octets, moment)
 }
 
 /// Puts these octets behind the first ones of a file, so many as an offset skips.
@@ -82,15 +82,15 @@ pub(crate) fn put_from<A: Allocator + Copy, T: Tree<A>>(
     let Some(path) = find(alloc, cwd, text)? else {
         return Ok(tell(Refusal::BadName));
     };
-    let Some(place) = place_at(tree, root, &path, how.representation.kind, offset) else {
-        return Ok(tell(Refusal::BadName));
-    };
-    install(alloc, tree, root, &path, place, octets, moment)
+    match place_at(tree, root, &path, how.representation.kind, offset) {
+        Ok(Some(place)) => put_behind(tree, root, &path, place, octets, moment),
+        Ok(None) => Ok(tell(Refusal::BadName)),
+        Err(fault) => refused(fault, Refusal::BadName),
+    }
 }
 
-/// Installs a file: the first octets of the one that stands there, and these behind them.
-fn install<A: Allocator + Copy, T: Tree<A>>(
-    alloc: &A,
+/// Puts a file: the first octets of the one that stands there, and these behind them.
+fn put_behind<A: Allocator + Copy, T: Tree<A>>(
     tree: &mut T,
     root: &Path<A>,
     path: &Path<A>,
@@ -113,9 +113,12 @@ fn install<A: Allocator + Copy, T: Tree<A>>(
     if !has_room(room, kept, octets) {
         return Ok(tell(Refusal::TooMuch));
     }
-    let mut content = front(*alloc, tree, root, path, kept)?;
-    content.push(octets.as_slice())?;
-    match tree.install(root, path, &mut content, moment) {
+    let mut draft = match tree.begin(root, path) {
+        Ok(draft) => draft,
+        Err(fault) => return refused(fault, Refusal::TooMuch),
+    };
+    draft.push(octets.as_slice())?;
+    match tree.put(root, path, kept, draft, moment) {
         Ok(()) => Ok(Answer::Done),
         Err(fault) => refused(fault, Refusal::TooMuch),
     }
@@ -137,23 +140,4 @@ fn has_room<A: Allocator + Copy>(room: u64, kept: u64, octets: &Text<A>) -> bool
 {
     let more = octets.as_slice().len() as u64;
     kept <= room && more <= room - kept
-}
-
-/// The first octets of the file at a path, to be installed again.
-fn front<A: Allocator + Copy, T: Tree<A>>(
-    alloc: A,
-    tree: &T,
-    root: &Path<A>,
-    path: &Path<A>,
-    count: u64,
-) -> Result<Content<A>, AllocError>
-    ensures { IfOk result (λ content. content ≡ take count (octets_or_none (under (T.table tree.now) root.now) path.now)) }
-{
-    if count == 0 {
-        return Ok(Content::new(alloc));
-    }
-    match Content::of(alloc, tree, root, path, count) {
-        Ok(content) => Ok(content),
-        Err(_) => Err(AllocError),
-    }
 }

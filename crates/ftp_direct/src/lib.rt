@@ -8,6 +8,7 @@ mod laws;
 mod listings;
 mod nodes;
 mod offsets;
+mod opening;
 mod places;
 mod reading;
 mod refusal;

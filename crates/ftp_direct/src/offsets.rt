@@ -1,14 +1,16 @@
 // Offsets: how many octets of a file's transfer are skipped, and of the file by them (RFC 3659, section 5).
-ghost use Rattle.std.specs.Prelude.{◌≡◌, ◌≤◌, IfSome, None, Some, length, if◌then◌else◌};
+ghost use Rattle.std.specs.Prelude.{◌≡◌, ◌≤◌, IfErr, IfOk, IfSome, None, OnOk, Some, length, nat_le, if◌then◌else◌};
+ghost use Rattle.ftp_tree.specs.Change.{Refuses};
 ghost use Rattle.ftp_tree.specs.Tree.{octets_or_none, under};
 ghost use Rattle.ftp_direct.specs.Direct.{is_in_files, offset_refusal, place_in};
 
 use crate::nodes::len_at;
+use crate::opening::open_there;
 use crate::refusal::Refusal;
 use ftp_operation::How;
 use ftp_repr::{Skipped, skip};
 use ftp_settings::{Kind, Structure};
-use ftp_tree::{Path, Tree};
+use ftp_tree::{Path, Tree, TreeFault};
 use std::alloc::Allocator;
 
 /// The most octets that are asked of a tree at once.
@@ -30,28 +32,65 @@ fn is_in_files(structure: Structure) -> bool
     }
 }
 
-/// How many first octets of the file at a path go as so many octets of a transfer in that type, where some do.
+/// How many first octets of the file at a path go as so many octets of a transfer in that type, where some do. In type I the
+/// octets of the file are not read.
+///
+/// Refused: `Memory`, `Device`.
 pub fn place_at<A: Allocator + Copy, T: Tree<A>>(
-    tree: &T,
+    tree: &mut T,
     root: &Path<A>,
     path: &Path<A>,
     kind: Kind,
     offset: u64,
-) -> Option<u64>
-    ensures place { result ≡ place_in kind (octets_or_none (under (T.table tree.now) root.now) path.now) offset }
-    ensures within { IfSome result (λ place. place ≤ length (octets_or_none (under (T.table tree.now) root.now) path.now)) }
+) -> Result<Option<u64>, TreeFault>
+    ensures place { IfOk result (λ place. place ≡ place_in kind (octets_or_none (under (T.table tree.old) root.now) path.now) offset) }
+    ensures within { IfOk result (λ place. IfSome place (λ place. place ≤ length (octets_or_none (under (T.table tree.old) root.now) path.now))) }
+    ensures table { T.table tree.new ≡ T.table tree.old }
+    ensures steady { OnOk result (T.failures tree.new ≡ T.failures tree.old) }
+    ensures refused { IfErr result (λ fault. Refuses None fault (T.failures tree.old) (T.failures tree.new)) }
 {
-    let end = len_at(tree, root, path);
+    match kind {
+        Kind::Image => Ok(if_within(offset, len_at(tree, root, path))),
+        Kind::Ascii => match open_there(tree, root, path)? {
+            Some(file) => ascii_place(tree, file, offset),
+            None => Ok(if_within(offset, 0)),
+        },
+    }
+}
+
+/// An offset as the place of a file of so many octets that go each as itself.
+fn if_within(offset: u64, len: u64) -> Option<u64>
+    ensures { result ≡ (if nat_le offset len then Some offset else None) }
+{
+    if offset <= len { Some(offset) } else { None }
+}
+
+/// The place of an open file that an offset leads to in type A: its octets are read up to there.
+fn ascii_place<A: Allocator + Copy, T: Tree<A>>(
+    tree: &mut T,
+    mut file: T::Open,
+    offset: u64,
+) -> Result<Option<u64>, TreeFault>
+    ensures place { IfOk result (λ place. place ≡ place_in Kind.Ascii (T.opened file) offset) }
+    ensures within { IfOk result (λ place. IfSome place (λ place. place ≤ length (T.opened file))) }
+    ensures table { T.table tree.new ≡ T.table tree.old }
+    ensures steady { OnOk result (T.failures tree.new ≡ T.failures tree.old) }
+    ensures refused { IfErr result (λ fault. Refuses None fault (T.failures tree.old) (T.failures tree.new)) }
+{
+    let end = T::open_len(&file);
+    let mut buffer = [0u8; PIECE];
     let mut left = offset;
     let mut at = 0u64;
     while at < end {
-        let piece = tree.piece(root, path, at, PIECE);
-        match skip(kind, left, piece) {
-            Skipped::Within(place) => return Some(at + place as u64),
+        let Ok(count) = tree.read(&mut file, at, &mut buffer) else {
+            return Err(TreeFault::Device);
+        };
+        match skip(Kind::Ascii, left, &buffer[..count]) {
+            Skipped::Within(place) => return Ok(Some(at + place as u64)),
             Skipped::Left(more) => left = more,
-            Skipped::Inside => return None,
+            Skipped::Inside => return Ok(None),
         }
-        at += piece.len() as u64;
+        at += count as u64;
     }
-    if left == 0 { Some(at) } else { None }
+    Ok(if left == 0 { Some(at) } else { None })
 }

@@ -3,7 +3,6 @@ ghost use Rattle.std.specs.Prelude.{◌≡◌, IsTrue, IfOk, IfErr, OnErr, OnOk,
 ghost use Rattle.ftp_operation.specs.Answer.{said_of};
 ghost use Rattle.ftp_path.specs.Path.{Names, fits, is_within};
 ghost use Rattle.ftp_tree.specs.Change.{IsDone, IsRefused};
-ghost use Rattle.ftp_tree.specs.Sound.{IsSoundTree};
 ghost use Rattle.ftp_tree.specs.Tree.{Table, freed, moved, or_else, rename_refusal, source_refusal, takes_place, under, with_part};
 ghost use Rattle.ftp_direct.specs.Direct.{busy_refusal, due, here, here_onto};
 ghost use Rattle.ftp_operation.specs.Operation.{is_path_text};
@@ -191,19 +190,15 @@ pub fn move_to<A: Allocator + Copy, T: Tree<A>>(
     tree.rename(root, from, to)
 }
 
-/// Whether a file may take the place of another: files stand at both paths, and the second is not the first. Whatever it answers, the map
-/// is sound: above the path whose place is taken there is a directory.
+/// Whether a file may take the place of another: files stand at both paths, and the second is not the first.
 fn takes_place<A: Allocator + Copy, T: Tree<A>>(
     tree: &T,
     root: &Path<A>,
     from: &Path<A>,
     to: &Path<A>,
 ) -> bool
-    ensures is { result ≡ takes_place (under (T.table tree.now) root.now) from.now to.now }
-    ensures sound { IsSoundTree (T.table tree.now) }
+    ensures { result ≡ takes_place (under (T.table tree.now) root.now) from.now to.now }
 {
-    // What it answers is not asked for: it tells, for the map of any tree, that the map is one.
-    let _ = tree.fits(root);
     if !is_file(tree, root, from) {
         return false;
     }

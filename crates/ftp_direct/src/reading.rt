@@ -1,30 +1,34 @@
 // Operations that get a file's octets, or ask for its moment.
-ghost use Rattle.std.specs.Prelude.{◌≡◌, ◌≤◌, IsTrue, IfOk, MatchOption, None, Some, drop, length, min, take};
-ghost use Rattle.ftp_path.specs.Path.{resolved};
+ghost use Rattle.std.specs.Prelude.{◌≡◌, ◌≤◌, IfErr, IfOk, IsTrue, MatchOption, None, OnErr, OnOk, Some, drop, length, min, take};
+ghost use Rattle.ftp_path.specs.Path.{Names, resolved};
+ghost use Rattle.ftp_tree.specs.Change.{Refuses};
 ghost use Rattle.ftp_tree.specs.Tree.{octets_or_none, under};
 ghost use Rattle.ftp_operation.specs.Answer.{Octets, said_of};
 ghost use Rattle.ftp_direct.specs.Direct.{due, here, refused_file};
 ghost use Rattle.ftp_operation.specs.Operation.{is_path_text};
-ghost use Rattle.ftp_direct.specs.Run.{Gives};
+ghost use Rattle.ftp_direct.specs.Run.{Gives, IsAnswer};
 
 use crate::nodes::{file_fault, len_at};
 use crate::offsets::{PIECE, place_at, takes_offset};
-use crate::refusal::{Refusal, find, tell};
+use crate::opening::open_there;
+use crate::refusal::{Refusal, find, refused, tell};
 use ftp_facts::Text;
 use ftp_operation::{Answer, How, Op};
-use ftp_tree::{Path, Tree};
+use ftp_tree::{Path, Tree, TreeFault};
 use std::alloc::{AllocError, Allocator};
 
 /// Gets a file's octets.
 pub(crate) fn get<A: Allocator + Copy, T: Tree<A>>(
     alloc: &A,
-    tree: &T,
+    tree: &mut T,
     root: &Path<A>,
     cwd: &Path<A>,
     text: &Text<A>,
 ) -> Result<Answer<A>, AllocError>
     requires { IsTrue (is_path_text text.now) }
-    ensures { (how : How) → IfOk result (λ answer. let old = here (T.table tree.now) root.now cwd.now in Gives (due old (Op.Get text.now how) 0) (said_of answer) old) }
+    ensures answer { (how : How) → IfOk result (λ answer. let old = here (T.table tree.old) root.now cwd.now in
+        IsAnswer (T.failures tree.old) (T.failures tree.new) (due old (Op.Get text.now how) 0) old (said_of answer) (here (T.table tree.new) root.now cwd.now)) }
+    ensures kept { OnErr result ((T.table tree.new ≡ T.table tree.old) × (T.failures tree.new ≡ T.failures tree.old)) }
 {
     let Some(path) = find_file(alloc, tree, root, cwd, text)? else {
         return Ok(tell(Refusal::Unavailable));
@@ -36,7 +40,7 @@ pub(crate) fn get<A: Allocator + Copy, T: Tree<A>>(
 /// Gets a file's octets behind those that an offset skips.
 pub(crate) fn get_from<A: Allocator + Copy, T: Tree<A>>(
     alloc: &A,
-    tree: &T,
+    tree: &mut T,
     root: &Path<A>,
     cwd: &Path<A>,
     text: &Text<A>,
@@ -44,7 +48,9 @@ pub(crate) fn get_from<A: Allocator + Copy, T: Tree<A>>(
     how: How,
 ) -> Result<Answer<A>, AllocError>
     requires { IsTrue (is_path_text text.now) }
-    ensures { IfOk result (λ answer. let old = here (T.table tree.now) root.now cwd.now in Gives (due old (Op.GetFrom text.now offset how) 0) (said_of answer) old) }
+    ensures answer { IfOk result (λ answer. let old = here (T.table tree.old) root.now cwd.now in
+        IsAnswer (T.failures tree.old) (T.failures tree.new) (due old (Op.GetFrom text.now offset how) 0) old (said_of answer) (here (T.table tree.new) root.now cwd.now)) }
+    ensures kept { OnErr result ((T.table tree.new ≡ T.table tree.old) × (T.failures tree.new ≡ T.failures tree.old)) }
 {
     if !takes_offset(offset, how) {
         return Ok(tell(Refusal::BadParameter));
@@ -52,24 +58,29 @@ pub(crate) fn get_from<A: Allocator + Copy, T: Tree<A>>(
     let Some(path) = find_file(alloc, tree, root, cwd, text)? else {
         return Ok(tell(Refusal::Unavailable));
     };
-    let Some(place) = place_at(tree, root, &path, how.representation.kind, offset) else {
-        return Ok(tell(Refusal::Unavailable));
-    };
-    let end = len_at(tree, root, &path);
-    say_octets(alloc, tree, root, &path, place, end)
+    match place_at(tree, root, &path, how.representation.kind, offset) {
+        Ok(Some(place)) => {
+            let end = len_at(tree, root, &path);
+            say_octets(alloc, tree, root, &path, place, end)
+        }
+        Ok(None) => Ok(tell(Refusal::Unavailable)),
+        Err(fault) => refused(fault, Refusal::Unavailable),
+    }
 }
 
 /// Gets a file's first octets, at most so many.
 pub(crate) fn peek<A: Allocator + Copy, T: Tree<A>>(
     alloc: &A,
-    tree: &T,
+    tree: &mut T,
     root: &Path<A>,
     cwd: &Path<A>,
     text: &Text<A>,
     count: u64,
 ) -> Result<Answer<A>, AllocError>
     requires { IsTrue (is_path_text text.now) }
-    ensures { (how : How) → IfOk result (λ answer. let old = here (T.table tree.now) root.now cwd.now in Gives (due old (Op.Peek text.now count how) 0) (said_of answer) old) }
+    ensures answer { (how : How) → IfOk result (λ answer. let old = here (T.table tree.old) root.now cwd.now in
+        IsAnswer (T.failures tree.old) (T.failures tree.new) (due old (Op.Peek text.now count how) 0) old (said_of answer) (here (T.table tree.new) root.now cwd.now)) }
+    ensures kept { OnErr result ((T.table tree.new ≡ T.table tree.old) × (T.failures tree.new ≡ T.failures tree.old)) }
 {
     let Some(path) = find_file(alloc, tree, root, cwd, text)? else {
         return Ok(tell(Refusal::Unavailable));
@@ -122,38 +133,71 @@ pub(crate) fn find_file<A: Allocator + Copy, T: Tree<A>>(
 /// Answers the octets of the file at a path from a place on up to another.
 fn say_octets<A: Allocator + Copy, T: Tree<A>>(
     alloc: &A,
-    tree: &T,
+    tree: &mut T,
     root: &Path<A>,
     path: &Path<A>,
     from: u64,
     end: u64,
 ) -> Result<Answer<A>, AllocError>
-    requires { end ≤ length (octets_or_none (under (T.table tree.now) root.now) path.now) }
-    ensures { IfOk result (λ answer. said_of answer ≡ Octets (drop from (take end (octets_or_none (under (T.table tree.now) root.now) path.now)))) }
+    requires { end ≤ length (octets_or_none (under (T.table tree.old) root.now) path.now) }
+    ensures answer { (cwd : Names) → IfOk result (λ answer. let old = here (T.table tree.old) root.now cwd in
+        IsAnswer (T.failures tree.old) (T.failures tree.new) (Octets (drop from (take end (octets_or_none (under (T.table tree.old) root.now) path.now))), old)
+        old (said_of answer) (here (T.table tree.new) root.now cwd)) }
+    ensures kept { OnErr result ((T.table tree.new ≡ T.table tree.old) × (T.failures tree.new ≡ T.failures tree.old)) }
 {
-    let octets = read(*alloc, tree, root, path, from, end)?;
-    Ok(Answer::Octets(Text::copy_of(*alloc, octets.as_slice())?))
+    match read(*alloc, tree, root, path, from, end) {
+        Ok(octets) => Ok(Answer::Octets(Text::copy_of(*alloc, octets.as_slice())?)),
+        Err(fault) => refused(fault, Refusal::Unavailable),
+    }
 }
 
 /// The octets of the file at a path from a place on up to another.
 fn read<A: Allocator + Copy, T: Tree<A>>(
     alloc: A,
-    tree: &T,
+    tree: &mut T,
     root: &Path<A>,
     path: &Path<A>,
     from: u64,
     end: u64,
-) -> Result<Vec<u8, A>, AllocError>
-    requires { end ≤ length (octets_or_none (under (T.table tree.now) root.now) path.now) }
-    ensures { IfOk result (λ octets. octets.items ≡ drop from (take end (octets_or_none (under (T.table tree.now) root.now) path.now))) }
+) -> Result<Vec<u8, A>, TreeFault>
+    requires { end ≤ length (octets_or_none (under (T.table tree.old) root.now) path.now) }
+    ensures octets { IfOk result (λ octets. octets.items ≡ drop from (take end (octets_or_none (under (T.table tree.old) root.now) path.now))) }
+    ensures table { T.table tree.new ≡ T.table tree.old }
+    ensures steady { OnOk result (T.failures tree.new ≡ T.failures tree.old) }
+    ensures refused { IfErr result (λ fault. Refuses None fault (T.failures tree.old) (T.failures tree.new)) }
+{
+    match open_there(tree, root, path)? {
+        Some(file) => read_open(alloc, tree, file, from, end),
+        None => Ok(Vec::new(alloc)),
+    }
+}
+
+/// The octets of an open file from a place on up to another.
+fn read_open<A: Allocator + Copy, T: Tree<A>>(
+    alloc: A,
+    tree: &mut T,
+    mut file: T::Open,
+    from: u64,
+    end: u64,
+) -> Result<Vec<u8, A>, TreeFault>
+    requires { end ≤ length (T.opened file) }
+    ensures octets { IfOk result (λ octets. octets.items ≡ drop from (take end (T.opened file))) }
+    ensures table { T.table tree.new ≡ T.table tree.old }
+    ensures steady { OnOk result (T.failures tree.new ≡ T.failures tree.old) }
+    ensures refused { IfErr result (λ fault. Refuses None fault (T.failures tree.old) (T.failures tree.new)) }
 {
     let mut octets = Vec::new(alloc);
+    let mut buffer = [0u8; PIECE];
     let mut at = from;
     while at < end {
-        let most = lesser(PIECE as u64, end - at) as usize;
-        let piece = tree.piece(root, path, at, most);
-        octets.extend_from_slice(piece)?;
-        at += piece.len() as u64;
+        let Ok(count) = tree.read(&mut file, at, &mut buffer) else {
+            return Err(TreeFault::Device);
+        };
+        let count = lesser(count as u64, end - at);
+        let Ok(_) = octets.extend_from_slice(&buffer[..count as usize]) else {
+            return Err(TreeFault::Memory);
+        };
+        at += count;
     }
     Ok(octets)
 }

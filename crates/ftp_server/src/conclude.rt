@@ -1,9 +1,9 @@
 // How a transfer ends that was taken out of its session (RFC 959, section 3.4).
-ghost use Rattle.std.specs.Prelude.{◌≡◌, OnErr, false};
+ghost use Rattle.std.specs.Prelude.{◌≡◌, OnErr};
 ghost use Rattle.ftp_server_model.specs.Machine.{at_break, at_end};
 ghost use Rattle.ftp_server_parts.specs.ServerTransfer.{IsUpload};
 ghost use Rattle.ftp_server_session.specs.Receiving.{Concludes};
-ghost use Rattle.ftp_server_session.specs.Session.{has_transfer, session_of};
+ghost use Rattle.ftp_server_session.specs.Session.{session_of};
 
 use ftp_facts::Moment;
 use ftp_server_model::FixedReply;
@@ -18,7 +18,6 @@ pub(crate) fn at_end<A: Allocator + Copy, T: Tree<A>, J: ServerTransfer<A, T>>(
     moment: Moment,
     transfer: J,
 ) -> Result<FixedReply, Fault>
-    requires idle { has_transfer session.old.connection ≡ false }
     ensures ends { let s = session_of T.table J.view session.old in
         Concludes (at_end moment.seconds (J.view transfer) s) s (session_of T.table J.view session.new) result (T.failures session.old.tree) (T.failures session.new.tree) }
     ensures connection { session.new.connection ≡ session.old.connection }
@@ -39,7 +38,6 @@ pub(crate) fn at_break<A: Allocator + Copy, T: Tree<A>, J: ServerTransfer<A, T>>
     moment: Moment,
     transfer: J,
 ) -> Result<FixedReply, Fault>
-    requires idle { has_transfer session.old.connection ≡ false }
     ensures ends { let s = session_of T.table J.view session.old in
         Concludes (at_break moment.seconds (J.view transfer) s) s (session_of T.table J.view session.new) result (T.failures session.old.tree) (T.failures session.new.tree) }
     ensures connection { session.new.connection ≡ session.old.connection }

@@ -4,7 +4,6 @@ ghost use Rattle.ftp_server_model.specs.Counting.{MovesOn};
 ghost use Rattle.ftp_server_model.specs.Calls.{break_step, connection_of as connection_in, end_step};
 ghost use Rattle.ftp_server_model.specs.Endpoint.{disconnected};
 ghost use Rattle.ftp_server_model.specs.Machine.{with_session};
-ghost use Rattle.ftp_server_model.specs.View.{seen};
 ghost use Rattle.ftp_server.specs.Breaking.{InstallIsLost};
 ghost use Rattle.ftp_server.specs.Busy.{HasRoom};
 ghost use Rattle.ftp_server_session.specs.Session.{connection_of};
@@ -88,7 +87,7 @@ impl<A: Allocator + Copy, T: Tree<A>, J: ServerTransfer<A, T>> Server<A, T, J> {
     /// Takes the data connection out, with nothing left to close.
     fn leave(&mut self) -> ServerLink<J>
         ensures view { view_of T.table J.view self.new ≡ with_session (disconnected (view_of T.table J.view self.old).session) (view_of T.table J.view self.old) }
-        ensures connection { connection_of (J.view (seen (view_of T.table J.view self.old).session)) result ≡ (view_of T.table J.view self.old).session.connection }
+        ensures connection { connection_of J.view result ≡ (view_of T.table J.view self.old).session.connection }
         ensures steady { counts_of T.failures self.new ≡ counts_of T.failures self.old }
         ensures room { HasRoom result self.new.output }
     {

@@ -14,10 +14,9 @@ use std::alloc::Allocator;
 impl<A: Allocator + Copy, T: Tree<A>, J: Counted<A, T>> Server<A, T, J> {
     ghost use Rattle.ftp_server.specs.Server.{view_of};
 
-    /// How many octets it holds beside the tree, the accounts, what came of an upload, and what a transfer shares with the tree: those that
-    /// are owed, the line that is being read, the line that waits as it would be written, what the line that was acted on
-    /// names, the names and paths of the session, and what its
-    /// transfer stores; at most 24,576.
+    /// How many octets it holds beside the tree, the accounts, what came of an upload, and what a transfer has of the tree, which is an open
+    /// file or what a directory showed: those that are owed, the line that is being read, the line that waits as it would be written, what
+    /// the line that was acted on names, the names and paths of the session, and what its transfer stores; at most 24,576.
     pub fn held(&self) -> usize
         ensures len { let stored = connection_len J.stored self.now.session.connection in
             result ≡ heard_len self.now.heard + held stored (view_of T.table J.view self.now) }

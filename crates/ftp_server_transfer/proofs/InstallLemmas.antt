@@ -1,12 +1,14 @@
--- Limits of octets behind those that are kept; contents that are put one behind another.
-use Rattle.std.proofs.Common.{ℕ, ◌+◌, ◌-◌, ◌≤◌, ◌<◌, ◌≡◌, min, not, Bool, true, false, Option, Some, None, List, [], ◌++◌, length, take, drop, nat_le, is_some, is_none, SomeIff, nat_lt, refl, sym, ap, ◌∙◌, arith, append_assoc}
+-- Limits of octets behind those that are kept, and what a refused call leaves.
+use Rattle.std.proofs.Common.{ℕ, ◌+◌, ◌-◌, ◌≤◌, ◌<◌, ◌≡◌, ◌⊎◌, inl, inr, not, Bool, true, false, Option, Some, None, length, nat_le, is_some, is_none, SomeIff, nat_lt, refl, sym, ap, ◌∙◌, arith}
 use Rattle.std.proofs.Math.Nat.{min-le_left}
 use Rattle.std.proofs.lemmas.Bool.{leb-true, leb-false, le-leb, lt-leb, true≢false}
 use Rattle.std.proofs.lemmas.Bool.Decides.{nat_tests}
-use Rattle.std.proofs.lemmas.List.{take-append-drop, take_min, drop-drop}
-use Rattle.std.specs.Option.{option_map, unwrap_or}
 use Rattle.ftp_path.specs.Path.{Names}
-use Rattle.ftp_tree.specs.Tree.{Table, install_refusal, octets_at, octets_or_none, octets_refusal, octets_in, or_else, whenever, file_limit, total_limit, room_at, room_refusal, size_at}
+use Rattle.ftp_tree.specs.Change.{IsRefused, next_count}
+use Rattle.ftp_tree.specs.Tree.{Table, install_refusal, octets_or_none, octets_refusal, octets_in, or_else, whenever, file_limit, total_limit, room_at, room_refusal}
+use Rattle.ftp_server_parts.specs.Fault.{Counted}
+use Rattle.ftp_server_parts.specs.declared.fault.Fault.{Fault}
+use Rattle.ftp_server_parts.specs.declared.fault.Fault.TheVariants.{Memory, Device}
 use Rattle.ftp_tree.specs.declared.fault.TreeFault.{TreeFault}
 use Rattle.ftp_tree.specs.declared.fault.TreeFault.TheVariants.{TooBig, Full}
 
@@ -66,44 +68,6 @@ passes_room part path keep count room is kept = less_is (room - keep) count ∙ 
 pub room_is_short : (part : Table) (path : Names) (room : ℕ) → room ≡ room_at part path → room ≤ file_limit
 unfolding room_at
 room_is_short part path room is = rw is (min-le_left file_limit (total_limit - (octets_in part - length (octets_or_none part path))))
-
--- how many octets a file has
-has_size : (o : Option (List ℕ)) (size : ℕ) → option_map length o ≡ Some size → length (unwrap_or o []) ≡ size
-has_size None size is = cc
-has_size (Some octets) size is = cc
-
-pub sized : (part : Table) (path : Names) (size : ℕ) → size_at part path ≡ Some size → length (octets_or_none part path) ≡ size
-unfolding size_at
-sized part path size is = has_size (octets_at part path) size is
-
-no_octets_of : (o : Option (List ℕ)) → option_map length o ≡ None → unwrap_or o [] ≡ []
-no_octets_of None is = refl
-no_octets_of (Some octets) is = cc
-
-pub no_file : (part : Table) (path : Names) → size_at part path ≡ None → octets_or_none part path ≡ []
-unfolding size_at
-no_file part path is = no_octets_of (octets_at part path) is
-
--- a front of as many octets as there are
-pub front_sized : (octets : List ℕ) (keep size : ℕ) → length octets ≡ size → take (min keep size) octets ≡ take keep octets
-front_sized octets keep size is = ap (λ n. take (min keep n) octets) (sym is) ∙ take_min keep octets
-
--- one more piece is put behind
-pub put_more : (whole next : List ℕ) (more piece all : List ℕ) (at : ℕ) → whole ++ drop at more ≡ all → piece ≡ take (length piece) (drop at more) → next ≡ whole ++ piece
-    → next ++ drop (at + length piece) more ≡ all
-put_more whole next more piece all at so_far is put =
-    ap (λ l. l ++ drop (at + length piece) more) put ∙ append_assoc whole piece (drop (at + length piece) more)
-    ∙ ap (λ l. whole ++ l) (ap (λ l. piece ++ l) (sym (drop-drop (length piece) at more)) ∙ ap (λ l. l ++ drop (length piece) (drop at more)) is ∙ take-append-drop (length piece) (drop at more))
-    ∙ so_far
-
--- the same number, none where no file stands
-count_of : (o : Option (List ℕ)) → unwrap_or (option_map length o) 0 ≡ length (unwrap_or o [])
-count_of None = refl
-count_of (Some octets) = refl
-
-pub count_at : (part : Table) (path : Names) → unwrap_or (size_at part path) 0 ≡ length (octets_or_none part path)
-unfolding size_at
-count_at part path = count_of (octets_at part path)
 
 -- a file is refused there, of however many octets, where the tree takes none
 pub none_fits : (part : Table) (path : Names) (count : ℕ) (fault : TreeFault) → room_refusal part path ≡ Some fault → is_some (install_refusal part path count) ≡ true
@@ -169,3 +133,15 @@ none_below None most count past = of (nat_le count most) refl
     of true fits = absurd (past (leb-true count most fits))
     of false over = ap not (sym over)
 none_below (Some left) most count had = ap not (sym (le-leb count most had.0))
+
+-- a refused call leaves the count of device failures as it was, or moved on by one
+pub failed_or_not : (refusal : Option TreeFault) (fault : TreeFault) (old new : Table) (before after was now : ℕ) → was ≡ before → now ≡ after
+    → IsRefused refusal fault old new before after → (now ≡ was) ⊎ (now ≡ next_count was)
+failed_or_not (Some why) fault old new before after was now first then (same, is) = inl (then ∙ is.1 ∙ sym first)
+failed_or_not None fault old new before after was now first then (same, inl memory) = inl (then ∙ memory.1 ∙ sym first)
+failed_or_not None fault old new before after was now first then (same, inr device) = inr (then ∙ device.1 ∙ ap next_count (sym first))
+
+-- the same counts tell the same
+pub counted_as : (fault : Fault) (before after was now : ℕ) → was ≡ before → now ≡ after → Counted fault was now → Counted fault before after
+counted_as Memory before after was now first then same = sym then ∙ same ∙ first
+counted_as Device before after was now first then on = sym then ∙ on ∙ ap next_count first

@@ -1,6 +1,8 @@
--- How many octets each transfer stores: the sum of the lengths of its fields that have any. Not among it are the octets that came of an upload.
-use Rattle.std.specs.Prelude.{◌≡◌, ℕ, ◌+◌, length}
+-- How many octets each transfer stores: the sum of the lengths of its fields that have any. Not among it are the octets that came of an upload,
+-- nor what a transfer shares with the tree.
+use Rattle.std.specs.Prelude.{◌≡◌, ℕ, ◌+◌, length, Option, Some, None}
 use Rattle.ftp_wire.specs.Stored.{encoder_len}
+use Rattle.ftp_wire.specs.declared.encoder.Encoder.{Encoder}
 use Rattle.ftp_server_model.specs.Held.{path_len}
 use Rattle.ftp_server_transfer.specs.declared.download.Download.{Download}
 use Rattle.ftp_server_transfer.specs.declared.line.What.{What}
@@ -10,12 +12,17 @@ use Rattle.ftp_server_transfer.specs.declared.upload.Upload.{Upload}
 use Rattle.ftp_server_transfer.specs.declared.transfer.TreeTransfer.{TreeTransfer}
 use Rattle.ftp_server_transfer.specs.declared.transfer.TreeTransfer.TheVariants as Kinds
 
--- a download: its path, and what its encoder stores
-abbrev pub download_len : {A : Type 0} → Download A → ℕ
-download_len d = path_len d.path + encoder_len d.encoder
+-- an encoder, where there is one
+abbrev pub some_encoder_len : Option Encoder → ℕ
+some_encoder_len None = 0
+some_encoder_len (Some encoder) = encoder_len encoder
+
+-- a download: what its encoder stores
+abbrev pub download_len : {A T O D : Type 0} → Download A T O D → ℕ
+download_len d = some_encoder_len d.encoder
 
 -- an upload: its path, and the restart marker in its decoder
-abbrev pub upload_len : {A : Type 0} → Upload A → ℕ
+abbrev pub upload_len : {A T O D : Type 0} → Upload A T O D → ℕ
 upload_len u = path_len u.path + length u.decoder.marker
 
 -- the argument of NLST
@@ -30,7 +37,7 @@ abbrev pub listing_len : {A : Type 0} → Listing A → ℕ
 listing_len l = path_len l.path + (what_len l.what + (encoder_len l.encoder + (length l.lines.items + length l.ahead.items)))
 
 -- a transfer of any kind
-abbrev pub stored_of : {A : Type 0} → TreeTransfer A → ℕ
+abbrev pub stored_of : {A T O D : Type 0} → TreeTransfer A T O D → ℕ
 stored_of (Kinds.Upload upload) = upload_len upload
 stored_of Kinds.OverLimit = 0
 stored_of (Kinds.Download download) = download_len download
@@ -38,13 +45,13 @@ stored_of (Kinds.Listing listing) = listing_len listing
 
 -- ---- nothing else is stored: each is what the sums count, and numbers
 
--- a download is its path, a place in its file, and its encoder
-abbrev pub IsWholeDownload : {A : Type 0} → Download A → Type 0
-IsWholeDownload {A} d = (e : Download A) → e.path ≡ d.path → e.at ≡ d.at → e.encoder ≡ d.encoder → e ≡ d
+-- a download is its open file, a place in it, and its encoder
+abbrev pub IsWholeDownload : {A T O D : Type 0} → Download A T O D → Type 0
+IsWholeDownload {A} {T} {O} {D} d = (e : Download A T O D) → e.file ≡ d.file → e.at ≡ d.at → e.encoder ≡ d.encoder → e ≡ d
 
 -- an upload is its path, how much it keeps, and its decoder, which has what came
-abbrev pub IsWholeUpload : {A : Type 0} → Upload A → Type 0
-IsWholeUpload {A} u = (e : Upload A) → e.path ≡ u.path → e.keep ≡ u.keep → e.decoder ≡ u.decoder → e ≡ u
+abbrev pub IsWholeUpload : {A T O D : Type 0} → Upload A T O D → Type 0
+IsWholeUpload {A} {T} {O} {D} u = (e : Upload A T O D) → e.path ≡ u.path → e.keep ≡ u.keep → e.decoder ≡ u.decoder → e ≡ u
 
 -- a listing is its allocator, what is listed, the entries of the directory, its encoder, the lines, how many of their octets were taken, those after
 -- them, and a place among the entries

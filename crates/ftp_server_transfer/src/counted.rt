@@ -4,7 +4,7 @@ use ftp_server_parts::Counted;
 use ftp_tree::Tree;
 use std::alloc::Allocator;
 
-impl<A: Allocator + Copy, T: Tree<A>> Counted<A, T> for TreeTransfer<A> {
+impl<A: Allocator + Copy, T: Tree<A>> Counted<A, T> for TreeTransfer<A, T> {
     ghost use Rattle.ftp_server_transfer.specs.Stored.{stored_of};
 
     ghost stored = { stored_of };

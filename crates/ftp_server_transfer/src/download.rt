@@ -1,108 +1,216 @@
-// A download: the octets of a file, from a place on, as its data connection carries them (RFC 959, section 3).
-ghost use Rattle.std.specs.Prelude.{◌≡◌, ◌≤◌, ◌<◌, ◌⊎◌, ◌↔◌, ◌^◌, ◌++◌, [], IsTrue, drop, length, min, take, true, if◌then◌else◌};
-ghost use Rattle.ftp_wire.specs.Encoding.{is_done};
-ghost use Rattle.ftp_mode.specs.Block.{marked_text};
-ghost use Rattle.ftp_mode.specs.Wire.{wire};
-ghost use Rattle.ftp_settings.specs.Representation.{form_of, has_markers};
-ghost use Rattle.ftp_tree.specs.Tree.{Table, octets_or_none, under};
+// A download: the octets of a file as it was when it was opened, from a place on, as its data connection carries them (RFC 959, section 3).
+ghost use Rattle.std.specs.Prelude.{◌≡◌, ◌≤◌, ◌<◌, ◌+◌, ◌⊎◌, ◌↔◌, ◌^◌, ◌++◌, ℕ, List, [], IfOk, IsTrue, OnErr, OnOk, drop, false, length, min, take, true};
+ghost use Rattle.ftp_wire.specs.Encoding.{still_to_give};
+ghost use Rattle.ftp_server_model.specs.Transfer.{file_wire};
+ghost use Rattle.ftp_server_transfer.specs.Download.{given_by, is_plain};
+ghost use Rattle.ftp_tree.specs.Change.{next_count};
 
-use ftp_path::Path;
-use ftp_settings::Representation;
-use ftp_tree::Tree;
-use ftp_wire::Encoder;
+use ftp_server_parts::Given;
+use ftp_settings::{Kind, Mode, Representation, Structure};
+use ftp_tree::{Broken, Tree};
+use ftp_wire::{Encoded, Encoder};
 use std::alloc::Allocator;
 
-/// A file that is sent. It holds no octet of the file but those in one block.
+/// The most octets of a file that are read at once where they do not go as they are.
+const WINDOW: usize = 8_192;
+
+/// A file that is sent, as it was when it was opened. It holds no octet of the file but those in one block.
 #[derive(Drop)]
-pub struct Download<A: Allocator + Copy> {
-    pub(crate) path: Path<A>,
-    /// The place in the file of the next octet that is encoded.
+pub struct Download<A: Allocator + Copy, T: Tree<A>> {
+    pub(crate) file: T::Open,
+    /// The place in the file of the next octet that is given or encoded.
     pub(crate) at: u64,
-    pub(crate) encoder: Encoder,
+    /// None where octets go as they are, and are read straight into the room.
+    pub(crate) encoder: Option<Encoder>,
 }
 
-impl<A: Allocator + Copy> Download<A> {
+impl<A: Allocator + Copy, T: Tree<A>> Download<A, T> {
     ghost use Rattle.ftp_server_transfer.specs.Download.{rest_of};
 
-    /// The file at a path from a place on, in a representation; own markers count from that place, wherever the
-    /// representation has them.
-    pub fn new(path: Path<A>, at: u64, settings: Representation) -> Download<A>
-        ensures { (part : Table) → length (octets_or_none part path) < 2 ^ 64 → rest_of part result
-            ≡ (let file = drop at (octets_or_none part path) in if has_markers settings then marked_text at file else wire settings.mode (form_of settings) file) }
+    /// An open file from a place on, in a representation; own markers count from that place, wherever the representation has them.
+    pub fn new(file: T::Open, at: u64, settings: Representation) -> Download<A, T>
+        ensures { rest_of T.opened result ≡ file_wire settings at (drop at (T.opened file)) }
     {
+        // An open file has fewer than 2^64 octets, so markers can count them.
+        let _len = T::open_len(&file);
         Download {
-            path,
+            file,
             at,
-            encoder: Encoder::marked(settings, at),
+            encoder: encoder_of(settings, at),
         }
     }
 
-    /// Gives octets, as many as there is room for and as are left, and says how many. The tree has to be that from which it was begun.
-    pub fn give<B: Allocator + Copy, C: Allocator + Copy, T: Tree<B>>(
-        &mut self,
-        tree: &T,
-        root: &Path<C>,
-        room: &mut [u8],
-    ) -> usize
-        ensures count { result ≡ min (length room.old) (length (rest_of (under (T.table tree.now) root.now) self.old)) }
-        ensures gave { take result room.new ≡ take result (rest_of (under (T.table tree.now) root.now) self.old) }
-        ensures rest { rest_of (under (T.table tree.now) root.now) self.new ≡ drop result (rest_of (under (T.table tree.now) root.now) self.old) }
+    /// Gives octets, as many as there is room for and as are left, and says how many; fewer only where the device failed.
+    pub fn give(&mut self, tree: &mut T, room: &mut [u8]) -> Given
+        ensures within { result.count ≤ length room.old }
+        ensures gave { take result.count room.new ≡ take result.count (rest_of T.opened self.old) }
+        ensures most { result.count ≤ length (rest_of T.opened self.old) }
+        ensures rest { rest_of T.opened self.new ≡ drop result.count (rest_of T.opened self.old) }
+        ensures full { result.lost ≡ false → result.count ≡ min (length room.old) (length (rest_of T.opened self.old)) }
+        ensures lost { result.lost ≡ true → result.count < length (rest_of T.opened self.old) }
+        ensures table { T.table tree.new ≡ T.table tree.old }
+        ensures steady { result.lost ≡ false → T.failures tree.new ≡ T.failures tree.old }
+        ensures failed { result.lost ≡ true → T.failures tree.new ≡ next_count (T.failures tree.old) }
     {
-        let len = len_at(tree, root, &self.path);
+        let len = T::open_len(&self.file);
         let mut made = 0;
-        while made < room.len() && !self.encoder.is_done() {
+        while made < room.len() && !self.is_given_out() {
             let (_, free) = room.split_at_mut(made);
-            made += self.step(tree, root, len, free);
+            let given = self.step(tree, len, free);
+            made += given.count;
+            if given.lost {
+                return Given {
+                    count: made,
+                    lost: true,
+                };
+            }
         }
-        made
+        Given {
+            count: made,
+            lost: false,
+        }
     }
 
     /// Whether all is given.
-    pub fn is_given_out<B: Allocator + Copy, C: Allocator + Copy, T: Tree<B>>(
-        &self,
-        tree: &T,
-        root: &Path<C>,
-    ) -> bool
-        ensures { IsTrue result ↔ (rest_of (under (T.table tree.now) root.now) self.now ≡ []) }
+    pub fn is_given_out(&self) -> bool
+        ensures { IsTrue result ↔ (rest_of T.opened self.now ≡ []) }
     {
-        self.encoder
-            .is_out(len_at(tree, root, &self.path) <= self.at)
+        let at_end = T::open_len(&self.file) <= self.at;
+        match &self.encoder {
+            Some(encoder) => encoder.is_out(at_end),
+            None => at_end,
+        }
     }
 
-    /// Gives octets of the next piece of the file, which has `len` octets.
-    fn step<B: Allocator + Copy, C: Allocator + Copy, T: Tree<B>>(
-        &mut self,
-        tree: &T,
-        root: &Path<C>,
+    /// Gives octets of what comes next of the file, which has `len` octets. Where the device failed all is as it was.
+    fn step(&mut self, tree: &mut T, len: u64, room: &mut [u8]) -> Given
+        requires some { 0 < length room.old }
+        requires left { 0 < length (rest_of T.opened self.old) }
+        requires len { len ≡ length (T.opened self.old.file) }
+        ensures within { result.count ≤ length room.old }
+        ensures text { rest_of T.opened self.old ≡ take result.count room.new ++ rest_of T.opened self.new }
+
+        // Something is given, or it has come further in the file, or the device failed.
+        ensures goes { result.lost ≡ false → (0 < result.count) ⊎ ((self.old.at < self.new.at) × (self.new.at ≤ length (T.opened self.old.file))) }
+        ensures on { self.old.at ≤ self.new.at }
+        ensures left { result.lost ≡ true → 0 < length (rest_of T.opened self.new) }
+        ensures file { T.opened self.new.file ≡ T.opened self.old.file }
+        ensures table { T.table tree.new ≡ T.table tree.old }
+        ensures steady { result.lost ≡ false → T.failures tree.new ≡ T.failures tree.old }
+        ensures failed { result.lost ≡ true → T.failures tree.new ≡ next_count (T.failures tree.old) }
+    {
+        match self.read_on(tree, len, room) {
+            Ok(moved) => {
+                self.at += moved.taken as u64;
+                Given {
+                    count: moved.made,
+                    lost: false,
+                }
+            }
+            Err(_) => Given {
+                count: 0,
+                lost: true,
+            },
+        }
+    }
+
+    /// Reads what comes next of the file, and says how many octets of it were taken, and how many were made. It stays at its place.
+    fn read_on(&mut self, tree: &mut T, len: u64, room: &mut [u8]) -> Result<Encoded, Broken>
+        requires some { 0 < length room.old }
+        requires left { 0 < length (rest_of T.opened self.old) }
+        requires len { len ≡ length (T.opened self.old.file) }
+        ensures within { IfOk result (λ moved. (moved.made ≤ length room.old) × (moved.taken ≤ length (drop self.old.at (T.opened self.old.file)))) }
+        ensures text { IfOk result (λ moved. rest_of T.opened self.old
+            ≡ take moved.made room.new ++ given_by self.new.encoder (drop (self.old.at + moved.taken) (T.opened self.old.file))) }
+        ensures some { IfOk result (λ moved. 0 < moved.taken + moved.made) }
+        ensures back { OnErr result (self.new.encoder ≡ self.old.encoder) }
+        ensures file { (T.opened self.new.file ≡ T.opened self.old.file) × (self.new.at ≡ self.old.at) }
+        ensures table { T.table tree.new ≡ T.table tree.old }
+        ensures steady { OnOk result (T.failures tree.new ≡ T.failures tree.old) }
+        ensures failed { OnErr result (T.failures tree.new ≡ next_count (T.failures tree.old)) }
+    {
+        match &mut self.encoder {
+            Some(encoder) => Self::encode(encoder, tree, &mut self.file, self.at, len, room),
+            None => Self::read_plain(tree, &mut self.file, self.at, room),
+        }
+    }
+
+    /// Reads octets of a file of `len` octets from a place on, and puts them through an encoder.
+    fn encode(
+        encoder: &mut Encoder,
+        tree: &mut T,
+        file: &mut T::Open,
+        at: u64,
         len: u64,
         room: &mut [u8],
-    ) -> usize
+    ) -> Result<Encoded, Broken>
         requires some { 0 < length room.old }
-        requires len { len ≡ length (octets_or_none (under (T.table tree.now) root.now) self.old.path) }
-        ensures within { result ≤ length room.old }
-        ensures text { rest_of (under (T.table tree.now) root.now) self.old ≡ take result room.new ++ rest_of (under (T.table tree.now) root.now) self.new }
-        ensures path { self.new.path ≡ self.old.path }
-
-        // The room is full, the end of the file is out, or it has come further in the file.
-        ensures goes { (result ≡ length room.old) ⊎ (is_done self.new.encoder ≡ true) ⊎ ((self.old.at < self.new.at) × (self.new.at ≤ length (octets_or_none (under (T.table tree.now) root.now) self.old.path))) }
-        ensures on { self.old.at ≤ self.new.at }
+        requires left { 0 < length (still_to_give encoder.old (drop at (T.opened file.old))) }
+        requires len { len ≡ length (T.opened file.old) }
+        ensures within { IfOk result (λ moved. (moved.made ≤ length room.old) × (moved.taken ≤ length (drop at (T.opened file.old)))) }
+        ensures text { IfOk result (λ moved. still_to_give encoder.old (drop at (T.opened file.old))
+            ≡ take moved.made room.new ++ still_to_give encoder.new (drop (at + moved.taken) (T.opened file.old))) }
+        ensures some { IfOk result (λ moved. 0 < moved.taken + moved.made) }
+        ensures back { OnErr result (encoder.new ≡ encoder.old) }
+        ensures file { T.opened file.new ≡ T.opened file.old }
+        ensures table { T.table tree.new ≡ T.table tree.old }
+        ensures steady { OnOk result (T.failures tree.new ≡ T.failures tree.old) }
+        ensures failed { OnErr result (T.failures tree.new ≡ next_count (T.failures tree.old)) }
     {
-        let left = len.saturating_sub(self.at);
-        let piece = tree.piece(root, &self.path, self.at, usize::MAX);
+        let mut buffer = [0u8; WINDOW];
+        let (window, _) = buffer.split_at_mut(room.len().min(WINDOW));
+        let count = tree.read(file, at, window)?;
+        let (piece, _) = window.split_at(count);
+        let left = len.saturating_sub(at);
         let last = left <= piece.len() as u64;
-        let encoded = self.encoder.put(piece, last, room);
-        self.at += encoded.taken as u64;
-        encoded.made
+        Ok(encoder.put(piece, last, room))
+    }
+
+    /// Reads octets of a file from a place on into the room.
+    fn read_plain(
+        tree: &mut T,
+        file: &mut T::Open,
+        at: u64,
+        room: &mut [u8],
+    ) -> Result<Encoded, Broken>
+        requires some { 0 < length room.old }
+        requires left { 0 < length (drop at (T.opened file.old)) }
+        ensures within { IfOk result (λ moved. (moved.made ≤ length room.old) × (moved.taken ≤ length (drop at (T.opened file.old)))) }
+        ensures text { IfOk result (λ moved. drop at (T.opened file.old) ≡ take moved.made room.new ++ drop (at + moved.taken) (T.opened file.old)) }
+        ensures some { IfOk result (λ moved. 0 < moved.taken + moved.made) }
+        ensures file { T.opened file.new ≡ T.opened file.old }
+        ensures table { T.table tree.new ≡ T.table tree.old }
+        ensures steady { OnOk result (T.failures tree.new ≡ T.failures tree.old) }
+        ensures failed { OnErr result (T.failures tree.new ≡ next_count (T.failures tree.old)) }
+    {
+        let count = tree.read(file, at, room)?;
+        Ok(Encoded {
+            taken: count,
+            made: count,
+        })
     }
 }
 
-/// How many octets the file at a path has; none where no file stands.
-fn len_at<A: Allocator + Copy, B: Allocator + Copy, C: Allocator + Copy, T: Tree<A>>(
-    tree: &T,
-    root: &Path<B>,
-    path: &Path<C>,
-) -> u64
-    ensures { result ≡ length (octets_or_none (under (T.table tree.now) root.now) path.now) }
+/// What encodes a file from a place on; nothing does where its octets go as they are.
+fn encoder_of(settings: Representation, at: u64) -> Option<Encoder>
+    ensures { (file : List ℕ) → at + length file < 2 ^ 64 → given_by result file ≡ file_wire settings at file }
 {
-    tree.size(root, path).unwrap_or(0)
+    if is_plain(settings) {
+        return None;
+    }
+    Some(Encoder::marked(settings, at))
+}
+
+/// Whether the octets of a file go as they are: in type I, file structure and stream mode.
+fn is_plain(settings: Representation) -> bool
+    ensures { result ≡ is_plain settings }
+{
+    matches!(
+        settings,
+        Representation {
+            kind: Kind::Image,
+            structure: Structure::File,
+            mode: Mode::Stream
+        }
+    )
 }

@@ -1,14 +1,15 @@
-// An upload's end: what came is put into the tree, behind the octets of the file there that are kept (own choice).
-ghost use Rattle.std.specs.Prelude.{◌≡◌, ◌⊎◌, ◌+◌, ◌++◌, IfErr, IfOk, OnOk, OnErr, drop, length, take, is_none, is_some};
+// How many octets may come behind those of the file that are kept, and what a call that a tree refuses is told as.
+ghost use Rattle.std.specs.Prelude.{◌≡◌, ◌⊎◌, ◌+◌, is_none, is_some};
 ghost use Rattle.std.specs.Option.{IfSome};
 ghost use Rattle.ftp_tree.specs.Change.{next_count};
+ghost use Rattle.ftp_server_parts.specs.Fault.{Counted};
 ghost use Rattle.ftp_server_transfer.specs.Receiving.{Leaves};
-ghost use Rattle.ftp_tree.specs.Tree.{install_refusal, installed, octets_or_none, octets_refusal, room_refusal, under, with_part};
+ghost use Rattle.ftp_tree.specs.Tree.{install_refusal, octets_refusal, room_refusal, under};
 
-use ftp_facts::Moment;
 use ftp_path::Path;
-use ftp_tree::{Content, Tree, TreeFault};
-use std::alloc::{AllocError, Allocator};
+use ftp_server_parts::Fault;
+use ftp_tree::Tree;
+use std::alloc::Allocator;
 
 /// How many octets may come behind so many of the file at a path. `None` where those alone pass the limit, or where the tree
 /// takes no file there.
@@ -54,75 +55,14 @@ pub(crate) fn passes<A: Allocator + Copy, B: Allocator + Copy, C: Allocator + Co
     }
 }
 
-/// Puts a file into the tree: the first octets of the file that stands there, `keep` of them if it has so many, and then those
-/// that came. All memory is asked for before the first change. On an error the tree is as it was.
-pub(crate) fn put_in<A: Allocator + Copy, B: Allocator + Copy, C: Allocator + Copy, T: Tree<A>>(
-    alloc: A,
-    tree: &mut T,
-    root: &Path<B>,
-    path: &Path<C>,
-    keep: u64,
-    came: Content<A>,
-    moment: Moment,
-) -> Result<(), TreeFault>
-    ensures done { OnOk result (let part = under (T.table tree.old) root.now in T.table tree.new ≡ with_part (T.table tree.old) root.now (installed part path.now (take keep (octets_or_none part path.now) ++ came) moment.seconds)) }
-    ensures steady { OnOk result (T.failures tree.new ≡ T.failures tree.old) }
-    ensures back { OnErr result (T.table tree.new ≡ T.table tree.old) }
-    ensures failed { IfErr result (λ fault. ((fault ≡ TreeFault.Device) × (T.failures tree.new ≡ next_count (T.failures tree.old))) ⊎ (T.failures tree.new ≡ T.failures tree.old)) }
+/// What a refused call of a tree is told as, by the count of device failures before it and after it.
+pub(crate) fn fault_by(before: u64, after: u64) -> Fault
+    requires { (after ≡ before) ⊎ (after ≡ next_count before) }
+    ensures { Counted result before after }
 {
-    let mut whole = behind(alloc, tree, root, path, keep, came)?;
-    tree.install(root, path, &mut whole, moment)
-}
-
-/// The first octets of the file at a path, `keep` of them if it has so many, and then those that came.
-fn behind<A: Allocator + Copy, B: Allocator + Copy, C: Allocator + Copy, T: Tree<A>>(
-    alloc: A,
-    tree: &T,
-    root: &Path<B>,
-    path: &Path<C>,
-    keep: u64,
-    came: Content<A>,
-) -> Result<Content<A>, TreeFault>
-    ensures { IfOk result (λ whole. whole ≡ take keep (octets_or_none (under (T.table tree.now) root.now) path.now) ++ came) }
-{
-    if keep == 0 {
-        return Ok(came);
+    if after == before {
+        Fault::Memory
+    } else {
+        Fault::Device
     }
-    let mut whole = front(alloc, tree, root, path, keep)?;
-    match push_all(&mut whole, &came) {
-        Ok(()) => Ok(whole),
-        Err(_) => Err(TreeFault::Memory),
-    }
-}
-
-/// The first octets of the file at a path, `keep` of them if it has so many.
-fn front<A: Allocator + Copy, B: Allocator + Copy, C: Allocator + Copy, T: Tree<A>>(
-    alloc: A,
-    tree: &T,
-    root: &Path<B>,
-    path: &Path<C>,
-    keep: u64,
-) -> Result<Content<A>, TreeFault>
-    ensures { IfOk result (λ content. content ≡ take keep (octets_or_none (under (T.table tree.now) root.now) path.now)) }
-{
-    match tree.size(root, path) {
-        Some(size) => Content::of(alloc, tree, root, path, keep.min(size)),
-        None => Ok(Content::new(alloc)),
-    }
-}
-
-/// Puts the octets of a content behind those of another. Refused memory, the other has some of them.
-fn push_all<A: Allocator + Copy>(
-    whole: &mut Content<A>,
-    more: &Content<A>,
-) -> Result<(), AllocError>
-    ensures { OnOk result (whole.new ≡ whole.old ++ more.now) }
-{
-    let mut at = 0;
-    while at < more.len() {
-        let piece = more.piece(at, usize::MAX);
-        whole.push(piece)?;
-        at += piece.len() as u64;
-    }
-    Ok(())
 }

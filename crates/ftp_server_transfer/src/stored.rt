@@ -8,20 +8,24 @@ use crate::download::Download;
 use crate::line::What;
 use crate::listing::Listing;
 use crate::upload::Upload;
+use ftp_tree::Tree;
 use std::alloc::Allocator;
 
-impl<A: Allocator + Copy> Download<A> {
-    /// How many octets it stores: its path, and what its encoder does; beside these it is numbers.
+impl<A: Allocator + Copy, T: Tree<A>> Download<A, T> {
+    /// How many octets it stores: what its encoder does; beside it are its open file, which it shares with the tree, and numbers.
     pub fn stored(&self) -> usize
         ensures sum { result ≡ download_len self.now }
         ensures whole { IsWholeDownload self.now }
         ensures few { result ≤ stored_limit }
     {
-        self.path.text().len() + self.encoder.stored()
+        match &self.encoder {
+            Some(encoder) => encoder.stored(),
+            None => 0,
+        }
     }
 }
 
-impl<A: Allocator + Copy> Upload<A> {
+impl<A: Allocator + Copy, T: Tree<A>> Upload<A, T> {
     /// How many octets it stores beside those that came: its path, and what its decoder does; beside these it is numbers.
     pub fn stored(&self) -> usize
         ensures sum { result ≡ upload_len self.now }

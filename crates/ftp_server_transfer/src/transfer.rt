@@ -3,6 +3,7 @@ ghost use Rattle.std.specs.Prelude.{◌≡◌, IfOk};
 ghost use Rattle.ftp_server_model.specs.Ask.{or_empty};
 ghost use Rattle.ftp_server_transfer.specs.TreeTransfer.{transfer_of};
 
+use crate::install::fault_by;
 use crate::line::What;
 use crate::listing::Listing;
 use crate::named::Named;
@@ -19,36 +20,48 @@ use std::mem;
 
 /// A transfer of a server.
 #[derive(Drop)]
-pub enum TreeTransfer<A: Allocator + Copy> {
+pub enum TreeTransfer<A: Allocator + Copy, T: Tree<A>> {
     /// An upload below its limits.
-    Upload(Upload<A>),
+    Upload(Upload<A, T>),
     /// An upload that passed a limit of octets: the rest is dropped unread.
     OverLimit,
-    Download(Download<A>),
+    Download(Download<A, T>),
     Listing(Listing<A>),
 }
 
-impl<A: Allocator + Copy, T: Tree<A>> ServerTransfer<A, T> for TreeTransfer<A> {
-    ghost view = { λ part transfer. transfer_of part transfer };
+impl<A: Allocator + Copy, T: Tree<A>> ServerTransfer<A, T> for TreeTransfer<A, T> {
+    ghost view = { λ transfer. transfer_of T.opened transfer };
 
     fn download(
-        alloc: A,
-        path: &mut Path<A>,
+        tree: &mut T,
+        root: &Path<A>,
+        path: &Path<A>,
         place: u64,
         settings: Representation,
-    ) -> Result<TreeTransfer<A>, AllocError> {
-        let path = mem::replace(path, Path::root(alloc));
-        Ok(TreeTransfer::Download(Download::new(path, place, settings)))
+    ) -> Result<TreeTransfer<A, T>, Fault> {
+        let failures = tree.device_failures();
+        match tree.open(root, path) {
+            Ok(file) => Ok(TreeTransfer::Download(Download::new(file, place, settings))),
+            Err(_) => Err(fault_by(failures, tree.device_failures())),
+        }
     }
 
     fn upload(
         alloc: A,
+        tree: &mut T,
+        root: &Path<A>,
         path: &mut Path<A>,
         keep: u64,
         settings: Representation,
-    ) -> Result<TreeTransfer<A>, AllocError> {
-        let path = mem::replace(path, Path::root(alloc));
-        Ok(TreeTransfer::Upload(Upload::new(alloc, path, keep, settings)))
+    ) -> Result<TreeTransfer<A, T>, Fault> {
+        let failures = tree.device_failures();
+        match tree.begin(root, path) {
+            Ok(draft) => {
+                let path = mem::replace(path, Path::root(alloc));
+                Ok(TreeTransfer::Upload(Upload::new(path, keep, settings, draft)))
+            }
+            Err(_) => Err(fault_by(failures, tree.device_failures())),
+        }
     }
 
     fn list(
@@ -57,7 +70,7 @@ impl<A: Allocator + Copy, T: Tree<A>> ServerTransfer<A, T> for TreeTransfer<A> {
         root: &Path<A>,
         path: &mut Path<A>,
         mode: Mode,
-    ) -> Result<TreeTransfer<A>, AllocError> {
+    ) -> Result<TreeTransfer<A, T>, AllocError> {
         let path = mem::replace(path, Path::root(alloc));
         let listing = Listing::new(alloc, tree, root, path, What::Lines, mode)?;
         Ok(TreeTransfer::Listing(listing))
@@ -70,7 +83,7 @@ impl<A: Allocator + Copy, T: Tree<A>> ServerTransfer<A, T> for TreeTransfer<A> {
         path: &mut Path<A>,
         text: &Option<Argument<A>>,
         mode: Mode,
-    ) -> Result<TreeTransfer<A>, AllocError> {
+    ) -> Result<TreeTransfer<A, T>, AllocError> {
         let text = named(alloc, text)?;
         let path = mem::replace(path, Path::root(alloc));
         let listing = Listing::new(alloc, tree, root, path, What::Names(text), mode)?;
@@ -84,7 +97,7 @@ impl<A: Allocator + Copy, T: Tree<A>> ServerTransfer<A, T> for TreeTransfer<A> {
         path: &mut Path<A>,
         facts: Facts,
         mode: Mode,
-    ) -> Result<TreeTransfer<A>, AllocError> {
+    ) -> Result<TreeTransfer<A, T>, AllocError> {
         let path = mem::replace(path, Path::root(alloc));
         let listing = Listing::new(alloc, tree, root, path, What::Entries(facts), mode)?;
         Ok(TreeTransfer::Listing(listing))
@@ -117,14 +130,11 @@ impl<A: Allocator + Copy, T: Tree<A>> ServerTransfer<A, T> for TreeTransfer<A> {
         }
     }
 
-    fn give(&mut self, tree: &T, root: &Path<A>, room: &mut [u8]) -> Given {
+    fn give(&mut self, tree: &mut T, room: &mut [u8]) -> Given {
         match self {
-            TreeTransfer::Download(download) => Given {
-                count: download.give(tree, root, room),
-                lost: false,
-            },
+            TreeTransfer::Download(download) => download.give(tree, room),
             TreeTransfer::Listing(listing) => {
-                let given = listing.give(tree, root, room);
+                let given = listing.give(room);
                 Given {
                     count: given.made,
                     lost: given.refused,
@@ -137,37 +147,25 @@ impl<A: Allocator + Copy, T: Tree<A>> ServerTransfer<A, T> for TreeTransfer<A> {
         }
     }
 
-    fn is_given_out(&self, tree: &T, root: &Path<A>) -> bool {
+    fn is_given_out(&self) -> bool {
         match self {
-            TreeTransfer::Download(download) => download.is_given_out(tree, root),
+            TreeTransfer::Download(download) => download.is_given_out(),
             TreeTransfer::Listing(listing) => listing.is_given_out(),
             TreeTransfer::Upload(_) | TreeTransfer::OverLimit => false,
         }
     }
 
-    fn at_end(
-        self,
-        alloc: A,
-        tree: &mut T,
-        root: &Path<A>,
-        moment: Moment,
-    ) -> Result<FixedReply, Fault> {
+    fn at_end(self, tree: &mut T, root: &Path<A>, moment: Moment) -> Result<FixedReply, Fault> {
         match self {
-            TreeTransfer::Upload(upload) => upload.at_end(alloc, tree, root, moment),
+            TreeTransfer::Upload(upload) => upload.at_end(tree, root, moment),
             TreeTransfer::OverLimit => Ok(FixedReply::TooMuch),
             TreeTransfer::Download(_) | TreeTransfer::Listing(_) => Ok(FixedReply::Broken),
         }
     }
 
-    fn at_break(
-        self,
-        alloc: A,
-        tree: &mut T,
-        root: &Path<A>,
-        moment: Moment,
-    ) -> Result<FixedReply, Fault> {
+    fn at_break(self, tree: &mut T, root: &Path<A>, moment: Moment) -> Result<FixedReply, Fault> {
         match self {
-            TreeTransfer::Upload(upload) => upload.at_break(alloc, tree, root, moment),
+            TreeTransfer::Upload(upload) => upload.at_break(tree, root, moment),
             TreeTransfer::OverLimit => Ok(FixedReply::TooMuch),
             TreeTransfer::Download(_) | TreeTransfer::Listing(_) => Ok(FixedReply::Broken),
         }

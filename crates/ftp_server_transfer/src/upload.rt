@@ -10,24 +10,24 @@ ghost use Rattle.ftp_server_transfer.specs.Receiving.{is_over};
 ghost use Rattle.ftp_tree.specs.Tree.{install_refusal, under};
 
 use crate::came::Came;
-use crate::install::{passes, put_in, room_behind};
+use crate::install::{fault_by, passes, room_behind};
 use arrayvec::ArrayVec;
 use ftp_facts::Moment;
 use ftp_path::Path;
 use ftp_server_model::FixedReply;
 use ftp_server_parts::{Fault, Marker, Received, Told};
 use ftp_settings::{MARKER_LIMIT, Representation};
-use ftp_tree::{Content, Tree};
+use ftp_tree::Tree;
 use ftp_wire::{Decoded, Decoder, Taken};
 use std::alloc::Allocator;
 
-/// A file that is received. It holds what is settled of it.
+/// A file that is received. What is settled of it is a draft of the tree.
 #[derive(Drop)]
-pub struct Upload<A: Allocator + Copy> {
+pub struct Upload<A: Allocator + Copy, T: Tree<A>> {
     pub(crate) path: Path<A>,
     /// So many octets of the file that stands at the path are kept in front.
     pub(crate) keep: u64,
-    pub(crate) decoder: Decoder<Came<A>>,
+    pub(crate) decoder: Decoder<Came<A, T>>,
 }
 
 /// What came of octets, and whether the upload passed a limit of octets by them. Past it the rest is dropped unread, and the
@@ -38,21 +38,18 @@ pub struct Arrived {
     pub is_over: bool,
 }
 
-impl<A: Allocator + Copy> Upload<A> {
+impl<A: Allocator + Copy, T: Tree<A>> Upload<A, T> {
     ghost use Rattle.ftp_server_transfer.specs.Receiving.{IsTold, Leaves};
     ghost use Rattle.ftp_server_transfer.specs.Upload.{upload_of};
 
-    /// An upload to a path, behind so many octets of the file there, in a representation. Takes no memory.
-    pub fn new(alloc: A, path: Path<A>, keep: u64, settings: Representation) -> Upload<A>
-        ensures { upload_of result ≡ Transfers.Upload path keep (no_octets settings) }
+    /// An upload to a path, behind so many octets of the file there, in a representation, into a draft. Takes no memory.
+    pub fn new(path: Path<A>, keep: u64, settings: Representation, draft: T::Draft) -> Upload<A, T>
+        ensures { upload_of result ≡ Transfers.Upload path keep (record (no_octets settings) { content = T.Draft.octets draft }) }
     {
-        let came = Came {
-            content: Content::new(alloc),
-        };
         Upload {
             path,
             keep,
-            decoder: Decoder::new(settings, came),
+            decoder: Decoder::new(settings, Came { draft }),
         }
     }
 
@@ -60,10 +57,10 @@ impl<A: Allocator + Copy> Upload<A> {
     ///
     /// Where the octets that are kept pass a limit by themselves, or the tree takes no file at the path any more, the first octet
     /// is told as want of memory (own choice: a tree within its own limits meets neither).
-    pub fn receive<B: Allocator + Copy, C: Allocator + Copy, T: Tree<B>>(
+    pub fn receive<B: Allocator + Copy>(
         &mut self,
         tree: &T,
-        root: &Path<C>,
+        root: &Path<B>,
         piece: &[u8],
     ) -> Arrived
         ensures within { result.received.count ≤ length piece.now }
@@ -88,11 +85,7 @@ impl<A: Allocator + Copy> Upload<A> {
     }
 
     /// How many octets may still be settled; `None` where those that are held pass a limit, or the tree takes no file there.
-    fn room_left<B: Allocator + Copy, C: Allocator + Copy, T: Tree<B>>(
-        &self,
-        tree: &T,
-        root: &Path<C>,
-    ) -> Option<u64>
+    fn room_left<B: Allocator + Copy>(&self, tree: &T, root: &Path<B>) -> Option<u64>
         ensures room { IfSome result (λ room. Leaves (under (T.table tree.now) root.now) self.now.path self.now.keep (length self.now.decoder.decoder.content + room)) }
         ensures none { is_none result ≡ is_some (install_refusal (under (T.table tree.now) root.now) self.now.path (self.now.keep + length self.now.decoder.decoder.content)) }
     {
@@ -122,9 +115,8 @@ impl<A: Allocator + Copy> Upload<A> {
 
     /// The other end closed the data connection: the file is whole and put into the tree, or it ended early, which counts as broken.
     /// The reply that ends the transfer.
-    pub fn at_end<B: Allocator + Copy, T: Tree<A>>(
+    pub fn at_end<B: Allocator + Copy>(
         mut self,
-        alloc: A,
         tree: &mut T,
         root: &Path<B>,
         moment: Moment,
@@ -133,18 +125,17 @@ impl<A: Allocator + Copy> Upload<A> {
             → Ends (at_end moment.seconds (upload_of self) s) s (T.table tree.new) result (T.failures tree.old) (T.failures tree.new) }
     {
         if !self.decoder.is_whole() {
-            return self.at_break(alloc, tree, root, moment);
+            return self.at_break(tree, root, moment);
         }
         let Ok(()) = self.decoder.end() else {
             return Err(Fault::Memory);
         };
-        self.install(alloc, tree, root, moment, FixedReply::Complete)
+        self.install(tree, root, moment, FixedReply::Complete)
     }
 
     /// The data connection broke: what was settled is put into the tree. The reply that ends the transfer.
-    pub fn at_break<B: Allocator + Copy, T: Tree<A>>(
+    pub fn at_break<B: Allocator + Copy>(
         self,
-        alloc: A,
         tree: &mut T,
         root: &Path<B>,
         moment: Moment,
@@ -152,13 +143,12 @@ impl<A: Allocator + Copy> Upload<A> {
         ensures { (s : Session) → s.table ≡ T.table tree.old → s.root ≡ root.now
             → Ends (at_break moment.seconds (upload_of self) s) s (T.table tree.new) result (T.failures tree.old) (T.failures tree.new) }
     {
-        self.install(alloc, tree, root, moment, FixedReply::Broken)
+        self.install(tree, root, moment, FixedReply::Broken)
     }
 
     /// What was settled is put into the tree and answered so; past a limit of octets nothing is.
-    fn install<B: Allocator + Copy, T: Tree<A>>(
+    fn install<B: Allocator + Copy>(
         self,
-        alloc: A,
         tree: &mut T,
         root: &Path<B>,
         moment: Moment,
@@ -179,14 +169,10 @@ impl<A: Allocator + Copy> Upload<A> {
             return Ok(FixedReply::TooMuch);
         }
         let failures = tree.device_failures();
-        let Came { content } = decoder.into_sink();
-        let Err(_) = put_in(alloc, tree, root, &path, keep, content, moment) else {
-            return Ok(text);
-        };
-        if tree.device_failures() == failures {
-            Err(Fault::Memory)
-        } else {
-            Err(Fault::Device)
+        let Came { draft } = decoder.into_sink();
+        match tree.put(root, &path, keep, draft, moment) {
+            Ok(()) => Ok(text),
+            Err(_) => Err(fault_by(failures, tree.device_failures())),
         }
     }
 }

@@ -37,7 +37,7 @@ where
     ensures failed { result ≡ 3 → BreaksOff (most_of piece) (R.remaining reader.old) (R.remaining reader.new) (W.contents writer.old) (W.contents writer.new) }
 {
     let tree = MemTree::new(alloc);
-    match answer_all::<A, MemTree<A>, TreeTransfer<A>, R, W>(
+    match answer_all::<A, MemTree<A>, TreeTransfer<A, MemTree<A>>, R, W>(
         alloc,
         tree,
         reader,

@@ -2,6 +2,7 @@ pub mod BranchLemmas
 pub mod ContentLemmas
 pub mod CountLemmas
 pub mod EntryLemmas
+pub mod FrontLemmas
 pub mod KeepLaws
 pub mod LawLemmas
 pub mod LeafLemmas

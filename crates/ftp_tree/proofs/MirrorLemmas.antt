@@ -1,10 +1,12 @@
 -- What a folder keeps beside its tree, and what a mirror answers.
-use Rattle.std.proofs.Common.{ℕ, ◌≡◌, inr, true, false, Option, Some, None, is_some, Result, Ok, Err, OnOk, OnErr, refl, sym, ap, ◌∙◌, subst}
+use Rattle.std.proofs.Common.{ℕ, ◌≡◌, inl, inr, true, false, Option, Some, None, is_some, Result, Ok, Err, OnOk, OnErr, refl, sym, ap, ◌∙◌, subst, arith}
 use Rattle.std.specs.Result.{is_err}
 use Rattle.std.specs.Option.{option_map}
+use Rattle.std.specs.Prelude.{IfErr}
+use Rattle.std.proofs.lemmas.Result.{IfErr-weaker, on_ok_weaker}
 use Rattle.std.proofs.lemmas.Bool.{true≢false}
 use Rattle.ftp_path.specs.Path.{Names}
-use Rattle.ftp_tree.specs.Change.{Refuses, next_count}
+use Rattle.ftp_tree.specs.Change.{IsDone, IsRefused, Refuses, next_count}
 use Rattle.ftp_tree.specs.Tree.{Node, Dir, File, Table, delete_refusal, file_refusal, install_refusal, kind_at, kind_of, node_at, room_answer, room_refusal, under}
 use Rattle.ftp_tree.specs.declared.fault.TreeFault.{TreeFault}
 use Rattle.ftp_tree.specs.declared.fault.TreeFault.TheVariants.{Device}
@@ -44,6 +46,20 @@ refuses-as refusal fault before after none told = subst (λ r. Refuses r fault b
 
 pub refuses-device : (refusal : Option TreeFault) (before after : ℕ) → refusal ≡ None → after ≡ next_count before → Refuses refusal Device before after
 refuses-device refusal before after none failed = refuses-as refusal Device before after none (inr (refl, failed))
+
+-- of a tree in memory, which has no device
+steady : (refusal : Option TreeFault) (fault : TreeFault) (count : ℕ) → Refuses refusal fault 0 0 → Refuses refusal fault count count
+steady (Some why) fault count is = (is.0, refl)
+steady None fault count (inl is) = inl (is.0, refl)
+steady None fault count (inr is) = absurd (omega (arith, is.1))
+
+pub done-steady : {X : Type 0} (r : Result X TreeFault) (refusal : Option TreeFault) (changed new : Table) (count : ℕ)
+    → OnOk r (IsDone refusal changed new 0 0) → OnOk r (IsDone refusal changed new count count)
+done-steady r refusal changed new count = on_ok_weaker r (λ is. (is.0, is.1, refl))
+
+pub refused-steady : {X : Type 0} (r : Result X TreeFault) (refusal : Option TreeFault) (old new : Table) (count : ℕ)
+    → IfErr r (λ fault. IsRefused refusal fault old new 0 0) → IfErr r (λ fault. IsRefused refusal fault old new count count)
+refused-steady r refusal old new count = IfErr-weaker r _ _ (λ fault is. (is.0, steady refusal fault count is.1))
 
 -- ---- where a file is put
 

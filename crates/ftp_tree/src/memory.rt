@@ -1,5 +1,5 @@
 // A tree in memory, from its root.
-ghost use Rattle.std.specs.Prelude.{◌≡◌, ◌≤◌, ◌<◌, ◌⊎◌, [], None, OnErr, OnOk, drop, length, take, true};
+ghost use Rattle.std.specs.Prelude.{◌≡◌, ◌≤◌, ◌<◌, ◌++◌, ◌⊎◌, [], None, IfOk, OnErr, OnOk, drop, length, take, true};
 ghost use Rattle.std.specs.FinMap as fin;
 ghost use Rattle.std.specs.Option.{option_map};
 ghost use Rattle.ftp_path.specs.Kept.{names_of};
@@ -9,10 +9,12 @@ ghost use Rattle.ftp_tree.specs.Store.{IsPlace, standing_node};
 ghost use Rattle.ftp_tree.specs.Tree.{delete_refusal, directory_refusal, install_refusal, installed, made, make_refusal, moved, moves_fit, node_at, nodes_refusal, octets_in, octets_or_none, or_else, place_refusal, remove_refusal, removed, rename_refusal, room_at, room_refusal, root_alone, source_refusal, target_refusal, under, with_part};
 
 use crate::content::Content;
-use crate::fault::TreeFault;
+use crate::entries::DirEntries;
+use crate::fault::{Broken, TreeFault};
+use crate::held::HeldTree;
 use crate::node::{Count, Node, Standing};
 use crate::place::Joined;
-use crate::tree::{DirEntry, NodeKind, Tree};
+use crate::tree::{NodeKind, Tree};
 use ftp_facts::Moment;
 use ftp_path::key::is_within;
 use ftp_path::{Name, Path};
@@ -60,9 +62,15 @@ impl<A: Allocator + Copy> Model for MemTree<A> {
 }
 
 impl<A: Allocator + Copy> Tree<A> for MemTree<A> {
+    type Open = Content<A>;
+
+    type Draft = Content<A>;
+
     ghost table = { λ tree. tree };
 
     ghost failures = { λ tree. 0 };
+
+    ghost opened = { λ content. content };
 
     #[tactic(auto, unfolding(crate::specs::Tree::kind_at))]
     fn kind<B: Allocator + Copy, C: Allocator + Copy>(
@@ -102,17 +110,27 @@ impl<A: Allocator + Copy> Tree<A> for MemTree<A> {
     }
 
     #[tactic(auto, unfolding(crate::specs::Tree::octets_or_none, crate::specs::Tree::octets_at))]
-    fn piece<B: Allocator + Copy, C: Allocator + Copy>(
-        &self,
+    fn open<B: Allocator + Copy, C: Allocator + Copy>(
+        &mut self,
         root: &Path<B>,
         path: &Path<C>,
-        at: u64,
-        max: usize,
-    ) -> &[u8] {
+    ) -> Result<Content<A>, TreeFault> {
         match self.standing(root, path) {
-            Some(Standing::File(content, _)) => content.piece(at, max),
-            Some(Standing::Dir) | None => b"".as_slice(),
+            None => Err(TreeFault::Absent),
+            Some(Standing::Dir) => Err(TreeFault::WrongKind),
+            Some(Standing::File(content, _)) => match content.share() {
+                Ok(file) => Ok(file),
+                Err(_) => Err(TreeFault::Memory),
+            },
         }
+    }
+
+    fn open_len(file: &Content<A>) -> u64 {
+        file.len()
+    }
+
+    fn read(&mut self, file: &mut Content<A>, at: u64, room: &mut [u8]) -> Result<usize, Broken> {
+        Ok(file.read(at, room))
     }
 
     fn nth_name<B: Allocator + Copy, C: Allocator + Copy>(
@@ -128,19 +146,16 @@ impl<A: Allocator + Copy> Tree<A> for MemTree<A> {
         node.nth_name(place)
     }
 
-    fn nth_entry<B: Allocator + Copy, C: Allocator + Copy>(
+    fn entries<B: Allocator + Copy, C: Allocator + Copy>(
         &self,
         root: &Path<B>,
         path: &Path<C>,
-        place: usize,
-    ) -> Option<DirEntry<'_>> {
-        let Some(part) = self.root.find(root.key()) else {
-            return None;
+    ) -> Result<DirEntries<A>, AllocError> {
+        let above = Joined::of(root, path);
+        let Some(node) = self.root.find(above.key()) else {
+            return Ok(DirEntries::none(self.alloc));
         };
-        let Some(node) = part.find(path.key()) else {
-            return None;
-        };
-        node.nth_entry(place)
+        node.entries(self.alloc)
     }
 
     fn room<B: Allocator + Copy, C: Allocator + Copy>(
@@ -152,6 +167,14 @@ impl<A: Allocator + Copy> Tree<A> for MemTree<A> {
             Some(fault) => Err(fault),
             None => Ok(self.room_at(root, path)),
         }
+    }
+
+    fn most<B: Allocator + Copy, C: Allocator + Copy>(
+        &self,
+        root: &Path<B>,
+        path: &Path<C>,
+    ) -> u64 {
+        self.room_at(root, path)
     }
 
     fn device_failures(&self) -> u64 {
@@ -226,6 +249,50 @@ impl<A: Allocator + Copy> Tree<A> for MemTree<A> {
         }
         self.move_onto(root, from, to);
         Ok(())
+    }
+
+    fn begin<B: Allocator + Copy, C: Allocator + Copy>(
+        &mut self,
+        _root: &Path<B>,
+        _path: &Path<C>,
+    ) -> Result<Content<A>, TreeFault> {
+        Ok(Content::new(self.alloc))
+    }
+
+    fn put<B: Allocator + Copy, C: Allocator + Copy>(
+        &mut self,
+        root: &Path<B>,
+        path: &Path<C>,
+        keep: u64,
+        came: Content<A>,
+        moment: Moment,
+    ) -> Result<(), TreeFault> {
+        if let Some(fault) = self.put_refusal(root, path, keep, &came) {
+            return Err(fault);
+        }
+        let Ok(mut whole) = self.behind_kept(root, path, keep, came) else {
+            return Err(TreeFault::Memory);
+        };
+        match self.put_file(root, path, &mut whole, moment) {
+            Ok(()) => Ok(()),
+            Err(_) => Err(TreeFault::Memory),
+        }
+    }
+}
+
+impl<A: Allocator + Copy> HeldTree<A> for MemTree<A> {
+    #[tactic(auto, unfolding(crate::specs::Tree::octets_or_none, crate::specs::Tree::octets_at))]
+    fn piece<B: Allocator + Copy, C: Allocator + Copy>(
+        &self,
+        root: &Path<B>,
+        path: &Path<C>,
+        at: u64,
+        max: usize,
+    ) -> &[u8] {
+        match self.standing(root, path) {
+            Some(Standing::File(content, _)) => content.piece(at, max),
+            Some(Standing::Dir) | None => b"".as_slice(),
+        }
     }
 
     fn install<B: Allocator + Copy, C: Allocator + Copy>(
@@ -346,6 +413,39 @@ impl<A: Allocator + Copy> MemTree<A> {
         None
     }
 
+    /// The same, why those that came can't be put at a path behind the first octets of the file there, `keep` of them if it has
+    /// so many.
+    pub(crate) fn put_refusal<B: Allocator + Copy, C: Allocator + Copy>(
+        &self,
+        root: &Path<B>,
+        path: &Path<C>,
+        keep: u64,
+        came: &Content<A>,
+    ) -> Option<TreeFault>
+        ensures { let part = under self.now root.now in result ≡ install_refusal part path.now (length (take keep (octets_or_none part path.now) ++ came.now)) }
+    {
+        let kept = keep.min(self.len_at(root, path));
+        // More than 64 bits can count are too many octets for a file as well.
+        self.install_refusal(root, path, kept.saturating_add(came.len()))
+    }
+
+    /// The first octets of the file at a path, `keep` of them if it has so many, and then those that came.
+    #[tactic(auto, unfolding(crate::specs::Tree::octets_or_none, crate::specs::Tree::octets_at))]
+    pub(crate) fn behind_kept<B: Allocator + Copy, C: Allocator + Copy>(
+        &self,
+        root: &Path<B>,
+        path: &Path<C>,
+        keep: u64,
+        came: Content<A>,
+    ) -> Result<Content<A>, AllocError>
+        ensures { IfOk result (λ whole. whole ≡ take keep (octets_or_none (under self.now root.now) path.now) ++ came) }
+    {
+        match self.standing(root, path) {
+            Some(Standing::File(content, _)) => behind(self.alloc, content, keep, came),
+            Some(Standing::Dir) | None => Ok(came),
+        }
+    }
+
     /// What stands at the place whose names a text joins.
     fn at(&self, key: &[u8]) -> Option<Standing<'_, A>>
         requires { IsPlace key.now }
@@ -354,7 +454,7 @@ impl<A: Allocator + Copy> MemTree<A> {
         self.root.at(key)
     }
 
-    /// What stands at a path below a root. It is asked for each page of a download, so no path is joined for it.
+    /// What stands at a path below a root. It is asked for each piece of a file, so no path is joined for it.
     fn standing<B: Allocator + Copy, C: Allocator + Copy>(
         &self,
         root: &Path<B>,
@@ -396,7 +496,7 @@ impl<A: Allocator + Copy> MemTree<A> {
     }
 
     /// How many nodes stand at or below a root, and how many octets their files have. What stands in the whole tree is sound.
-    fn count_below<B: Allocator + Copy>(&self, root: &Path<B>) -> Count
+    pub(crate) fn count_below<B: Allocator + Copy>(&self, root: &Path<B>) -> Count
         ensures nodes { result.nodes ≡ fin.len (under self.now root.now) }
         ensures octets { result.octets ≡ octets_in (under self.now root.now) }
         ensures sound { IsSoundTree self.now }
@@ -532,11 +632,13 @@ impl<A: Allocator + Copy> MemTree<A> {
         ensures ok { OnOk result ((self.new ≡ with_part self.old root.now (installed (under self.old root.now) path.now content.old moment.seconds)) × (content.new ≡ [])) }
         ensures err { OnErr result ((self.new ≡ self.old) × (content.new ≡ content.old)) }
     {
+        content.settle(self.alloc)?;
         let octets = content.take(self.alloc);
         let node = Node::file(octets, moment);
         let place = Joined::of(root, path);
         if let Err(node) = self.root.put(self.alloc, place.key(), node) {
             *content = node.into_content(self.alloc);
+            content.unsettle(self.alloc);
             return Err(AllocError);
         }
         Ok(())
@@ -565,4 +667,40 @@ fn directory_refusal<A: Allocator + Copy>(standing: Option<Standing<'_, A>>) -> 
         Some(Standing::Dir) => None,
         Some(Standing::File(..)) => Some(TreeFault::WrongKind),
     }
+}
+
+/// The first octets of a content, `keep` of them if it has so many, and then those that came.
+fn behind<A: Allocator + Copy>(
+    alloc: A,
+    content: &Content<A>,
+    keep: u64,
+    came: Content<A>,
+) -> Result<Content<A>, AllocError>
+    ensures { IfOk result (λ whole. whole ≡ take keep content.now ++ came) }
+{
+    let kept = keep.min(content.len());
+    if kept == 0 {
+        return Ok(came);
+    }
+    let mut whole = front(alloc, content, kept)?;
+    whole.push_all(&came)?;
+    Ok(whole)
+}
+
+/// So many octets of a content, from its first one on.
+fn front<A: Allocator + Copy>(
+    alloc: A,
+    content: &Content<A>,
+    count: u64,
+) -> Result<Content<A>, AllocError>
+    requires { count ≤ length content.now }
+    ensures { IfOk result (λ front. front ≡ take count content.now) }
+{
+    let mut front = Content::new(alloc);
+    while front.len() < count {
+        let left = count - front.len();
+        let piece = content.piece(front.len(), left as usize);
+        front.push(piece)?;
+    }
+    Ok(front)
 }

@@ -1,18 +1,21 @@
 // A tree in memory and the folder that keeps it.
-ghost use Rattle.std.specs.Prelude.{◌≡◌, ◌⊎◌, None, OnOk, OnErr, IfErr, [], length, true};
+ghost use Rattle.std.specs.Prelude.{◌≡◌, ◌++◌, ◌⊎◌, None, OnOk, OnErr, IfErr, [], length, take, true};
 ghost use Rattle.ftp_tree.specs.Change.{IsDone, IsRefused, Refuses};
-ghost use Rattle.ftp_tree.specs.Tree.{freed, installed, made, moved, removed, under, with_part};
+ghost use Rattle.ftp_tree.specs.Sound.{IsSoundTree};
+ghost use Rattle.ftp_tree.specs.Tree.{freed, installed, made, moved, octets_or_none, removed, under, with_part};
 ghost use Rattle.ftp_tree.specs.Tree.{delete_refusal, install_refusal, make_refusal, onto_refusal, remove_refusal, rename_refusal};
 ghost use Rattle.ftp_tree.specs.Folder.{IsFree, IsKept, Mirrors, SparesUnknown, changed_below};
 
 use crate::content::Content;
 use crate::device::Folder;
-use crate::fault::TreeFault;
+use crate::entries::DirEntries;
+use crate::fault::{Broken, TreeFault};
+use crate::held::HeldTree;
 use crate::memory::MemTree;
-use crate::tree::{DirEntry, NodeKind, Tree};
+use crate::tree::{NodeKind, Tree};
 use ftp_facts::Moment;
 use ftp_path::{Name, Path};
-use std::alloc::Allocator;
+use std::alloc::{AllocError, Allocator};
 
 /// A tree in memory, and a folder to which each change goes first. All that a change needs of memory is had, then the folder
 /// makes the change, and then the tree does, which can't fail: so where the folder fails the tree is as it was, and a folder
@@ -55,9 +58,15 @@ impl<A: Allocator + Copy, D: Folder> Mirror<A, D> {
 }
 
 impl<A: Allocator + Copy, D: Folder> Tree<A> for Mirror<A, D> {
+    type Open = Content<A>;
+
+    type Draft = Content<A>;
+
     ghost table = { λ mirror. mirror.tree };
 
     ghost failures = { λ mirror. D.failures mirror.folder };
+
+    ghost opened = { λ content. content };
 
     fn kind<B: Allocator + Copy, C: Allocator + Copy>(
         &self,
@@ -83,14 +92,20 @@ impl<A: Allocator + Copy, D: Folder> Tree<A> for Mirror<A, D> {
         self.tree.stamp(root, path)
     }
 
-    fn piece<B: Allocator + Copy, C: Allocator + Copy>(
-        &self,
+    fn open<B: Allocator + Copy, C: Allocator + Copy>(
+        &mut self,
         root: &Path<B>,
         path: &Path<C>,
-        at: u64,
-        max: usize,
-    ) -> &[u8] {
-        self.tree.piece(root, path, at, max)
+    ) -> Result<Content<A>, TreeFault> {
+        self.tree.open(root, path)
+    }
+
+    fn open_len(file: &Content<A>) -> u64 {
+        file.len()
+    }
+
+    fn read(&mut self, file: &mut Content<A>, at: u64, room: &mut [u8]) -> Result<usize, Broken> {
+        Ok(file.read(at, room))
     }
 
     fn nth_name<B: Allocator + Copy, C: Allocator + Copy>(
@@ -102,13 +117,12 @@ impl<A: Allocator + Copy, D: Folder> Tree<A> for Mirror<A, D> {
         self.tree.nth_name(root, path, place)
     }
 
-    fn nth_entry<B: Allocator + Copy, C: Allocator + Copy>(
+    fn entries<B: Allocator + Copy, C: Allocator + Copy>(
         &self,
         root: &Path<B>,
         path: &Path<C>,
-        place: usize,
-    ) -> Option<DirEntry<'_>> {
-        self.tree.nth_entry(root, path, place)
+    ) -> Result<DirEntries<A>, AllocError> {
+        self.tree.entries(root, path)
     }
 
     fn room<B: Allocator + Copy, C: Allocator + Copy>(
@@ -117,6 +131,14 @@ impl<A: Allocator + Copy, D: Folder> Tree<A> for Mirror<A, D> {
         path: &Path<C>,
     ) -> Result<u64, TreeFault> {
         self.tree.room(root, path)
+    }
+
+    fn most<B: Allocator + Copy, C: Allocator + Copy>(
+        &self,
+        root: &Path<B>,
+        path: &Path<C>,
+    ) -> u64 {
+        self.tree.most(root, path)
     }
 
     fn device_failures(&self) -> u64 {
@@ -230,6 +252,7 @@ impl<A: Allocator + Copy, D: Folder> Tree<A> for Mirror<A, D> {
             (D.failures self.old.folder) (D.failures self.new.folder)) }
         ensures refused { IfErr result (λ fault. let part = under self.old.tree root.now in IsRefused (onto_refusal part from.now to.now) fault
             self.old.tree self.new.tree (D.failures self.old.folder) (D.failures self.new.folder)) }
+        ensures sound { IsSoundTree self.old.tree }
         ensures mirrors { Mirrors (D.kept self.old.folder) self.old.tree → Mirrors (D.kept self.new.folder) self.new.tree }
     {
         if let Some(fault) = self.tree.onto_refusal(root, from, to) {
@@ -240,6 +263,50 @@ impl<A: Allocator + Copy, D: Folder> Tree<A> for Mirror<A, D> {
         }
         self.tree.move_onto(root, from, to);
         Ok(())
+    }
+
+    fn begin<B: Allocator + Copy, C: Allocator + Copy>(
+        &mut self,
+        _root: &Path<B>,
+        _path: &Path<C>,
+    ) -> Result<Content<A>, TreeFault> {
+        Ok(Content::new(self.tree.alloc))
+    }
+
+    fn put<B: Allocator + Copy, C: Allocator + Copy>(
+        &mut self,
+        root: &Path<B>,
+        path: &Path<C>,
+        keep: u64,
+        came: Content<A>,
+        moment: Moment,
+    ) -> Result<(), TreeFault>
+        ensures done { OnOk result (let part = under self.old.tree root.now in let octets = take keep (octets_or_none part path.now) ++ came in IsDone (install_refusal part path.now (length octets))
+            (with_part self.old.tree root.now (installed part path.now octets moment.seconds)) self.new.tree (D.failures self.old.folder) (D.failures self.new.folder)) }
+        ensures refused { IfErr result (λ fault. let part = under self.old.tree root.now in let octets = take keep (octets_or_none part path.now) ++ came in IsRefused (install_refusal part path.now (length octets)) fault
+            self.old.tree self.new.tree (D.failures self.old.folder) (D.failures self.new.folder)) }
+        ensures mirrors { Mirrors (D.kept self.old.folder) self.old.tree → Mirrors (D.kept self.new.folder) self.new.tree }
+        ensures spares { OnOk result (SparesUnknown self.old.tree (D.kept self.old.folder) root.now path.now) }
+    {
+        if let Some(fault) = self.tree.put_refusal(root, path, keep, &came) {
+            return Err(fault);
+        }
+        let Ok(mut whole) = self.tree.behind_kept(root, path, keep, came) else {
+            return Err(TreeFault::Memory);
+        };
+        self.put_file(root, path, &mut whole, moment)
+    }
+}
+
+impl<A: Allocator + Copy, D: Folder> HeldTree<A> for Mirror<A, D> {
+    fn piece<B: Allocator + Copy, C: Allocator + Copy>(
+        &self,
+        root: &Path<B>,
+        path: &Path<C>,
+        at: u64,
+        max: usize,
+    ) -> &[u8] {
+        self.tree.piece(root, path, at, max)
     }
 
     fn install<B: Allocator + Copy, C: Allocator + Copy>(
@@ -261,6 +328,58 @@ impl<A: Allocator + Copy, D: Folder> Tree<A> for Mirror<A, D> {
         if let Some(fault) = self.tree.install_refusal(root, path, content.len()) {
             return Err(fault);
         }
+        self.put_file(root, path, content, moment)
+    }
+}
+
+impl<A: Allocator + Copy, D: Folder> Mirror<A, D> {
+    /// Puts a file where no refusal applies: all memory is had first, with what lets its octets be shared.
+    fn put_file<B: Allocator + Copy, C: Allocator + Copy>(
+        &mut self,
+        root: &Path<B>,
+        path: &Path<C>,
+        content: &mut Content<A>,
+        moment: Moment,
+    ) -> Result<(), TreeFault>
+        requires { install_refusal (under self.old.tree root.now) path.now (length content.old) ≡ None }
+        ensures done { OnOk result (IsDone None (with_part self.old.tree root.now (installed (under self.old.tree root.now) path.now content.old moment.seconds))
+            self.new.tree (D.failures self.old.folder) (D.failures self.new.folder)) }
+        ensures refused { IfErr result (λ fault. IsRefused None fault self.old.tree self.new.tree (D.failures self.old.folder) (D.failures self.new.folder)) }
+        ensures taken { OnOk result (content.new ≡ []) }
+        ensures back { OnErr result (content.new ≡ content.old) }
+        ensures mirrors { Mirrors (D.kept self.old.folder) self.old.tree → Mirrors (D.kept self.new.folder) self.new.tree }
+        ensures spares { OnOk result (SparesUnknown self.old.tree (D.kept self.old.folder) root.now path.now) }
+    {
+        let alloc = self.tree.alloc;
+        if content.settle(alloc).is_err() {
+            return Err(TreeFault::Memory);
+        }
+        match self.put_settled(root, path, content, moment) {
+            Ok(()) => Ok(()),
+            Err(fault) => {
+                content.unsettle(alloc);
+                Err(fault)
+            }
+        }
+    }
+
+    /// The same, of octets that can be shared.
+    fn put_settled<B: Allocator + Copy, C: Allocator + Copy>(
+        &mut self,
+        root: &Path<B>,
+        path: &Path<C>,
+        content: &mut Content<A>,
+        moment: Moment,
+    ) -> Result<(), TreeFault>
+        requires { install_refusal (under self.old.tree root.now) path.now (length content.old) ≡ None }
+        ensures done { OnOk result (IsDone None (with_part self.old.tree root.now (installed (under self.old.tree root.now) path.now content.old moment.seconds))
+            self.new.tree (D.failures self.old.folder) (D.failures self.new.folder)) }
+        ensures refused { IfErr result (λ fault. IsRefused None fault self.old.tree self.new.tree (D.failures self.old.folder) (D.failures self.new.folder)) }
+        ensures taken { OnOk result (content.new ≡ []) }
+        ensures back { OnErr result (content.new ≡ content.old) }
+        ensures mirrors { Mirrors (D.kept self.old.folder) self.old.tree → Mirrors (D.kept self.new.folder) self.new.tree }
+        ensures spares { OnOk result (SparesUnknown self.old.tree (D.kept self.old.folder) root.now path.now) }
+    {
         if self.tree.kind(root, path).is_some() {
             return put_over(
                 &mut self.tree,

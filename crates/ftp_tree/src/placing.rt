@@ -2,6 +2,7 @@
 ghost use Rattle.std.specs.Prelude.{◌≡◌, ◌≤◌, ◌<◌, ◌+◌, ◌^◌, ◌⊎◌, ◌↔◌, [], None, Some, IsTrue, OnErr, OnOk, length, true};
 ghost use Rattle.std.specs.FinMap as fin;
 ghost use Rattle.ftp_path.specs.Path.{parent};
+ghost use Rattle.ftp_tree.specs.Sound.{IsSoundTree};
 ghost use Rattle.ftp_tree.specs.Tree.{Dir, delete_refusal, freed, installed, made, moved, node_at, octets_in, onto_refusal, remove_refusal, removed, rename_refusal, under, with_part};
 
 use crate::content::Content;
@@ -106,8 +107,11 @@ impl<A: Allocator + Copy> MemTree<A> {
         from: &Path<C>,
         to: &Path<D>,
     ) -> Option<TreeFault>
-        ensures { result ≡ onto_refusal (under self.now root.now) from.now to.now }
+        ensures refusal { result ≡ onto_refusal (under self.now root.now) from.now to.now }
+        ensures sound { IsSoundTree self.now }
     {
+        // The count says of what stands in the whole tree that it is sound.
+        let _all = self.count_below(root);
         if self.delete_refusal(root, from).is_none()
             && self.delete_refusal(root, to).is_none()
             && !is_within(from.key(), to.key())

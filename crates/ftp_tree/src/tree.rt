@@ -128,11 +128,7 @@ pub trait Tree<A: Allocator + Copy>: Drop {
         ensures refused { IfErr result (λ fault. room_refusal (under (table self.now) root.now) path.now ≡ Some fault) };
 
     /// The most octets that a file may have at a path by the limits, whether or not the tree takes one there.
-    fn most<B: Allocator + Copy, C: Allocator + Copy>(
-        &self,
-        root: &Path<B>,
-        path: &Path<C>,
-    ) -> u64
+    fn most<B: Allocator + Copy, C: Allocator + Copy>(&self, root: &Path<B>, path: &Path<C>) -> u64
         ensures { result ≡ room_at (under (table self.now) root.now) path.now };
 
     /// How many failures of its device it has counted; the count moves on by wrapping.

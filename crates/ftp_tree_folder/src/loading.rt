@@ -11,7 +11,7 @@ use crate::reloading::LeftOut;
 use crate::{Disk, Entries, Mirror};
 use ftp_path::Path;
 use ftp_path::key::is_within;
-use ftp_tree::{Content, MemTree, NodeKind, Tree, TreeFault};
+use ftp_tree::{Content, HeldTree, MemTree, NodeKind, Tree, TreeFault};
 use std::alloc::{AllocError, Global};
 use std::fs::Metadata;
 use std::os::unix::fs::MetadataExt;

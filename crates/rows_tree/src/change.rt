@@ -3,12 +3,12 @@ use crate::paths::place;
 use crate::step::{Line, Step};
 use ftp_facts::Moment;
 use ftp_path::Path;
-use ftp_tree::{Content, Tree, TreeFault};
+use ftp_tree::{Content, HeldTree, Tree, TreeFault};
 use rows_base::{Paper, number};
 use std::alloc::Allocator;
 
 /// Does what a line says, and writes `done`.
-pub fn show_change<A: Allocator + Copy, T: Tree<A>>(
+pub fn show_change<A: Allocator + Copy, T: HeldTree<A>>(
     alloc: A,
     tree: &mut T,
     line: &Line<'_>,
@@ -23,7 +23,7 @@ pub fn show_change<A: Allocator + Copy, T: Tree<A>>(
     answer
 }
 
-fn change<A: Allocator + Copy, T: Tree<A>>(
+fn change<A: Allocator + Copy, T: HeldTree<A>>(
     alloc: A,
     tree: &mut T,
     root: &Path<A>,
@@ -64,7 +64,7 @@ fn rename_onto<A: Allocator + Copy, T: Tree<A>>(
 }
 
 /// Installs octets in a second.
-fn install<A: Allocator + Copy, T: Tree<A>>(
+fn install<A: Allocator + Copy, T: HeldTree<A>>(
     alloc: A,
     tree: &mut T,
     root: &Path<A>,
@@ -78,11 +78,23 @@ fn install<A: Allocator + Copy, T: Tree<A>>(
     let Some(moment) = Moment::new(number(line.third)) else {
         return Err(TreeFault::BadOffset);
     };
-    tree.install(root, path, &mut content, moment)
+    let answer = tree.install(root, path, &mut content, moment);
+    if answer.is_err() && !grows(&mut content, line.second) {
+        return Err(TreeFault::BadOffset);
+    }
+    answer
+}
+
+/// Whether a content that was refused has just these octets, and takes them once more.
+fn grows<A: Allocator + Copy>(content: &mut Content<A>, octets: &[u8]) -> bool {
+    let whole = content.len();
+    content.push(octets).is_ok()
+        && whole == octets.len() as u64
+        && content.len() == whole.saturating_add(whole)
 }
 
 /// Installs so many first octets of a file elsewhere, in the second 8.
-fn front<A: Allocator + Copy, T: Tree<A>>(
+fn front<A: Allocator + Copy, T: HeldTree<A>>(
     alloc: A,
     tree: &mut T,
     root: &Path<A>,

@@ -6,7 +6,7 @@ ghost use Rattle.ftp_tree.specs.Tree.{installed, root_alone};
 
 use ftp_facts::Moment;
 use ftp_path::Path;
-use ftp_tree::{Content, MemTree, Tree};
+use ftp_tree::{Content, HeldTree, MemTree, Tree};
 use ftp_tree_folder::{Folder, FolderFault};
 use std::alloc::{AllocError, Allocator};
 

@@ -142,6 +142,14 @@ impl<A: Allocator + Copy> Tree<A> for FailingTree<A> {
         self.tree.room(root, path)
     }
 
+    fn most<B: Allocator + Copy, C: Allocator + Copy>(
+        &self,
+        root: &Path<B>,
+        path: &Path<C>,
+    ) -> u64 {
+        self.tree.most(root, path)
+    }
+
     fn device_failures(&self) -> u64 {
         self.failures
     }

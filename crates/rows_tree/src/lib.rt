@@ -3,6 +3,7 @@
 #![tactic(auto)]
 
 mod accounts;
+mod apart;
 mod change;
 mod failing_folder;
 mod failing_tree;

@@ -2,7 +2,7 @@
 use crate::paths::place;
 use crate::step::{Line, Step};
 use ftp_path::Path;
-use ftp_tree::{NodeKind, Tree, TreeFault};
+use ftp_tree::{HeldTree, NodeKind, Tree, TreeFault};
 use rows_base::{Paper, cut, number};
 use std::alloc::{Allocator, Global};
 
@@ -10,7 +10,7 @@ use std::alloc::{Allocator, Global};
 const SHOWN: usize = 100;
 
 /// Writes what a line asks for.
-pub fn show_reading<A: Allocator + Copy, T: Tree<A>>(
+pub fn show_reading<A: Allocator + Copy, T: HeldTree<A>>(
     alloc: Global,
     tree: &T,
     line: &Line<'_>,
@@ -21,7 +21,7 @@ pub fn show_reading<A: Allocator + Copy, T: Tree<A>>(
     read(alloc, tree, &root, &path, line, paper)
 }
 
-fn read<A: Allocator + Copy, T: Tree<A>>(
+fn read<A: Allocator + Copy, T: HeldTree<A>>(
     alloc: Global,
     tree: &T,
     root: &Path<Global>,
@@ -105,7 +105,7 @@ fn show_names<A: Allocator + Copy, T: Tree<A>>(
 }
 
 /// The octets of a file, so many asked for at a time.
-fn show_file<A: Allocator + Copy, T: Tree<A>>(
+fn show_file<A: Allocator + Copy, T: HeldTree<A>>(
     alloc: Global,
     tree: &T,
     root: &Path<Global>,
@@ -125,7 +125,7 @@ fn show_file<A: Allocator + Copy, T: Tree<A>>(
 }
 
 /// What stands at some places, on one line: a directory, or a file with its second and its first octets.
-pub fn show_places<A: Allocator + Copy, T: Tree<A>>(
+pub fn show_places<A: Allocator + Copy, T: HeldTree<A>>(
     alloc: Global,
     tree: &T,
     places: &[u8],
@@ -144,7 +144,7 @@ pub fn show_places<A: Allocator + Copy, T: Tree<A>>(
     }
 }
 
-fn show_place<A: Allocator + Copy, T: Tree<A>>(
+fn show_place<A: Allocator + Copy, T: HeldTree<A>>(
     tree: &T,
     root: &Path<Global>,
     path: &Path<Global>,

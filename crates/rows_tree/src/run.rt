@@ -1,5 +1,6 @@
 // The lines of a row on one tree.
 use crate::accounts::show_login;
+use crate::apart::Apart;
 use crate::change::{make_dirs, show_change};
 use crate::failing_folder::FailingFolder;
 use crate::octets::octets_of;
@@ -9,7 +10,7 @@ use crate::reading::{show_places, show_reading};
 use crate::step::{Line, Step, line_of};
 use crate::told::Told;
 use crate::words::{cut_before, heading};
-use ftp_tree::{MemTree, Tree, TreeFault};
+use ftp_tree::{HeldTree, MemTree, Tree, TreeFault};
 use ftp_tree_folder::Mirror;
 use rows_base::{Paper, cut, number};
 use std::alloc::{Allocator, Global};
@@ -37,13 +38,15 @@ fn tell(answer: Result<(), TreeFault>, paper: &mut Paper) {
 }
 
 /// A line that may be refused for want of memory, or by a device: it wrote nothing then.
-fn call<A: Allocator + Copy, T: Tree<A>>(
+fn call<A: Allocator + Copy, T: HeldTree<A>>(
     heap: A,
     tree: &mut T,
+    apart: &mut Apart<A, T>,
     line: &Line<'_>,
     paper: &mut Paper,
 ) -> Result<(), TreeFault> {
     match line.step {
+        Step::Open | Step::Entries | Step::Put => apart.show_done(heap, tree, line, paper),
         Step::Leads | Step::Copy | Step::Keys | Step::Order | Step::Below | Step::Moved =>
             show_path(heap, line, paper),
         _ => show_change(heap, tree, line, paper),
@@ -51,13 +54,14 @@ fn call<A: Allocator + Copy, T: Tree<A>>(
 }
 
 /// Makes a call. Says whether it was refused for want of memory, or by a device, and is to be made again: then all is as it was.
-fn play_call<A: Allocator + Copy, T: Tree<A>>(
+fn play_call<A: Allocator + Copy, T: HeldTree<A>>(
     heap: A,
     tree: &mut T,
+    apart: &mut Apart<A, T>,
     line: &Line<'_>,
     told: &mut Told,
 ) -> bool {
-    let answer = call(heap, tree, line, &mut told.paper);
+    let answer = call(heap, tree, apart, line, &mut told.paper);
     match answer {
         Err(TreeFault::Memory) => told.count(false),
         Err(TreeFault::Device) => told.count(true),
@@ -70,10 +74,11 @@ fn play_call<A: Allocator + Copy, T: Tree<A>>(
 }
 
 /// Plays a line, and writes what it answers. Says whether it is to be made again.
-fn play_line<A: Allocator + Copy, T: Tree<A>>(
+fn play_line<A: Allocator + Copy, T: HeldTree<A>>(
     heap: A,
     alloc: Global,
     tree: &mut T,
+    apart: &mut Apart<A, T>,
     line: &Line<'_>,
     told: &mut Told,
 ) -> bool {
@@ -90,8 +95,9 @@ fn play_line<A: Allocator + Copy, T: Tree<A>>(
         | Step::Names
         | Step::Piece
         | Step::Read => tell(show_reading(alloc, tree, line, paper), paper),
+        Step::From | Step::Whole | Step::Shown => apart.show(alloc, tree, line, paper),
         Step::Dirs => show_dirs(heap, tree, line, paper),
-        _ => return play_call(heap, tree, line, told),
+        _ => return play_call(heap, tree, apart, line, told),
     }
     false
 }
@@ -118,10 +124,11 @@ fn begin(text: &[u8], line: &Line<'_>, paper: &mut Paper) {
 }
 
 /// Plays a line, again where it was refused so; writes what it answers, and what then stands at the places that are shown.
-fn play_text<A: Allocator + Copy, T: Tree<A>>(
+fn play_text<A: Allocator + Copy, T: HeldTree<A>>(
     heap: A,
     alloc: Global,
     tree: &mut T,
+    apart: &mut Apart<A, T>,
     shown: &[u8],
     text: &[u8],
     told: &mut Told,
@@ -129,8 +136,8 @@ fn play_text<A: Allocator + Copy, T: Tree<A>>(
     let octets = octets_of(alloc, text);
     let line = line_of(octets.as_slice());
     begin(text, &line, &mut told.paper);
-    if play_line(heap, alloc, tree, &line, told) {
-        let _ = play_line(heap, alloc, tree, &line, told);
+    if play_line(heap, alloc, tree, apart, &line, told) {
+        let _ = play_line(heap, alloc, tree, apart, &line, told);
     }
     if !shown.is_empty() && !line.is_heading() {
         told.paper.put(b" | ");
@@ -140,7 +147,7 @@ fn play_text<A: Allocator + Copy, T: Tree<A>>(
 }
 
 /// Plays lines on a tree.
-fn play_lines<A: Allocator + Copy, T: Tree<A>>(
+fn play_lines<A: Allocator + Copy, T: HeldTree<A>>(
     heap: A,
     alloc: Global,
     tree: &mut T,
@@ -148,13 +155,14 @@ fn play_lines<A: Allocator + Copy, T: Tree<A>>(
     lines: &[u8],
     told: &mut Told,
 ) {
+    let mut apart = Apart::nothing();
     let mut rest = lines;
     for _ in 0..lines.len() {
         if rest.is_empty() {
             break;
         }
         let (text, behind) = cut(rest, b'\n');
-        play_text(heap, alloc, tree, shown, text, told);
+        play_text(heap, alloc, tree, &mut apart, shown, text, told);
         rest = behind;
     }
 }
@@ -181,7 +189,7 @@ fn play_users<A: Allocator + Copy, T: Tree<A>>(
 
 /// Plays a row on a tree: lines, and then operations of users. Writes what then stands at its places, and how often the device failed. A
 /// mirrored row writes what stands there behind each line instead.
-fn play_on<A: Allocator + Copy, T: Tree<A>>(
+fn play_on<A: Allocator + Copy, T: HeldTree<A>>(
     ample: A,
     heap: A,
     alloc: Global,

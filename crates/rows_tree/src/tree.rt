@@ -2,7 +2,7 @@
 use crate::paths::place;
 use ftp_facts::moment_text;
 use ftp_path::Path;
-use ftp_tree::{NodeKind, Tree};
+use ftp_tree::{HeldTree, NodeKind, Tree};
 use rows_base::{Paper, Tally, cut};
 use std::alloc::{Allocator, Global};
 
@@ -13,7 +13,7 @@ const NODES: usize = 20_000;
 const PIECES: usize = 20_000_000;
 
 /// A line for each directory, and for each file with its moment and its octets; what stands higher comes first.
-pub fn show_tree<A: Allocator + Copy, T: Tree<A>>(alloc: Global, tree: &T, paper: &mut Paper) {
+pub fn show_tree<A: Allocator + Copy, T: HeldTree<A>>(alloc: Global, tree: &T, paper: &mut Paper) {
     let mut texts = Paper::new(alloc);
     texts.line(b"/");
     let mut shown = 0usize;
@@ -40,7 +40,7 @@ fn line_at(text: &[u8], at: usize) -> &[u8] {
 }
 
 /// The line of a node; the texts of its children come behind those that are there.
-fn show_node<A: Allocator + Copy, T: Tree<A>>(
+fn show_node<A: Allocator + Copy, T: HeldTree<A>>(
     alloc: Global,
     tree: &T,
     path: &Path<Global>,
@@ -75,7 +75,7 @@ fn put_children<A: Allocator + Copy, T: Tree<A>>(
     }
 }
 
-fn show_content<A: Allocator + Copy, T: Tree<A>>(
+fn show_content<A: Allocator + Copy, T: HeldTree<A>>(
     tree: &T,
     root: &Path<Global>,
     path: &Path<Global>,

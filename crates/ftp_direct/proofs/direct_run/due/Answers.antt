@@ -79,33 +79,33 @@ pub returns-in-Get-clause-answer : goal.returns-in-Get-clause-answer
 returns-in-Get-clause-answer g c =
     rw c.in-Get.is
     (due_else (g.T.Tree.table c.args.tree.now) c.args.root.now c.args.cwd.now c.args.onto c.get.result
-    (g.T.Tree.failures c.args.tree.now) (g.T.Tree.failures c.args.tree.now) (g.T.Tree.table c.args.tree.now) c.args.cwd.now
+    (g.T.Tree.failures c.args.tree.now) (g.T.Tree.failures c.get.new.tree) (g.T.Tree.table c.get.new.tree) c.args.cwd.now
     (Ops.Get c.in-Get.text c.in-Get.field-1) 0 tt
-    (if_gives c.get.result _ _ _ _ (c.get.ensures c.in-Get.field-1)))
+    (c.get.ensures.answer c.in-Get.field-1))
 
 pub returns-in-GetFrom-clause-answer : goal.returns-in-GetFrom-clause-answer
 returns-in-GetFrom-clause-answer g c =
     rw c.in-GetFrom.is
     (due_else (g.T.Tree.table c.args.tree.now) c.args.root.now c.args.cwd.now c.args.onto c.get_from.result
-    (g.T.Tree.failures c.args.tree.now) (g.T.Tree.failures c.args.tree.now) (g.T.Tree.table c.args.tree.now) c.args.cwd.now
+    (g.T.Tree.failures c.args.tree.now) (g.T.Tree.failures c.get_from.new.tree) (g.T.Tree.table c.get_from.new.tree) c.args.cwd.now
     (Ops.GetFrom c.in-GetFrom.text c.in-GetFrom.offset c.in-GetFrom.how) 0 tt
-    (if_gives c.get_from.result _ _ _ _ c.get_from.ensures))
+    c.get_from.ensures.answer)
 
 pub returns-in-Peek-clause-answer : goal.returns-in-Peek-clause-answer
 returns-in-Peek-clause-answer g c =
     rw c.in-Peek.is
     (due_else (g.T.Tree.table c.args.tree.now) c.args.root.now c.args.cwd.now c.args.onto c.peek.result
-    (g.T.Tree.failures c.args.tree.now) (g.T.Tree.failures c.args.tree.now) (g.T.Tree.table c.args.tree.now) c.args.cwd.now
+    (g.T.Tree.failures c.args.tree.now) (g.T.Tree.failures c.peek.new.tree) (g.T.Tree.table c.peek.new.tree) c.args.cwd.now
     (Ops.Peek c.in-Peek.text c.in-Peek.count c.in-Peek.field-2) 0 tt
-    (if_gives c.peek.result _ _ _ _ (c.peek.ensures c.in-Peek.field-2)))
+    (c.peek.ensures.answer c.in-Peek.field-2))
 
 pub returns-in-Size-clause-answer : goal.returns-in-Size-clause-answer
 returns-in-Size-clause-answer g c =
     rw c.in-Size.is
     (due_else (g.T.Tree.table c.args.tree.now) c.args.root.now c.args.cwd.now c.args.onto c.size.result
-    (g.T.Tree.failures c.args.tree.now) (g.T.Tree.failures c.args.tree.now) (g.T.Tree.table c.args.tree.now) c.args.cwd.now
+    (g.T.Tree.failures c.args.tree.now) (g.T.Tree.failures c.size.new.tree) (g.T.Tree.table c.size.new.tree) c.args.cwd.now
     (Ops.Size c.in-Size.text c.in-Size.how) 0 tt
-    (if_gives c.size.result _ _ _ _ c.size.ensures))
+    c.size.ensures.answer)
 
 pub returns-in-Modified-clause-answer : goal.returns-in-Modified-clause-answer
 returns-in-Modified-clause-answer g c =

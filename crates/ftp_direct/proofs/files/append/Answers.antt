@@ -13,8 +13,8 @@ returns-clause-answer g c = λ how.
     let octets = c.args.octets.now in
     let moment = c.args.moment.seconds in
     let file = octets_or_none table c.in-Some.path in
-    if_due c.install.result _ _ _ _ _ _
+    if_due c.put_behind.result _ _ _ _ _ _
     (ap (λ n. chosen (put_refusal old c.in-Some.path (n + length octets)) old (put old c.in-Some.path (take n file) octets moment)) c.len_at-kept.ensures
     ∙ ap (λ kept. chosen (put_refusal old c.in-Some.path (length file + length octets)) old (put old c.in-Some.path kept octets moment)) (take-length file)
     ∙ ap (λ path. chosen (put_refusal old path (length (octets_or_none table path) + length octets)) old (put old path (octets_or_none table path) octets moment)) found.0)
-    (c.install.ensures.answer c.args.cwd.now)
+    (c.put_behind.ensures.answer c.args.cwd.now)

@@ -1,35 +1,15 @@
-use Rattle.std.proofs.Common.{arith, sym}
-use Rattle.ftp_tree.specs.Tree.{octets_or_none, under}
-use Rattle.ftp_direct.proofs.PlaceLemmas.{in_piece, in_octet, past_piece, at_end, past_end}
-use Rattle.ftp_direct.proofs.SizeLemmas.{piece_within}
+use Rattle.std.proofs.Common.{◌∙◌, Some, None, ap, nat_le, sym, if◌then◌else◌}
+use Rattle.ftp_settings.specs.declared.representation.Kind.TheVariants.{Ascii}
+use Rattle.ftp_direct.specs.Direct.{place_in}
+use Rattle.ftp_direct.proofs.PlaceLemmas.{in_image, in_none}
 use Rattle.ftp_direct.proofs.offsets.place_at.Goals as goal
 
-pub returns-in-Within-clause-place : goal.returns-in-Within-clause-place
-returns-in-Within-clause-place g c =
-    let file = octets_or_none (under (g.T.Tree.table c.args.tree.now) c.args.root.now) c.args.path.now in
-    sym (in_piece c.args.kind file c.piece-piece.result.now c.args.offset c.loop-at.at c.loop-at.left (omega arith) c.loop-at.invariant.left c.piece-piece.ensures.octets c.in-Within.place c.in-Within.ensures)
+pub returns-in-Image-clause-place : goal.returns-in-Image-clause-place
+returns-in-Image-clause-place g c =
+    rw c.in-Image.is (
+    c.if_within.ensures ∙ ap (λ n. if nat_le c.args.offset n then Some c.args.offset else None) c.len_at.ensures ∙ sym (in_image _ c.args.offset))
 
-pub returns-in-Inside-clause-place : goal.returns-in-Inside-clause-place
-returns-in-Inside-clause-place g c =
-    let file = octets_or_none (under (g.T.Tree.table c.args.tree.now) c.args.root.now) c.args.path.now in
-    sym (in_octet c.args.kind file c.piece-piece.result.now c.args.offset c.loop-at.at c.loop-at.left (omega arith) c.loop-at.invariant.left c.piece-piece.ensures.octets c.in-Inside.ensures)
-
-pub loop-at-preserved : goal.loop-at-preserved
-loop-at-preserved g c =
-    let file = octets_or_none (under (g.T.Tree.table c.args.tree.now) c.args.root.now) c.args.path.now in
-    let piece = c.piece-piece.result.now in
-    let within = piece_within file piece c.loop-at.at (omega arith) c.piece-piece.ensures.octets in
-    record {
-      left = past_piece c.args.kind file piece c.args.offset c.loop-at.at c.loop-at.left (omega arith) c.loop-at.invariant.left c.piece-piece.ensures.octets c.in-Left.more c.in-Left.ensures;
-      before = omega (arith, within);
-    }
-
-pub returns-then-left-eq0-clause-place : goal.returns-then-left-eq0-clause-place
-returns-then-left-eq0-clause-place g c =
-    let file = octets_or_none (under (g.T.Tree.table c.args.tree.now) c.args.root.now) c.args.path.now in
-    sym (at_end c.args.kind file c.args.offset c.loop-at.at c.loop-at.left (omega arith) c.loop-at.invariant.left c.if-left-eq0.true)
-
-pub returns-else-left-eq0-clause-place : goal.returns-else-left-eq0-clause-place
-returns-else-left-eq0-clause-place g c =
-    let file = octets_or_none (under (g.T.Tree.table c.args.tree.now) c.args.root.now) c.args.path.now in
-    sym (past_end c.args.kind file c.args.offset c.loop-at.at c.loop-at.left (omega arith) c.loop-at.invariant.left c.if-left-eq0.false)
+pub returns-in-None-clause-place : goal.returns-in-None-clause-place
+returns-in-None-clause-place g c =
+    let none = rw c.in-None.is at c.in_ok-file-in-Ascii.ensures.octets in
+    rw c.in-Ascii.is (c.if_within-in-None.ensures ∙ sym (ap (λ octets. place_in Ascii octets c.args.offset) none ∙ in_none Ascii c.args.offset))

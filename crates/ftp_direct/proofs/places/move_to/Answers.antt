@@ -7,19 +7,19 @@ use Rattle.ftp_direct.proofs.places.move_to.Goals.{else-onto-via-then-onto+else-
 
 pub returns-then-takes_place-clause-done : goal.returns-then-takes_place-clause-done
 returns-then-takes_place-clause-done g c =
-    onto_done _ _ _ _ _ _ _ c.args.onto c.rename_onto.result c.if-onto.true c.takes_place.ensures.sound c.requires
-    (sym c.takes_place.ensures.is ∙ c.if-takes_place.true) c.rename_onto.ensures.done
+    onto_done _ _ _ _ _ _ _ c.args.onto c.rename_onto.result c.if-onto.true c.rename_onto.ensures.sound c.requires
+    (sym c.takes_place.ensures ∙ c.if-takes_place.true) c.rename_onto.ensures.done
 
 pub returns-then-takes_place-clause-refused : goal.returns-then-takes_place-clause-refused
 returns-then-takes_place-clause-refused g c =
-    onto_refused _ _ _ _ _ _ _ c.args.onto c.rename_onto.result c.if-onto.true c.takes_place.ensures.sound c.requires
-    (sym c.takes_place.ensures.is ∙ c.if-takes_place.true) c.rename_onto.ensures.refused
+    onto_refused _ _ _ _ _ _ _ c.args.onto c.rename_onto.result c.if-onto.true c.rename_onto.ensures.sound c.requires
+    (sym c.takes_place.ensures ∙ c.if-takes_place.true) c.rename_onto.ensures.refused
 
 -- no file is replaced
 kept : (g : Over) (c : goal.After-rename g)
     → freed c.args.onto (under (g.T.Tree.table c.args.tree.now) c.args.root.now) c.args.from.now c.args.to.now ≡ under (g.T.Tree.table c.args.tree.now) c.args.root.now
 kept g c = elim c.else-onto.branch [
-  | else-onto-via-then-onto+else-takes_place w ↦ none_taken _ _ _ _ c.args.onto (sym w.takes_place.ensures.is ∙ w.if-takes_place.false)
+  | else-onto-via-then-onto+else-takes_place w ↦ none_taken _ _ _ _ c.args.onto (sym w.takes_place.ensures ∙ w.if-takes_place.false)
   | else-onto-via-else-onto w ↦ none_may _ _ _ _ c.args.onto w.if-onto.false
 ]
 

@@ -1,14 +1,11 @@
 use Rattle.std.proofs.Common.{refl}
 use Rattle.ftp_server_model.specs.Machine.{at_end}
-use Rattle.ftp_tree.specs.Tree.{under}
 use Rattle.ftp_server_session.specs.Session.{session_of}
 use Rattle.ftp_server.proofs.ConcludeLemmas.{concludes}
 use Rattle.ftp_server.proofs.conclude.at_end.Goals as goal
 
 pub returns-clause-ends : goal.returns-clause-ends
 returns-clause-ends g c =
-    let table = g.T.Tree.table in
     let view = g.J.ServerTransfer.view in
-    let s = c.args.session.now in
-    concludes table view s c.at_end.new.tree (at_end c.args.moment.seconds (view c.args.transfer) (session_of table view s))
-    c.at_end.result _ _ c.requires.idle (c.at_end.ensures.ends (session_of table view s) refl refl)
+    let s = session_of g.T.Tree.table view c.args.session.now in
+    concludes (at_end c.args.moment.seconds (view c.args.transfer) s) s (g.T.Tree.table c.at_end.new.tree) c.at_end.result _ _ (c.at_end.ensures.ends s refl refl)

@@ -1,10 +1,10 @@
-use Rattle.std.proofs.Common.{ap, length}
+use Rattle.std.proofs.Common.{length}
 use Rattle.ftp_server_model.specs.Calls.{given_step, to_give}
 use Rattle.ftp_server_model.specs.Failing.{GiveFails}
-use Rattle.ftp_server.proofs.DataLemmas.{not_failed, on_any, steps}
+use Rattle.ftp_server.proofs.DataLemmas.{not_failed, steps}
 use Rattle.ftp_server.proofs.TakenLemmas.{some_given}
 use Rattle.ftp_server.specs.Server.{counts_of, server_of, view_of}
-use Rattle.ftp_server.proofs.CountingLemmas.{by_step, stayed}
+use Rattle.ftp_server.proofs.CountingLemmas.{by_step}
 use Rattle.ftp_server.proofs.ToldLemmas.{tells_step}
 use Rattle.ftp_server.proofs.server.Server.data_out.Goals as goal
 
@@ -13,10 +13,10 @@ returns-clause-now g c =
     let table = g.T.Tree.table in let failures = g.T.Tree.failures in let view = g.J.ServerTransfer.view in
     let r = c.give-given in
     steps (GiveFails r.result.count) (given_step r.result.count) (server_of table failures view c.args.self.now) (server_of table failures view r.new.self) (server_of table failures view c.settle_behind.new.self)
-    c.device_failures-failures.result r.result.outcome c.device_failures-failures.ensures (ap (λ n. n.refusals) r.ensures.steady) r.ensures.done (on_any r.result.outcome r.ensures.steady)
+    c.device_failures-failures.result r.result.outcome c.device_failures-failures.ensures r.ensures.refusals r.ensures.done r.ensures.steady
     r.ensures.lost c.settle_behind.ensures.settled
-    (by_step (counts_of failures c.args.self.now) (counts_of failures r.new.self) (counts_of failures c.settle_behind.new.self) (ap (λ n. n.refusals) r.ensures.steady)
-    (stayed 1 _ _ (ap (λ n. n.failures) r.ensures.steady)) c.settle_behind.ensures.refusals c.settle_behind.ensures.few)
+    (by_step (counts_of failures c.args.self.now) (counts_of failures r.new.self) (counts_of failures c.settle_behind.new.self) r.ensures.refusals
+    r.ensures.few c.settle_behind.ensures.refusals c.settle_behind.ensures.few)
 
 pub returns-clause-some : goal.returns-clause-some
 returns-clause-some g c = λ same wide more.
@@ -24,7 +24,7 @@ returns-clause-some g c = λ same wide more.
     let r = c.give-given in
     some_given (length c.args.room.now) (length (to_give (view_of table view c.args.self.now))) r.result.count
     (not_failed r.result.outcome c.device_failures-failures.result (server_of table failures view c.args.self.now) (server_of table failures view r.new.self)
-    (server_of table failures view c.settle_behind.new.self) c.device_failures-failures.ensures (ap (λ n. n.refusals) r.ensures.steady) c.settle_behind.ensures.settled same r.ensures.full)
+    (server_of table failures view c.settle_behind.new.self) c.device_failures-failures.ensures r.ensures.refusals c.settle_behind.ensures.settled same r.ensures.full)
     wide more
 
 pub returns-clause-most : goal.returns-clause-most
@@ -32,12 +32,12 @@ returns-clause-most g c = λ same.
     let table = g.T.Tree.table in let failures = g.T.Tree.failures in let view = g.J.ServerTransfer.view in
     let r = c.give-given in
     not_failed r.result.outcome c.device_failures-failures.result (server_of table failures view c.args.self.now) (server_of table failures view r.new.self)
-    (server_of table failures view c.settle_behind.new.self) c.device_failures-failures.ensures (ap (λ n. n.refusals) r.ensures.steady) c.settle_behind.ensures.settled same r.ensures.full
+    (server_of table failures view c.settle_behind.new.self) c.device_failures-failures.ensures r.ensures.refusals c.settle_behind.ensures.settled same r.ensures.full
 
 pub returns-clause-told : goal.returns-clause-told
 returns-clause-told g c =
     let table = g.T.Tree.table in let failures = g.T.Tree.failures in let view = g.J.ServerTransfer.view in
     let r = c.give-given in
     tells_step (given_step r.result.count) c.settle_behind.new.self.heard (server_of table failures view c.args.self.now) (server_of table failures view r.new.self) (server_of table failures view c.settle_behind.new.self)
-    c.device_failures-failures.result r.result.outcome c.device_failures-failures.ensures (ap (λ n. n.refusals) r.ensures.steady) r.ensures.done (on_any r.result.outcome r.ensures.steady)
+    c.device_failures-failures.result r.result.outcome c.device_failures-failures.ensures r.ensures.refusals r.ensures.done r.ensures.steady
     c.settle_behind.ensures.settled c.settle_behind.ensures.told

@@ -10,7 +10,6 @@ use Rattle.ftp_server_model.specs.declared.reply.FixedReply.TheVariants.{LocalFa
 use Rattle.ftp_server_model.specs.declared.session.Pending.TheVariants as Pendings
 use Rattle.ftp_server_session.specs.Line.{LineLost}
 use Rattle.ftp_server_session.specs.Session.{session_of}
-use Rattle.ftp_tree.specs.Tree.{under}
 use Rattle.ftp_server.proofs.CountingLemmas.{by_fault, stayed}
 use Rattle.ftp_server.proofs.BusyLemmas.{busy_seen, idle_calm, idle_free, idle_room, said_room, short_decided}
 use Rattle.ftp_server.proofs.NameLemmas.{decided_named, lost_named}
@@ -23,7 +22,7 @@ invariant_of-self g c =
     let v : View = view_of table view c.args.self.now in
     let s : Session = record v.session { pending = Pendings.Nothing } in
     let new = c.decide.new.self in
-    let free = idle_free (view (under (table c.args.self.now.session.tree) c.args.self.now.session.root)) c.args.self.now.session.connection (idle_calm v c.requires.idle) in
+    let free = idle_free view c.args.self.now.session.connection (idle_calm v c.requires.idle) in
     let done = c.in-Ok.ensures.idle free in
     record {
       room = λ busy.
@@ -31,7 +30,7 @@ invariant_of-self g c =
           (length v.owed) (length c.say.new.output) done.0
           (short_decided v.footing c.args.heard v.session.pending s (idle_calm v c.requires.idle))
           c.say.ensures.short (idle_room v c.requires.idle)
-          (busy_seen (view (under (table new.tree) new.root)) new.connection ∙ busy);
+          (busy_seen view new.connection ∙ busy);
       paths = c.args.self.now.paths;
       named = decided_named (session_of table view new, c.in-Ok.kind) v.footing c.args.heard v.session.pending s done.0 c.args.self.now.named c.requires.named;
     }
@@ -40,7 +39,7 @@ pub invariant_of-self-in-Err : goal.invariant_of-self-in-Err
 invariant_of-self-in-Err g c =
     let table = g.T.Tree.table in let view = g.J.ServerTransfer.view in
     let v : View = view_of table view c.args.self.now in
-    let free = idle_free (view (under (table c.args.self.now.session.tree) c.args.self.now.session.root)) c.args.self.now.session.connection (idle_calm v c.requires.idle) in
+    let free = idle_free view c.args.self.now.session.connection (idle_calm v c.requires.idle) in
     record {
       room = λ busy. omega (arith, idle_room v c.requires.idle, c.put_fixed.ensures.room);
       paths = c.args.self.now.paths;
@@ -52,7 +51,7 @@ unfolding obeyed
 returns-in-Ok-clause-done g c =
     let table = g.T.Tree.table in let view = g.J.ServerTransfer.view in
     let v : View = view_of table view c.args.self.now in
-    let free = idle_free (view (under (table c.args.self.now.session.tree) c.args.self.now.session.root)) c.args.self.now.session.connection (idle_calm v c.requires.idle) in
+    let free = idle_free view c.args.self.now.session.connection (idle_calm v c.requires.idle) in
     let session = session_of g.T.Tree.table g.J.ServerTransfer.view c.decide.new.self in
     c.complete.ensures.done ∙ ap (λ owed. completed (record (with_session session v) { owed = owed })) c.say.ensures.said
     ∙ ap (λ turn. completed (turned turn v)) (c.in-Ok.ensures.idle free).0
@@ -61,7 +60,7 @@ pub returns-in-Ok-clause-steady : goal.returns-in-Ok-clause-steady
 returns-in-Ok-clause-steady g c =
     let table = g.T.Tree.table in let view = g.J.ServerTransfer.view in
     let v : View = view_of table view c.args.self.now in
-    let free = idle_free (view (under (table c.args.self.now.session.tree) c.args.self.now.session.root)) c.args.self.now.session.connection (idle_calm v c.requires.idle) in
+    let free = idle_free view c.args.self.now.session.connection (idle_calm v c.requires.idle) in
     ap (λ n. n.failures) c.complete.ensures.steady ∙ (c.in-Ok.ensures.idle free).1
 
 -- a line that could not be done leaves its session, and is answered 451
@@ -74,7 +73,7 @@ pub returns-in-Err-clause-lost : goal.returns-in-Err-clause-lost
 returns-in-Err-clause-lost g c =
     let table = g.T.Tree.table in let view = g.J.ServerTransfer.view in
     let v : View = view_of table view c.args.self.now in
-    let free = idle_free (view (under (table c.args.self.now.session.tree) c.args.self.now.session.root)) c.args.self.now.session.connection (idle_calm v c.requires.idle) in
+    let free = idle_free view c.args.self.now.session.connection (idle_calm v c.requires.idle) in
     let session = session_of g.T.Tree.table g.J.ServerTransfer.view c.decide.new.self in
     subst (λ owed. LineFails c.args.heard v (record (with_session session v) { owed = owed })) (sym c.put_fixed.ensures.octets)
     (line_fails c.args.heard v session (c.in-Err.ensures.idle free).0)
@@ -83,14 +82,14 @@ pub returns-in-Ok-clause-few : goal.returns-in-Ok-clause-few
 returns-in-Ok-clause-few g c =
     let table = g.T.Tree.table in let view = g.J.ServerTransfer.view in
     let v : View = view_of table view c.args.self.now in
-    let free = idle_free (view (under (table c.args.self.now.session.tree) c.args.self.now.session.root)) c.args.self.now.session.connection (idle_calm v c.requires.idle) in
+    let free = idle_free view c.args.self.now.session.connection (idle_calm v c.requires.idle) in
     stayed 1 _ _ (ap (λ n. n.failures) c.complete.ensures.steady ∙ (c.in-Ok.ensures.idle free).1)
 
 pub returns-in-Err-clause-few : goal.returns-in-Err-clause-few
 returns-in-Err-clause-few g c =
     let table = g.T.Tree.table in let view = g.J.ServerTransfer.view in
     let v : View = view_of table view c.args.self.now in
-    let free = idle_free (view (under (table c.args.self.now.session.tree) c.args.self.now.session.root)) c.args.self.now.session.connection (idle_calm v c.requires.idle) in
+    let free = idle_free view c.args.self.now.session.connection (idle_calm v c.requires.idle) in
     by_fault c.in-Err.field-0 _ _ (c.in-Err.ensures.idle free).1
 
 -- a line with a code
@@ -101,7 +100,7 @@ pub returns-in-Ok-clause-told : goal.returns-in-Ok-clause-told
 returns-in-Ok-clause-told g c =
     let table = g.T.Tree.table in let view = g.J.ServerTransfer.view in
     let v : View = view_of table view c.args.self.now in
-    let free = idle_free (view (under (table c.args.self.now.session.tree) c.args.self.now.session.root)) c.args.self.now.session.connection (idle_calm v c.requires.idle) in
+    let free = idle_free view c.args.self.now.session.connection (idle_calm v c.requires.idle) in
     let session = session_of table view c.decide.new.self in
     ap Some (c.answered.ensures ∙ ap (λ line. coded line c.reply_code.result) c.of-told.ensures
     ∙ ap (coded (unanswered c.args.heard)) (c.reply_code.ensures session ∙ ap code_said (c.in-Ok.ensures.idle free).0))

@@ -1,16 +1,38 @@
-use Rattle.std.proofs.Common.{◌∙◌, rules}
-use Rattle.ftp_tree.specs.Tree.{under}
+use Rattle.std.proofs.Common.{◌≤◌, ◌+◌, ◌++◌, ◌∙◌, rules, sym, ap, length}
 use Rattle.ftp_server_transfer.specs.Download.{rest_of}
-use Rattle.ftp_server_transfer.proofs.DownloadLemmas.{more_made}
+use Rattle.ftp_server_transfer.proofs.DownloadLemmas.{given_front, more_made}
 use Rattle.ftp_server_transfer.proofs.download.Download.give.Goals as goal
 
 pub loop-made-preserved : goal.loop-made-preserved
 loop-made-preserved g c =
-    let part = under (g.T.Tree.table c.args.tree.now) c.args.root.now in
+    let rest = rest_of g.T.Tree.opened in
+    let given = c.step-given in
     record {
       made = search rules;
       room = search rules;
-      path = c.step-made.ensures.path ∙ c.loop-made.invariant.path;
-      text = more_made (rest_of part c.args.self.now) (rest_of part c.loop-made.self) (rest_of part c.step-made.new.self) c.loop-made.room c.split_at_mut-free.result.0.now c.step-made.new.room
-          c.loop-made.made c.step-made.result c.loop-made.invariant.made c.split_at_mut-free.ensures.front c.loop-made.invariant.text c.step-made.ensures.text;
+      len = c.loop-made.invariant.len ∙ sym (ap length given.ensures.file);
+      text = more_made (rest c.args.self.now) (rest c.loop-made.self) (rest given.new.self) c.loop-made.room c.split_at_mut-free.result.0.now given.new.room
+          c.loop-made.made given.result.count c.loop-made.invariant.made c.split_at_mut-free.ensures.front c.loop-made.invariant.text given.ensures.text;
+      table = given.ensures.table ∙ c.loop-made.invariant.table;
+      failures = search rules;
     }
+
+pub returns-then-given-clause-gave : goal.returns-then-given-clause-gave
+returns-then-given-clause-gave g c =
+    let rest = rest_of g.T.Tree.opened in
+    let given = c.step-given in
+    let room = c.split_at_mut-free.result.0.now ++ given.new.room in
+    let few : c.loop-made.made + given.result.count ≤ length room = search rules in
+    let made = more_made (rest c.args.self.now) (rest c.loop-made.self) (rest given.new.self) c.loop-made.room c.split_at_mut-free.result.0.now given.new.room
+    c.loop-made.made given.result.count c.loop-made.invariant.made c.split_at_mut-free.ensures.front c.loop-made.invariant.text given.ensures.text in
+    (given_front (rest c.args.self.now) (rest given.new.self) room (c.loop-made.made + given.result.count) few made).0
+
+pub returns-then-given-clause-rest : goal.returns-then-given-clause-rest
+returns-then-given-clause-rest g c =
+    let rest = rest_of g.T.Tree.opened in
+    let given = c.step-given in
+    let room = c.split_at_mut-free.result.0.now ++ given.new.room in
+    let few : c.loop-made.made + given.result.count ≤ length room = search rules in
+    let made = more_made (rest c.args.self.now) (rest c.loop-made.self) (rest given.new.self) c.loop-made.room c.split_at_mut-free.result.0.now given.new.room
+    c.loop-made.made given.result.count c.loop-made.invariant.made c.split_at_mut-free.ensures.front c.loop-made.invariant.text given.ensures.text in
+    (given_front (rest c.args.self.now) (rest given.new.self) room (c.loop-made.made + given.result.count) few made).1

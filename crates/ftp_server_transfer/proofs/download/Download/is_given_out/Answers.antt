@@ -1,9 +1,19 @@
-use Rattle.std.proofs.Common.{drop}
-use Rattle.ftp_tree.specs.Tree.{octets_or_none, under}
+use Rattle.std.proofs.Common.{◌≡◌, ◌↔◌, Option, [], drop, IsTrue, nat_le, subst, sym}
+use Rattle.ftp_wire.specs.declared.encoder.Encoder.{Encoder}
+use Rattle.ftp_server_transfer.specs.Download.{given_by}
 use Rattle.ftp_server_transfer.proofs.DownloadLemmas.{at_end}
 use Rattle.ftp_server_transfer.proofs.download.Download.is_given_out.Goals as goal
 
-pub returns : goal.returns
-returns g c =
-    let file = octets_or_none (under (g.T.Tree.table c.args.tree.now) c.args.root.now) c.args.self.now.path in
-    c.is_out.ensures (drop c.args.self.now.at file) (at_end file c.len_at.result c.args.self.now.at c.len_at.ensures)
+pub returns-in-Some : goal.returns-in-Some
+returns-in-Some g c =
+    let d = c.args.self.now in
+    let file = g.T.Tree.opened d.file in
+    let P : Option Encoder → Type 0 = λ e. IsTrue c.is_out.result ↔ (given_by e (drop d.at file) ≡ []) in
+    subst P (sym c.in-Some.is) (c.is_out.ensures (drop d.at file) (at_end file c.open_len.result d.at c.open_len.ensures))
+
+pub returns-in-None : goal.returns-in-None
+returns-in-None g c =
+    let d = c.args.self.now in
+    let file = g.T.Tree.opened d.file in
+    let P : Option Encoder → Type 0 = λ e. IsTrue (nat_le c.open_len.result d.at) ↔ (given_by e (drop d.at file) ≡ []) in
+    subst P (sym c.in-None.is) (at_end file c.open_len.result d.at c.open_len.ensures)

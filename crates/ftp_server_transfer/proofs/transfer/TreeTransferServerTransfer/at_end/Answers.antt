@@ -1,5 +1,4 @@
 use Rattle.std.proofs.Common.{sym, ap, subst}
-use Rattle.ftp_tree.specs.Tree.{under}
 use Rattle.ftp_server_model.specs.Machine.{at_end}
 use Rattle.ftp_server_model.specs.View.{Transfer}
 use Rattle.ftp_server_parts.specs.ServerTransfer.{Ends}
@@ -8,8 +7,7 @@ use Rattle.ftp_server_transfer.proofs.transfer.TreeTransferServerTransfer.at_end
 
 pub returns-in-Upload-clause-ends : goal.returns-in-Upload-clause-ends
 returns-in-Upload-clause-ends g c = λ s same at.
-    let part = under (g.T.Tree.table c.args.tree.now) c.args.root.now in
     let call = c.at_end in
     let P : Transfer → Type 0 = λ t. Ends (at_end c.args.moment.seconds t s) s (g.T.Tree.table call.new.tree) call.result
     (g.T.Tree.failures c.args.tree.now) (g.T.Tree.failures call.new.tree) in
-    subst P (sym (ap (λ x. transfer_of part x) c.in-Upload.is)) (call.ensures s same at)
+    subst P (sym (ap (λ x. transfer_of g.T.Tree.opened x) c.in-Upload.is)) (call.ensures s same at)

@@ -12,4 +12,4 @@ returns-in-OverLimit-clause-comes g c =
     let part = under (g.T.Tree.table c.args.tree.now) c.args.root.now in
     let octets = take (length c.args.piece.now) c.args.piece.now in
     let P : Transfer → Type 0 = λ t. Comes part t octets Tells.Nothing t in
-    subst P (sym (ap (λ x. transfer_of part x) c.in-OverLimit.is)) (over_comes part octets)
+    subst P (sym (ap (λ x. transfer_of g.T.Tree.opened x) c.in-OverLimit.is)) (over_comes part octets)

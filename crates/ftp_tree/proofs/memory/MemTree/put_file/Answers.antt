@@ -15,7 +15,7 @@ pub invariant_of-self-2 : goal.invariant_of-self-2
 invariant_of-self-2 g c =
     let names = names_of c.key.result.now in
     let octets = c.args.content.now in
-    let is = c.in_default.ensures.ok ∙ ap (with_part c.self.inside.root names) (c.file-node.ensures ∙ ap (λ octets. file_alone octets c.args.moment.seconds) c.take-octets.ensures.taken) in
+    let is = c.in_default.ensures.ok ∙ ap (with_part c.self.inside.root names) (c.file-node.ensures ∙ ap (λ octets. file_alone octets c.args.moment.seconds) (c.take-octets.ensures.taken ∙ c.settle.ensures)) in
     record {
       tree = (installed-at c.self.inside.root _ c.args.root.now c.args.path.now _ octets c.args.moment.seconds c.self.invariant.tree
           (ap (λ table. install_refusal (under table c.args.root.now) c.args.path.now (length octets)) c.self.view_is ∙ c.requires) (c.key.ensures.names ∙ c.of-place.ensures) is).tree;
@@ -27,7 +27,7 @@ pub returns-clause-ok : goal.returns-clause-ok
 returns-clause-ok g c = (
   (installed-at c.self.inside.root _ c.args.root.now c.args.path.now _ c.args.content.now c.args.moment.seconds c.self.invariant.tree
       (ap (λ table. install_refusal (under table c.args.root.now) c.args.path.now (length c.args.content.now)) c.self.view_is ∙ c.requires) (c.key.ensures.names ∙ c.of-place.ensures)
-      (c.in_default.ensures.ok ∙ ap (with_part c.self.inside.root (names_of c.key.result.now)) (c.file-node.ensures ∙ ap (λ octets. file_alone octets c.args.moment.seconds) c.take-octets.ensures.taken))).is
+      (c.in_default.ensures.ok ∙ ap (with_part c.self.inside.root (names_of c.key.result.now)) (c.file-node.ensures ∙ ap (λ octets. file_alone octets c.args.moment.seconds) (c.take-octets.ensures.taken ∙ c.settle.ensures)))).is
       ∙ ap (λ table. with_part table c.args.root.now (installed (under table c.args.root.now) c.args.path.now c.args.content.now c.args.moment.seconds)) c.self.view_is,
   c.take-octets.ensures.left,
 )

@@ -1,0 +1,11 @@
+use Rattle.std.proofs.Common.{◌∙◌, ap, min}
+use Rattle.ftp_direct.proofs.DueLemmas.{peek_due}
+use Rattle.ftp_direct.proofs.RefusalLemmas.{if_due}
+use Rattle.ftp_direct.proofs.reading.peek.Goals as goal
+
+pub returns-clause-answer : goal.returns-clause-answer
+returns-clause-answer g c = λ how.
+    let found = rw c.in-Some.is at c.in_ok-path.ensures in
+    if_due c.say_octets.result _ _ _ _ _ _
+    (peek_due _ _ c.args.cwd.now c.args.text.now c.in-Some.path found.0 how c.args.count _ found.1 (c.lesser-end.ensures ∙ ap (λ n. min c.args.count n) c.len_at.ensures))
+    (c.say_octets.ensures.answer c.args.cwd.now)
