@@ -48,6 +48,7 @@ use Rattle.ftp_server_model.specs.View.{View as Far, Session, Transfer, direct_o
 use Rattle.ftp_server_model.specs.Walk.{path_of, refusal_text}
 use Rattle.ftp_server_model.specs.declared.reply.ReplyKind.TheVariants as Kinds
 use Rattle.ftp_server_model.specs.declared.reply.FixedReply.TheVariants as Texts
+use Rattle.ftp_server_model.specs.declared.session.Keep.{Keep}
 use Rattle.ftp_server_model.specs.declared.session.PassiveVerb.{PassiveVerb}
 use Rattle.ftp_server_model.specs.declared.session.PassiveVerb.TheVariants as Asking
 use Rattle.ftp_server_model.specs.declared.session.ServerLink.TheVariants as FarData
@@ -521,7 +522,7 @@ module _ (read : Reading) (reads : IsReading read) (state : State) (ask : Ask) (
         ∙ ap (λ t. given_out (FarData.Transferring t) (turned (transferring t f, Kinds.Fixed Texts.Opens) (still f))) is
 
     -- of an upload, it owes 150 and waits for octets
-    pub takes_turn : (path : Names) (keep : ℕ) (d : Decoder) → offer ≡ Transfers.Upload path keep d → ask.why state ≡ None → f.session.connection ≡ FarData.Ready
+    pub takes_turn : (path : Names) (keep : Keep) (d : Decoder) → offer ≡ Transfers.Upload path keep d → ask.why state ≡ None → f.session.connection ≡ FarData.Ready
         → heard_line (read (line_of ask.command)) (still f)
         ≡ record (still (with_session (transferring (Transfers.Upload path keep d) f) f)) { owed = row_octets (fixed_reply Texts.Opens ∷ []) }
     takes_turn path keep d is none ready =

@@ -32,7 +32,7 @@ use Rattle.ftp_pair_dialogues.specs.Dialogue.{FarWaits, Sees, Passes, Stands, En
 use Rattle.ftp_pair_dialogues.specs.Operations.{LeadsTo}
 use Rattle.ftp_pair_dialogues.proofs.ServerTurns.{cleared, decides, decides_known, decides_unknown}
 use Rattle.ftp_pair_dialogues.proofs.Exchanges.{IsSent, with_session, Exchange, exchange, near_told_is}
-use Rattle.ftp_pair_dialogues.proofs.Rows.{Keeps, keeps_cleared, waits_on, sees_cleared, direct_is, last_exchange, refused_exchange, may_is, may_none, answer_known, answer_unknown}
+use Rattle.ftp_pair_dialogues.proofs.Rows.{Keeps, keeps_cleared, waits_on, sees_cleared, direct_is, last_exchange, refused_exchange, may_none, answer_known, answer_unknown}
 
 -- ---- the two reasons of the direct run are those of the two commands
 
@@ -42,10 +42,10 @@ source_why state text =
     or_refused (barred state.rights.rename)
     (refused_there (limited (named state text) (or_else (source_refusal (part state) (named state text)) (busy_refusal state (named state text)))))
 
--- why RNTO is refused
+-- why RNTO is refused: what RNFR named is asked for again
 abbrev pub target_why : State → List ℕ → List ℕ → Option Refusal
 target_why state text new =
-    or_refused (barred state.rights.rename) (refused_name (limited (named state new) (rename_refusal (target_part state text new) (named state text) (named state new))))
+    or_refused (source_why state text) (refused_name (limited (named state new) (rename_refusal (target_part state text new) (named state text) (named state new))))
 
 -- the reason of the direct run for the new name
 abbrev pub direct_target_why : State → List ℕ → List ℕ → Option Refusal
@@ -84,9 +84,14 @@ pub same_target : (state : State) (text new : List ℕ) → source_why state tex
 unfolding rename_refusal
 same_target state text new none =
     ap (λ why. or_refused why (refused_name (limited (named state new) (rename_refusal (target_part state text new) (named state text) (named state new)))))
-    (may_is state.rights.rename _ none)
+    none
     ∙ ap (λ why. refused_name (limited (named state new) (or_else why (target_refusal (target_part state text new) (named state text) (named state new)))))
     (freed-source state.rights.onto (part state) (named state text) (named state new) ∙ source_none state text none)
+
+-- if neither of two reasons is there, the last is not
+pub last_none : (one other : Option Refusal) → or_refused one other ≡ None → other ≡ None
+last_none None other none = none
+last_none (Some why) other none = absurd (cc)
 
 -- the first of three reasons is the same however they are put together
 as_one : (one other last : Option Refusal) → or_refused one (or_refused other last) ≡ or_refused (or_refused one other) last
@@ -179,10 +184,12 @@ module _ (read : Reading) (text new : List ℕ) (reads : IsReading read) (first 
       → decides (Commands.Rnto new) (with_session noted f) ≡ unless why (cleared f) (renamed, Replies.Fixed Texts.Done)
   target_decided known why is =
       decides_known (Commands.Rnto new) (with_session noted f) (stands.sees.known ∙ known)
-      ∙ ap (λ s. unless (or_refused (barred s.rights.rename)
+      ∙ ap (λ s. unless (or_refused (or_refused (barred s.rights.rename)
+      (refused_there (limited (path_of (cleared f) text) (or_else (source_refusal (part s) (path_of (cleared f) text)) (busy_refusal s (path_of (cleared f) text))))))
       (refused_name (limited (path_of (cleared f) new) (rename_refusal (freed_of s (path_of (cleared f) text) (path_of (cleared f) new)) (path_of (cleared f) text) (path_of (cleared f) new)))))
       (cleared f) (moves_of s (path_of (cleared f) text) (path_of (cleared f) new) (cleared f).cwd, Replies.Fixed Texts.Done)) (same_direct known)
-      ∙ (λ i. unless (or_refused (barred state.rights.rename)
+      ∙ (λ i. unless (or_refused (or_refused (barred state.rights.rename)
+      (refused_there (limited (same_path text i) (or_else (source_refusal (part state) (same_path text i)) (busy_refusal state (same_path text i))))))
       (refused_name (limited (same_path new i) (rename_refusal (freed_of state (same_path text i) (same_path new i)) (same_path text i) (same_path new i)))))
       (cleared f) (moves_of state (same_path text i) (same_path new i) (stands.sees.cwd i), Replies.Fixed Texts.Done))
       ∙ ap (λ w. unless w (cleared f) (renamed, Replies.Fixed Texts.Done)) is

@@ -27,7 +27,7 @@ use Rattle.ftp_pair_dialogues.specs.Dialogue.{IsFine, IsSound, HasNoTransfer}
 use Rattle.ftp_pair_dialogues.specs.Operations.{EachStaysSound}
 use Rattle.ftp_pair_dialogues.proofs.Moving.{within-limits}
 use Rattle.ftp_pair_dialogues.proofs.Rows.{may_none}
-use Rattle.ftp_pair_dialogues.proofs.Renaming.{none_there, none_limited, none_name, first_none, source_why, target_why, same_target, direct_by_source}
+use Rattle.ftp_pair_dialogues.proofs.Renaming.{none_there, last_none, none_limited, none_name, first_none, source_why, target_why, same_target, direct_by_source}
 
 -- ---- files of a map
 
@@ -257,8 +257,8 @@ module _ (state : State) (moment : ℕ) (sound : IsSound state) (known : state.k
           let to : Names = named state new in
           let table : Table = target_part state text new in
           let tree : IsTree table = freed-tree state.rights.onto (part state) from to (sound.tree known) in
-          let can : rename_refusal table from to ≡ None = none_limited to _ (none_name _ (may_none state.rights.rename _ (target source))) in
-          let within : IsTrue (fits to) = within-name to _ (may_none state.rights.rename _ (target source)) in
+          let can : rename_refusal table from to ≡ None = none_limited to _ (none_name _ (last_none (source_why state text) _ (target source))) in
+          let within : IsTrue (fits to) = within-name to _ (last_none (source_why state text) _ (target source)) in
           let beside : is_within from state.cwd ≡ false =
           not-busy state from (second-none (source_refusal (part state) from) _ (none_limited from _ (none_there _ (may_none state.rights.rename _ source)))) in
           let free : is_within to state.cwd ≡ false =

@@ -1,11 +1,11 @@
 -- What is asked for by an upload: its place in the file, its refusals, and what the direct run makes of it.
-use Rattle.std.proofs.Common.{◌≡◌, ℕ, ◌+◌, ◌<◌, ◌≤◌, ◌^◌, Bool, true, ◌&&◌, not, nat_le, List, ◌++◌, length, Option, Some, None, refl, sym, ap, subst, ◌∙◌, arith, cond}
+use Rattle.std.proofs.Common.{◌≡◌, ℕ, ◌+◌, ◌<◌, ◌≤◌, ◌^◌, Bool, true, false, ◌&&◌, not, nat_le, List, ◌++◌, length, Option, Some, None, refl, sym, ap, subst, ◌∙◌, arith, cond}
 use Rattle.std.specs.Prelude.{if◌then◌else◌, IsTrue}
 use Rattle.std.specs.List.{list_all}
 use Rattle.std.specs.Option.{is_some, unwrap_or}
 use Rattle.std.specs.Ordering.{eq_by_cmp}
-use Rattle.std.proofs.lemmas.Bool.{and_parts, leb-true, ltb-true}
-use Rattle.std.proofs.lemmas.List.{length-append, length-take-le, take_all}
+use Rattle.std.proofs.lemmas.Bool.{and_parts, le-leb, leb-true, ltb-true}
+use Rattle.std.proofs.lemmas.List.{length-append, length-take-le}
 use Rattle.ftp_operation.specs.Answer.{Done}
 use Rattle.ftp_operation.specs.Operation.{can_be_sent, is_number, is_path_text}
 use Rattle.ftp_operation.specs.declared.op.How.{How}
@@ -19,18 +19,21 @@ use Rattle.ftp_tree.specs.declared.fault.TreeFault.TheVariants as Faults
 use Rattle.ftp_tree.proofs.KeepLaws.{at-insert, changes-keep}
 use Rattle.ftp_tree.proofs.LawLemmas.{same}
 use Rattle.ftp_direct.specs.declared.refusal.Refusal.{Refusal}
-use Rattle.ftp_direct.specs.Direct.{State, barred_put, changed, done, file_of, limited, named, offset_refusal, or_refused, part, place_at, put_refusal, refusal, refused_name, refused_octets, refused_room}
+use Rattle.ftp_direct.specs.Direct.{State, barred_put, done, file_of, limited, named, offset_refusal, or_refused, part, place_at, put_refusal, refusal, refused_name, refused_octets, refused_room}
 use Rattle.ftp_direct.proofs.PlaceLemmas.{led}
 use Rattle.ftp_client_model.specs.Octets.{upload_text}
 use Rattle.ftp_client_model.specs.Plan.{count_of}
+use Rattle.ftp_server_model.specs.Keep.{kept_count, kept_of as kept_octets, lacks}
 use Rattle.ftp_server_model.specs.Transfer.{misplaced, transfer_starts}
 use Rattle.ftp_server_model.specs.View.{direct_of, how_in_force}
+use Rattle.ftp_server_model.specs.declared.session.Keep.{Keep}
+use Rattle.ftp_server_model.specs.declared.session.Keep.TheVariants as Keeps
 use Rattle.ftp_server_model.specs.declared.session.Transfer.TheVariants as Transfers
 use Rattle.ftp_wire.specs.Decoder.{no_octets}
 use Rattle.ftp_server_model.proofs.PathTexts.{is_path-led}
 use Rattle.ftp_pair_dialogues.specs.Dialogue.{IsFine, IsSound}
-use Rattle.ftp_pair_dialogues.specs.Fetches.{HasPlan, HasRow, IsAsk, IsKnownUpload, IsPlacedAt, IsTextOf, over, stored, kept_of}
-use Rattle.ftp_pair_dialogues.specs.Uploads.{Place, Anew, Behind, From, room_why, store, store_offset, store_place, store_rise, store_start, store_why, upload_ask}
+use Rattle.ftp_pair_dialogues.specs.Fetches.{HasPlan, HasRow, IsAsk, IsKept, IsKnownUpload, IsPlacedAt, IsTextOf, end_why, over, stored, kept_of}
+use Rattle.ftp_pair_dialogues.specs.Uploads.{Place, Anew, Behind, From, room_why, store, store_keep, store_offset, store_place, store_rise, store_start, store_why, upload_ask}
 use Rattle.ftp_pair_dialogues.proofs.Renaming.{none_limited}
 use Rattle.ftp_pair_dialogues.proofs.Sound.{HasFineFiles, HasNames, by_bool, change-sound}
 use Rattle.ftp_pair_dialogues.proofs.Texts.{written_text}
@@ -105,6 +108,24 @@ installs : (table : Table) (path : Names) (count : ℕ) → room_refusal table p
 unfolding install_refusal
 installs table path count room few = ap (λ r. or_else r (octets_refusal table path count)) room ∙ few
 
+-- what is kept of a file is not lacking
+lacks_none : (keep : Keep) (octets : List ℕ) → IsKept keep octets → lacks keep octets ≡ false
+lacks_none (Keeps.First count) octets within = ap not (le-leb count (length octets) within)
+lacks_none (Keeps.All count) octets same = refl
+
+-- it is as long as it is counted, and no longer than the file
+pub kept_as_counted : (keep : Keep) (octets : List ℕ) → IsKept keep octets → length (kept_octets keep octets) ≡ kept_count keep
+kept_as_counted (Keeps.First count) octets within = length-take-le count octets within
+kept_as_counted (Keeps.All count) octets same = same
+
+pub kept_within : (keep : Keep) (octets : List ℕ) → IsKept keep octets → kept_count keep ≤ length octets
+kept_within (Keeps.First count) octets within = within
+kept_within (Keeps.All count) octets same = omega (arith, same)
+
+-- what came behind it makes it so much longer
+pub kept_long : (keep : Keep) (octets content : List ℕ) → IsKept keep octets → length (kept_octets keep octets ++ content) ≡ kept_count keep + length content
+kept_long keep octets content kept = length-append (kept_octets keep octets) content ∙ ap (λ n. n + length content) (kept_as_counted keep octets kept)
+
 module _ (place : Place) (text octets : List ℕ) (how : How) (moment : ℕ) where
   abbrev op : Op (List ℕ)
   op = store place text octets how
@@ -132,14 +153,14 @@ module _ (place : Place) (text octets : List ℕ) (how : How) (moment : ℕ) whe
         stated = path;
         other = refl;
         few = few;
-        acts = λ footing s set facts. λ i. transfer_starts (store_why (direct_of s) Anew text how) (Transfers.Upload (named (direct_of s) text) 0 (no_octets (set i))) s;
+        acts = λ footing s set facts. λ i. transfer_starts (store_why (direct_of s) Anew text how) (Transfers.Upload (named (direct_of s) text) (Keeps.First 0) (no_octets (set i))) s;
       }
       by_place Behind few = record {
         typed = tt;
         stated = path;
         other = refl;
         few = few;
-        acts = λ footing s set facts. λ i. transfer_starts (store_why (direct_of s) Behind text how) (Transfers.Upload (named (direct_of s) text) (length (file_of (direct_of s) text)) (no_octets (set i))) s;
+        acts = λ footing s set facts. λ i. transfer_starts (store_why (direct_of s) Behind text how) (Transfers.Upload (named (direct_of s) text) (Keeps.All (length (file_of (direct_of s) text))) (no_octets (set i))) s;
       }
       by_place (From offset) few = record {
         typed = tt;
@@ -149,7 +170,7 @@ module _ (place : Place) (text octets : List ℕ) (how : How) (moment : ℕ) whe
         acts = λ footing s set facts. λ i.
             let at : Option ℕ = place_at (direct_of s) (named (direct_of s) text) (how_in_force (set i)) offset in
             transfer_starts (or_refused (barred_put (direct_of s) (named (direct_of s) text)) (or_refused (refused_name (misplaced at)) (room_why (direct_of s) text)))
-            (Transfers.Upload (named (direct_of s) text) (unwrap_or at 0) (no_octets (set i))) s;
+            (Transfers.Upload (named (direct_of s) text) (Keeps.First (unwrap_or at 0)) (no_octets (set i))) s;
       }
 
   -- ---- the direct run
@@ -179,22 +200,20 @@ module _ (place : Place) (text octets : List ℕ) (how : How) (moment : ℕ) whe
     where
       by_place : (place : Place) → done state (store place text octets how) moment ≡ (Done, stored (store_rise place text octets how moment) state octets)
       by_place Anew = refl
-      by_place Behind =
-          ap (λ kept. (Done, changed state (installed (part state) (named state text) (kept ++ octets) moment)))
-          (sym (take_all (length (file_of state text)) (file_of state text) (omega arith)))
+      by_place Behind = refl
       by_place (From offset) = refl
 
   -- the octets that are kept are of the file
-  within_file : (state : State) → unwrap_or (store_place state place text how) 0 ≤ length (file_of state text)
+  within_file : (state : State) → IsKept (store_keep state place text how) (file_of state text)
   within_file state = by_place place
     where
       within_by : (found : Option ℕ) → ((at : ℕ) → found ≡ Some at → at ≤ length (file_of state text)) → unwrap_or found 0 ≤ length (file_of state text)
       within_by None within = omega arith
       within_by (Some at) within = within at refl
 
-      by_place : (place : Place) → unwrap_or (store_place state place text how) 0 ≤ length (file_of state text)
+      by_place : (place : Place) → IsKept (store_keep state place text how) (file_of state text)
       by_place Anew = omega arith
-      by_place Behind = omega arith
+      by_place Behind = refl
       by_place (From offset) =
           within_by (place_at state (named state text) how offset) (λ at is. (led how.representation.kind (file_of state text) offset at is).within)
 
@@ -204,13 +223,23 @@ module _ (place : Place) (text octets : List ℕ) (how : How) (moment : ℕ) whe
     where
       by_place : (place : Place) → IsKnownUpload (upload_ask place text octets how moment) (store_rise place text octets how moment) state
       by_place Anew = record { start = 0; set = refl; up = refl; text = refl }
-      by_place Behind = record {
-        start = 0;
-        set = refl;
-        up = ap (λ kept. Some (record { path = named state text; kept = kept; start = 0; octets = octets; how = how })) (sym (take_all (length (file_of state text)) (file_of state text) (omega arith)));
-        text = refl;
-      }
+      by_place Behind = record { start = 0; set = refl; up = refl; text = refl }
       by_place (From offset) = record { start = offset; set = refl; up = refl; text = refl }
+
+  -- what was not refused at its command is refused at its end for its octets alone
+  ends_is : (state : State) (content : List ℕ) → store_why state place text how ≡ None
+      → end_why (store_rise place text octets how moment) state content ≡ refused_octets (over (store_rise place text octets how moment) state (length content))
+  ends_is state content none =
+      let rise = store_rise place text octets how moment in
+      let path : Names = named state text in
+      let misplaced_at = refused_name (misplaced (store_place state place text how)) in
+      let whole : ℕ = length (kept_of rise state ++ content) in
+      let may = both_none (barred_put state path) (or_refused misplaced_at (room_why state text)) none in
+      let room = (both_none misplaced_at (room_why state text) may.1).1 in
+      ap (λ why. or_refused why (or_refused (refused_name (whenever (lacks (rise.keep state) (file_of state text)) Faults.BadOffset)) (put_refusal state path whole))) may.0
+      ∙ ap (λ (b : Bool). or_refused (refused_name (whenever b Faults.BadOffset)) (put_refusal state path whole)) (lacks_none (rise.keep state) (file_of state text) (within_file state))
+      ∙ ap (λ why. or_refused why (refused_octets (octets_refusal (part state) path whole))) room
+      ∙ ap (λ n. refused_octets (octets_refusal (part state) path n)) (kept_long (rise.keep state) (file_of state text) content (within_file state))
 
   -- ---- a state stays sound
 
@@ -225,8 +254,7 @@ module _ (place : Place) (text octets : List ℕ) (how : How) (moment : ℕ) whe
       let room : room_refusal (part state) (named state text) ≡ None = none_limited (named state text) _ limited_none in
       let within : IsTrue (fits (named state text)) = fits_limited (named state text) _ limited_none in
       let whole : List ℕ = kept_of rise state ++ content in
-      let long : length whole ≡ rise.keep state + length content =
-      length-append (kept_of rise state) content ∙ ap (λ n. n + length content) (length-take-le (rise.keep state) (file_of state text) (within_file state)) in
+      let long : length whole ≡ kept_count (rise.keep state) + length content = kept_long (rise.keep state) (file_of state text) content (within_file state) in
       let small : octets_refusal (part state) (named state text) (length whole) ≡ None = ap (octets_refusal (part state) (named state text)) long ∙ few in
       let names : list_all is_name (named state text) ≡ true = (and_parts (list_all is_name (named state text)) (fits (named state text)) (is_path-led state.cwd text sound.cwd path within)).0 in
       change-sound state (installed (part state) (named state text) whole moment) sound
@@ -298,6 +326,7 @@ module _ (place : Place) (text octets : List ℕ) (how : How) (moment : ℕ) whe
       within = within_file;
       refused = λ state placed none.
           refusal_is state placed ∙ ap (λ o. or_refused o (refused_octets (over (store_rise place text octets how moment) state (length octets)))) none;
+      ends_so = ends_is;
       done_so = done_is;
       known_so = known_is;
       sound = stays_sound (store_text can) dated;

@@ -1,6 +1,6 @@
 -- A download, a Peek among them, a listing or an upload: what both ends hold while it is under way (RFC 959, sections 3.2 to 3.5 and 4.1.2; RFC 2428; RFC 3659,
 -- sections 5 and 7).
-use Rattle.std.specs.Prelude.{◌≡◌, ◌⊎◌, ℕ, ◌<◌, ◌≤◌, ◌+◌, ◌^◌, Bool, true, false, drop, take, length, List, ◌++◌, codes, decimal, Option, Some, None, if◌then◌else◌}
+use Rattle.std.specs.Prelude.{◌≡◌, ◌⊎◌, ℕ, ◌<◌, ◌≤◌, ◌+◌, ◌^◌, Bool, true, false, drop, length, List, ◌++◌, codes, decimal, Option, Some, None, if◌then◌else◌}
 use Rattle.std.specs.Option.{unwrap_or}
 use Rattle.ftp_command.specs.Line.{IsStated, IsTyped}
 use Rattle.ftp_command.specs.declared.command.Command.{Command}
@@ -22,10 +22,11 @@ use Rattle.ftp_operation.specs.declared.op.Op.TheVariants as Ops
 use Rattle.ftp_path.specs.Path.{Names}
 use Rattle.ftp_settings.specs.Representation.{form_of, has_markers}
 use Rattle.ftp_settings.specs.declared.representation.Representation.{Representation}
-use Rattle.ftp_tree.specs.Tree.{Table, installed, octets_or_none, octets_refusal}
+use Rattle.ftp_tree.specs.Tree.{Table, installed, octets_or_none, octets_refusal, whenever}
 use Rattle.ftp_tree.specs.declared.fault.TreeFault.{TreeFault}
+use Rattle.ftp_tree.specs.declared.fault.TreeFault.TheVariants as Faults
 use Rattle.ftp_direct.specs.declared.refusal.Refusal.{Refusal}
-use Rattle.ftp_direct.specs.Direct.{State, changed, done, entries_in, file_of, named, named_or_here, names_for, offset_refusal, or_refused, part, place_at, refusal, refused_file, refused_octets, refused_there}
+use Rattle.ftp_direct.specs.Direct.{State, barred_put, changed, done, entries_in, file_of, named, named_or_here, names_for, offset_refusal, or_refused, part, place_at, put_refusal, refusal, refused_file, refused_name, refused_octets, refused_there}
 use Rattle.ftp_client_model.specs.Dialogue.{judged}
 use Rattle.ftp_client_model.specs.Octets.{content_answer, download_flow, flow_of, has_enough, upload_text, written}
 use Rattle.ftp_client_model.specs.Plan.{asked_settings, count_of, how_of, is_extended, listing_settings, offset_of, optional, own_command, settings_of}
@@ -39,6 +40,7 @@ use Rattle.ftp_client_model.specs.declared.client.Replied.TheVariants as Replies
 use Rattle.ftp_client_model.specs.declared.client.Standing.TheVariants as Standings
 use Rattle.ftp_client_model.specs.declared.client.Step.TheVariants as Steps
 use Rattle.ftp_server_model.specs.Act.{act, is_in}
+use Rattle.ftp_server_model.specs.Keep.{kept_count, kept_of as kept_octets, lacks}
 use Rattle.ftp_server_model.specs.Listing.{entry_lines, listing_wire, name_lines}
 use Rattle.ftp_server_model.specs.Machine.{is_abor}
 use Rattle.ftp_server_model.specs.Replies.{extended_text, passive_text}
@@ -46,6 +48,8 @@ use Rattle.ftp_server_model.specs.Transfer.{file_wire, misplaced, transfer_start
 use Rattle.ftp_server_model.specs.View.{View as Far, Footing, Session, Transfer, all_facts, direct_of, how_in_force}
 use Rattle.ftp_server_model.specs.declared.heard.HeardLine.TheVariants.{Asks}
 use Rattle.ftp_server_model.specs.declared.session.Access.{Access}
+use Rattle.ftp_server_model.specs.declared.session.Keep.{Keep}
+use Rattle.ftp_server_model.specs.declared.session.Keep.TheVariants as Keeps
 use Rattle.ftp_server_model.specs.declared.session.PassiveVerb.{PassiveVerb}
 use Rattle.ftp_server_model.specs.declared.session.PassiveVerb.TheVariants as Asking
 use Rattle.ftp_server_model.specs.declared.session.ServerLink.{ServerLink as FarConnection}
@@ -76,11 +80,11 @@ IsStore (Ops.Append text octets how) = Unit {0}
 IsStore (Ops.PutFrom text offset octets how) = Unit {0}
 IsStore other = ⊥
 
--- octets that rise to the server: the path at which they are put, how many octets of the file there are kept before them, their text on the link, and
+-- octets that rise to the server: the path at which they are put, which octets of the file there are kept before them, their text on the link, and
 -- the moment at which the upload was begun
 pub record Rise : Type 0 where
   pub path : State → Names
-  pub keep : State → ℕ
+  pub keep : State → Keep
   pub octets : List ℕ
   pub text : List ℕ
   pub moment : ℕ
@@ -384,7 +388,7 @@ pub record HasAnswer (ask : Ask) : Type 0 where
 
 -- the octets of the file that are kept
 abbrev pub kept_of : Rise → State → List ℕ
-kept_of rise state = take (rise.keep state) (octets_or_none (part state) (rise.path state))
+kept_of rise state = kept_octets (rise.keep state) (octets_or_none (part state) (rise.path state))
 
 -- the state with these octets behind those
 abbrev pub stored : Rise → State → List ℕ → State
@@ -392,7 +396,19 @@ stored rise state content = changed state (installed (part state) (rise.path sta
 
 -- why so many octets behind those that are kept are too many
 abbrev pub over : Rise → State → ℕ → Option TreeFault
-over rise state count = octets_refusal (part state) (rise.path state) (rise.keep state + count)
+over rise state count = octets_refusal (part state) (rise.path state) (kept_count (rise.keep state) + count)
+
+-- why the server refuses at the end to put octets there
+abbrev pub end_why : Rise → State → List ℕ → Option Refusal
+end_why rise state content =
+    or_refused (barred_put state (rise.path state))
+    (or_refused (refused_name (whenever (lacks (rise.keep state) (octets_or_none (part state) (rise.path state))) Faults.BadOffset))
+    (put_refusal state (rise.path state) (length (kept_of rise state ++ content))))
+
+-- what is kept stands there: so many octets at least, or all of them, which are as many
+abbrev pub IsKept : Keep → List ℕ → Type 0
+IsKept (Keeps.First count) octets = count ≤ length octets
+IsKept (Keeps.All count) octets = length octets ≡ count
 
 -- the one text of octets in some settings: plain, or with restart markers, which count octets from a start (RFC 959, section 3.5)
 abbrev pub IsTextOf : Representation → List ℕ → List ℕ → Type 0
@@ -412,8 +428,9 @@ pub record HasUpload (ask : Ask) (rise : Rise) : Type 0 where
   pub sends_is : ask.sends ≡ Up rise
   pub all : count_of ask.op ≡ None
   pub text_is : IsTextOf ask.settings rise.octets rise.text
-  pub within : (state : State) → rise.keep state ≤ length (octets_or_none (part state) (rise.path state))
+  pub within : (state : State) → IsKept (rise.keep state) (octets_or_none (part state) (rise.path state))
   pub refused : (state : State) → IsPlacedAt ask.settings ask.offset → ask.why state ≡ None → refusal state ask.op ≡ refused_octets (over rise state (length rise.octets))
+  pub ends_so : (state : State) (content : List ℕ) → ask.why state ≡ None → end_why rise state content ≡ refused_octets (over rise state (length content))
   pub done_so : (state : State) → done state ask.op rise.moment ≡ (Done, stored rise state rise.octets)
   pub known_so : (state : State) → IsKnownUpload ask rise state
   pub sound : (state : State) (content : List ℕ) → IsSound state → state.known ≡ true → ask.why state ≡ None → over rise state (length content) ≡ None

@@ -16,6 +16,8 @@ use Rattle.ftp_direct.specs.Direct.{State, barred_put, file_of, limited, named, 
 use Rattle.ftp_client_model.specs.Octets.{upload_text}
 use Rattle.ftp_server_model.specs.Replies.{mark_reply}
 use Rattle.ftp_server_model.specs.Transfer.{misplaced}
+use Rattle.ftp_server_model.specs.declared.session.Keep.{Keep}
+use Rattle.ftp_server_model.specs.declared.session.Keep.TheVariants as Keeps
 use Rattle.ftp_pair_dialogues.specs.Fetches.{Ask, Rise, Up}
 
 -- where its octets go: in place of the file, behind it, or behind what an offset skips
@@ -51,6 +53,11 @@ store_place state Anew text how = Some 0
 store_place state Behind text how = Some (length (file_of state text))
 store_place state (From offset) text how = place_at state (named state text) how offset
 
+-- which of them are kept
+abbrev pub store_keep : State → Place → List ℕ → How → Keep
+store_keep state Behind text how = Keeps.All (length (file_of state text))
+store_keep state place text how = Keeps.First (unwrap_or (store_place state place text how) 0)
+
 -- why no file can be put where a text leads
 abbrev pub room_why : State → List ℕ → Option Refusal
 room_why state text = refused_room (limited (named state text) (room_refusal (part state) (named state text)))
@@ -64,7 +71,7 @@ store_why state place text how =
 abbrev pub store_rise : Place → List ℕ → List ℕ → How → ℕ → Rise
 store_rise place text octets how moment = record {
   path = λ state. named state text;
-  keep = λ state. unwrap_or (store_place state place text how) 0;
+  keep = λ state. store_keep state place text how;
   octets = octets;
   text = upload_text how (store_start place) octets;
   moment = moment;

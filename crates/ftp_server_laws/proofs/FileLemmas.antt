@@ -10,8 +10,9 @@ use Rattle.std.specs.Ordering.{eq_by_cmp, is_eq, is_lt}
 use Rattle.std.proofs.lemmas.Bool.{and_parts, cond_both, leb-true}
 use Rattle.ftp_path.specs.Path.{Names, moved_path, path_cmp}
 use Rattle.ftp_tree.specs.Store.{Rows}
-use Rattle.ftp_tree.specs.Tree.{Node, Dir, File, Table, node_at, octets_at, octets_of, of_node, octets_or_none, octets_refusal, or_else, room_at, whenever, made, removed, installed, freed, moved, under, with_part}
-use Rattle.ftp_direct.specs.Direct.{place_in, size_in}
+use Rattle.ftp_tree.specs.Tree.{Node, Dir, File, Table, node_at, octets_at, octets_of, of_node, octets_or_none, octets_refusal, or_else, room_at, room_refusal, whenever, made, removed, installed, freed, moved, under, with_part}
+use Rattle.ftp_direct.specs.Direct.{State, limited, or_refused, part, place_in, put_refusal, refused_octets, refused_room, size_in}
+use Rattle.ftp_direct.specs.declared.refusal.Refusal.{Refusal}
 use Rattle.ftp_settings.specs.declared.representation.Kind.{Kind}
 use Rattle.ftp_tree.specs.declared.fault.TreeFault.{TreeFault}
 use Rattle.ftp_tree.specs.declared.fault.TreeFault.TheVariants.{TooBig, Full}
@@ -132,6 +133,19 @@ few_by false count why is none = absurd (let e : true ≡ false = none in cc)
 -- so many octets pass no limit of octets
 pub not_over : (table : Table) (path : Names) (count : ℕ) → is_some (octets_refusal table path count) ≡ false → count ≤ 67108864
 not_over table path count none = few_by (nat_le count 67108864) count (whenever (not (nat_le count (room_at table path))) Full) refl none
+
+-- nor does one that may be put
+pub second_is_none : (first second : Option Refusal) → or_refused first second ≡ None → second ≡ None
+second_is_none None second is = is
+second_is_none (Some why) second is = absurd (cc)
+
+octets_fit : (fault : Option TreeFault) → refused_octets fault ≡ None → is_some fault ≡ false
+octets_fit None is = refl
+octets_fit (Some fault) is = absurd (cc)
+
+pub put_fits : (state : State) (path : Names) (count : ℕ) → put_refusal state path count ≡ None → count ≤ 67108864
+put_fits state path count none =
+    not_over (part state) path count (octets_fit (octets_refusal (part state) path count) (second_is_none (refused_room (limited path (room_refusal (part state) path))) _ none))
 
 -- ---- where an upload begins
 

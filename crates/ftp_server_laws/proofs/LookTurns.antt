@@ -45,6 +45,7 @@ use Rattle.ftp_server_model.specs.declared.session.Pending.{Pending}
 use Rattle.ftp_server_model.specs.declared.session.Pending.TheVariants as Pendings
 use Rattle.ftp_server_model.specs.declared.session.ServerLink.{ServerLink}
 use Rattle.ftp_server_model.specs.declared.session.ServerLink.TheVariants as Data
+use Rattle.ftp_server_model.specs.declared.session.Keep.TheVariants as Keeps
 use Rattle.ftp_server_model.specs.declared.session.Transfer.TheVariants as Transfers
 use Rattle.ftp_server_laws.specs.Lookers.{HasNoUpload, IsNoUpload, Looks, MayOnlyLook}
 
@@ -155,11 +156,11 @@ module _ (table : Table) where
 
   stor_looks : (place : Option ℕ) (path : Names) (s : Session) → Looks table s → LooksTurn (stor_at place path s)
   stor_looks place path s k =
-      starts_looks _ (Transfers.Upload path (unwrap_or place 0) (no_octets s.settings)) s (λ none. no_put _ (direct_of s) path k.rights (first_is_none _ _ none)) k
+      starts_looks _ (Transfers.Upload path (Keeps.First (unwrap_or place 0)) (no_octets s.settings)) s (λ none. no_put _ (direct_of s) path k.rights (first_is_none _ _ none)) k
 
   appe_looks : (path : Names) (s : Session) → Looks table s → LooksTurn (appe_at path s)
   appe_looks path s k =
-      starts_looks _ (Transfers.Upload path (length (octets_or_none (seen s) path)) (no_octets s.settings)) s
+      starts_looks _ (Transfers.Upload path (Keeps.All (length (octets_or_none (seen s) path))) (no_octets s.settings)) s
       (λ none. no_put _ (direct_of s) path k.rights (first_is_none _ _ none)) k
 
   rests_looks : (why : Option Refusal) (place : ℕ) (s : Session) → Looks table s → LooksTurn (rests why place s)
@@ -170,7 +171,7 @@ module _ (table : Table) where
   rnto_looks (Pendings.Rename from) text s k =
       let to : Names = path_of s text in
       unless_looks (refused_target s from to) s (tells Texts.Done (with_seen (moved (target_seen s from to) from to) s)) k
-      (λ none. wanting _ s.rights.rename (ap (λ (rights : Rights). rights.rename) k.rights) (first_is_none _ _ none))
+      (λ none. wanting _ s.rights.rename (ap (λ (rights : Rights). rights.rename) k.rights) (first_is_none _ _ (first_is_none _ _ none)))
   rnto_looks Pendings.Nothing text s k = k
   rnto_looks (Pendings.Restart place) text s k = k
 

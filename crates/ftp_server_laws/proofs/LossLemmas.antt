@@ -23,6 +23,7 @@ use Rattle.ftp_server_model.specs.Endpoint.{disconnected, forgotten}
 use Rattle.ftp_server_model.specs.Failing.{AbortFails, ActingFails, EndFails, EventIsHeard, EventsAreHeard, GiveFails, InstallFails, Late, LineFails, LineIsHeard, as_ever, not_read, not_done, OctetIsHeard, OctetIsReceived, ReadingFails, UploadFails, WaitingFails, install_lost, line_lost}
 use Rattle.ftp_server_model.specs.Held.{waiting_len}
 use Rattle.ftp_server_model.specs.Kept.{ServerKeeps}
+use Rattle.ftp_server_model.specs.Keep.{kept_count}
 use Rattle.ftp_server_model.specs.Machine.{IsReading, Reading, abort_said, faulted, has_room, heard_event, heard_events, heard_line, hears_octet, is_abort, is_connection_busy, is_idle, later, may_hear}
 use Rattle.ftp_server_model.specs.Replies.{fixed_reply, mark_reply}
 use Rattle.ftp_server_model.specs.Texts.{code_of, text_of}
@@ -263,7 +264,7 @@ all_erased (said ∷ more) v = all_erased more (takes_said v.session.connection 
 one_owes : (connection : ServerLink Transfer) (said : Said) (v : View) → IsShortConnection connection → length (takes_said connection said v).owed ≤ length v.owed + marks_owe (said ∷ [])
 one_owes (Data.Transferring (Transfers.Upload path keep d)) (says sign) v short = omega arith
 one_owes (Data.Transferring (Transfers.Upload path keep d)) (marker text) v short =
-    omega (arith, length-append v.owed (reply_octets (mark_reply text (keep + length d.content))), mark_room text (keep + length d.content) (omega (arith, short)))
+    omega (arith, length-append v.owed (reply_octets (mark_reply text (kept_count keep + length d.content))), mark_room text (kept_count keep + length d.content) (omega (arith, short)))
 one_owes (Data.Transferring Transfers.OverLimit) said v short = omega arith
 one_owes (Data.Transferring (Transfers.Download rest)) said v short = omega arith
 one_owes (Data.Transferring (Transfers.Listing rest)) said v short = omega arith

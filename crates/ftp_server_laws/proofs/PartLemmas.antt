@@ -1,7 +1,8 @@
 -- What each call makes of a server whose map is only the part at and below a root: the same, of that map.
-use Rattle.std.proofs.Common.{◌≡◌, ℕ, ◌+◌, Bool, true, false, not, List, [], ◌∷◌, ◌++◌, Option, Some, None, refl, sym, ap, subst, ◌∙◌, length, take, true≢false}
+use Rattle.std.proofs.Common.{◌≡◌, ℕ, ◌+◌, Bool, true, false, not, List, [], ◌∷◌, ◌++◌, Option, Some, None, refl, sym, ap, subst, ◌∙◌, length, true≢false}
 use Rattle.std.specs.Prelude.{if◌then◌else◌}
 use Rattle.std.specs.Option.{is_some}
+use Rattle.std.specs.FinMap as fin
 use Rattle.std.proofs.lemmas.Bool.{and_parts, cond_both, not-true}
 use Rattle.ftp_endpoint.specs.declared.host.Host.{Host}
 use Rattle.ftp_wire.specs.Decoder.{Decoder, broken, ended, is_whole, with_sign, read_on, octet_says, fault_of}
@@ -9,15 +10,18 @@ use Rattle.ftp_ends.specs.Link.{same_host}
 use Rattle.ftp_mode.specs.Said.{Said, says, marker}
 use Rattle.ftp_mode.specs.declared.fault.FrameFault.{FrameFault}
 use Rattle.ftp_path.specs.Path.{Names}
-use Rattle.ftp_tree.proofs.PartLemmas.{part-stays}
-use Rattle.ftp_tree.specs.Tree.{Table, installed, node_at, octets_or_none, octets_refusal}
+use Rattle.ftp_tree.proofs.PartLemmas.{part-stays, part-taken}
+use Rattle.ftp_tree.specs.Tree.{Table, installed, node_at, octets_or_none, octets_refusal, under}
 use Rattle.ftp_server_model.specs.Act.{decided, is_in}
 use Rattle.ftp_server_model.specs.Calls.{connection_of, listening_turn, unheard, port_opens_for, opens, refuses, takes_given, ends, breaks, control_end, clock_step, control_step, listening_step, no_port_step, opened_step, refused_step, end_step, break_step, close_step, given_step, grown, with_connection, takes_said, takes_all, takes_octet, takes_data}
 use Rattle.ftp_server_model.specs.Endpoint.{forgotten, disconnected}
-use Rattle.ftp_server_model.specs.Machine.{Ending, given_out, completed, obeyed, waited, later, is_idle, has_room, is_connection_busy, is_transferring, turned, replied, concluded, at_break, at_end, installs, put_in, is_over, aborts, abort_said, with_session, owes}
+use Rattle.ftp_server_model.specs.Keep.{kept_count, kept_of}
+use Rattle.ftp_server_model.specs.Machine.{Ending, given_out, completed, obeyed, waited, later, is_idle, has_room, is_connection_busy, is_transferring, turned, replied, concluded, at_break, at_end, end_refusal, ends_by, installs, put_in, is_over, aborts, abort_said, with_session, owes}
 use Rattle.ftp_server_model.specs.Play.{at_root, IsAt}
 use Rattle.ftp_server_model.specs.Replies.{Turn}
 use Rattle.ftp_server_model.specs.View.{Session, Transfer, View, seen}
+use Rattle.ftp_server_model.specs.Walk.{refusal_text}
+use Rattle.ftp_direct.specs.declared.refusal.Refusal.{Refusal}
 use Rattle.ftp_server_model.specs.declared.heard.HeardLine.{HeardLine}
 use Rattle.ftp_server_model.specs.declared.reply.FixedReply.{FixedReply}
 use Rattle.ftp_server_model.specs.declared.reply.FixedReply.TheVariants as Texts
@@ -26,6 +30,7 @@ use Rattle.ftp_server_model.specs.declared.session.Pending.TheVariants as Pendin
 use Rattle.ftp_server_model.specs.declared.session.Way.TheVariants as Ways
 use Rattle.ftp_server_model.specs.declared.session.ServerLink.{ServerLink}
 use Rattle.ftp_server_model.specs.declared.session.ServerLink.TheVariants as Data
+use Rattle.ftp_server_model.specs.declared.session.Keep.{Keep}
 use Rattle.ftp_server_model.specs.declared.session.Transfer.TheVariants as Transfers
 use Rattle.ftp_server_laws.proofs.SeenLemmas.{at, changed_at, seen_at}
 use Rattle.ftp_server_laws.proofs.TurnLemmas.{IsApartFrom, IsHeld, decided_at}
@@ -187,12 +192,12 @@ record EndAt (root : Names) (s : Session) (one its : Ending) : Type 0 where
 unchanged : (root : Names) (s : Session) (text : FixedReply) → EndAt root s (s, text) (at root s, text)
 unchanged root s text = record { same = refl; apart = λ path out. refl; access = refl; top = refl; connection = refl }
 
-over_own : (path : Names) (keep : ℕ) (d : Decoder) (s : Session) → is_over path keep d (at s.root s) ≡ is_over path keep d s
-over_own path keep d s = ap (λ part. is_some (octets_refusal part path (keep + length d.content))) (seen_at s)
+over_own : (path : Names) (keep : Keep) (d : Decoder) (s : Session) → is_over path keep d (at s.root s) ≡ is_over path keep d s
+over_own path keep d s = ap (λ part. is_some (octets_refusal part path (kept_count keep + length d.content))) (seen_at s)
 
-put_own : (moment : ℕ) (path : Names) (keep : ℕ) (octets : List ℕ) (text : FixedReply) (s : Session) → EndAt s.root s (put_in moment path keep octets s, text) (put_in moment path keep octets (at s.root s), text)
+put_own : (moment : ℕ) (path : Names) (keep : Keep) (octets : List ℕ) (text : FixedReply) (s : Session) → EndAt s.root s (put_in moment path keep octets s, text) (put_in moment path keep octets (at s.root s), text)
 put_own moment path keep octets text s =
-    let new : Table → Table = λ part. installed part path (take keep (octets_or_none part path) ++ octets) moment in
+    let new : Table → Table = λ part. installed part path (kept_of keep (octets_or_none part path) ++ octets) moment in
     record {
       same = ap (λ (table : Table). (record s { table = table }, text)) (changed_at s.table s.root (new (seen s)) (new (seen (at s.root s))) (ap new (seen_at s)));
       apart = λ path out. part-stays s.table s.root (new (seen s)) path out;
@@ -201,14 +206,17 @@ put_own moment path keep octets text s =
       connection = refl;
     }
 
-installs_own : (moment : ℕ) (path : Names) (keep : ℕ) (d : Decoder) (text : FixedReply) (s : Session) → EndAt s.root s (installs moment path keep d text s) (installs moment path keep d text (at s.root s))
+refusal_own : (path : Names) (keep : Keep) (octets : List ℕ) (s : Session) → end_refusal path keep octets (at s.root s) ≡ end_refusal path keep octets s
+refusal_own path keep octets s = rw (part-taken fin.empty s.root (under s.table s.root)) refl
+
+installs_own : (moment : ℕ) (path : Names) (keep : Keep) (d : Decoder) (text : FixedReply) (s : Session) → EndAt s.root s (installs moment path keep d text s) (installs moment path keep d text (at s.root s))
 installs_own moment path keep d text s =
-    subst (λ b. EndAt s.root s (installs moment path keep d text s) (if b then (at s.root s, Texts.TooMuch) else (put_in moment path keep d.content (at s.root s), text)))
-    (sym (over_own path keep d s)) (by (is_over path keep d s))
+    subst (λ why. EndAt s.root s (installs moment path keep d text s) (ends_by why moment path keep d.content text (at s.root s)))
+    (sym (refusal_own path keep d.content s)) (by_why (end_refusal path keep d.content s))
   where
-    by : (b : Bool) → EndAt s.root s (if b then (s, Texts.TooMuch) else (put_in moment path keep d.content s, text)) (if b then (at s.root s, Texts.TooMuch) else (put_in moment path keep d.content (at s.root s), text))
-    by true = unchanged s.root s Texts.TooMuch
-    by false = put_own moment path keep d.content text s
+    by_why : (why : Option Refusal) → EndAt s.root s (ends_by why moment path keep d.content text s) (ends_by why moment path keep d.content text (at s.root s))
+    by_why None = put_own moment path keep d.content text s
+    by_why (Some why) = unchanged s.root s (refusal_text why)
 
 break_own : (moment : ℕ) (transfer : Transfer) (s : Session) → EndAt s.root s (at_break moment transfer s) (at_break moment transfer (at s.root s))
 break_own moment (Transfers.Upload path keep d) s = installs_own moment path keep (broken d) Texts.Broken s
@@ -374,7 +382,7 @@ given_at count root v held =
 
 -- ---- the octets of an upload
 
-grown_at : (path : Names) (keep : ℕ) (d : Decoder) (root : Names) (s : Session) → s.root ≡ root → grown path keep d (at root s) ≡ grown path keep d s
+grown_at : (path : Names) (keep : Keep) (d : Decoder) (root : Names) (s : Session) → s.root ≡ root → grown path keep d (at root s) ≡ grown path keep d s
 grown_at path keep d root s same =
     subst (λ r. grown path keep d (at r s) ≡ grown path keep d s) same
     (ap (λ b. if b then Data.Transferring Transfers.OverLimit else Data.Transferring (Transfers.Upload path keep d)) (over_own path keep d s))
@@ -409,7 +417,7 @@ all_at (said ∷ rest) root v held =
     more root v (takes_said v.session.connection said v) (takes_said v.session.connection said (at_root root v)) (takes_all rest) (said_at v.session.connection said root v refl held)
     (all_at rest root (takes_said v.session.connection said v))
 
-octet_at : (fault : Option FrameFault) (path : Names) (keep : ℕ) (d : Decoder) (said : List Said) (root : Names) (v : View) → v.session.root ≡ root
+octet_at : (fault : Option FrameFault) (path : Names) (keep : Keep) (d : Decoder) (said : List Said) (root : Names) (v : View) → v.session.root ≡ root
     → StepAt root v (takes_octet fault path keep d said v) (takes_octet fault path keep d said (at_root root v))
 octet_at None path keep d said root v same =
     let c : ServerLink Transfer = Data.Transferring (Transfers.Upload path keep d) in

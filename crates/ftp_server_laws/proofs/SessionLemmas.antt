@@ -1,9 +1,8 @@
 -- What each line leaves short of a session: a lemma for each definition that makes a turn, and one for each verb.
-use Rattle.std.proofs.Common.{ℕ, ◌+◌, ◌≤◌, List, ◌++◌, Bool, true, false, Option, Some, None, arith, length, length-append, take}
+use Rattle.std.proofs.Common.{◌≡◌, refl, ℕ, ◌≤◌, List, Bool, true, false, Option, Some, None, arith, length}
 use Rattle.std.specs.Prelude.{if◌then◌else◌}
 use Rattle.std.specs.Option.{unwrap_or}
 use Rattle.std.proofs.lemmas.Bool.{cond_both}
-use Rattle.std.proofs.lemmas.List.{length-take}
 use Rattle.ftp_command.specs.declared.command.Command.{Command}
 use Rattle.ftp_command.specs.declared.command.Command.TheVariants as command
 use Rattle.ftp_command.specs.declared.command.Passive.{Passive}
@@ -23,7 +22,7 @@ use Rattle.ftp_server_model.specs.Ask.{size, has_size, or_empty}
 use Rattle.ftp_server_model.specs.Endpoint.{forgotten, disconnected, is_taken, takes, port, asks, pasv, epsv}
 use Rattle.ftp_server_model.specs.Entries.{option_facts}
 use Rattle.ftp_server_model.specs.Login.{admits, open_account, user_named, checked, pass}
-use Rattle.ftp_server_model.specs.Machine.{Ending, is_over, put_in, installs, at_break, at_end}
+use Rattle.ftp_server_model.specs.Machine.{Ending, end_refusal, ends_by, installs, put_together, at_break, at_end}
 use Rattle.ftp_server_model.specs.Replies.{Turn, tells}
 use Rattle.ftp_server_model.specs.Setting.{choose, is_utf8_on, opts}
 use Rattle.ftp_server_model.specs.Transfer.{rests, begin, transfer_starts, place_of, stor_at, appe_at, refused_to_hold}
@@ -44,9 +43,11 @@ use Rattle.ftp_server_model.specs.declared.session.Pending.{Pending}
 use Rattle.ftp_server_model.specs.declared.session.Pending.TheVariants as Pendings
 use Rattle.ftp_server_model.specs.declared.session.ServerLink.{ServerLink}
 use Rattle.ftp_server_model.specs.declared.session.ServerLink.TheVariants as Data
+use Rattle.ftp_server_model.specs.declared.session.Keep.{Keep}
+use Rattle.ftp_server_model.specs.declared.session.Keep.TheVariants as Keeps
 use Rattle.ftp_server_model.specs.declared.session.Transfer.TheVariants as Transfers
 use Rattle.ftp_server_laws.specs.Small.{IsShortTransfer, IsShortConnection, IsShortSession}
-use Rattle.ftp_server_laws.proofs.FileLemmas.{made_short, removed_short, installed_short, renamed_short, seen_short, not_over, skips_few}
+use Rattle.ftp_server_laws.proofs.FileLemmas.{made_short, removed_short, installed_short, renamed_short, seen_short, put_fits, second_is_none, skips_few}
 
 abbrev IsShortTurn : Turn → Type 0
 IsShortTurn turn = IsShortSession turn.0
@@ -139,11 +140,11 @@ place_short Pendings.Nothing path s k = omega arith
 place_short (Pendings.Rename from) path s k = omega arith
 
 stor_short : (place : Option ℕ) (path : Names) (s : Session) → unwrap_or place 0 ≤ 67108864 → IsShortSession s → IsShortTurn (stor_at place path s)
-stor_short place path s few k = starts_short _ (Transfers.Upload path (unwrap_or place 0) (no_octets s.settings)) s (omega (arith, few)) k
+stor_short place path s few k = starts_short _ (Transfers.Upload path (Keeps.First (unwrap_or place 0)) (no_octets s.settings)) s (omega (arith, few)) k
 
 appe_short : (path : Names) (s : Session) → IsShortSession s → IsShortTurn (appe_at path s)
 appe_short path s k =
-    starts_short (or_refused (barred_put (direct_of s) path) (refused_to_hold s path)) (Transfers.Upload path (length (octets_or_none (seen s) path)) (no_octets s.settings)) s (omega (arith, seen_short s.table s.root path k.files)) k
+    starts_short (or_refused (barred_put (direct_of s) path) (refused_to_hold s path)) (Transfers.Upload path (Keeps.All (length (octets_or_none (seen s) path))) (no_octets s.settings)) s (omega (arith, seen_short s.table s.root path k.files)) k
 
 rests_short : (why : Option Refusal) (place : ℕ) (s : Session) → IsShortSession s → IsShortTurn (rests why place s)
 rests_short None place s k = record { files = k.files; connection = k.connection }
@@ -218,14 +219,17 @@ decided_short footing (Asks c) pending s k =
 
 -- ---- how a transfer ends
 
-installs_short : (moment : ℕ) (path : Names) (keep : ℕ) (d : Decoder) (text : FixedReply) (s : Session) → IsShortSession s → IsShortSession (installs moment path keep d text s).0
-installs_short moment path keep d text s k =
-    cond_both (is_over path keep d s) (s, Texts.TooMuch) (put_in moment path keep d.content s, text) (λ (e : Ending). IsShortSession e.0) (λ is. k)
-    (λ is. record {
-      files = installed_short s.table s.root path (take keep (octets_or_none (seen s) path) ++ d.content) moment
-          (omega (arith, length-append (take keep (octets_or_none (seen s) path)) d.content, length-take keep (octets_or_none (seen s) path), not_over (seen s) path (keep + length d.content) is)) k.files;
-      connection = k.connection;
-    })
+installs_short : (moment : ℕ) (path : Names) (keep : Keep) (d : Decoder) (text : FixedReply) (s : Session) → IsShortSession s → IsShortSession (installs moment path keep d text s).0
+installs_short moment path keep d text s k = by_why (end_refusal path keep d.content s) refl
+  where
+    by_why : (why : Option Refusal) → end_refusal path keep d.content s ≡ why → IsShortSession (ends_by why moment path keep d.content text s).0
+    by_why None none =
+        let whole : List ℕ = put_together path keep d.content s in
+        record {
+          files = installed_short s.table s.root path whole moment (put_fits (direct_of s) path (length whole) (second_is_none _ _ (second_is_none _ _ none))) k.files;
+          connection = k.connection;
+        }
+    by_why (Some why) is = k
 
 pub break_short : (moment : ℕ) (transfer : Transfer) (s : Session) → IsShortSession s → IsShortSession (at_break moment transfer s).0
 break_short moment (Transfers.Upload path keep d) s k = installs_short moment path keep (broken d) Texts.Broken s k

@@ -12,10 +12,10 @@ use Rattle.ftp_path.specs.Path.{Names, is_within}
 use Rattle.ftp_operation.specs.Account.{Account, login_account}
 use Rattle.ftp_operation.specs.declared.op.Op.{Op}
 use Rattle.ftp_operation.specs.declared.op.Op.TheVariants as Ops
-use Rattle.ftp_direct.specs.Direct.{refusal, barred, done, limited, or_refused, refused_name, is_directory}
+use Rattle.ftp_direct.specs.Direct.{refusal, done, is_directory}
 use Rattle.ftp_direct.specs.declared.refusal.Refusal.{Refusal}
 use Rattle.ftp_tree.proofs.PartLemmas.{part-stays, part-taken}
-use Rattle.ftp_tree.specs.Tree.{Table, freed, made, removed, moved, node_at, rename_refusal, under}
+use Rattle.ftp_tree.specs.Tree.{Table, freed, made, removed, moved, node_at, under}
 use Rattle.ftp_server_model.specs.Act.{act, decided, forgets, is_allowed, is_in, is_transfer}
 use Rattle.ftp_server_model.specs.Ask.{size, mdtm, mlst, has_size, or_empty, size_of}
 use Rattle.ftp_server_model.specs.Endpoint.{forgotten, is_taken, takes, port, asks, pasv, epsv}
@@ -205,7 +205,7 @@ rnfr_own text s =
 renames_own : (from to : Names) (s : Session) → OwnTurn s (renames from to s) (renames from to (at s.root s))
 renames_own from to s =
     unless_own (refused_target s from to) (refused_target (at s.root s) from to) s _ _
-    (ap (λ part. or_refused (barred s.rights.rename) (refused_name (limited to (rename_refusal (freed s.rights.onto part from to) from to)))) (seen_at s))
+    (rw (part-taken fin.empty s.root (under s.table s.root)) refl)
     (changes s (moved (target_seen s from to) from to) (moved (target_seen (at s.root s) from to) from to) _ (ap (λ part. moved (freed s.rights.onto part from to) from to) (seen_at s)) tt)
 
 rnto_own : (pending : Pending Names) (text : List ℕ) (s : Session) → OwnTurn s (rnto pending text s) (rnto pending text (at s.root s))

@@ -13,6 +13,7 @@ use Rattle.ftp_server_model.specs.Act.{decided}
 use Rattle.ftp_server_model.specs.Calls.{connection_of, listening_turn, unheard, port_opens_for, opens, refuses, takes_given, ends, breaks, control_end, clock_step, control_step, listening_step, no_port_step, opened_step, refused_step, end_step, break_step, close_step, given_step, grown, with_connection, takes_said, takes_all, takes_octet, takes_data, receives_octet}
 use Rattle.ftp_server_model.specs.Endpoint.{forgotten, disconnected}
 use Rattle.ftp_server_model.specs.Held.{waiting_len}
+use Rattle.ftp_server_model.specs.Keep.{kept_count}
 use Rattle.ftp_server_model.specs.Machine.{Reading, IsReading, given_out, completed, obeyed, waited, later, is_idle, is_abort, turned, replied, is_over, aborts, abort_said, aborted, heard_line, heard_event, heard_events, hears_octet, with_session}
 use Rattle.ftp_server_model.specs.Replies.{Turn}
 use Rattle.ftp_server_model.specs.View.{Session, Transfer, View, line_limit, seen}
@@ -25,6 +26,7 @@ use Rattle.ftp_server_model.specs.declared.session.Pending.TheVariants as Pendin
 use Rattle.ftp_server_model.specs.declared.session.Way.TheVariants as Ways
 use Rattle.ftp_server_model.specs.declared.session.ServerLink.{ServerLink}
 use Rattle.ftp_server_model.specs.declared.session.ServerLink.TheVariants as Data
+use Rattle.ftp_server_model.specs.declared.session.Keep.{Keep}
 use Rattle.ftp_server_model.specs.declared.session.Transfer.TheVariants as Transfers
 use Rattle.ftp_server_laws.specs.Small.{IsShortConnection, IsShortSession, IsShort}
 use Rattle.ftp_server_laws.proofs.FileLemmas.{not_over}
@@ -168,10 +170,10 @@ takes_given_short count Data.Ready v k = k
 
 -- ---- the octets of an upload
 
-grown_short : (path : Names) (keep : ℕ) (d : Decoder) (s : Session) → IsShortConnection (grown path keep d s)
+grown_short : (path : Names) (keep : Keep) (d : Decoder) (s : Session) → IsShortConnection (grown path keep d s)
 grown_short path keep d s =
     cond_both (is_over path keep d s) (Data.Transferring Transfers.OverLimit) (Data.Transferring (Transfers.Upload path keep d)) IsShortConnection (λ is. tt)
-    (λ is. not_over (seen s) path (keep + length d.content) is)
+    (λ is. not_over (seen s) path (kept_count keep + length d.content) is)
 
 pub said_short : (connection : ServerLink Transfer) (said : Said) (v : View) → v.session.connection ≡ connection → IsShort v → IsShort (takes_said connection said v)
 said_short (Data.Transferring (Transfers.Upload path keep d)) (says sign) v is k = moves_short (grown path keep (with_sign d sign) v.session) v (grown_short path keep (with_sign d sign) v.session) k
@@ -192,7 +194,7 @@ pub all_short : (said : List Said) (v : View) → IsShort v → IsShort (takes_a
 all_short [] v k = k
 all_short (said ∷ more) v k = all_short more (takes_said v.session.connection said v) (said_short v.session.connection said v refl k)
 
-octet_short : (fault : Option FrameFault) (path : Names) (keep : ℕ) (d : Decoder) (said : List Said) (v : View) → IsShortConnection (Data.Transferring (Transfers.Upload path keep d)) → IsShort v
+octet_short : (fault : Option FrameFault) (path : Names) (keep : Keep) (d : Decoder) (said : List Said) (v : View) → IsShortConnection (Data.Transferring (Transfers.Upload path keep d)) → IsShort v
     → IsShort (takes_octet fault path keep d said v)
 octet_short None path keep d said v short k = all_short said (with_connection (Data.Transferring (Transfers.Upload path keep d)) v) (moves_short _ v short k)
 octet_short (Some fault) path keep d said v short k = forgets_with Texts.LocalFault v k

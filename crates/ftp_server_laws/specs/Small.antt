@@ -4,6 +4,7 @@ use Rattle.std.specs.Prelude.{◌+◌, ◌≤◌, length}
 use Rattle.ftp_ends.specs.Limits.{IsShortLine}
 use Rattle.ftp_tree.specs.Tree.{file_limit}
 use Rattle.ftp_server_model.specs.Held.{HasShortFiles, waiting_len}
+use Rattle.ftp_server_model.specs.Keep.{kept_count}
 use Rattle.ftp_server_model.specs.Kept.{ServerKeeps}
 use Rattle.ftp_server_model.specs.View.{Session, Transfer, View, line_limit}
 use Rattle.ftp_server_model.specs.declared.session.ServerLink.{ServerLink}
@@ -12,7 +13,7 @@ use Rattle.ftp_server_model.specs.declared.session.Transfer.TheVariants as Trans
 
 -- an upload: the octets before it and those that came are within the limit of a file
 abbrev pub IsShortTransfer : Transfer → Type 0
-IsShortTransfer (Transfers.Upload path keep d) = keep + length d.content ≤ file_limit
+IsShortTransfer (Transfers.Upload path keep d) = kept_count keep + length d.content ≤ file_limit
 IsShortTransfer Transfers.OverLimit = Unit {0}
 IsShortTransfer (Transfers.Download rest) = Unit {0}
 IsShortTransfer (Transfers.Listing rest) = Unit {0}

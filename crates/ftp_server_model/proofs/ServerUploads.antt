@@ -1,6 +1,6 @@
 -- The worked rows of uploads, computed.
 use Rattle.std.proofs.Common.{◌≡◌, ℕ, ◌+◌, List, [], ◌∷◌, ◌++◌, Option, Some, None, Bool, true, false, refl, ap, ◌∙◌}
-use Rattle.std.specs.Prelude.{codes, decimal, length, take, nat_le, unwrap_or, if◌then◌else◌}
+use Rattle.std.specs.Prelude.{codes, decimal, length, nat_le, unwrap_or, if◌then◌else◌}
 use Rattle.ftp_command.specs.declared.command.Command.TheVariants as command
 use Rattle.ftp_settings.specs.declared.representation.Kind.TheVariants as Kinds
 use Rattle.ftp_settings.specs.declared.representation.Mode.TheVariants as Modes
@@ -11,13 +11,12 @@ use Rattle.ftp_path.specs.Path.{resolved, fits, text_of, Names}
 use Rattle.ftp_tree.specs.Tree.{Table, File, node_at, octets_at, octets_or_none, room_refusal, room_at, installed, under}
 use Rattle.ftp_settings.specs.declared.representation.Structure.TheVariants as Structures
 use Rattle.ftp_settings.specs.Representation.{defaults}
-use Rattle.ftp_wire.specs.Decoder.{Decoder, no_octets, decoder_of, ended}
+use Rattle.ftp_wire.specs.Decoder.{Decoder, no_octets, decoder_of}
 use Rattle.ftp_ends.specs.Ear.{quiet}
 use Rattle.ftp_server_model.specs.View.{Footing, Session, Transfer, View, all_facts, seen, with_seen}
 use Rattle.ftp_server_model.specs.Replies.{reply_octets, reply_of, fixed_reply}
 use Rattle.ftp_server_model.specs.Transfer.{misplaced, place_of, refused_to_hold}
 use Rattle.ftp_server_model.specs.Keep.{kept_of, lacks}
-use Rattle.ftp_server_model.specs.Walk.{refusal_text}
 use Rattle.ftp_server_model.specs.Machine.{may_hear, obeyed, Ending, end_refusal, ends_by, is_over, owes, with_session}
 use Rattle.ftp_server_model.specs.Calls.{control_end, listening, data_opened, receives, receives_octet, data_end, data_fault, may_receive, wants}
 use Rattle.ftp_ends.specs.RowWords.{here}
