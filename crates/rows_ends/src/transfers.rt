@@ -1,7 +1,8 @@
 // Rows of a server's transfers alone, on a tree that others change between their calls, or whose device fails.
 use ftp_facts::Moment;
+use ftp_operation::Rights;
 use ftp_path::Path;
-use ftp_server_model::{Facts, FixedReply};
+use ftp_server_model::{Facts, FixedReply, Keep};
 use ftp_server_parts::{Fault, ServerTransfer, Told, fixed_code};
 use ftp_server_transfer::TreeTransfer;
 use ftp_settings::{Kind, Mode, Representation, Structure};
@@ -22,6 +23,7 @@ struct Stage<J: Drop> {
     tree: FailingTree<Global>,
     transfer: Option<J>,
     settings: Representation,
+    rights: Rights,
 }
 
 /// What a line does.
@@ -34,8 +36,10 @@ enum Step {
     Remove,
     Rename,
     Device,
+    Adds,
     Download,
     Upload,
+    Append,
     List,
     Names,
     Entries,
@@ -55,8 +59,10 @@ const STEPS: &[(&'static [u8], Step)] = &[
     (b"remove", Step::Remove),
     (b"rename", Step::Rename),
     (b"device", Step::Device),
+    (b"adds", Step::Adds),
     (b"download", Step::Download),
     (b"upload", Step::Upload),
+    (b"append", Step::Append),
     (b"list", Step::List),
     (b"names", Step::Names),
     (b"entries", Step::Entries),
@@ -107,6 +113,7 @@ impl<J: ServerTransfer<Global, FailingTree<Global>>> Stage<J> {
                 structure: Structure::File,
                 mode: Mode::Stream,
             },
+            rights: Rights::all(),
         }
     }
 
@@ -115,6 +122,7 @@ impl<J: ServerTransfer<Global, FailingTree<Global>>> Stage<J> {
         match found(STEPS, word, Step::Nothing) {
             Step::Nothing => {}
             Step::Type => self.settings.kind = Kind::Ascii,
+            Step::Adds => self.rights.replace = false,
             Step::Device => self.tree.fails_at(number(rest)),
             Step::Give => self.give(number(rest), paper),
             Step::Data => self.data(rest, paper),
@@ -180,11 +188,25 @@ impl<J: ServerTransfer<Global, FailingTree<Global>>> Stage<J> {
         let root = Path::root(alloc);
         match step {
             Step::Download => J::download(&mut self.tree, &root, &path, at, settings),
-            Step::Upload => J::upload(alloc, &mut self.tree, &root, &mut path, at, settings),
+            Step::Upload | Step::Append => {
+                let keep = self.kept(step, &path, at);
+                J::upload(alloc, &mut self.tree, &root, &mut path, keep, settings)
+            }
             _ => match self.listing(step, &mut path) {
                 Ok(listing) => Ok(listing),
                 Err(_) => Err(Fault::Memory),
             },
+        }
+    }
+
+    /// The octets before a place, or all that stand there.
+    fn kept(&self, step: Step, path: &Path<Global>, at: u64) -> Keep {
+        match step {
+            Step::Append => {
+                let size = self.tree.size(&Path::root(self.alloc), path);
+                Keep::All(size.unwrap_or(0))
+            }
+            _ => Keep::First(at),
         }
     }
 
@@ -243,9 +265,9 @@ impl<J: ServerTransfer<Global, FailingTree<Global>>> Stage<J> {
         };
         let root = Path::root(self.alloc);
         let ended = if breaks {
-            transfer.at_break(&mut self.tree, &root, NOW)
+            transfer.at_break(&mut self.tree, &root, self.rights, NOW)
         } else {
-            transfer.at_end(&mut self.tree, &root, NOW)
+            transfer.at_end(&mut self.tree, &root, self.rights, NOW)
         };
         put_end(ended, paper);
     }
