@@ -1,5 +1,5 @@
 -- What a directory shows, from its parts.
-use Rattle.std.proofs.Common.{ℕ, ◌≡◌, true, cond, Option, Some, List, [], ◌∷◌, ◌++◌, refl, ap, ◌∙◌}
+use Rattle.std.proofs.Common.{ℕ, ◌≡◌, true, cond, Option, Some, List, [], ◌∷◌, ◌++◌, refl, sym, ap, ◌∙◌, append_assoc}
 use Rattle.std.specs.Prelude.{map}
 use Rattle.std.specs.Cmp.{tied_itself}
 use Rattle.std.specs.FinMap as fin
@@ -13,7 +13,7 @@ use Rattle.ftp_tree.specs.Branch.{IsDirectory, Part, file_alone, found, name_cmp
 use Rattle.ftp_tree.specs.Entries.{shown_part}
 use Rattle.ftp_tree.proofs.BranchLemmas.{at-name, file-names, name_total, names-top}
 use Rattle.ftp_tree.proofs.LawLemmas.{under-stands}
-use Rattle.ftp_tree.proofs.LeafLemmas.{names-here, none-named}
+use Rattle.ftp_tree.proofs.LeafLemmas.{names-below, none-named}
 use Rattle.ftp_tree.proofs.NameLemmas.{after-before, less-from}
 
 module _ (shown : Option Table → Option (ℕ × ℕ)) where
@@ -59,12 +59,17 @@ pub entries-file : (octets : List ℕ) (moment : ℕ) → entries_at (file_alone
 unfolding entries_at
 entries-file octets moment = ap (map (shown_by (file_alone octets moment))) (file-names octets moment)
 
--- what the directory at a path shows is what the part below it shows at its top
-pub entries-here : (part : Table) (path : Names) → entries_at (under part path) [] ≡ entries_at part path
+-- what the directory at a path of a part shows is what the part there shows at its top
+pub entries-below : (table : Table) (root path : Names) → entries_at (under table (root ++ path)) [] ≡ entries_at (under table root) path
 unfolding entries_at
-entries-here part path =
-    ap (map (shown_by (under part path))) (names-here part path)
-    ∙ (λ i. map (λ name. shown_with name (under-stands part path (name ∷ []) i)) (children part path))
+entries-below table root path =
+    ap (map (shown_by (under table (root ++ path)))) (names-below table root path)
+    ∙ (λ i. map (λ name. shown_with name (here name i)) (children (under table root) path))
+  where
+    here : (name : List ℕ) → node_at (under table (root ++ path)) (name ∷ []) ≡ node_at (under table root) (path ++ name ∷ [])
+    here name =
+        under-stands table (root ++ path) (name ∷ []) ∙ ap (node_at table) (append_assoc root path (name ∷ []))
+        ∙ sym (under-stands table root (path ++ name ∷ []))
 
 -- where nothing stands, nothing is shown
 pub entries-none : (path : Names) → entries_at fin.empty path ≡ []
