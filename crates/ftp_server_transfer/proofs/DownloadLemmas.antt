@@ -106,8 +106,7 @@ more_made all rest next room front behind made more within is before now =
 -- so it is the front of all, and what is left is behind it
 pub given_front : (all rest room : List ℕ) (made : ℕ) → made ≤ length room → all ≡ take made room ++ rest → (take made room ≡ take made all) × (rest ≡ drop made all)
 given_front all rest room made few is =
-    let long : length (take made room) ≡ made = length-take-le made room few in
-    (
+    let long : length (take made room) ≡ made = length-take-le made room few in (
       sym (ap (take made) is ∙ ap (λ n. take n (take made room ++ rest)) (sym long) ∙ take-append_seam (take made room) rest),
       sym (ap (drop made) is ∙ ap (λ n. drop n (take made room ++ rest)) (sym long) ∙ drop-append_seam (take made room) rest),
     )

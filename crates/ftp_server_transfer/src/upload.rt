@@ -43,12 +43,7 @@ impl<A: Allocator + Copy, T: Tree<A>> Upload<A, T> {
     ghost use Rattle.ftp_server_transfer.specs.Upload.{upload_of};
 
     /// An upload to a path, behind so many octets of the file there, in a representation, into a draft. Takes no memory.
-    pub fn new(
-        path: Path<A>,
-        keep: u64,
-        settings: Representation,
-        draft: T::Draft,
-    ) -> Upload<A, T>
+    pub fn new(path: Path<A>, keep: u64, settings: Representation, draft: T::Draft) -> Upload<A, T>
         ensures { upload_of result ≡ Transfers.Upload path keep (record (no_octets settings) { content = T.Draft.octets draft }) }
     {
         Upload {
