@@ -1,14 +1,10 @@
--- Limits of octets behind those that are kept, and what a refused call leaves.
-use Rattle.std.proofs.Common.{ℕ, ◌+◌, ◌-◌, ◌≤◌, ◌<◌, ◌≡◌, ◌⊎◌, inl, inr, not, Bool, true, false, Option, Some, None, length, nat_le, is_some, is_none, SomeIff, nat_lt, refl, sym, ap, ◌∙◌, arith}
+-- Limits of octets behind those that are kept.
+use Rattle.std.proofs.Common.{ℕ, ◌+◌, ◌-◌, ◌≤◌, ◌<◌, ◌≡◌, not, Bool, true, false, Option, Some, None, length, nat_le, is_some, is_none, SomeIff, nat_lt, refl, sym, ap, ◌∙◌, arith}
 use Rattle.std.proofs.Math.Nat.{min-le_left}
 use Rattle.std.proofs.lemmas.Bool.{leb-true, leb-false, le-leb, lt-leb, true≢false}
 use Rattle.std.proofs.lemmas.Bool.Decides.{nat_tests}
 use Rattle.ftp_path.specs.Path.{Names}
-use Rattle.ftp_tree.specs.Change.{IsRefused, next_count}
 use Rattle.ftp_tree.specs.Tree.{Table, install_refusal, octets_or_none, octets_refusal, octets_in, or_else, whenever, file_limit, total_limit, room_at, room_refusal}
-use Rattle.ftp_server_parts.specs.Fault.{Counted}
-use Rattle.ftp_server_parts.specs.declared.fault.Fault.{Fault}
-use Rattle.ftp_server_parts.specs.declared.fault.Fault.TheVariants.{Memory, Device}
 use Rattle.ftp_tree.specs.declared.fault.TreeFault.{TreeFault}
 use Rattle.ftp_tree.specs.declared.fault.TreeFault.TheVariants.{TooBig, Full}
 
@@ -133,15 +129,3 @@ none_below None most count past = of (nat_le count most) refl
     of true fits = absurd (past (leb-true count most fits))
     of false over = ap not (sym over)
 none_below (Some left) most count had = ap not (sym (le-leb count most had.0))
-
--- a refused call leaves the count of device failures as it was, or moved on by one
-pub failed_or_not : (refusal : Option TreeFault) (fault : TreeFault) (old new : Table) (before after was now : ℕ) → was ≡ before → now ≡ after
-    → IsRefused refusal fault old new before after → (now ≡ was) ⊎ (now ≡ next_count was)
-failed_or_not (Some why) fault old new before after was now first then (same, is) = inl (then ∙ is.1 ∙ sym first)
-failed_or_not None fault old new before after was now first then (same, inl memory) = inl (then ∙ memory.1 ∙ sym first)
-failed_or_not None fault old new before after was now first then (same, inr device) = inr (then ∙ device.1 ∙ ap next_count (sym first))
-
--- the same counts tell the same
-pub counted_as : (fault : Fault) (before after was now : ℕ) → was ≡ before → now ≡ after → Counted fault was now → Counted fault before after
-counted_as Memory before after was now first then same = sym then ∙ same ∙ first
-counted_as Device before after was now first then on = sym then ∙ on ∙ ap next_count first

@@ -1,4 +1,4 @@
-use Rattle.std.proofs.Common.{◌≡◌, ◌≤◌, ◌<◌, ◌-◌, length, take, drop, nat_le, sym, ap, arith, ◌∙◌}
+use Rattle.std.proofs.Common.{◌≤◌, ◌-◌, length, take, drop, nat_le, ap, arith, rules, ◌∙◌}
 use Rattle.ftp_wire.specs.Encoding.{still_to_give}
 use Rattle.ftp_server_transfer.proofs.DownloadLemmas.{last_ends, piece_of, piece_put, some_moves}
 use Rattle.ftp_server_transfer.proofs.download.Download.encode.Goals as goal
@@ -7,7 +7,8 @@ pub returns-clause-text : goal.returns-clause-text
 returns-clause-text g c =
     let file = g.T.Tree.opened c.args.file.now in
     let piece = c.split_at.result.0.now in
-    let cut = piece_of c.read.new.room (drop c.args.at file) piece c.in_ok-count.count c.split_at.ensures.front c.in_ok-count.ensures.most.0 c.in_ok-count.ensures.octets in
+    let few : c.in_ok-count.count ≤ length c.read.new.room = search rules in
+    let cut = piece_of c.read.new.room (drop c.args.at file) piece c.in_ok-count.count c.split_at.ensures.front few c.in_ok-count.ensures.octets in
     piece_put (still_to_give c.args.encoder.now) (still_to_give c.put.new.self) file piece (take c.put.result.made c.put.new.room) c.args.at c.put.result.taken
     (nat_le c.saturating_sub-left.result (length piece)) cut.1 c.put.ensures.within.0
     (λ last. last_ends file c.args.at c.saturating_sub-left.result c.args.len (length piece) c.saturating_sub-left.ensures c.requires.len last) c.put.ensures.text
@@ -16,7 +17,8 @@ pub returns-clause-some : goal.returns-clause-some
 returns-clause-some g c =
     let file = g.T.Tree.opened c.args.file.now in
     let piece = c.split_at.result.0.now in
-    let cut = piece_of c.read.new.room (drop c.args.at file) piece c.in_ok-count.count c.split_at.ensures.front c.in_ok-count.ensures.most.0 c.in_ok-count.ensures.octets in
+    let few : c.in_ok-count.count ≤ length c.read.new.room = search rules in
+    let cut = piece_of c.read.new.room (drop c.args.at file) piece c.in_ok-count.count c.split_at.ensures.front few c.in_ok-count.ensures.octets in
     some_moves (still_to_give c.args.encoder.now) file piece c.args.at (length c.args.room.now) c.put.result.made c.put.result.taken c.saturating_sub-left.result
     (c.saturating_sub-left.ensures ∙ ap (λ n. n - c.args.at) c.requires.len) cut.1 (λ here. omega (arith, cut.0, c.in_ok-count.ensures.some (omega arith) here))
     c.requires.some c.requires.left c.put.ensures.all c.put.ensures.some
@@ -25,5 +27,6 @@ pub returns-clause-within : goal.returns-clause-within
 returns-clause-within g c =
     let file = g.T.Tree.opened c.args.file.now in
     let piece = c.split_at.result.0.now in
-    let cut = piece_of c.read.new.room (drop c.args.at file) piece c.in_ok-count.count c.split_at.ensures.front c.in_ok-count.ensures.most.0 c.in_ok-count.ensures.octets in
+    let few : c.in_ok-count.count ≤ length c.read.new.room = search rules in
+    let cut = piece_of c.read.new.room (drop c.args.at file) piece c.in_ok-count.count c.split_at.ensures.front few c.in_ok-count.ensures.octets in
     (c.put.ensures.within.1, omega (arith, c.put.ensures.within.0, cut.0, c.in_ok-count.ensures.most.1))

@@ -19,20 +19,20 @@ loop-made-preserved g c =
 
 pub returns-then-given-clause-gave : goal.returns-then-given-clause-gave
 returns-then-given-clause-gave g c =
-    let rest = rest_of g.T.Tree.opened in
     let given = c.step-given in
     let room = c.split_at_mut-free.result.0.now ++ given.new.room in
     let few : c.loop-made.made + given.result.count ≤ length room = search rules in
+    let rest = rest_of g.T.Tree.opened in
     let made = more_made (rest c.args.self.now) (rest c.loop-made.self) (rest given.new.self) c.loop-made.room c.split_at_mut-free.result.0.now given.new.room
     c.loop-made.made given.result.count c.loop-made.invariant.made c.split_at_mut-free.ensures.front c.loop-made.invariant.text given.ensures.text in
     (given_front (rest c.args.self.now) (rest given.new.self) room (c.loop-made.made + given.result.count) few made).0
 
 pub returns-then-given-clause-rest : goal.returns-then-given-clause-rest
 returns-then-given-clause-rest g c =
-    let rest = rest_of g.T.Tree.opened in
     let given = c.step-given in
     let room = c.split_at_mut-free.result.0.now ++ given.new.room in
     let few : c.loop-made.made + given.result.count ≤ length room = search rules in
+    let rest = rest_of g.T.Tree.opened in
     let made = more_made (rest c.args.self.now) (rest c.loop-made.self) (rest given.new.self) c.loop-made.room c.split_at_mut-free.result.0.now given.new.room
     c.loop-made.made given.result.count c.loop-made.invariant.made c.split_at_mut-free.ensures.front c.loop-made.invariant.text given.ensures.text in
     (given_front (rest c.args.self.now) (rest given.new.self) room (c.loop-made.made + given.result.count) few made).1

@@ -1,4 +1,3 @@
-use Rattle.std.proofs.Common.{◌++◌, ◌+◌, take, drop, sym, ap, ◌∙◌}
 use Rattle.ftp_server_transfer.proofs.DownloadLemmas.{read_as_is}
 use Rattle.ftp_server_transfer.proofs.download.Download.read_plain.Goals as goal
 
