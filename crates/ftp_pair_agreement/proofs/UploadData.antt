@@ -365,7 +365,8 @@ module _ (read : Reading) (state : State) (ask : Ask) (good : IsAsk ask) (sound 
       ≡ record (still (far_by state rise b.near b.far h.steady h.ready.1 b' rise.octets)) { owed = c.owed ++ reply_octets (fixed_reply (text_by state rise b.near b.far h.steady h.ready.1 b' Texts.Complete)) }
   serves b' e =
       ap (λ s. far.data_end (record (still (far_linked s b.far)) { owed = c.owed })) h.session
-      ∙ upload_ends state rise b.near b.far h.steady h.ready.1 (λ content. h.ready.2.ends_so state content h.fine.0.0) past b' d rise.octets c.owed moment_of whole_file (λ yes. sym e ∙ past_all yes) e
+      ∙ upload_ends state rise b.near b.far h.steady h.ready.1 (λ content. h.ready.2.ends_so state content h.fine.0.0)
+      past b' d rise.octets c.owed moment_of whole_file (λ yes. sym e ∙ past_all yes) e
 
   -- a world placed behind it
   ends_at : (fate : Fate) (after : State) (f : Far) → far.data_end (record (still b.far) { owed = c.owed }) ≡ record (still f) { owed = c.owed ++ reply_octets (fixed_reply (fate_text fate)) }

@@ -12,6 +12,7 @@ use Rattle.ftp_tree.specs.declared.fault.TreeFault.{TreeFault}
 use Rattle.ftp_tree.specs.declared.fault.TreeFault.TheVariants as Faults
 use Rattle.ftp_wire.specs.Decoder.{Decoder, with_sign, with_all, read_on, octet_says, decoded, decoded_octet, ended, fault_of, is_whole}
 use Rattle.ftp_direct.specs.Direct.{State, barred_put, changed, or_refused, part, put_refusal, refused_name, refused_octets}
+use Rattle.ftp_direct.specs.declared.refusal.Refusal.{Refusal}
 use Rattle.ftp_client_model.specs.View.{View as Near}
 use Rattle.ftp_server_model.specs.Calls as far
 use Rattle.ftp_server_model.specs.Calls.{takes_all, takes_octet}
@@ -325,14 +326,19 @@ module _ (state : State) (rise : Rise) (n : Near) (f : Far) (steady : IsSteady s
   abbrev ending_by : Bool → List ℕ → FixedReply → Ending
   ending_by b content text = if b then (session_with FarData.Free, Texts.TooMuch) else (put_in f.footing.moment path keep content (session_with FarData.Free), text)
 
+  -- it ends by this reason, in a session that has no data connection any more
+  abbrev ends_for : Option Refusal → List ℕ → FixedReply → Ending
+  ends_for why content text = ends_by why f.footing.moment path keep content text (session_with FarData.Free)
+
+  abbrev why_is : List ℕ → Option Refusal
+  why_is content = end_refusal path keep content (session_with FarData.Free)
+
   -- it ends so
   ending_is : EndsSo → (b : Bool) (content : List ℕ) (text : FixedReply) → is_some (over rise state (length content)) ≡ b
-      → ends_by (end_refusal path keep content (session_with FarData.Free)) f.footing.moment path keep content text (session_with FarData.Free) ≡ ending_by b content text
-  ending_is so b content text is =
-      ap (λ why. ends_by why f.footing.moment path keep content text (session_with FarData.Free)) (end_is content ∙ so content) ∙ by_fault (over rise state (length content)) b is
+      → ends_for (why_is content) content text ≡ ending_by b content text
+  ending_is so b content text is = ap (λ why. ends_for why content text) (end_is content ∙ so content) ∙ by_fault (over rise state (length content)) b is
     where
-      by_fault : (fault : Option TreeFault) (b : Bool) → is_some fault ≡ b
-          → ends_by (refused_octets fault) f.footing.moment path keep content text (session_with FarData.Free) ≡ ending_by b content text
+      by_fault : (fault : Option TreeFault) (b : Bool) → is_some fault ≡ b → ends_for (refused_octets fault) content text ≡ ending_by b content text
       by_fault None true is = absurd (cc)
       by_fault None false is = refl
       by_fault (Some fault) true is = refl
@@ -377,8 +383,8 @@ module _ (state : State) (rise : Rise) (n : Near) (f : Far) (steady : IsSteady s
   upload_ends so false b d content owed timed whole past is =
       let v : Far = taking_at false d owed in
       let all = whole refl in
-      ap (λ (w : Bool). concluded (if w then ends_by (end_refusal path keep (ended d).content (session_with FarData.Free)) f.footing.moment path keep (ended d).content Texts.Complete (session_with FarData.Free)
+      ap (λ (w : Bool). concluded (if w then ends_for (why_is (ended d).content) (ended d).content Texts.Complete
       else at_break f.footing.moment (Transfers.Upload path keep d) (session_with FarData.Free)) v) all.0
-      ∙ ap (λ l. concluded (ends_by (end_refusal path keep l (session_with FarData.Free)) f.footing.moment path keep l Texts.Complete (session_with FarData.Free)) v) all.1
+      ∙ ap (λ l. concluded (ends_for (why_is l) l Texts.Complete) v) all.1
       ∙ ap (λ ending. concluded ending v) (ending_is so b content Texts.Complete is)
       ∙ ends_with b content Texts.Complete (held false path keep d) owed timed
