@@ -45,7 +45,8 @@ source_why state text =
 -- why RNTO is refused: what RNFR named is asked for again
 abbrev pub target_why : State → List ℕ → List ℕ → Option Refusal
 target_why state text new =
-    or_refused (source_why state text) (refused_name (limited (named state new) (rename_refusal (target_part state text new) (named state text) (named state new))))
+    or_refused (source_why state text)
+    (refused_name (limited (named state new) (rename_refusal (target_part state text new) (named state text) (named state new))))
 
 -- the reason of the direct run for the new name
 abbrev pub direct_target_why : State → List ℕ → List ℕ → Option Refusal

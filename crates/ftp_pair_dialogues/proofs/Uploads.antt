@@ -233,13 +233,15 @@ module _ (place : Place) (text octets : List ℕ) (how : How) (moment : ℕ) whe
       let rise = store_rise place text octets how moment in
       let path : Names = named state text in
       let misplaced_at = refused_name (misplaced (store_place state place text how)) in
+      let file : List ℕ = file_of state text in
       let whole : ℕ = length (kept_of rise state ++ content) in
+      let puts : Option Refusal = put_refusal state path whole in
       let may = both_none (barred_put state path) (or_refused misplaced_at (room_why state text)) none in
       let room = (both_none misplaced_at (room_why state text) may.1).1 in
-      ap (λ why. or_refused why (or_refused (refused_name (whenever (lacks (rise.keep state) (file_of state text)) Faults.BadOffset)) (put_refusal state path whole))) may.0
-      ∙ ap (λ (b : Bool). or_refused (refused_name (whenever b Faults.BadOffset)) (put_refusal state path whole)) (lacks_none (rise.keep state) (file_of state text) (within_file state))
+      ap (λ why. or_refused why (or_refused (refused_name (whenever (lacks (rise.keep state) file) Faults.BadOffset)) puts)) may.0
+      ∙ ap (λ (b : Bool). or_refused (refused_name (whenever b Faults.BadOffset)) puts) (lacks_none (rise.keep state) file (within_file state))
       ∙ ap (λ why. or_refused why (refused_octets (octets_refusal (part state) path whole))) room
-      ∙ ap (λ n. refused_octets (octets_refusal (part state) path n)) (kept_long (rise.keep state) (file_of state text) content (within_file state))
+      ∙ ap (λ n. refused_octets (octets_refusal (part state) path n)) (kept_long (rise.keep state) file content (within_file state))
 
   -- ---- a state stays sound
 

@@ -145,7 +145,8 @@ octets_fit (Some fault) is = absurd (cc)
 
 pub put_fits : (state : State) (path : Names) (count : ℕ) → put_refusal state path count ≡ None → count ≤ 67108864
 put_fits state path count none =
-    not_over (part state) path count (octets_fit (octets_refusal (part state) path count) (second_is_none (refused_room (limited path (room_refusal (part state) path))) _ none))
+    let few = second_is_none (refused_room (limited path (room_refusal (part state) path))) _ none in
+    not_over (part state) path count (octets_fit (octets_refusal (part state) path count) few)
 
 -- ---- where an upload begins
 

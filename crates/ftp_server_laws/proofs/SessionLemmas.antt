@@ -225,8 +225,9 @@ installs_short moment path keep d text s k = by_why (end_refusal path keep d.con
     by_why : (why : Option Refusal) → end_refusal path keep d.content s ≡ why → IsShortSession (ends_by why moment path keep d.content text s).0
     by_why None none =
         let whole : List ℕ = put_together path keep d.content s in
+        let few = put_fits (direct_of s) path (length whole) (second_is_none _ _ (second_is_none _ _ none)) in
         record {
-          files = installed_short s.table s.root path whole moment (put_fits (direct_of s) path (length whole) (second_is_none _ _ (second_is_none _ _ none))) k.files;
+          files = installed_short s.table s.root path whole moment few k.files;
           connection = k.connection;
         }
     by_why (Some why) is = k

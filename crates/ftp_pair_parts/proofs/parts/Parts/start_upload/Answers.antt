@@ -12,5 +12,5 @@ returns-clause-counted g c =
 pub returns-then-is_some-clause-counted : goal.returns-then-is_some-clause-counted
 returns-then-is_some-clause-counted g c =
     let busy = is_busy (g.N.Near.client c.args.self.now.near).view in
-    let back = ap is_some (ap (handed_back busy) (sym c.requires.1.1.1.1) ∙ sym c.begin_upload.ensures.left) ∙ sym c.is_some.ensures ∙ c.if-is_some.true in
+    let back = ap is_some (ap (handed_back busy) (sym c.requires.1.1.1.1.1.1) ∙ sym c.begin_upload.ensures.left) ∙ sym c.is_some.ensures ∙ c.if-is_some.true in
     held 3 (c.begin_upload.ensures.busy (handed_some busy g.texts back)).1 refl
