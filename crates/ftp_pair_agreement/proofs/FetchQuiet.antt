@@ -10,6 +10,7 @@ use Rattle.ftp_client_model.specs.Calls.{is_sound}
 use Rattle.ftp_server_model.specs.Calls as far
 use Rattle.ftp_server_model.specs.Machine.{Reading, IsReading}
 use Rattle.ftp_server_model.specs.View.{View as Far}
+use Rattle.ftp_server_model.specs.declared.session.Keep.{Keep}
 use Rattle.ftp_server_model.specs.declared.session.Pending.TheVariants as Pendings
 use Rattle.ftp_path.specs.Path.{Names}
 use Rattle.ftp_wire.specs.Decoder.{Decoder}
@@ -171,7 +172,7 @@ module _ (read : Reading) (from : State) (begun : List Order) (w : World) (on : 
       by_way (Answering rows) c = refl
 
   -- a server of an upload that owes nothing may take
-  held_receives : (past : Bool) (path : Names) (keep : ℕ) (d : Decoder) (v : Far) → v.session ≡ linked (held past path keep d) false Pendings.Nothing v.session → v.owed ≡ [] → far.may_receive v ≡ true
+  held_receives : (past : Bool) (path : Names) (keep : Keep) (d : Decoder) (v : Far) → v.session ≡ linked (held past path keep d) false Pendings.Nothing v.session → v.owed ≡ [] → far.may_receive v ≡ true
   held_receives false path keep d v is none = λ i. far.may_receive (record v { session = is i; owed = none i })
   held_receives true path keep d v is none = λ i. far.may_receive (record v { session = is i; owed = none i })
 

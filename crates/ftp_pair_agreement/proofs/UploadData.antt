@@ -13,6 +13,7 @@ use Rattle.ftp_client_model.specs.declared.client.ClientLink.TheVariants as Near
 use Rattle.ftp_client_model.specs.declared.client.Ending.TheVariants as Endings
 use Rattle.ftp_client_model.specs.declared.client.Replied.TheVariants as Replies
 use Rattle.ftp_server_model.specs.Calls as far
+use Rattle.ftp_server_model.specs.Keep.{kept_count}
 use Rattle.ftp_server_model.specs.Machine.{Reading}
 use Rattle.ftp_server_model.specs.Replies.{fixed_reply}
 use Rattle.ftp_server_model.specs.View.{View as Far}
@@ -167,7 +168,7 @@ module _ (read : Reading) (state : State) (ask : Ask) (own : List Mark) where
   -- ---- octets are taken
 
   -- what is to come is read well, where no limit was passed
-  reads_to_come : (rise : Rise) → HasUpload ask rise → (n : ℕ) (came queue others : List ℕ) → rise.keep state + length (decoder_of ask.settings came).content < 10 ^ 18
+  reads_to_come : (rise : Rise) → HasUpload ask rise → (n : ℕ) (came queue others : List ℕ) → kept_count (rise.keep state) + length (decoder_of ask.settings came).content < 10 ^ 18
       → came ++ (queue ++ others) ≡ rise.text → ReadsFar (decoder_of ask.settings came) (take n queue)
   reads_to_come rise upload n came queue others few is =
       let all : ReadsFar (no_octets ask.settings) (came ++ (queue ++ others)) = subst (ReadsFar (no_octets ask.settings)) (sym is) (text_reads ask.settings rise.octets rise.text upload.text_is) in
@@ -182,7 +183,7 @@ module _ (read : Reading) (state : State) (ask : Ask) (own : List Mark) where
       (to_server : b.data_to_server ≡ queue) where
     -- it has taken them
     taken : Taken state rise b.near b.far steady known past (far.receives (record (still (upload_far (held past (rise.path state) (rise.keep state) (decoder_of ask.settings came)) b.far)) { owed = c.owed }) (take n queue))
-        c.owed (decoded (decoder_of ask.settings came) (take n queue)) (λ mark. mmmm_in (rise.keep state) (decoder_of ask.settings came) mark (take n queue))
+        c.owed (decoded (decoder_of ask.settings came) (take n queue)) (λ mark. mmmm_in (kept_count (rise.keep state)) (decoder_of ask.settings came) mark (take n queue))
     taken = octets_taken state rise b.near b.far steady known c.owed past (decoder_of ask.settings came) (take n queue) climbs.2 (λ e. (climbs.3.1 e).0)
         (λ e. reads_to_come rise upload n came queue others (climbs.3.1 e).0 climbs.1)
 
@@ -234,11 +235,11 @@ module _ (read : Reading) (state : State) (ask : Ask) (own : List Mark) where
     noted_on = (
       notes_both notes taken.notes climbs.3.0 taken.fine,
       λ e. (
-        subst (λ d. rise.keep state + length d.content < 10 ^ 18) same (taken.few e),
+        subst (λ d. kept_count (rise.keep state) + length d.content < 10 ^ 18) same (taken.few e),
         last_held-append mark notes taken.notes
             ∙ ap (λ m. last_held m taken.notes) (climbs.3.1 (taken.since e)).1
-            ∙ taken.last (mmmm_in (rise.keep state) (no_octets ask.settings) None came) e
-            ∙ sym (mmmm-append (rise.keep state) (no_octets ask.settings) None came (take n queue)),
+            ∙ taken.last (mmmm_in (kept_count (rise.keep state)) (no_octets ask.settings) None came) e
+            ∙ sym (mmmm-append (kept_count (rise.keep state)) (no_octets ask.settings) None came (take n queue)),
       ),
     )
 
@@ -364,7 +365,7 @@ module _ (read : Reading) (state : State) (ask : Ask) (good : IsAsk ask) (sound 
       ≡ record (still (far_by state rise b.near b.far h.steady h.ready.1 b' rise.octets)) { owed = c.owed ++ reply_octets (fixed_reply (text_by state rise b.near b.far h.steady h.ready.1 b' Texts.Complete)) }
   serves b' e =
       ap (λ s. far.data_end (record (still (far_linked s b.far)) { owed = c.owed })) h.session
-      ∙ upload_ends state rise b.near b.far h.steady h.ready.1 past b' d rise.octets c.owed moment_of whole_file (λ yes. sym e ∙ past_all yes) e
+      ∙ upload_ends state rise b.near b.far h.steady h.ready.1 (λ content. h.ready.2.ends_so state content h.fine.0.0) past b' d rise.octets c.owed moment_of whole_file (λ yes. sym e ∙ past_all yes) e
 
   -- a world placed behind it
   ends_at : (fate : Fate) (after : State) (f : Far) → far.data_end (record (still b.far) { owed = c.owed }) ≡ record (still f) { owed = c.owed ++ reply_octets (fixed_reply (fate_text fate)) }

@@ -130,7 +130,7 @@ module _ (read : Reading) (state : State) (ask : Ask) (good : IsAsk ask) (sound 
           ≡ record (still (far_by state rise b.near b.far g.steady g.known b' (decoder_of ask.settings came).content)) { owed = c.owed ++ reply_octets (fixed_reply (text_by state rise b.near b.far g.steady g.known b' Texts.Broken)) }
       serves b' is =
           ap (λ s. far.data_fault (record (still (far_linked s b.far)) { owed = c.owed })) g.session
-          ∙ upload_breaks state rise b.near b.far g.steady g.known past b' (decoder_of ask.settings came) c.owed (moment_is b past came coming mark notes g)
+          ∙ upload_breaks state rise b.near b.far g.steady g.known (λ content. g.upload.ends_so state content g.climbs.0.0) past b' (decoder_of ask.settings came) c.owed (moment_is b past came coming mark notes g)
           (λ e. sym is ∙ g.climbs.2 e) is
 
       -- a world placed behind it

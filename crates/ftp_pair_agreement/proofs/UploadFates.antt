@@ -1,8 +1,7 @@
 -- How an upload fares: installed, too much, or cut, as its client tells it, and the state that it leaves.
-use Rattle.std.proofs.Common.{◌≡◌, ◌⊎◌, inl, inr, ℕ, ◌+◌, ◌<◌, ◌≤◌, ◌^◌, Bool, true, false, List, [], ◌∷◌, ◌++◌, length, Option, Some, None, refl, sym, ap, subst, ◌∙◌, arith, length-append}
+use Rattle.std.proofs.Common.{◌≡◌, ◌⊎◌, inl, inr, ℕ, ◌+◌, ◌<◌, ◌≤◌, ◌^◌, Bool, true, false, List, [], ◌∷◌, ◌++◌, length, Option, Some, None, refl, sym, ap, subst, ◌∙◌, arith}
 use Rattle.std.specs.Prelude.{if◌then◌else◌}
 use Rattle.std.specs.Option.{is_some, unwrap_or}
-use Rattle.std.proofs.lemmas.List.{length-take-le}
 use Rattle.ftp_cutting.specs.Machine.{IsFront}
 use Rattle.ftp_mode.specs.Laws.{settled_content}
 use Rattle.ftp_operation.specs.Answer.{Done, Refused, Broken as BrokenOff}
@@ -15,12 +14,14 @@ use Rattle.ftp_wire.proofs.DecoderLemmas.{what_is_settled}
 use Rattle.ftp_direct.specs.declared.refusal.Refusal.TheVariants as Refusals
 use Rattle.ftp_direct.specs.Direct.{State, first_refusal, part, refusal, refused_octets}
 use Rattle.ftp_direct.specs.Refusal.{code_of}
+use Rattle.ftp_server_model.specs.Keep.{kept_count}
 use Rattle.ftp_pair_world.specs.Outcome.{Whole, Cut, CanBeCut, IsCutOf, Stored, cut_by, download_of, mmmm_in, upload_of}
 use Rattle.ftp_pair_world.specs.World.{Mark, Broken, counted}
 use Rattle.ftp_pair_dialogues.specs.Dialogue.{IsSound}
 use Rattle.ftp_pair_dialogues.specs.Fetches.{Ask, HasUpload, IsAsk, IsPlacedAt, Rise, kept_of, over, stored}
 use Rattle.ftp_pair_dialogues.proofs.Rows.{answer_known}
 use Rattle.ftp_pair_dialogues.proofs.Texts.{text_shorter}
+use Rattle.ftp_pair_dialogues.proofs.Uploads.{kept_as_counted, kept_long, kept_within}
 use Rattle.ftp_pair_agreement.specs.Rising.{FaredTo}
 use Rattle.ftp_pair_agreement.proofs.Fates.{among_one}
 use Rattle.ftp_pair_agreement.proofs.UploadServer.{many_over, too_many_more}
@@ -71,9 +72,9 @@ module _ (state : State) (ask : Ask) (good : IsAsk ask) (rise : Rise) (upload : 
   pub whole_over : (came : List ℕ) → IsFront came rise.text → is_some (over rise state (length (decoder_of ask.settings came).content)) ≡ true
       → is_some (over rise state (length rise.octets)) ≡ true
   whole_over came front some = elim (text_shorter ask.settings rise.octets rise.text came upload.text_is front) [
-    | inl few ↦ too_many_more (part state) (rise.path state) (rise.keep state + length (decoder_of ask.settings came).content) (rise.keep state + length rise.octets)
+    | inl few ↦ too_many_more (part state) (rise.path state) (kept_count (rise.keep state) + length (decoder_of ask.settings came).content) (kept_count (rise.keep state) + length rise.octets)
         (omega (arith, few)) some
-    | inr many ↦ many_over (part state) (rise.path state) (rise.keep state + length rise.octets) (omega (arith, many))
+    | inr many ↦ many_over (part state) (rise.path state) (kept_count (rise.keep state) + length rise.octets) (omega (arith, many))
   ]
 
   -- the upload that the world knows
@@ -81,10 +82,8 @@ module _ (state : State) (ask : Ask) (good : IsAsk ask) (rise : Rise) (upload : 
   known_upload = record { path = rise.path state; kept = kept_of rise state; start = (upload.known_so state).start; octets = rise.octets; how = ask.how }
 
   -- what is kept and came is as long as both
-  kept_long : (content : List ℕ) → length (kept_of rise state ++ content) ≡ rise.keep state + length content
-  kept_long content =
-      length-append (kept_of rise state) content
-      ∙ ap (λ n. n + length content) (length-take-le (rise.keep state) (octets_or_none (part state) (rise.path state)) (upload.within state))
+  long : (content : List ℕ) → length (kept_of rise state ++ content) ≡ kept_count (rise.keep state) + length content
+  long content = kept_long (rise.keep state) (octets_or_none (part state) (rise.path state)) content (upload.within state)
 
   -- it can be cut at each front that passes no limit
   can_be_cut : (came : List ℕ) → IsFront came rise.text → is_some (over rise state (length (decoder_of ask.settings came).content)) ≡ false → CanBeCut state op came
@@ -95,7 +94,7 @@ module _ (state : State) (ask : Ask) (good : IsAsk ask) (rise : Rise) (upload : 
       subst (λ why. (why ≡ None) ⊎ (why ≡ Some Refusals.TooMuch)) (sym (first ∙ refusal_is)) (either_of (over rise state (length rise.octets))) in
       let limit : octets_refusal (part state) (rise.path state) (length (kept_of rise state ++ settled_content ask.settings.mode (form_of ask.settings) came)) ≡ None =
       ap (λ content. octets_refusal (part state) (rise.path state) (length (kept_of rise state ++ content))) (sym (what_is_settled ask.settings came))
-      ∙ ap (octets_refusal (part state) (rise.path state)) (kept_long (decoder_of ask.settings came).content) ∙ none_of _ small in
+      ∙ ap (octets_refusal (part state) (rise.path state)) (long (decoder_of ask.settings came).content) ∙ none_of _ small in
       let cut : IsCutOf (Some known_upload) (download_of state op) state came = (
         subst (IsFront came) (sym k.text) front,
         subst (λ settings. octets_refusal (part state) (rise.path state) (length (kept_of rise state ++ settled_content settings.mode (form_of settings) came)) ≡ None) (sym k.set) limit,
@@ -104,7 +103,7 @@ module _ (state : State) (ask : Ask) (good : IsAsk ask) (rise : Rise) (upload : 
 
   -- the octets held at the last marker that came
   abbrev pub held_at : List ℕ → Option ℕ
-  held_at came = mmmm_in (rise.keep state) (no_octets ask.settings) None came
+  held_at came = mmmm_in (kept_count (rise.keep state)) (no_octets ask.settings) None came
 
   -- what it leaves then
   cut_is : (came : List ℕ) → cut_by (upload_of state op) (download_of state op) state rise.moment came ≡ (BrokenOff [] (held_at came), stored rise state (decoder_of ask.settings came).content)
@@ -116,7 +115,7 @@ module _ (state : State) (ask : Ask) (good : IsAsk ask) (rise : Rise) (upload : 
         stored rise state (settled_content settings.mode (form_of settings) came),
       )) k.set
       ∙ ap (λ kept. (BrokenOff [] (mmmm_in kept (no_octets ask.settings) None came), stored rise state (settled_content ask.settings.mode (form_of ask.settings) came)))
-      (length-take-le (rise.keep state) (octets_or_none (part state) (rise.path state)) (upload.within state))
+      (kept_as_counted (rise.keep state) (octets_or_none (part state) (rise.path state)) (upload.within state))
       ∙ ap (λ content. (BrokenOff [] (held_at came), stored rise state content)) (sym (what_is_settled ask.settings came))
 
   -- with the mark of a break it fares as broken off, with the octets held at the last marker that came, and leaves what was settled
@@ -131,17 +130,17 @@ module _ (state : State) (ask : Ask) (good : IsAsk ask) (rise : Rise) (upload : 
   }
 
   -- in a sound state what is kept of the file can be said
-  pub keep_few : IsSound state → rise.keep state < 10 ^ 18
+  pub keep_few : IsSound state → kept_count (rise.keep state) < 10 ^ 18
   unfolding octets_at
   keep_few sound = by_node (node_at (part state) (rise.path state)) refl
     where
       found_in : Option Node → List ℕ
       found_in node = unwrap_or (of_node octets_of node) []
 
-      few_of : (found : List ℕ) → octets_or_none (part state) (rise.path state) ≡ found → length found ≤ total_limit → rise.keep state < 10 ^ 18
-      few_of found is few = omega (arith, upload.within state, ap length is, few)
+      few_of : (found : List ℕ) → octets_or_none (part state) (rise.path state) ≡ found → length found ≤ total_limit → kept_count (rise.keep state) < 10 ^ 18
+      few_of found is few = omega (arith, kept_within (rise.keep state) (octets_or_none (part state) (rise.path state)) (upload.within state), ap length is, few)
 
-      by_node : (node : Option Node) → node_at (part state) (rise.path state) ≡ node → rise.keep state < 10 ^ 18
+      by_node : (node : Option Node) → node_at (part state) (rise.path state) ≡ node → kept_count (rise.keep state) < 10 ^ 18
       by_node None is = few_of [] (ap found_in is) (omega arith)
       by_node (Some Dir) is = few_of [] (ap found_in is) (omega arith)
       by_node (Some (File octets moment)) is = few_of octets (ap found_in is) (sound.files (rise.path state) octets moment is).1

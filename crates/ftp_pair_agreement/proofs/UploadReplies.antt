@@ -12,6 +12,7 @@ use Rattle.ftp_client_model.specs.declared.client.ClientLink.{ClientLink as Near
 use Rattle.ftp_client_model.specs.declared.client.ClientLink.TheVariants as NearData
 use Rattle.ftp_client_model.specs.declared.client.Ending.TheVariants as Endings
 use Rattle.ftp_client_model.specs.declared.client.Replied.TheVariants as Replies
+use Rattle.ftp_server_model.specs.Keep.{kept_count}
 use Rattle.ftp_server_model.specs.Machine.{Reading}
 use Rattle.ftp_server_model.specs.Replies.{fixed_reply}
 use Rattle.ftp_server_model.specs.Walk.{refusal_text}
@@ -47,7 +48,7 @@ module _ (read : Reading) (state : State) (ask : Ask) (good : IsAsk ask) (sound 
   Hears b reply more = (t : NearTurn b.near reply more) × Served (behind t.line more) (record b { near = t.near })
 
   -- before an octet came what is kept of the file can be said
-  none_came : (upload : HasUpload ask rise) → (ask.why state ≡ None) × IsPlacedAt ask.settings ask.offset → state.known ≡ true → rise.keep state + 0 < 10 ^ 18
+  none_came : (upload : HasUpload ask rise) → (ask.why state ≡ None) × IsPlacedAt ask.settings ask.offset → state.known ≡ true → kept_count (rise.keep state) + 0 < 10 ^ 18
   none_came upload taken known = omega (arith, keep_few state ask good rise upload known taken sound)
 
   -- the 150 is heard

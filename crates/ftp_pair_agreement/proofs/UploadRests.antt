@@ -1,5 +1,5 @@
 -- What both ends of an upload want of the world, and give, at each lift that outlasts an event.
-use Rattle.std.proofs.Common.{◌≡◌, ℕ, Bool, true, false, List, [], refl}
+use Rattle.std.proofs.Common.{◌≡◌, Bool, true, false, List, [], refl}
 use Rattle.ftp_ends.specs.Link.{is_wanted}
 use Rattle.ftp_ends.specs.declared.link.Wants.{Wants}
 use Rattle.ftp_path.specs.Path.{Names}
@@ -9,6 +9,7 @@ use Rattle.ftp_client_model.specs.Calls as near
 use Rattle.ftp_client_model.specs.Calls.{is_busy_job, is_sound}
 use Rattle.ftp_client_model.specs.View.{View as Near}
 use Rattle.ftp_server_model.specs.Calls as far
+use Rattle.ftp_server_model.specs.declared.session.Keep.{Keep}
 use Rattle.ftp_server_model.specs.declared.session.Pending.{Pending}
 use Rattle.ftp_server_model.specs.declared.session.Pending.TheVariants as Pendings
 use Rattle.ftp_pair_world.specs.Events.{is_closed_by_near}
@@ -23,14 +24,14 @@ use Rattle.ftp_pair_agreement.proofs.Rests.{Rests, near_form, rests_of}
 use Rattle.ftp_pair_agreement.proofs.Still.{IsSeen}
 
 -- a server that takes octets wants nothing but that, past a limit or not
-held_rests : (past : Bool) (path : Names) (keep : ℕ) (d : Decoder) (pending : Pending Names) (w : World)
+held_rests : (past : Bool) (path : Names) (keep : Keep) (d : Decoder) (pending : Pending Names) (w : World)
     → far_served (record w { far = far_linked (linked (held past path keep d) false pending w.far.session) w.far })
     ≡ record w { far = far_linked (linked (held past path keep d) false pending w.far.session) w.far }
 held_rests false path keep d pending w = refl
 held_rests true path keep d pending w = refl
 
 -- and gives none
-held_gives : (past : Bool) (path : Names) (keep : ℕ) (d : Decoder) → far.given_by (held past path keep d) ≡ []
+held_gives : (past : Bool) (path : Names) (keep : Keep) (d : Decoder) → far.given_by (held past path keep d) ≡ []
 held_gives false path keep d = refl
 held_gives true path keep d = refl
 

@@ -1,5 +1,5 @@
 -- The server of an upload: the octets that it takes, and what it makes of the link's end and of a break.
-use Rattle.std.proofs.Common.{◌≡◌, ◌⊎◌, inl, inr, ℕ, ◌+◌, ◌<◌, ◌≤◌, ◌^◌, Bool, true, false, not, nat_le, List, [], ◌∷◌, ◌++◌, length, take, Option, Some, None, refl, sym, ap, subst, ◌∙◌, arith, append-nil, append_assoc}
+use Rattle.std.proofs.Common.{◌≡◌, ◌⊎◌, inl, inr, ℕ, ◌+◌, ◌<◌, ◌≤◌, ◌^◌, Bool, true, false, not, nat_le, List, [], ◌∷◌, ◌++◌, length, Option, Some, None, refl, sym, ap, subst, ◌∙◌, arith, append-nil, append_assoc}
 use Rattle.std.specs.Prelude.{if◌then◌else◌}
 use Rattle.std.specs.Option.{is_some}
 use Rattle.std.proofs.lemmas.Bool.{le-leb, leb-true}
@@ -8,22 +8,25 @@ use Rattle.ftp_mode.specs.Said.{Said, says, marker}
 use Rattle.ftp_path.specs.Path.{Names}
 use Rattle.ftp_reply.specs.Values.{is_marker}
 use Rattle.ftp_tree.specs.Tree.{Table, file_limit, installed, octets_or_none, octets_refusal, or_else, room_at, whenever}
+use Rattle.ftp_tree.specs.declared.fault.TreeFault.{TreeFault}
 use Rattle.ftp_tree.specs.declared.fault.TreeFault.TheVariants as Faults
 use Rattle.ftp_wire.specs.Decoder.{Decoder, with_sign, with_all, read_on, octet_says, decoded, decoded_octet, ended, fault_of, is_whole}
-use Rattle.ftp_direct.specs.Direct.{State, changed, part}
+use Rattle.ftp_direct.specs.Direct.{State, barred_put, changed, or_refused, part, put_refusal, refused_name, refused_octets}
 use Rattle.ftp_client_model.specs.View.{View as Near}
 use Rattle.ftp_server_model.specs.Calls as far
 use Rattle.ftp_server_model.specs.Calls.{takes_all, takes_octet}
-use Rattle.ftp_server_model.specs.Machine.{Ending, at_break, concluded, is_over, later, put_in}
+use Rattle.ftp_server_model.specs.Keep.{kept_count, kept_of, lacks}
+use Rattle.ftp_server_model.specs.Machine.{Ending, at_break, concluded, end_refusal, ends_by, is_over, later, put_in}
 use Rattle.ftp_server_model.specs.Replies.{fixed_reply}
 use Rattle.ftp_server_model.specs.View.{View as Far, Session, Transfer}
 use Rattle.ftp_server_model.specs.declared.reply.FixedReply.{FixedReply}
 use Rattle.ftp_server_model.specs.declared.reply.FixedReply.TheVariants as Texts
+use Rattle.ftp_server_model.specs.declared.session.Keep.{Keep}
 use Rattle.ftp_server_model.specs.declared.session.Pending.TheVariants as Pendings
 use Rattle.ftp_server_model.specs.declared.session.ServerLink.{ServerLink as FarConnection}
 use Rattle.ftp_server_model.specs.declared.session.ServerLink.TheVariants as FarData
 use Rattle.ftp_server_model.specs.declared.session.Transfer.TheVariants as Transfers
-use Rattle.ftp_pair_dialogues.specs.Fetches.{Rise, IsSteady, kept, linked, over, stored}
+use Rattle.ftp_pair_dialogues.specs.Fetches.{Rise, IsSteady, end_why, kept, linked, over, stored}
 use Rattle.ftp_pair_world.specs.Outcome.{mmmm_in, reached}
 use Rattle.ftp_pair_dialogues.specs.Stage.{row_octets, still}
 use Rattle.ftp_pair_dialogues.specs.Uploads.{AreNotes, Note, last_held, note_replies, note_reply}
@@ -85,7 +88,7 @@ module _ (state : State) (rise : Rise) (n : Near) (f : Far) (steady : IsSteady s
   abbrev path : Names
   path = rise.path state
 
-  abbrev keep : ℕ
+  abbrev keep : Keep
   keep = rise.keep state
 
   abbrev session_with : FarConnection Transfer → Session
@@ -93,15 +96,15 @@ module _ (state : State) (rise : Rise) (n : Near) (f : Far) (steady : IsSteady s
 
   -- a limit is passed in the session where it is in the state
   over_is : (d : Decoder) (connection : FarConnection Transfer) → is_over path keep d (session_with connection) ≡ is_some (over rise state (length d.content))
-  over_is d connection = ap (λ s. is_some (octets_refusal (part s) path (keep + length d.content))) (same_direct state n f steady known)
+  over_is d connection = ap (λ s. is_some (octets_refusal (part s) path (kept_count keep + length d.content))) (same_direct state n f steady known)
 
   -- what is put in the session is what is stored in the state
   put_is : (content : List ℕ) → rise.moment ≡ f.footing.moment
       → put_in f.footing.moment path keep content (session_with FarData.Free) ≡ record (session_with FarData.Free) { table = (stored rise state content).table }
   put_is content timed =
-      ap (λ (s : State). record (session_with FarData.Free) { table = (changed s (installed (part s) path (take keep (octets_or_none (part s) path) ++ content) f.footing.moment)).table })
+      ap (λ (s : State). record (session_with FarData.Free) { table = (changed s (installed (part s) path (kept_of keep (octets_or_none (part s) path) ++ content) f.footing.moment)).table })
       (same_direct state n f steady known)
-      ∙ ap (λ moment. record (session_with FarData.Free) { table = (changed state (installed (part state) path (take keep (octets_or_none (part state) path) ++ content) moment)).table }) (sym timed)
+      ∙ ap (λ moment. record (session_with FarData.Free) { table = (changed state (installed (part state) path (kept_of keep (octets_or_none (part state) path) ++ content) moment)).table }) (sym timed)
 
   -- the server behind it is steady in what is stored
   pub stored_steady : (content : List ℕ) → IsSteady (stored rise state content) (kept n (stored_far (stored rise state content).table f))
@@ -135,7 +138,7 @@ module _ (state : State) (rise : Rise) (n : Near) (f : Far) (steady : IsSteady s
     pub is : v ≡ taking_at past d (owed ++ row_octets (note_replies notes))
     pub since : past ≡ false → before ≡ false
     pub over : past ≡ true → is_some (over rise state (length d.content)) ≡ true
-    pub few : past ≡ false → keep + length d.content < 10 ^ 18
+    pub few : past ≡ false → kept_count keep + length d.content < 10 ^ 18
     pub fine : AreNotes notes
     pub last : (mark : Option ℕ) → past ≡ false → last_held mark notes ≡ says_last mark
 
@@ -149,14 +152,14 @@ module _ (state : State) (rise : Rise) (n : Near) (f : Far) (steady : IsSteady s
   none_owed past d owed = ap (taking_at past d) (sym (append-nil owed))
 
   -- signs are taken
-  signs_taken : (owed : List ℕ) (d : Decoder) (said : List Said) → IsSigns said → keep + length d.content < 10 ^ 18
+  signs_taken : (owed : List ℕ) (d : Decoder) (said : List Said) → IsSigns said → kept_count keep + length d.content < 10 ^ 18
       → Taken false (takes_all said (taking_at false d owed)) owed (with_all d said) (λ mark. mark)
   signs_taken owed d [] signs few =
       record { past = false; notes = []; is = none_owed false d owed; since = λ e. refl; over = λ e. absurd (cc); few = λ e. few; fine = tt; last = λ mark e. refl }
   signs_taken owed d (marker text ∷ more) signs few = absurd signs
   signs_taken owed d (says sign ∷ more) signs few =
       by_bool (is_some (over rise state (length (with_sign d sign).content))) past
-      (λ e. on (signs_taken owed (with_sign d sign) more signs (clear_few (part state) path (keep + length (with_sign d sign).content) e)) e)
+      (λ e. on (signs_taken owed (with_sign d sign) more signs (clear_few (part state) path (kept_count keep + length (with_sign d sign).content) e)) e)
     where
       step : (b : Bool) → is_some (over rise state (length (with_sign d sign).content)) ≡ b
           → takes_all (says sign ∷ more) (taking_at false d owed) ≡ takes_all more (taking_at b (with_sign d sign) owed)
@@ -174,7 +177,7 @@ module _ (state : State) (rise : Rise) (n : Near) (f : Far) (steady : IsSteady s
         notes = [];
         is = step true e ∙ past_stays (with_sign d sign) owed more ∙ none_owed true (with_all d (says sign ∷ more)) owed;
         since = λ no_more. refl;
-        over = λ yes. too_many_more (part state) path (keep + length (with_sign d sign).content) (keep + length (with_all (with_sign d sign) more).content)
+        over = λ yes. too_many_more (part state) path (kept_count keep + length (with_sign d sign).content) (kept_count keep + length (with_all (with_sign d sign) more).content)
             (omega (arith, grows (with_sign d sign) more)) e;
         few = λ no_more. absurd (cc);
         fine = tt;
@@ -187,10 +190,10 @@ module _ (state : State) (rise : Rise) (n : Near) (f : Far) (steady : IsSteady s
       on t e = record { past = t.past; notes = t.notes; is = step false e ∙ t.is; since = t.since; over = t.over; few = t.few; fine = t.fine; last = t.last }
 
   -- a marker is answered by the octets held, and then signs are taken
-  marker_taken : (owed : List ℕ) (d : Decoder) (text : List ℕ) (more : List Said) → is_marker text ≡ true → IsSigns more → keep + length d.content < 10 ^ 18
-      → Taken false (takes_all (marker text ∷ more) (taking_at false d owed)) owed (with_all d (marker text ∷ more)) (λ mark. Some (keep + length d.content))
+  marker_taken : (owed : List ℕ) (d : Decoder) (text : List ℕ) (more : List Said) → is_marker text ≡ true → IsSigns more → kept_count keep + length d.content < 10 ^ 18
+      → Taken false (takes_all (marker text ∷ more) (taking_at false d owed)) owed (with_all d (marker text ∷ more)) (λ mark. Some (kept_count keep + length d.content))
   marker_taken owed d text more marks signs few =
-      let note : Note = record { theirs = text; held = keep + length d.content } in
+      let note : Note = record { theirs = text; held = kept_count keep + length d.content } in
       let t = signs_taken (owed ++ reply_octets (note_reply note)) d more signs few in
       record {
         past = t.past;
@@ -204,8 +207,8 @@ module _ (state : State) (rise : Rise) (n : Near) (f : Far) (steady : IsSteady s
       }
 
   -- all that an octet says is taken
-  said_taken : (owed : List ℕ) (d : Decoder) (said : List Said) → IsSigns said ⊎ IsMarked said → keep + length d.content < 10 ^ 18
-      → Taken false (takes_all said (taking_at false d owed)) owed (with_all d said) (λ mark. reached (keep + length d.content) mark said)
+  said_taken : (owed : List ℕ) (d : Decoder) (said : List Said) → IsSigns said ⊎ IsMarked said → kept_count keep + length d.content < 10 ^ 18
+      → Taken false (takes_all said (taking_at false d owed)) owed (with_all d said) (λ mark. reached (kept_count keep + length d.content) mark said)
   said_taken owed d said (inl signs) few =
       let t = signs_taken owed d said signs few in
       record {
@@ -216,16 +219,16 @@ module _ (state : State) (rise : Rise) (n : Near) (f : Far) (steady : IsSteady s
         over = t.over;
         few = t.few;
         fine = t.fine;
-        last = λ mark e. t.last mark e ∙ sym (reached_none (keep + length d.content) mark said signs);
+        last = λ mark e. t.last mark e ∙ sym (reached_none (kept_count keep + length d.content) mark said signs);
       }
   said_taken owed d said (inr marked) few =
-      subst (λ said. Taken false (takes_all said (taking_at false d owed)) owed (with_all d said) (λ mark. reached (keep + length d.content) mark said)) (sym marked.is)
+      subst (λ said. Taken false (takes_all said (taking_at false d owed)) owed (with_all d said) (λ mark. reached (kept_count keep + length d.content) mark said)) (sym marked.is)
       (marker_taken owed d marked.text marked.more marked.fine marked.signs few)
 
   -- an octet is taken
-  octet_taken : (owed : List ℕ) (past : Bool) (d : Decoder) (octet : ℕ) → (past ≡ true → is_some (over rise state (length d.content)) ≡ true) → (past ≡ false → keep + length d.content < 10 ^ 18)
+  octet_taken : (owed : List ℕ) (past : Bool) (d : Decoder) (octet : ℕ) → (past ≡ true → is_some (over rise state (length d.content)) ≡ true) → (past ≡ false → kept_count keep + length d.content < 10 ^ 18)
       → fault_of (read_on d octet) ≡ None → IsSigns (octet_says d octet) ⊎ IsMarked (octet_says d octet)
-      → Taken past (far.receives_octet (taking_at past d owed) octet) owed (decoded_octet d octet) (λ mark. reached (keep + length d.content) mark (octet_says d octet))
+      → Taken past (far.receives_octet (taking_at past d owed) octet) owed (decoded_octet d octet) (λ mark. reached (kept_count keep + length d.content) mark (octet_says d octet))
   unfolding far.receives_octet
   octet_taken owed false d octet over few none said =
       let t = said_taken owed (read_on d octet) (octet_says d octet) said (few refl) in
@@ -244,7 +247,7 @@ module _ (state : State) (rise : Rise) (n : Near) (f : Far) (steady : IsSteady s
     notes = [];
     is = none_owed true d owed;
     since = λ e. e;
-    over = λ yes. too_many_more (part state) path (keep + length d.content) (keep + length (decoded_octet d octet).content) (omega (arith, grows (read_on d octet) (octet_says d octet))) (over refl);
+    over = λ yes. too_many_more (part state) path (kept_count keep + length d.content) (kept_count keep + length (decoded_octet d octet).content) (omega (arith, grows (read_on d octet) (octet_says d octet))) (over refl);
     few = λ e. absurd (cc);
     fine = tt;
     last = λ mark e. absurd (cc);
@@ -266,7 +269,7 @@ module _ (state : State) (rise : Rise) (n : Near) (f : Far) (steady : IsSteady s
 
   -- and a limit is passed still
   still_over : (d : Decoder) (octets : List ℕ) → is_some (over rise state (length d.content)) ≡ true → is_some (over rise state (length (decoded d octets).content)) ≡ true
-  still_over d octets some = too_many_more (part state) path (keep + length d.content) (keep + length (decoded d octets).content) (omega (arith, decoded_grows d octets)) some
+  still_over d octets some = too_many_more (part state) path (kept_count keep + length d.content) (kept_count keep + length (decoded d octets).content) (omega (arith, decoded_grows d octets)) some
 
   -- what is read well once an octet was taken, where no limit was passed with it
   read_on_far : (count : ℕ) (next : Decoder) (octets : List ℕ) → count < 10 ^ 18 → length next.content ≤ count → (10 ^ 18 ≤ length next.content) ⊎ ReadsFar next octets → ReadsFar next octets
@@ -275,8 +278,8 @@ module _ (state : State) (rise : Rise) (n : Near) (f : Far) (steady : IsSteady s
 
   -- octets are taken
   pub octets_taken : (owed : List ℕ) (past : Bool) (d : Decoder) (octets : List ℕ) → (past ≡ true → is_some (over rise state (length d.content)) ≡ true)
-      → (past ≡ false → keep + length d.content < 10 ^ 18) → (past ≡ false → ReadsFar d octets)
-      → Taken past (far.receives (taking_at past d owed) octets) owed (decoded d octets) (λ mark. mmmm_in keep d mark octets)
+      → (past ≡ false → kept_count keep + length d.content < 10 ^ 18) → (past ≡ false → ReadsFar d octets)
+      → Taken past (far.receives (taking_at past d owed) octets) owed (decoded d octets) (λ mark. mmmm_in (kept_count keep) d mark octets)
   octets_taken owed true d octets over few reads = record {
     past = true;
     notes = [];
@@ -293,7 +296,7 @@ module _ (state : State) (rise : Rise) (n : Near) (f : Far) (steady : IsSteady s
       let well = reads refl in
       let one = octet_taken owed false d octet over few well.0 well.1 in
       let t = octets_taken (owed ++ row_octets (note_replies one.notes)) one.past (decoded_octet d octet) octets one.over one.few
-      (λ e. read_on_far (keep + length (decoded_octet d octet).content) (decoded_octet d octet) octets (one.few e) (omega arith) well.2) in
+      (λ e. read_on_far (kept_count keep + length (decoded_octet d octet).content) (decoded_octet d octet) octets (one.few e) (omega arith) well.2) in
       record {
         past = t.past;
         notes = one.notes ++ t.notes;
@@ -302,14 +305,38 @@ module _ (state : State) (rise : Rise) (n : Near) (f : Far) (steady : IsSteady s
         over = t.over;
         few = t.few;
         fine = notes_both one.notes t.notes one.fine t.fine;
-        last = λ mark e. last_held-append mark one.notes t.notes ∙ ap (λ m. last_held m t.notes) (one.last mark (t.since e)) ∙ t.last (reached (keep + length d.content) mark (octet_says d octet)) e;
+        last = λ mark e. last_held-append mark one.notes t.notes ∙ ap (λ m. last_held m t.notes) (one.last mark (t.since e)) ∙ t.last (reached (kept_count keep + length d.content) mark (octet_says d octet)) e;
       }
 
   -- ---- the end and a break
 
+  -- it is refused for its octets alone
+  abbrev pub EndsSo : Type 0
+  EndsSo = (content : List ℕ) → end_why rise state content ≡ refused_octets (over rise state (length content))
+
+  -- why the server refuses it at its end is said of its session as of the state
+  end_is : (content : List ℕ) → end_refusal path keep content (session_with FarData.Free) ≡ end_why rise state content
+  end_is content =
+      ap (λ s. or_refused (barred_put s path)
+      (or_refused (refused_name (whenever (lacks keep (octets_or_none (part s) path)) Faults.BadOffset))
+      (put_refusal s path (length (kept_of keep (octets_or_none (part s) path) ++ content))))) (same_direct state n f steady known)
+
   -- what came is installed and answered so, or is too much
   abbrev ending_by : Bool → List ℕ → FixedReply → Ending
   ending_by b content text = if b then (session_with FarData.Free, Texts.TooMuch) else (put_in f.footing.moment path keep content (session_with FarData.Free), text)
+
+  -- it ends so
+  ending_is : EndsSo → (b : Bool) (content : List ℕ) (text : FixedReply) → is_some (over rise state (length content)) ≡ b
+      → ends_by (end_refusal path keep content (session_with FarData.Free)) f.footing.moment path keep content text (session_with FarData.Free) ≡ ending_by b content text
+  ending_is so b content text is =
+      ap (λ why. ends_by why f.footing.moment path keep content text (session_with FarData.Free)) (end_is content ∙ so content) ∙ by_fault (over rise state (length content)) b is
+    where
+      by_fault : (fault : Option TreeFault) (b : Bool) → is_some fault ≡ b
+          → ends_by (refused_octets fault) f.footing.moment path keep content text (session_with FarData.Free) ≡ ending_by b content text
+      by_fault None true is = absurd (cc)
+      by_fault None false is = refl
+      by_fault (Some fault) true is = refl
+      by_fault (Some fault) false is = absurd (cc)
 
   -- the server behind it
   abbrev pub far_by : Bool → List ℕ → Far
@@ -322,36 +349,36 @@ module _ (state : State) (rise : Rise) (n : Near) (f : Far) (steady : IsSteady s
   text_by false text = text
 
   -- it is concluded so
-  ends_by : (b : Bool) (content : List ℕ) (text : FixedReply) (connection : FarConnection Transfer) (owed : List ℕ) → rise.moment ≡ f.footing.moment
+  ends_with : (b : Bool) (content : List ℕ) (text : FixedReply) (connection : FarConnection Transfer) (owed : List ℕ) → rise.moment ≡ f.footing.moment
       → concluded (ending_by b content text) (record (still (upload_far connection f)) { owed = owed })
       ≡ record (still (far_by b content)) { owed = owed ++ reply_octets (fixed_reply (text_by b text)) }
-  ends_by true content text connection owed timed = refl
-  ends_by false content text connection owed timed =
+  ends_with true content text connection owed timed = refl
+  ends_with false content text connection owed timed =
       ap (λ s. record (still (far_linked s f)) { owed = owed ++ reply_octets (fixed_reply text) }) (put_is content timed)
 
   -- a break: what came is installed, where no limit is passed
-  pub upload_breaks : (past b : Bool) (d : Decoder) (owed : List ℕ) → rise.moment ≡ f.footing.moment → (past ≡ true → b ≡ true) → is_some (over rise state (length d.content)) ≡ b
+  pub upload_breaks : EndsSo → (past b : Bool) (d : Decoder) (owed : List ℕ) → rise.moment ≡ f.footing.moment → (past ≡ true → b ≡ true) → is_some (over rise state (length d.content)) ≡ b
       → far.data_fault (record (still (upload_far (held past path keep d) f)) { owed = owed })
       ≡ record (still (far_by b d.content)) { owed = owed ++ reply_octets (fixed_reply (text_by b Texts.Broken)) }
   unfolding far.data_fault
-  upload_breaks true b d owed timed past is = ap (λ b. record (still (far_by b d.content)) { owed = owed ++ reply_octets (fixed_reply (text_by b Texts.Broken)) }) (sym (past refl))
-  upload_breaks false b d owed timed past is =
-      ap (λ b. concluded (ending_by b d.content Texts.Broken) (record (still (upload_far (held false path keep d) f)) { owed = owed })) (over_is d FarData.Free ∙ is)
-      ∙ ends_by b d.content Texts.Broken (held false path keep d) owed timed
+  upload_breaks so true b d owed timed past is = ap (λ b. record (still (far_by b d.content)) { owed = owed ++ reply_octets (fixed_reply (text_by b Texts.Broken)) }) (sym (past refl))
+  upload_breaks so false b d owed timed past is =
+      ap (λ ending. concluded ending (record (still (upload_far (held false path keep d) f)) { owed = owed })) (ending_is so b d.content Texts.Broken is)
+      ∙ ends_with b d.content Texts.Broken (held false path keep d) owed timed
 
   -- the client's close behind the whole text: the file is installed, where no limit is passed
-  pub upload_ends : (past b : Bool) (d : Decoder) (content owed : List ℕ) → rise.moment ≡ f.footing.moment → (past ≡ false → (is_whole d ≡ true) × ((ended d).content ≡ content))
+  pub upload_ends : EndsSo → (past b : Bool) (d : Decoder) (content owed : List ℕ) → rise.moment ≡ f.footing.moment → (past ≡ false → (is_whole d ≡ true) × ((ended d).content ≡ content))
       → (past ≡ true → b ≡ true) → is_some (over rise state (length content)) ≡ b
       → far.data_end (record (still (upload_far (held past path keep d) f)) { owed = owed })
       ≡ record (still (far_by b content)) { owed = owed ++ reply_octets (fixed_reply (text_by b Texts.Complete)) }
   unfolding far.data_end
-  upload_ends true b d content owed timed whole past is =
+  upload_ends so true b d content owed timed whole past is =
       ap (λ b. record (still (far_by b content)) { owed = owed ++ reply_octets (fixed_reply (text_by b Texts.Complete)) }) (sym (past refl))
-  upload_ends false b d content owed timed whole past is =
+  upload_ends so false b d content owed timed whole past is =
       let v : Far = taking_at false d owed in
       let all = whole refl in
-      ap (λ (w : Bool). concluded (if w then ending_by (is_over path keep (ended d) (session_with FarData.Free)) (ended d).content Texts.Complete
+      ap (λ (w : Bool). concluded (if w then ends_by (end_refusal path keep (ended d).content (session_with FarData.Free)) f.footing.moment path keep (ended d).content Texts.Complete (session_with FarData.Free)
       else at_break f.footing.moment (Transfers.Upload path keep d) (session_with FarData.Free)) v) all.0
-      ∙ ap (λ b. concluded (ending_by b (ended d).content Texts.Complete) v) (over_is (ended d) FarData.Free ∙ ap (λ l. is_some (over rise state (length l))) all.1 ∙ is)
-      ∙ ap (λ l. concluded (ending_by b l Texts.Complete) v) all.1
-      ∙ ends_by b content Texts.Complete (held false path keep d) owed timed
+      ∙ ap (λ l. concluded (ends_by (end_refusal path keep l (session_with FarData.Free)) f.footing.moment path keep l Texts.Complete (session_with FarData.Free)) v) all.1
+      ∙ ap (λ ending. concluded ending v) (ending_is so b content Texts.Complete is)
+      ∙ ends_with b content Texts.Complete (held false path keep d) owed timed

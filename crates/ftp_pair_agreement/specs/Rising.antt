@@ -18,11 +18,13 @@ use Rattle.ftp_client_model.specs.declared.client.Ending.{Ending}
 use Rattle.ftp_client_model.specs.declared.client.Ending.TheVariants as Endings
 use Rattle.ftp_client_model.specs.declared.client.Replied.{Replied}
 use Rattle.ftp_client_model.specs.declared.client.Replied.TheVariants as Replies
+use Rattle.ftp_server_model.specs.Keep.{kept_count}
 use Rattle.ftp_server_model.specs.Replies.{fixed_reply}
 use Rattle.ftp_server_model.specs.View.{Transfer}
 use Rattle.ftp_server_model.specs.Walk.{refusal_text}
 use Rattle.ftp_server_model.specs.declared.reply.FixedReply.{FixedReply}
 use Rattle.ftp_server_model.specs.declared.reply.FixedReply.TheVariants as Texts
+use Rattle.ftp_server_model.specs.declared.session.Keep.{Keep}
 use Rattle.ftp_server_model.specs.declared.session.ServerLink.{ServerLink as FarConnection}
 use Rattle.ftp_server_model.specs.declared.session.ServerLink.TheVariants as FarData
 use Rattle.ftp_server_model.specs.declared.session.Transfer.TheVariants as Transfers
@@ -111,7 +113,7 @@ is_closing Closing = true
 is_closing door = false
 
 -- what the server holds of an upload, past a limit or not
-abbrev pub held : Bool → Names → ℕ → Decoder → FarConnection Transfer
+abbrev pub held : Bool → Names → Keep → Decoder → FarConnection Transfer
 held false path keep d = FarData.Transferring (Transfers.Upload path keep d)
 held true path keep d = FarData.Transferring Transfers.OverLimit
 
@@ -224,8 +226,8 @@ module _ (state : State) (ask : Ask) where
     IsNoted past came mark notes =
         AreNotes notes
         × (past ≡ false
-        → (rise.keep state + length (decoder_of ask.settings came).content < 10 ^ 18)
-        × (last_held mark notes ≡ mmmm_in (rise.keep state) (no_octets ask.settings) None came))
+        → (kept_count (rise.keep state) + length (decoder_of ask.settings came).content < 10 ^ 18)
+        × (last_held mark notes ≡ mmmm_in (kept_count (rise.keep state)) (no_octets ask.settings) None came))
 
     -- the octets that came and those that are still to come are the text
     abbrev pub Climbs : Bool → (came coming : List ℕ) → Option ℕ → List Note → Type 0

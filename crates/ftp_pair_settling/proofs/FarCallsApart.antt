@@ -15,6 +15,7 @@ use Rattle.ftp_server_model.specs.Machine.{Reading, abort_said, aborted, aborts,
 use Rattle.ftp_server_model.specs.View.{Transfer, View, line_limit}
 use Rattle.ftp_server_model.specs.declared.heard.HeardLine.{HeardLine}
 use Rattle.ftp_server_model.specs.declared.heard.HeardLine.TheVariants.{TooLong}
+use Rattle.ftp_server_model.specs.declared.session.Keep.{Keep}
 use Rattle.ftp_server_model.specs.declared.session.ServerLink.{ServerLink}
 use Rattle.ftp_server_model.specs.declared.session.ServerLink.TheVariants as Data
 use Rattle.ftp_server_model.specs.declared.session.Transfer.TheVariants as Transfers
@@ -99,7 +100,7 @@ all_open [] v is = is
 all_open (one ∷ said) v is = all_open said (takes_said v.session.connection one v) (said_open v.session.connection one v ∙ is)
 
 -- an octet of an upload, and what it says
-takes_octet_apart : (fault : Option FrameFault) (path : Names) (keep : ℕ) (d : Decoder) (said : List Said) (v : View) → Open v → FarIsApart (takes_octet fault path keep d said v)
+takes_octet_apart : (fault : Option FrameFault) (path : Names) (keep : Keep) (d : Decoder) (said : List Said) (v : View) → Open v → FarIsApart (takes_octet fault path keep d said v)
 takes_octet_apart None path keep d said v is =
     open_apart (takes_octet None path keep d said v) (all_open said (with_connection (Data.Transferring (Transfers.Upload path keep d)) v) is)
 takes_octet_apart (Some fault) path keep d said v is = forgotten_apart v.session

@@ -24,6 +24,7 @@ use Rattle.ftp_server_model.specs.View.{Transfer, View, line_limit}
 use Rattle.ftp_server_model.specs.declared.heard.HeardLine.{HeardLine}
 use Rattle.ftp_server_model.specs.declared.heard.HeardLine.TheVariants.{TooLong}
 use Rattle.ftp_server_model.specs.declared.reply.FixedReply.TheVariants as Texts
+use Rattle.ftp_server_model.specs.declared.session.Keep.{Keep}
 use Rattle.ftp_server_model.specs.declared.session.ServerLink.{ServerLink}
 use Rattle.ftp_server_model.specs.declared.session.ServerLink.TheVariants as Data
 use Rattle.ftp_server_model.specs.declared.session.Transfer.TheVariants as Transfers
@@ -161,7 +162,7 @@ all_more (one ∷ said) v =
     grows_then v u (takes_all said u) (said_more v.session.connection one v) (all_more said u)
 
 -- an octet of an upload, and what it says
-takes_octet_grows : (fault : Option FrameFault) (path : Names) (keep : ℕ) (d : Decoder) (said : List Said) (v : View) → Grows v (takes_octet fault path keep d said v)
+takes_octet_grows : (fault : Option FrameFault) (path : Names) (keep : Keep) (d : Decoder) (said : List Said) (v : View) → Grows v (takes_octet fault path keep d said v)
 takes_octet_grows None path keep d said v =
     let u : View = with_connection (Data.Transferring (Transfers.Upload path keep d)) v in
     grows_then v u (takes_all said u) (grows_none v u refl) (all_more said u)
