@@ -11,12 +11,14 @@ use Rattle.ftp_wire.specs.Decoder.{Decoder, with_sign, with_all, read_on, octet_
 use Rattle.ftp_wire.specs.Hearing.{HasNoMarker, Marks, EndsBy, Hears}
 use Rattle.ftp_wire.specs.declared.decoded.Decoded.{Decoded}
 use Rattle.ftp_wire.specs.declared.decoded.Decoded.TheVariants as Heards
+use Rattle.ftp_server_model.specs.Keep.{kept_count}
 use Rattle.ftp_server_model.specs.View.{View, Transfer, seen}
 use Rattle.ftp_server_model.specs.Machine.{waited, later, is_idle, obeyed, is_over as passes, faulted, has_room, owes}
 use Rattle.ftp_server_model.specs.Replies.{reply_octets, mark_reply}
 use Rattle.ftp_server_model.specs.Calls.{may_receive, MayReceive, receives, receives_octet, takes_data, takes_octet, takes_all, grown, with_connection}
 use Rattle.ftp_server_model.specs.Failing.{Late, AreReceived, UploadFails}
 use Rattle.ftp_server_model.specs.declared.heard.HeardLine.{HeardLine as Line}
+use Rattle.ftp_server_model.specs.declared.session.Keep.{Keep}
 use Rattle.ftp_server_model.specs.declared.session.Transfer.TheVariants as Transfers
 use Rattle.ftp_server_model.specs.declared.session.ServerLink.TheVariants as Data
 use Rattle.ftp_server_parts.specs.ServerTransfer.{IsUnderWay, ComesTo, Comes}
@@ -25,15 +27,15 @@ use Rattle.ftp_server_parts.specs.declared.transfer.Told.TheVariants as Tells
 use Rattle.ftp_server_transfer.specs.Receiving.{Leaves, is_over, IsTold}
 
 -- a view in which this upload is under way, and one in which it passed a limit
-abbrev holding : Names → ℕ → Decoder → View → View
+abbrev holding : Names → Keep → Decoder → View → View
 holding path keep d v = with_connection (Data.Transferring (Transfers.Upload path keep d)) v
 
 abbrev past : View → View
 past v = with_connection (Data.Transferring Transfers.OverLimit) v
 
 -- behind the octets that are kept so many may be settled in this view, and not one beyond
-abbrev Limits : Names → ℕ → ℕ → View → Type 0
-Limits path keep most v = (count : ℕ) → is_some (octets_refusal (seen v.session) path (keep + count)) ≡ not (nat_le count most)
+abbrev Limits : Names → Keep → ℕ → View → Type 0
+Limits path keep most v = (count : ℕ) → is_some (octets_refusal (seen v.session) path (kept_count keep + count)) ≡ not (nat_le count most)
 
 -- ---- what an octet says is taken
 
@@ -43,7 +45,7 @@ grows d (says sign ∷ more) = omega (arith, grows (with_sign d sign) more, leng
 grows d (marker text ∷ more) = grows d more
 
 -- where the file is within its limit it is still an upload
-takes_within : (path : Names) (keep most : ℕ) (v : View) (d : Decoder) (said : List Said) → Limits path keep most v → HasNoMarker said
+takes_within : (path : Names) (keep : Keep) (most : ℕ) (v : View) (d : Decoder) (said : List Said) → Limits path keep most v → HasNoMarker said
     → length (with_all d said).content ≤ most → takes_all said (holding path keep d v) ≡ holding path keep (with_all d said) v
 takes_within path keep most v d [] limit none within = refl
 takes_within path keep most v d (says sign ∷ more) limit none within =
@@ -59,7 +61,7 @@ past_stays v [] = refl
 past_stays v (says sign ∷ more) = past_stays v more
 past_stays v (marker text ∷ more) = past_stays v more
 
-by_sign : (path : Names) (keep most : ℕ) (v : View) (next : Decoder) (more : List Said) → Limits path keep most v → (fits : Bool)
+by_sign : (path : Names) (keep : Keep) (most : ℕ) (v : View) (next : Decoder) (more : List Said) → Limits path keep most v → (fits : Bool)
     → nat_le (length next.content) most ≡ fits → (length next.content ≤ most → takes_all more (holding path keep next v) ≡ past v)
     → takes_all more (with_connection (grown path keep next v.session) v) ≡ past v
 by_sign path keep most v next more limit true fits on =
@@ -70,7 +72,7 @@ by_sign path keep most v next more limit false fits on =
     (limit (length next.content) ∙ ap not fits) ∙ past_stays v more
 
 -- where it passes it the rest is dropped
-takes_past : (path : Names) (keep most : ℕ) (v : View) (d : Decoder) (said : List Said) → Limits path keep most v → HasNoMarker said
+takes_past : (path : Names) (keep : Keep) (most : ℕ) (v : View) (d : Decoder) (said : List Said) → Limits path keep most v → HasNoMarker said
     → length d.content ≤ most → most < length (with_all d said).content → takes_all said (holding path keep d v) ≡ past v
 takes_past path keep most v d [] limit none within beyond = absurd (omega (arith, within, beyond))
 takes_past path keep most v d (says sign ∷ more) limit none within beyond =
@@ -85,11 +87,11 @@ stays : (waiting : Option (Line (List ℕ))) (w : View) → is_idle w ≡ false 
 stays None w busy = refl
 stays (Some heard) w busy = ap (λ b. if b then obeyed heard (record w { waiting = None }) else w) busy
 
-may : (path : Names) (keep : ℕ) (d : Decoder) (v : View) → v.session.closing ≡ false → has_room v ≡ true → may_receive (holding path keep d v) ≡ true
+may : (path : Names) (keep : Keep) (d : Decoder) (v : View) → v.session.closing ≡ false → has_room v ≡ true → may_receive (holding path keep d v) ≡ true
 may path keep d v going room = rw going room
 
 -- without a fault, all that it says is taken
-one : (path : Names) (keep : ℕ) (d : Decoder) (v w : View) (octet : ℕ) → v.session.closing ≡ false → fault_of (read_on d octet) ≡ None
+one : (path : Names) (keep : Keep) (d : Decoder) (v w : View) (octet : ℕ) → v.session.closing ≡ false → fault_of (read_on d octet) ≡ None
     → takes_all (octet_says d octet) (holding path keep (read_on d octet) v) ≡ w → is_idle w ≡ false → receives_octet (holding path keep d v) octet ≡ w
 unfolding receives_octet
 one path keep d v w octet going fine takes busy =
@@ -98,7 +100,7 @@ one path keep d v w octet going fine takes busy =
     ∙ ap (λ x. later x) takes ∙ stays w.waiting w busy
 
 -- with a fault the transfer is over
-faults : (path : Names) (keep : ℕ) (d : Decoder) (v : View) (octet : ℕ) (fault : FrameFault) → v.session.closing ≡ false
+faults : (path : Names) (keep : Keep) (d : Decoder) (v : View) (octet : ℕ) (fault : FrameFault) → v.session.closing ≡ false
     → fault_of (read_on d octet) ≡ Some fault → receives_octet (holding path keep d v) octet ≡ later (faulted (holding path keep d v))
 unfolding receives_octet
 faults path keep d v octet fault going met =
@@ -106,7 +108,7 @@ faults path keep d v octet fault going met =
     ∙ ap (λ f. later (takes_octet f path keep (read_on d octet) (octet_says d octet) (holding path keep d v))) met
 
 -- any octet may find no memory
-pub lost : (path : Names) (keep : ℕ) (d : Decoder) (v x : View) (octet : ℕ) → v.session.closing ≡ false → has_room v ≡ true
+pub lost : (path : Names) (keep : Keep) (d : Decoder) (v x : View) (octet : ℕ) → v.session.closing ≡ false → has_room v ≡ true
     → Late (faulted (holding path keep d v)) x → AreReceived (holding path keep d v) (octet ∷ []) x
 lost path keep d v x octet going room late =
     let P : Bool → Type 0 = λ b. UploadFails (if b then Data.Free else Data.Transferring (Transfers.Upload path keep d)) octet (holding path keep d v) x in
@@ -115,26 +117,26 @@ lost path keep d v x octet going room late =
 -- ---- the last octet
 
 -- the transfer that is left
-abbrev left : Names → ℕ → Decoded → Decoder → View → View
+abbrev left : Names → Keep → Decoded → Decoder → View → View
 left path keep heard new v = with_connection (Data.Transferring (if is_over heard then Transfers.OverLimit else Transfers.Upload path keep new)) v
 
 -- a marker, and then the rest of what the octet says
-marked : (path : Names) (keep : ℕ) (d : Decoder) (v w : View) (octet : ℕ) (text theirs : List ℕ) (rest : List Said) (count held : ℕ)
+marked : (path : Names) (keep : Keep) (d : Decoder) (v w : View) (octet : ℕ) (text theirs : List ℕ) (rest : List Said) (count held : ℕ)
     → v.session.closing ≡ false → fault_of (read_on d octet) ≡ None → octet_says d octet ≡ marker text ∷ rest → count ≡ length d.content
-    → theirs ≡ text → held ≡ keep + count
-    → takes_all rest (holding path keep (read_on d octet) (owes (reply_octets (mark_reply text (keep + length d.content))) v))
-    ≡ owes (reply_octets (mark_reply text (keep + length d.content))) w → is_idle w ≡ false
-    → is_idle (owes (reply_octets (mark_reply text (keep + length d.content))) w) ≡ false
+    → theirs ≡ text → held ≡ kept_count keep + count
+    → takes_all rest (holding path keep (read_on d octet) (owes (reply_octets (mark_reply text (kept_count keep + length d.content))) v))
+    ≡ owes (reply_octets (mark_reply text (kept_count keep + length d.content))) w → is_idle w ≡ false
+    → is_idle (owes (reply_octets (mark_reply text (kept_count keep + length d.content))) w) ≡ false
     → receives_octet (holding path keep d v) octet ≡ owes (reply_octets (mark_reply theirs held)) w
 marked path keep d v w octet text theirs rest count held going fine said counted same told takes busy owing =
-    one path keep d v (owes (reply_octets (mark_reply text (keep + length d.content))) w) octet going fine
+    one path keep d v (owes (reply_octets (mark_reply text (kept_count keep + length d.content))) w) octet going fine
     (ap (λ l. takes_all l (holding path keep (read_on d octet) v)) said ∙ takes) owing
-    ∙ ap (λ t. owes (reply_octets (mark_reply t (keep + length d.content))) w) (sym same)
-    ∙ ap (λ n. owes (reply_octets (mark_reply theirs n)) w) (sym (told ∙ ap (λ n. keep + n) counted))
+    ∙ ap (λ t. owes (reply_octets (mark_reply t (kept_count keep + length d.content))) w) (sym same)
+    ∙ ap (λ n. owes (reply_octets (mark_reply theirs n)) w) (sym (told ∙ ap (λ n. kept_count keep + n) counted))
 
-last : (path : Names) (keep most : ℕ) (v : View) (d : Decoder) (octet : ℕ) (mark : Option ℕ) (text : List ℕ) (heard : Decoded) (new : Decoder) (told : Told)
+last : (path : Names) (keep : Keep) (most : ℕ) (v : View) (d : Decoder) (octet : ℕ) (mark : Option ℕ) (text : List ℕ) (heard : Decoded) (new : Decoder) (told : Told)
     → Limits path keep most v → v.session.closing ≡ false → has_room v ≡ true → length d.content ≤ most → Marks mark text d (octet_says d octet)
-    → EndsBy most d octet heard new → IsTold keep mark text heard told → ComesTo (holding path keep d v) (octet ∷ []) told (left path keep heard new v)
+    → EndsBy most d octet heard new → IsTold (kept_count keep) mark text heard told → ComesTo (holding path keep d v) (octet ∷ []) told (left path keep heard new v)
 last path keep most v d octet None text Heards.More new told limit going room within marks ends is =
     let P : Told → Type 0 = λ t. ComesTo (holding path keep d v) (octet ∷ []) t (holding path keep new v) in
     let takes = takes_within path keep most v (read_on d octet) (octet_says d octet) limit marks ends.1 in
@@ -145,7 +147,7 @@ last path keep most v d octet None text Heards.More new told limit going room wi
 last path keep most v d octet (Some held) text Heards.More new (Tells.Mark m) limit going room within marks ends is =
     let rest = marks.0 in
     let read = read_on d octet in
-    let r = reply_octets (mark_reply text (keep + length d.content)) in
+    let r = reply_octets (mark_reply text (kept_count keep + length d.content)) in
     let whole : decoded_octet d octet ≡ with_all read rest = ap (with_all read) marks.1 in
     let fits : length (with_all read rest).content ≤ most = omega (arith, ap (λ e. length e.content) whole, ends.1) in
     let to_new : with_all read rest ≡ new = sym whole ∙ sym ends.2 in
@@ -161,7 +163,7 @@ last path keep most v d octet None text Heards.Over new told limit going room wi
 last path keep most v d octet (Some held) text Heards.Over new (Tells.Mark m) limit going room within marks ends is =
     let rest = marks.0 in
     let read = read_on d octet in
-    let r = reply_octets (mark_reply text (keep + length d.content)) in
+    let r = reply_octets (mark_reply text (kept_count keep + length d.content)) in
     let beyond : most < length (with_all read rest).content = omega (arith, ap (λ e. length e.content) (ap (with_all read) marks.1), ends.1) in
     let takes = takes_past path keep most (owes r v) read rest limit marks.2 within beyond in
     ((may path keep d v going room, tt), marked path keep d v (past v) octet text m.text.items rest held m.held going ends.0 marks.1 marks.3 is.0 is.1 takes refl refl)
@@ -178,7 +180,7 @@ last path keep most v d octet mark text Heards.NoMemory new told limit going roo
 -- ---- octets in a row
 
 -- an octet of which nothing is to be said, and then others
-on : (path : Names) (keep : ℕ) (d e : Decoder) (v w : View) (octet : ℕ) (octets : List ℕ) (told : Told) → may_receive (holding path keep d v) ≡ true
+on : (path : Names) (keep : Keep) (d e : Decoder) (v w : View) (octet : ℕ) (octets : List ℕ) (told : Told) → may_receive (holding path keep d v) ≡ true
     → receives_octet (holding path keep d v) octet ≡ holding path keep e v → ComesTo (holding path keep e v) octets told w
     → ComesTo (holding path keep d v) (octet ∷ octets) told w
 on path keep d e v w octet octets Tells.Nothing can is h =
@@ -193,18 +195,18 @@ on path keep d e v w octet octets Tells.Faulty can is h =
 on path keep d e v w octet octets Tells.NoMemory can is h = λ x late. (can, holding path keep e v, inl (sym is), h x late)
 
 -- no octet came
-nothing : (path : Names) (keep : ℕ) (v : View) (d : Decoder) (mark : Option ℕ) (text : List ℕ) (heard : Decoded) (new : Decoder) (told : Told)
-    → mark ≡ None → heard ≡ Heards.More → new ≡ d → IsTold keep mark text heard told → ComesTo (holding path keep d v) [] told (left path keep heard new v)
+nothing : (path : Names) (keep : Keep) (v : View) (d : Decoder) (mark : Option ℕ) (text : List ℕ) (heard : Decoded) (new : Decoder) (told : Told)
+    → mark ≡ None → heard ≡ Heards.More → new ≡ d → IsTold (kept_count keep) mark text heard told → ComesTo (holding path keep d v) [] told (left path keep heard new v)
 nothing path keep v d mark text heard new told unmarked more same is =
-    let P : Decoded → Type 0 = λ h. IsTold keep mark text h told in
-    let Q : Option ℕ → Type 0 = λ m. IsTold keep m text Heards.More told in
+    let P : Decoded → Type 0 = λ h. IsTold (kept_count keep) mark text h told in
+    let Q : Option ℕ → Type 0 = λ m. IsTold (kept_count keep) m text Heards.More told in
     let R : Told → Type 0 = λ t. ComesTo (holding path keep d v) [] t (left path keep heard new v) in
     let is_nothing : told ≡ Tells.Nothing = subst Q unmarked (subst P more is) in
     subst R (sym is_nothing) (tt, ap (λ e. holding path keep e v) (sym same) ∙ ap (λ h. left path keep h new v) (sym more))
 
-comes_to : (path : Names) (keep most : ℕ) (v : View) (d : Decoder) (octets : List ℕ) (mark : Option ℕ) (text : List ℕ) (heard : Decoded) (new : Decoder) (told : Told)
+comes_to : (path : Names) (keep : Keep) (most : ℕ) (v : View) (d : Decoder) (octets : List ℕ) (mark : Option ℕ) (text : List ℕ) (heard : Decoded) (new : Decoder) (told : Told)
     → Limits path keep most v → v.session.closing ≡ false → has_room v ≡ true → length d.content ≤ most → Hears most d octets mark text heard new
-    → IsTold keep mark text heard told → ComesTo (holding path keep d v) octets told (left path keep heard new v)
+    → IsTold (kept_count keep) mark text heard told → ComesTo (holding path keep d v) octets told (left path keep heard new v)
 comes_to path keep most v d [] mark text heard new told limit going room within h is = nothing path keep v d mark text heard new told h.0 h.1 h.2 is
 comes_to path keep most v d (octet ∷ []) mark text heard new told limit going room within h is =
     last path keep most v d octet mark text heard new told limit going room within h.0 h.1 is
@@ -217,23 +219,23 @@ comes_to path keep most v d (octet ∷ next ∷ octets) mark text heard new told
 -- ---- of a transfer, in whichever view it is under way
 
 -- it is enough to see it in a view that it stands in
-in_view : (part : Table) (path : Names) (keep : ℕ) (d : Decoder) (octets : List ℕ) (told : Told) (v w : View)
+in_view : (part : Table) (path : Names) (keep : Keep) (d : Decoder) (octets : List ℕ) (told : Told) (v w : View)
     → IsUnderWay part (Transfers.Upload path keep d) v → ComesTo (holding path keep d v) octets told w → ComesTo v octets told w
 in_view part path keep d octets told v w under h =
     let P : View → Type 0 = λ y. ComesTo y octets told w in
     subst P (sym (ap (λ c. with_connection c v) under.carried)) h
 
 -- what was heard leads there
-pub comes : (part : Table) (path : Names) (keep most : ℕ) (d : Decoder) (octets : List ℕ) (mark : Option ℕ) (text : List ℕ) (heard : Decoded) (new : Decoder) (told : Told)
-    → Leaves part path keep most → length d.content ≤ most → Hears most d octets mark text heard new → IsTold keep mark text heard told
+pub comes : (part : Table) (path : Names) (keep : Keep) (most : ℕ) (d : Decoder) (octets : List ℕ) (mark : Option ℕ) (text : List ℕ) (heard : Decoded) (new : Decoder) (told : Told)
+    → Leaves part path (kept_count keep) most → length d.content ≤ most → Hears most d octets mark text heard new → IsTold (kept_count keep) mark text heard told
     → Comes part (Transfers.Upload path keep d) octets told (if is_over heard then Transfers.OverLimit else Transfers.Upload path keep new)
 comes part path keep most d octets mark text heard new told leaves within h is = λ v under.
-    let P : Table → Type 0 = λ p. (count : ℕ) → is_some (octets_refusal p path (keep + count)) ≡ not (nat_le count most) in
+    let P : Table → Type 0 = λ p. (count : ℕ) → is_some (octets_refusal p path (kept_count keep + count)) ≡ not (nat_le count most) in
     in_view part path keep d octets told v (left path keep heard new v) under
     (comes_to path keep most v d octets mark text heard new told (subst P (sym under.sees) leaves.limit) under.going under.room within h is)
 
 -- the first octet finds no memory
-pub refused : (part : Table) (path : Names) (keep : ℕ) (d : Decoder) (piece : List ℕ) (count : ℕ) (told : Told) (new : Transfer) → 0 < length piece → count ≡ 1
+pub refused : (part : Table) (path : Names) (keep : Keep) (d : Decoder) (piece : List ℕ) (count : ℕ) (told : Told) (new : Transfer) → 0 < length piece → count ≡ 1
     → told ≡ Tells.NoMemory → Comes part (Transfers.Upload path keep d) (take count piece) told new
 refused part path keep d [] count told new some one_of is = absurd (omega arith)
 refused part path keep d (octet ∷ piece) count told new some one_of is =

@@ -1,18 +1,36 @@
-// How many octets may come behind those of the file that are kept, and what a call that a tree refuses is told as.
-ghost use Rattle.std.specs.Prelude.{◌≡◌, ◌⊎◌, ◌+◌, is_none, is_some};
-ghost use Rattle.std.specs.Option.{IfSome};
+// What an upload keeps of the file that stands at its path, how many octets may come behind that, why what came can't be put there at its end,
+// and what a call that a tree refuses is told as.
+ghost use Rattle.std.specs.Prelude.{◌≡◌, ◌⊎◌, ◌+◌, ℕ, List, is_none, is_some, length, nat_le, not, take};
+ghost use Rattle.std.specs.Option.{IfSome, option_map};
+ghost use Rattle.ftp_direct.specs.Refusal.{name_refusal};
 ghost use Rattle.ftp_tree.specs.Change.{next_count};
+ghost use Rattle.ftp_server_model.specs.Keep.{kept_count, kept_of, lacks};
+ghost use Rattle.ftp_server_model.specs.Machine.{end_refusal};
+ghost use Rattle.ftp_server_model.specs.View.{Session};
+ghost use Rattle.ftp_server_model.specs.Walk.{refusal_text};
 ghost use Rattle.ftp_server_parts.specs.Fault.{Counted};
 ghost use Rattle.ftp_server_transfer.specs.Receiving.{Leaves};
-ghost use Rattle.ftp_tree.specs.Tree.{install_refusal, octets_refusal, room_refusal, under};
+ghost use Rattle.ftp_tree.specs.Tree.{octets_or_none, octets_refusal, under};
 
+use ftp_direct::{len_at, may_put_at};
+use ftp_operation::Rights;
 use ftp_path::Path;
+use ftp_server_model::{FixedReply, Keep};
 use ftp_server_parts::Fault;
-use ftp_tree::Tree;
+use ftp_tree::{Tree, TreeFault};
 use std::alloc::Allocator;
 
-/// How many octets may come behind so many of the file at a path. `None` where those alone pass the limit, or where the tree
-/// takes no file there.
+/// How many octets the restart markers of an upload count before those that came.
+pub(crate) fn kept_count(keep: Keep) -> u64
+    ensures { result ≡ kept_count keep }
+{
+    match keep {
+        Keep::First(count) | Keep::All(count) => count,
+    }
+}
+
+/// How many octets may come behind so many of the file at a path, whether or not the tree takes a file there. `None` where those
+/// alone pass a limit.
 pub(crate) fn room_behind<
     A: Allocator + Copy,
     B: Allocator + Copy,
@@ -20,38 +38,83 @@ pub(crate) fn room_behind<
     T: Tree<A>,
 >(tree: &T, root: &Path<B>, path: &Path<C>, keep: u64) -> Option<u64>
     ensures room { IfSome result (λ room. Leaves (under (T.table tree.now) root.now) path.now keep room) }
-    ensures none { is_none result ≡ is_some (install_refusal (under (T.table tree.now) root.now) path.now keep) }
+    ensures none { is_none result ≡ is_some (octets_refusal (under (T.table tree.now) root.now) path.now keep) }
 {
-    match tree.room(root, path) {
-        Ok(room) => {
-            if room < keep {
-                return None;
-            }
-            Some(room - keep)
-        }
-        Err(_) => None,
+    let most = tree.most(root, path);
+    if most < keep {
+        return None;
+    }
+    Some(most - keep)
+}
+
+/// How many first octets of the file that stands at a path now are kept; fewer stand there where REST kept more than there are.
+pub(crate) fn kept_at<A: Allocator + Copy, T: Tree<A>>(
+    tree: &T,
+    root: &Path<A>,
+    path: &Path<A>,
+    keep: Keep,
+) -> u64
+    ensures octets { let octets = octets_or_none (under (T.table tree.now) root.now) path.now in take result octets ≡ kept_of keep octets }
+    ensures lacks { let octets = octets_or_none (under (T.table tree.now) root.now) path.now in lacks keep octets ≡ not (nat_le result (length octets)) }
+{
+    match keep {
+        Keep::First(count) => count,
+        Keep::All(_) => len_at(tree, root, path),
     }
 }
 
-/// Whether so many octets pass a limit behind so many of the file at a path. `None` where the tree takes no file there.
-pub(crate) fn passes<A: Allocator + Copy, B: Allocator + Copy, C: Allocator + Copy, T: Tree<A>>(
+/// Why so many octets that came can't be put at a path now, by an account that may change so much: the reply that tells it.
+///
+/// Asked in this order: whether the account may put a file there, whether as many octets stand there as are kept, whether the tree
+/// takes a file there, whether it is within the limits of octets.
+pub(crate) fn end_refusal<A: Allocator + Copy, T: Tree<A>>(
     tree: &T,
-    root: &Path<B>,
-    path: &Path<C>,
-    keep: u64,
+    root: &Path<A>,
+    path: &Path<A>,
+    keep: Keep,
     count: u64,
-) -> Option<bool>
-    ensures passes { IfSome result (λ passes. passes ≡ is_some (octets_refusal (under (T.table tree.now) root.now) path.now (keep + count))) }
-    ensures none { is_none result ≡ is_some (room_refusal (under (T.table tree.now) root.now) path.now) }
+    rights: Rights,
+) -> Option<FixedReply>
+    ensures { (s : Session) (octets : List ℕ) → s.table ≡ T.table tree.now → s.root ≡ root.now → s.rights ≡ rights → length octets ≡ count
+        → result ≡ option_map refusal_text (end_refusal path.now keep octets s) }
 {
+    // A path is within the limits of paths, whatever its parent's key is.
+    let _key = path.parent_key();
+    if !may_put_at(tree, root, path, rights) {
+        return Some(FixedReply::NotAllowed);
+    }
+    let kept = kept_at(tree, root, path, keep);
+    if len_at(tree, root, path) < kept {
+        return Some(FixedReply::NameRefused);
+    }
     match tree.room(root, path) {
         Ok(room) => {
-            if room < keep {
-                return Some(true);
+            if passes(room, kept, count) {
+                return Some(FixedReply::TooMuch);
             }
-            Some(room - keep < count)
+            None
         }
-        Err(_) => None,
+        Err(fault) => Some(room_text(fault)),
+    }
+}
+
+/// Whether so many octets behind so many that are kept are more than there is room for.
+fn passes(room: u64, kept: u64, count: u64) -> bool
+    ensures { result ≡ not (nat_le (kept + count) room) }
+{
+    if room < kept {
+        return true;
+    }
+    room - kept < count
+}
+
+/// The reply where the tree takes no file.
+fn room_text(fault: TreeFault) -> FixedReply
+    ensures { result ≡ refusal_text (name_refusal fault) }
+{
+    match fault {
+        TreeFault::Full => FixedReply::NoRoom,
+        _ => FixedReply::NameRefused,
     }
 }
 

@@ -10,8 +10,9 @@ use crate::named::Named;
 use crate::{Download, Upload};
 use ftp_command::Argument;
 use ftp_facts::Moment;
+use ftp_operation::Rights;
 use ftp_path::Path;
-use ftp_server_model::{Facts, FixedReply};
+use ftp_server_model::{Facts, FixedReply, Keep};
 use ftp_server_parts::{Fault, Given, Received, ServerTransfer, Told};
 use ftp_settings::{Mode, Representation};
 use ftp_tree::Tree;
@@ -51,7 +52,7 @@ impl<A: Allocator + Copy, T: Tree<A>> ServerTransfer<A, T> for TreeTransfer<A, T
         tree: &mut T,
         root: &Path<A>,
         path: &mut Path<A>,
-        keep: u64,
+        keep: Keep,
         settings: Representation,
     ) -> Result<TreeTransfer<A, T>, Fault> {
         let failures = tree.device_failures();
@@ -155,17 +156,29 @@ impl<A: Allocator + Copy, T: Tree<A>> ServerTransfer<A, T> for TreeTransfer<A, T
         }
     }
 
-    fn at_end(self, tree: &mut T, root: &Path<A>, moment: Moment) -> Result<FixedReply, Fault> {
+    fn at_end(
+        self,
+        tree: &mut T,
+        root: &Path<A>,
+        rights: Rights,
+        moment: Moment,
+    ) -> Result<FixedReply, Fault> {
         match self {
-            TreeTransfer::Upload(upload) => upload.at_end(tree, root, moment),
+            TreeTransfer::Upload(upload) => upload.at_end(tree, root, rights, moment),
             TreeTransfer::OverLimit => Ok(FixedReply::TooMuch),
             TreeTransfer::Download(_) | TreeTransfer::Listing(_) => Ok(FixedReply::Broken),
         }
     }
 
-    fn at_break(self, tree: &mut T, root: &Path<A>, moment: Moment) -> Result<FixedReply, Fault> {
+    fn at_break(
+        self,
+        tree: &mut T,
+        root: &Path<A>,
+        rights: Rights,
+        moment: Moment,
+    ) -> Result<FixedReply, Fault> {
         match self {
-            TreeTransfer::Upload(upload) => upload.at_break(tree, root, moment),
+            TreeTransfer::Upload(upload) => upload.at_break(tree, root, rights, moment),
             TreeTransfer::OverLimit => Ok(FixedReply::TooMuch),
             TreeTransfer::Download(_) | TreeTransfer::Listing(_) => Ok(FixedReply::Broken),
         }

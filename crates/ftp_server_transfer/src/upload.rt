@@ -3,18 +3,20 @@ ghost use Rattle.std.specs.Prelude.{◌≡◌, ◌≤◌, ◌<◌, ◌+◌, ◌^
 ghost use Rattle.std.specs.Option.{IfSome};
 ghost use Rattle.ftp_wire.specs.Decoder.{no_octets};
 ghost use Rattle.ftp_server_parts.specs.ServerTransfer.{Comes, Ends};
+ghost use Rattle.ftp_server_model.specs.Keep.{kept_count};
 ghost use Rattle.ftp_server_model.specs.Machine.{at_break, at_end, installs};
 ghost use Rattle.ftp_server_model.specs.View.{Session};
 ghost use Rattle.ftp_server_model.specs.declared.session.Transfer.TheVariants as Transfers;
 ghost use Rattle.ftp_server_transfer.specs.Receiving.{is_over};
-ghost use Rattle.ftp_tree.specs.Tree.{install_refusal, under};
+ghost use Rattle.ftp_tree.specs.Tree.{octets_refusal, under};
 
 use crate::came::Came;
-use crate::install::{fault_by, passes, room_behind};
+use crate::install::{end_refusal, fault_by, kept_at, kept_count, room_behind};
 use arrayvec::ArrayVec;
 use ftp_facts::Moment;
+use ftp_operation::Rights;
 use ftp_path::Path;
-use ftp_server_model::FixedReply;
+use ftp_server_model::{FixedReply, Keep};
 use ftp_server_parts::{Fault, Marker, Received, Told};
 use ftp_settings::{MARKER_LIMIT, Representation};
 use ftp_tree::Tree;
@@ -25,8 +27,8 @@ use std::alloc::Allocator;
 #[derive(Drop)]
 pub struct Upload<A: Allocator + Copy, T: Tree<A>> {
     pub(crate) path: Path<A>,
-    /// So many octets of the file that stands at the path are kept in front.
-    pub(crate) keep: u64,
+    /// What is kept of the file that stands at the path, in front of what comes.
+    pub(crate) keep: Keep,
     pub(crate) decoder: Decoder<Came<A, T>>,
 }
 
@@ -42,8 +44,8 @@ impl<A: Allocator + Copy, T: Tree<A>> Upload<A, T> {
     ghost use Rattle.ftp_server_transfer.specs.Receiving.{IsTold, Leaves};
     ghost use Rattle.ftp_server_transfer.specs.Upload.{upload_of};
 
-    /// An upload to a path, behind so many octets of the file there, in a representation, into a draft. Takes no memory.
-    pub fn new(path: Path<A>, keep: u64, settings: Representation, draft: T::Draft) -> Upload<A, T>
+    /// An upload to a path, which keeps so much of the file there, in a representation, into a draft. Takes no memory.
+    pub fn new(path: Path<A>, keep: Keep, settings: Representation, draft: T::Draft) -> Upload<A, T>
         ensures { upload_of result ≡ Transfers.Upload path keep (record (no_octets settings) { content = T.Draft.octets draft }) }
     {
         Upload {
@@ -55,8 +57,8 @@ impl<A: Allocator + Copy, T: Tree<A>> Upload<A, T> {
 
     /// Takes octets of the data connection: all of them, or up to the first of which something is to be said.
     ///
-    /// Where the octets that are kept pass a limit by themselves, or the tree takes no file at the path any more, the first octet
-    /// is told as want of memory (own choice: a tree within its own limits meets neither).
+    /// Whether a file can be put at the path is asked at the end. Where the octets that are kept pass a limit by themselves, the first
+    /// octet is told as want of memory (own choice: a tree within its own limits does not meet it).
     pub fn receive<B: Allocator + Copy>(
         &mut self,
         tree: &T,
@@ -84,12 +86,12 @@ impl<A: Allocator + Copy, T: Tree<A>> Upload<A, T> {
         }
     }
 
-    /// How many octets may still be settled; `None` where those that are held pass a limit, or the tree takes no file there.
+    /// How many octets may still be settled; `None` where those that are held pass a limit.
     fn room_left<B: Allocator + Copy>(&self, tree: &T, root: &Path<B>) -> Option<u64>
-        ensures room { IfSome result (λ room. Leaves (under (T.table tree.now) root.now) self.now.path self.now.keep (length self.now.decoder.decoder.content + room)) }
-        ensures none { is_none result ≡ is_some (install_refusal (under (T.table tree.now) root.now) self.now.path (self.now.keep + length self.now.decoder.decoder.content)) }
+        ensures room { IfSome result (λ room. Leaves (under (T.table tree.now) root.now) self.now.path (kept_count self.now.keep) (length self.now.decoder.decoder.content + room)) }
+        ensures none { is_none result ≡ is_some (octets_refusal (under (T.table tree.now) root.now) self.now.path (kept_count self.now.keep + length self.now.decoder.decoder.content)) }
     {
-        let Some(most) = room_behind(tree, root, &self.path, self.keep) else {
+        let Some(most) = room_behind(tree, root, &self.path, kept_count(self.keep)) else {
             return None;
         };
         most.checked_sub(self.decoder.len())
@@ -97,8 +99,8 @@ impl<A: Allocator + Copy, T: Tree<A>> Upload<A, T> {
 
     /// What is to be said of octets that were taken.
     fn told(&self, taken: Taken) -> Told
-        requires { (held : ℕ) → taken.mark ≡ Some held → (self.now.keep + held < 2 ^ 64) × (length self.now.decoder.marker ≤ MARKER_LIMIT) }
-        ensures { IsTold self.now.keep taken.mark self.now.decoder.marker taken.heard result }
+        requires { (held : ℕ) → taken.mark ≡ Some held → (kept_count self.now.keep + held < 2 ^ 64) × (length self.now.decoder.marker ≤ MARKER_LIMIT) }
+        ensures { IsTold (kept_count self.now.keep) taken.mark self.now.decoder.marker taken.heard result }
     {
         match taken.heard {
             Decoded::Faulty(_) => Told::Faulty,
@@ -107,54 +109,58 @@ impl<A: Allocator + Copy, T: Tree<A>> Upload<A, T> {
                 None => Told::Nothing,
                 Some(held) => Told::Mark(Marker {
                     text: copied(self.decoder.marker()),
-                    held: self.keep + held,
+                    held: kept_count(self.keep) + held,
                 }),
             },
         }
     }
 
     /// The other end closed the data connection: the file is whole and put into the tree, or it ended early, which counts as broken.
-    /// The reply that ends the transfer.
-    pub fn at_end<B: Allocator + Copy>(
+    /// It is put by an account that may change so much. The reply that ends the transfer.
+    pub fn at_end(
         mut self,
         tree: &mut T,
-        root: &Path<B>,
+        root: &Path<A>,
+        rights: Rights,
         moment: Moment,
     ) -> Result<FixedReply, Fault>
-        ensures { (s : Session) → s.table ≡ T.table tree.old → s.root ≡ root.now
+        ensures { (s : Session) → s.table ≡ T.table tree.old → s.root ≡ root.now → s.rights ≡ rights
             → Ends (at_end moment.seconds (upload_of self) s) s (T.table tree.new) result (T.failures tree.old) (T.failures tree.new) }
     {
         if !self.decoder.is_whole() {
-            return self.at_break(tree, root, moment);
+            return self.at_break(tree, root, rights, moment);
         }
         let Ok(()) = self.decoder.end() else {
             return Err(Fault::Memory);
         };
-        self.install(tree, root, moment, FixedReply::Complete)
+        self.install(tree, root, rights, moment, FixedReply::Complete)
     }
 
     /// The data connection broke: what was settled is put into the tree. The reply that ends the transfer.
-    pub fn at_break<B: Allocator + Copy>(
+    pub fn at_break(
         self,
         tree: &mut T,
-        root: &Path<B>,
+        root: &Path<A>,
+        rights: Rights,
         moment: Moment,
     ) -> Result<FixedReply, Fault>
-        ensures { (s : Session) → s.table ≡ T.table tree.old → s.root ≡ root.now
+        ensures { (s : Session) → s.table ≡ T.table tree.old → s.root ≡ root.now → s.rights ≡ rights
             → Ends (at_break moment.seconds (upload_of self) s) s (T.table tree.new) result (T.failures tree.old) (T.failures tree.new) }
     {
-        self.install(tree, root, moment, FixedReply::Broken)
+        self.install(tree, root, rights, moment, FixedReply::Broken)
     }
 
-    /// What was settled is put into the tree and answered so; past a limit of octets nothing is.
-    fn install<B: Allocator + Copy>(
+    /// What was settled is put into the tree and answered so; or it is refused as the direct run would refuse it there now, and
+    /// nothing is.
+    fn install(
         self,
         tree: &mut T,
-        root: &Path<B>,
+        root: &Path<A>,
+        rights: Rights,
         moment: Moment,
         text: FixedReply,
     ) -> Result<FixedReply, Fault>
-        ensures { (s : Session) → s.table ≡ T.table tree.old → s.root ≡ root.now
+        ensures { (s : Session) → s.table ≡ T.table tree.old → s.root ≡ root.now → s.rights ≡ rights
             → Ends (installs moment.seconds self.path self.keep self.decoder.decoder text s) s (T.table tree.new) result (T.failures tree.old) (T.failures tree.new) }
     {
         let Upload {
@@ -162,15 +168,13 @@ impl<A: Allocator + Copy, T: Tree<A>> Upload<A, T> {
             keep,
             decoder,
         } = self;
-        let Some(passes) = passes(tree, root, &path, keep, decoder.len()) else {
-            return Err(Fault::Memory);
-        };
-        if passes {
-            return Ok(FixedReply::TooMuch);
+        if let Some(why) = end_refusal(tree, root, &path, keep, decoder.len(), rights) {
+            return Ok(why);
         }
+        let kept = kept_at(tree, root, &path, keep);
         let failures = tree.device_failures();
         let Came { draft } = decoder.into_sink();
-        match tree.put(root, &path, keep, draft, moment) {
+        match tree.put(root, &path, kept, draft, moment) {
             Ok(()) => Ok(text),
             Err(_) => Err(fault_by(failures, tree.device_failures())),
         }

@@ -6,8 +6,8 @@ use Rattle.ftp_server_transfer.specs.TreeTransfer.{transfer_of}
 use Rattle.ftp_server_transfer.proofs.transfer.TreeTransferServerTransfer.at_break.Goals as goal
 
 pub returns-in-Upload-clause-ends : goal.returns-in-Upload-clause-ends
-returns-in-Upload-clause-ends g c = λ s same at.
+returns-in-Upload-clause-ends g c = λ s same at may.
     let call = c.at_break in
     let P : Transfer → Type 0 = λ t. Ends (at_break c.args.moment.seconds t s) s (g.T.Tree.table call.new.tree) call.result
     (g.T.Tree.failures c.args.tree.now) (g.T.Tree.failures call.new.tree) in
-    subst P (sym (ap (λ x. transfer_of g.T.Tree.opened x) c.in-Upload.is)) (call.ensures s same at)
+    subst P (sym (ap (λ x. transfer_of g.T.Tree.opened x) c.in-Upload.is)) (call.ensures s same at may)
