@@ -17,6 +17,7 @@ use Rattle.ftp_server_model.specs.Machine.{IsReading, Reading, given_out, has_ro
 use Rattle.ftp_server_model.specs.Act.{decided}
 use Rattle.ftp_server_model.specs.View.{Session, Transfer, View}
 use Rattle.ftp_server_model.specs.declared.heard.HeardLine.{HeardLine}
+use Rattle.ftp_server_model.specs.declared.session.Keep.{Keep}
 use Rattle.ftp_server_model.specs.declared.session.ServerLink.{ServerLink}
 use Rattle.ftp_server_model.specs.declared.session.ServerLink.TheVariants as Data
 use Rattle.ftp_server_model.specs.declared.session.Transfer.TheVariants as Transfers
@@ -170,7 +171,7 @@ all_waits : (said : List Said) (v : View) → (takes_all said v).waiting ≡ v.w
 all_waits [] v = refl
 all_waits (one ∷ more) v = all_waits more (takes_said v.session.connection one v) ∙ said_waits v.session.connection one v
 
-fault_waits : (fault : Option FrameFault) (path : Names) (keep : ℕ) (d : Decoder) (said : List Said) (v : View) → (takes_octet fault path keep d said v).waiting ≡ v.waiting
+fault_waits : (fault : Option FrameFault) (path : Names) (keep : Keep) (d : Decoder) (said : List Said) (v : View) → (takes_octet fault path keep d said v).waiting ≡ v.waiting
 fault_waits None path keep d said v = all_waits said (with_connection (Data.Transferring (Transfers.Upload path keep d)) v)
 fault_waits (Some fault) path keep d said v = refl
 
@@ -277,7 +278,7 @@ another c v x is on = record {
   footing = on.footing;
 }
 
-grown_on : (path : Names) (keep : ℕ) (d : Decoder) (s : Session) → is_upload (grown path keep d s) ≡ true
+grown_on : (path : Names) (keep : Keep) (d : Decoder) (s : Session) → is_upload (grown path keep d s) ≡ true
 grown_on path keep d s = by (is_over path keep d s)
   where
     by : (b : Bool) → is_upload (if b then Data.Transferring Transfers.OverLimit else Data.Transferring (Transfers.Upload path keep d)) ≡ true

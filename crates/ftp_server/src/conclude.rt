@@ -24,7 +24,8 @@ pub(crate) fn at_end<A: Allocator + Copy, T: Tree<A>, J: ServerTransfer<A, T>>(
     ensures upload { OnErr result (IsUpload (J.view transfer)) }
     ensures access { session.new.access ≡ session.old.access }
 {
-    transfer.at_end(&mut session.tree, &session.root, session.rights, moment)
+    let rights = session.rights;
+    transfer.at_end(&mut session.tree, &session.root, rights, moment)
 }
 
 /// The data connection of this transfer broke, or it is aborted.
@@ -39,5 +40,6 @@ pub(crate) fn at_break<A: Allocator + Copy, T: Tree<A>, J: ServerTransfer<A, T>>
     ensures upload { OnErr result (IsUpload (J.view transfer)) }
     ensures access { session.new.access ≡ session.old.access }
 {
-    transfer.at_break(&mut session.tree, &session.root, session.rights, moment)
+    let rights = session.rights;
+    transfer.at_break(&mut session.tree, &session.root, rights, moment)
 }

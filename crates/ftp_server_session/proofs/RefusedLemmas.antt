@@ -1,5 +1,6 @@
 -- A call that the tree refused: what it makes of a command.
 use Rattle.std.proofs.Common.{◌≡◌, ◌∙◌, ℕ, Bool, true, false, if◌then◌else◌, inl, inr, List, Option, Some, None, is_some, Result, Ok, Err, ap, refl, sym}
+use Rattle.std.specs.Option.{option_map}
 use Rattle.ftp_path.specs.Path.{Names, fits, resolved}
 use Rattle.ftp_tree.specs.Change.{IsRefused}
 use Rattle.ftp_tree.specs.Tree.{Table, moved, rename_refusal}
@@ -11,7 +12,7 @@ use Rattle.ftp_direct.specs.declared.refusal.Refusal.TheVariants as Refusals
 use Rattle.ftp_direct.proofs.RefusalLemmas.{NoDevice, there_some}
 use Rattle.ftp_server_model.specs.Replies.{Turn, tells}
 use Rattle.ftp_server_model.specs.View.{Session, Transfer, with_seen}
-use Rattle.ftp_server_model.specs.Walk.{path_of, renames, target_seen, unless}
+use Rattle.ftp_server_model.specs.Walk.{path_of, refusal_text, refused_source, renames, target_seen, unless}
 use Rattle.ftp_server_model.specs.declared.reply.ReplyKind.{ReplyKind}
 use Rattle.ftp_server_model.specs.declared.reply.ReplyKind.TheVariants as Replies
 use Rattle.ftp_server_model.specs.declared.reply.FixedReply.{FixedReply}
@@ -67,8 +68,31 @@ name_due : (s : Session) (turn : Turn) (named path : Names) (refusal : Names →
 name_due s turn named path refusal why is fit e =
     ap (λ r. unless r s turn) (name_some (fits named) (refusal named) (ap fits (sym is) ∙ fit) (ap (λ p. is_some (refusal p)) (sym is) ∙ ap is_some e))
 
+-- ---- RNTO
+
+pub source_none : (why : Option Refusal) → None ≡ option_map refusal_text why → why ≡ None
+source_none None none = refl
+source_none (Some why) none = absurd (cc)
+
+source_said : (s : Session) (turn : Turn) (why more : Option Refusal) (text : FixedReply) → Some text ≡ option_map refusal_text why
+    → (s, Replies.Fixed text) ≡ unless (or_refused why more) s turn
+source_said s turn None more text some = absurd (cc)
+source_said s turn (Some why) more text some = cc
+
+-- what RNFR named is refused
+pub source_due : (s : Session) (from : Names) (text : List ℕ) (refusal : FixedReply) → Some refusal ≡ option_map refusal_text (refused_source s from)
+    → (s, Replies.Fixed refusal) ≡ renames from (path_of s text) s
+source_due s from text refusal some = source_said s _ (refused_source s from) _ refusal some
+
+-- it is not: the new name decides
+pub by_name : (s : Session) (from to : Names) → None ≡ option_map refusal_text (refused_source s from)
+    → renames from to s ≡ unless (refused_name (limited to (rename_refusal (target_seen s from to) from to))) s (tells Texts.Done (with_seen (moved (target_seen s from to) from to) s))
+by_name s from to none =
+    ap (λ why. unless (or_refused why (refused_name (limited to (rename_refusal (target_seen s from to) from to)))) s (tells Texts.Done (with_seen (moved (target_seen s from to) from to) s)))
+    (source_none (refused_source s from) none)
+
 pub rename_due : (s : Session) (from to : Names) (text : List ℕ) (why : TreeFault) → to ≡ resolved s.cwd text → fits to ≡ true → rename_refusal (target_seen s from to) from to ≡ Some why
-    → s.rights.rename ≡ true → renames from (path_of s text) s ≡ (s, Replies.Fixed Texts.NameRefused)
-rename_due s from to text why is fit e may =
-    may_due s _ _ s.rights.rename _ may
-    (name_due s (tells Texts.Done (with_seen (moved (target_seen s from (path_of s text)) from (path_of s text)) s)) (path_of s text) to (λ to. rename_refusal (target_seen s from to) from to) why is fit e)
+    → None ≡ option_map refusal_text (refused_source s from) → renames from (path_of s text) s ≡ (s, Replies.Fixed Texts.NameRefused)
+rename_due s from to text why is fit e none =
+    by_name s from (path_of s text) none
+    ∙ name_due s (tells Texts.Done (with_seen (moved (target_seen s from (path_of s text)) from (path_of s text)) s)) (path_of s text) to (λ to. rename_refusal (target_seen s from to) from to) why is fit e

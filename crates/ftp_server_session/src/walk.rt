@@ -1,7 +1,8 @@
 // CWD, CDUP, MKD, RMD, DELE, RNFR and RNTO (RFC 959, section 4.1.3).
-ghost use Rattle.std.specs.Prelude.{◌≡◌};
-ghost use Rattle.ftp_path.specs.Path.{IsPathText};
-ghost use Rattle.ftp_server_model.specs.Walk.{cdup, cwd, dele, mkd, rmd, rnfr, rnto};
+ghost use Rattle.std.specs.Prelude.{◌≡◌, true};
+ghost use Rattle.std.specs.Option.{option_map};
+ghost use Rattle.ftp_path.specs.Path.{IsPathText, fits};
+ghost use Rattle.ftp_server_model.specs.Walk.{cdup, cwd, dele, mkd, refusal_text, refused_source, rmd, rnfr, rnto};
 ghost use Rattle.ftp_server_session.specs.Session.{RefusedAs, lost_as};
 
 use crate::session::Session;
@@ -138,11 +139,8 @@ impl<A: Allocator + Copy, T: Tree<A>, J: ServerTransfer<A, T>> Session<A, T, J> 
         let Pending::Rename(from) = pending else {
             return Ok(ReplyKind::Fixed(FixedReply::BadSequence));
         };
-        if !self.rights.rename {
-            return Ok(ReplyKind::Fixed(FixedReply::NotAllowed));
-        }
-        if is_held(&self.tree, &self.root, from, &self.cwd) {
-            return Ok(ReplyKind::Fixed(FixedReply::Refused));
+        if let Some(refusal) = self.source_text(from) {
+            return Ok(ReplyKind::Fixed(refusal));
         }
         let Ok(found) = self.find(text) else {
             return Err(Fault::Memory);
@@ -155,6 +153,27 @@ impl<A: Allocator + Copy, T: Tree<A>, J: ServerTransfer<A, T>> Session<A, T, J> 
             Err(fault) => refused(fault, FixedReply::NameRefused),
         }
     }
+
+    /// Why what RNFR named can't be renamed any more: the account may not, or it went since, or it is in use.
+    fn source_text(&self, from: &Path<A>) -> Option<FixedReply>
+        ensures { result ≡ option_map refusal_text (refused_source (session_of T.table J.view self.now) from.now) }
+    {
+        if !self.rights.rename {
+            return Some(FixedReply::NotAllowed);
+        }
+        known_to_fit(from);
+        if is_held(&self.tree, &self.root, from, &self.cwd) {
+            return Some(FixedReply::Refused);
+        }
+        None
+    }
+}
+
+/// A path is within the limits of paths, since none is made past them.
+fn known_to_fit<A: Allocator + Copy>(path: &Path<A>)
+    ensures { fits path.now ≡ true }
+{
+    let _key = path.key();
 }
 
 /// What a call that the tree refused makes of a command: refused memory and a failed device are told as such, any other refusal by a

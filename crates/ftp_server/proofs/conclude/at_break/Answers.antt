@@ -8,4 +8,4 @@ pub returns-clause-ends : goal.returns-clause-ends
 returns-clause-ends g c =
     let view = g.J.ServerTransfer.view in
     let s = session_of g.T.Tree.table view c.args.session.now in
-    concludes (at_break c.args.moment.seconds (view c.args.transfer) s) s (g.T.Tree.table c.at_break.new.tree) c.at_break.result _ _ (c.at_break.ensures.ends s refl refl)
+    concludes (at_break c.args.moment.seconds (view c.args.transfer) s) s (g.T.Tree.table c.at_break.new.tree) c.at_break.result _ _ (c.at_break.ensures.ends s refl refl refl)
