@@ -120,7 +120,7 @@ fn run_directly<A: Allocator + Copy>(
     )
 }
 
-fn answer<A: Allocator + Copy, T: Tree<A>>(
+fn answer<A: Allocator + Copy, T: HeldTree<A>>(
     alloc: Global,
     heap: A,
     mut tree: T,

@@ -53,7 +53,7 @@ fn enter<A: Allocator + Copy>(heap: A, login: Login<A>, row: &[u8], desk: &mut D
 }
 
 /// Plays a row in a world over such a tree, with such transfers: who names both ends does not name these.
-fn begin<A: Allocator + Copy, T: Tree<A>, C: CountedTransfer<A>, J: Counted<A, T>>(
+fn begin<A: Allocator + Copy, T: HeldTree<A>, C: CountedTransfer<A>, J: Counted<A, T>>(
     heap: A,
     of: Beginning<A, T>,
     row: &[u8],
@@ -65,7 +65,7 @@ fn begin<A: Allocator + Copy, T: Tree<A>, C: CountedTransfer<A>, J: Counted<A, T
     }
 }
 
-fn play_world<A: Allocator + Copy, T: Tree<A>, N: Near<A> + Holds, F: Far<A, T> + Holds>(
+fn play_world<A: Allocator + Copy, T: HeldTree<A>, N: Near<A> + Holds, F: Far<A, T> + Holds>(
     world: World<A, T, N, F>,
     heap: A,
     row: &[u8],
