@@ -1,7 +1,7 @@
 -- A client as the end of a session that is driven: what its calls do, as `Near` says it (RFC 959, section 2.3).
 use Rattle.std.specs.Prelude.{◌≡◌, ℕ, Bool, true, false, IsTrue, length, List, Option}
 use Rattle.ftp_control.specs.Deeds.{Stand}
-use Rattle.ftp_control.specs.Machine.{Machine, Call, Aside, Held, side_of, stand_of}
+use Rattle.ftp_control.specs.Machine.{Machine, Call, Aside, Held, rest_by, side_of, stand_of}
 use Rattle.ftp_control.specs.Side.{Side}
 use Rattle.ftp_control.specs.declared.control.Control.{Control}
 use Rattle.ftp_ends.specs.declared.link.Wants.TheVariants as Want
@@ -73,6 +73,7 @@ client_machine = record {
   End = λ old new. Counted (HoldsIfRoom old new (data_end old.view) (data_end_short old.view)) old new;
   Break = λ old new. Counted (HoldsIfRoom old new (data_fault old.view) (data_fault_short old.view)) old new;
   Closed = λ old new. Holds old new (data_closed old.view);
+  rest_after = λ count old new. rest_by (wants new.view);
   IsCloseDue = λ client. IsTrue (is_sound client.view.standing) → IsTrue (is_under_way client.view.job) → wants client.view ≡ Want.CloseData;
   IsDone = λ client. is_under_way client.view.job ≡ false;
 }

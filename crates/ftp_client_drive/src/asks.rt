@@ -4,7 +4,8 @@ ghost use Rattle.ftp_client_drive.specs.Driving.{Reports};
 ghost use Rattle.ftp_client_drive.specs.Side.{Reporting, client_machine};
 
 use ftp_client_model::Near;
-use ftp_control_drive::EndCalls;
+use ftp_control::Rest;
+use ftp_control_drive::{EndCalls, Given};
 use ftp_endpoint::Host;
 use ftp_ends::Wants;
 use ftp_operation::Answer;
@@ -89,8 +90,14 @@ impl<A: Allocator + Copy, N: Near<A>> EndCalls<N> for Asks<A> {
         end.data_fault();
     }
 
-    fn data_out(end: &mut N, room: &mut [u8]) -> usize {
-        end.data_out(room)
+    /// It has more to give where it still wants to send.
+    fn data_out(end: &mut N, room: &mut [u8]) -> Given {
+        let count = end.data_out(room);
+        let rest = match end.wants() {
+            Wants::Send => Rest::More,
+            _ => Rest::Nothing,
+        };
+        Given { count, rest }
     }
 
     fn data_closed(end: &mut N) {

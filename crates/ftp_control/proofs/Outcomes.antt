@@ -8,7 +8,7 @@ use Rattle.ftp_control.specs.Asking.{Adds, Asked, Drops, Reset, Shut}
 use Rattle.ftp_control.specs.Carrying.{left_of, told_by}
 use Rattle.ftp_control.specs.Deeds.{Other}
 use Rattle.ftp_control.specs.Lane.{IsEnded, IsOpen, IsRead, Lane, lane_of, with_fate, with_given}
-use Rattle.ftp_control.specs.Machine.{Gave, Gives, Machine, Stirring, held, rest_by, side_of}
+use Rattle.ftp_control.specs.Machine.{Gave, Gives, Machine, Stirring, held, side_of}
 use Rattle.ftp_control.specs.Outcome.{IsDropped, IsReset, in_hand}
 use Rattle.ftp_control.specs.Whole.{IsWhole}
 use Rattle.ftp_control.specs.declared.data.DataConnection.{DataConnection}
@@ -71,7 +71,7 @@ module _ (machine : Machine) where
   -- it gave more into the room behind what it gave before
   pub given_more : (old mid new : machine.Here) (lane : Lane) (at count : ℕ) (room front out : List ℕ) (before rest : Rest) → IsOpen lane → machine.wants mid ≡ Want.Send
       → Stirring machine (held old lane) (held mid (with_given (take at room) before lane)) → front ≡ take at room → length front ≡ at → count ≤ length out
-      → take count out ≡ take count (machine.to_give mid) → machine.Gave count mid new → rest ≡ rest_by (machine.wants new)
+      → take count out ≡ take count (machine.to_give mid) → machine.Gave count mid new → rest ≡ machine.rest_after count mid new
       → Stirring machine (held old lane) (held new (with_given (take (at + count) (front ++ out)) rest lane))
   given_more old mid new lane at count room front out before rest is_open sends first is len fits owed gave by left unheard written =
       let there = with_given (take at room) before lane in
@@ -82,7 +82,7 @@ module _ (machine : Machine) where
 
   -- it gave these first
   pub given_first : (old new : machine.Here) (lane : Lane) (count : ℕ) (out : List ℕ) (rest : Rest) → IsOpen lane → machine.wants old ≡ Want.Send
-      → take count out ≡ take count (machine.to_give old) → machine.Gave count old new → rest ≡ rest_by (machine.wants new)
+      → take count out ≡ take count (machine.to_give old) → machine.Gave count old new → rest ≡ machine.rest_after count old new
       → Stirring machine (held old lane) (held new (with_given (take count out) rest lane))
   given_first old new lane count out rest is_open sends owed gave by left unheard written =
       stirs_by (Other (Gave count (take count out) rest)) _ _ tt (((owed, gave, by), (refl, is_open), sends), refl)

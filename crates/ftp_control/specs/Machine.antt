@@ -49,6 +49,8 @@ pub record Machine : Type 1 where
   pub End : (old new : Here) → Type 0
   pub Break : (old new : Here) → Type 0
   pub Closed : (old new : Here) → Type 0
+  -- whether it has more to give behind a call in which it gave so many octets
+  pub rest_after : (count : ℕ) → (old new : Here) → Rest
   -- when it is told of a close, and when it is done with its data connections
   pub IsCloseDue : Here → Type 0
   pub IsDone : Here → Type 0
@@ -140,6 +142,11 @@ MayLeave done want Fates.Failed = done
 MayLeave done want Fates.Broken = ⊤
 MayLeave done want Fates.Over = ⊤
 
+-- of what was to be given octets are left, or none
+abbrev pub rest_left : List ℕ → Rest
+rest_left [] = Nothing
+rest_left (octet ∷ octets) = More
+
 -- an end that wants this has more to give
 abbrev pub rest_by : Wants → Rest
 rest_by Want.Send = More
@@ -176,15 +183,15 @@ abbrev pub held : {Here : Type 0} → Here → Lane → Held Here
 held end lane = record { end = end; lane = lane }
 
 module _ (machine : Machine) where
-  -- what each call does to the end; whether it has more to give is as it wants it right after; octets that came are let go only where it wants no
-  -- more of them
+  -- what each call does to the end; whether it has more to give is as it wants it right after one is opened, and behind octets that it gave as it
+  -- says itself; octets that came are let go only where it wants no more of them
   abbrev pub Does : Call machine.Own → (old new : machine.Here) → Type 0
   Does (Aside own) old new = machine.Owns own old new
   Does (Listening port) old new = machine.Listening port old new
   Does (Opened host asked at_first so_far rest) old new = machine.Opened host old new × (rest ≡ rest_by (machine.wants new))
   Does (Refused asked) old new = machine.Refused old new
   Does (Received octets count) old new = machine.Received octets count old new
-  Does (Gave count octets rest) old new = (octets ≡ take count (machine.to_give old)) × machine.Gave count old new × (rest ≡ rest_by (machine.wants new))
+  Does (Gave count octets rest) old new = (octets ≡ take count (machine.to_give old)) × machine.Gave count old new × (rest ≡ machine.rest_after count old new)
   Does NoPort old new = machine.NoPort old new
   Does End old new = machine.End old new
   Does Break old new = machine.Break old new

@@ -4,8 +4,16 @@ ghost use Rattle.ftp_control.specs.Machine.{Machine};
 ghost use Rattle.ftp_ends.specs.Octets.{has_octets};
 ghost use Rattle.ftp_control_drive.specs.Calling.{IsAsked, IsOpenEnd, IsToldOfClose};
 
+use ftp_control::Rest;
 use ftp_endpoint::Host;
 use ftp_ends::Wants;
+
+/// What an end gave: how many octets, and whether it has more of those that it was to give.
+#[derive(Clone, Copy)]
+pub struct Given {
+    pub count: usize,
+    pub rest: Rest,
+}
 
 /// The calls of an end `E`. Each does what the `Machine` says of it to what the end holds.
 pub trait EndCalls<E> {
@@ -91,11 +99,12 @@ pub trait EndCalls<E> {
     fn data_fault(end: &mut E)
         ensures { machine.Break (here end.old) (here end.new) };
 
-    /// Gives octets of the data connection, and says how many.
-    fn data_out(end: &mut E, room: &mut [u8]) -> usize
-        ensures within { result ≤ length room.old }
-        ensures gave { take result room.new ≡ take result (machine.to_give (here end.old)) }
-        ensures now { machine.Gave result (here end.old) (here end.new) };
+    /// Gives octets of the data connection, and says how many; where it wanted to send, also whether it has more to give.
+    fn data_out(end: &mut E, room: &mut [u8]) -> Given
+        ensures within { result.count ≤ length room.old }
+        ensures gave { take result.count room.new ≡ take result.count (machine.to_give (here end.old)) }
+        ensures now { machine.Gave result.count (here end.old) (here end.new) }
+        ensures rest { machine.wants (here end.old) ≡ Wants.Send → result.rest ≡ machine.rest_after result.count (here end.old) (here end.new) };
 
     /// A close that it wanted is done.
     fn data_closed(end: &mut E)

@@ -6,18 +6,11 @@ ghost use Rattle.ftp_control.specs.Lane.{IsOpen, Lane, with_given, with_untold};
 ghost use Rattle.ftp_control.specs.Machine.{Stirring, held, rest_by, stand_of};
 ghost use Rattle.ftp_control_drive.specs.Standing.{Why};
 
-use crate::calls::EndCalls;
+use crate::calls::{EndCalls, Given};
 use crate::control::flush;
 use ftp_control::{Cause, Control, Rest, Turns};
 use ftp_ends::Wants;
 use std::io::{Read, Write};
-
-/// What an end gave: how many octets, and whether it had more then.
-#[derive(Clone, Copy)]
-pub(crate) struct Given {
-    pub(crate) count: usize,
-    pub(crate) rest: Rest,
-}
 
 /// Fills the front of the room, so many octets at most, with the octets that an end gives which has some.
 pub(crate) fn fill_front<K, E>(end: &mut E, room: &mut [u8], most: usize) -> Given
@@ -38,21 +31,22 @@ fn fill<K: EndCalls<E>, E>(end: &mut E, room: &mut [u8]) -> Given
     ensures within { result.count ≤ length room.new }
     ensures stirs { (lane : Lane) → IsOpen lane → Stirring K.machine (held (K.here end.old) lane) (held (K.here end.new) (with_given (take result.count room.new) result.rest lane)) }
 {
-    let mut at = K::data_out(end, room);
-    let mut rest = rest_of::<K, E>(end);
-    while at < room.len() && rest == Rest::More {
+    let first = K::data_out(end, room);
+    let mut at = first.count;
+    let mut rest = first.rest;
+    while at < room.len() && rest_of::<K, E>(end) == Rest::More {
         let (_, free) = room.split_at_mut(at);
-        let count = K::data_out(end, free);
-        at += count;
-        rest = rest_of::<K, E>(end);
-        if count == 0 {
+        let given = K::data_out(end, free);
+        at += given.count;
+        rest = given.rest;
+        if given.count == 0 {
             return Given { count: at, rest };
         }
     }
     Given { count: at, rest }
 }
 
-/// Whether an end has more octets for its data connection, as it wants it now.
+/// Whether an end wants to send now: then it has more octets for its data connection.
 pub(crate) fn rest_of<K: EndCalls<E>, E>(end: &E) -> Rest
     ensures rest { result ≡ rest_by (K.machine.wants (K.here end.now)) }
     ensures more { result ≡ Rest.More → K.machine.wants (K.here end.now) ≡ Wants.Send }

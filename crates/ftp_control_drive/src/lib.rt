@@ -10,6 +10,6 @@ mod drive;
 mod hand;
 mod meet;
 
-pub use calls::EndCalls;
+pub use calls::{EndCalls, Given};
 pub use data::Data;
 pub use drive::drive_end;

@@ -1,10 +1,12 @@
 -- A server as the end of a session that is driven: what its calls do, as `Far` says it (RFC 959, section 2.3).
-use Rattle.std.specs.Prelude.{◌≡◌, ◌≢◌, ◌≤◌, ◌==◌, ⊤, ℕ, Bool, true, false, List, [], ◌∷◌, length, Option, take}
+use Rattle.std.specs.Prelude.{◌≡◌, ◌≢◌, ◌≤◌, ◌==◌, ⊤, ℕ, Bool, true, false, List, [], ◌∷◌, length, Option, Some, None, drop, take, if◌then◌else◌}
 use Rattle.ftp_control.specs.Asking.{Adds}
 use Rattle.ftp_control.specs.Deeds.{Stand}
-use Rattle.ftp_control.specs.Machine.{Machine, Held, side_of, stand_of}
+use Rattle.ftp_control.specs.Machine.{Machine, Held, rest_left, side_of, stand_of}
 use Rattle.ftp_control.specs.Side.{Side}
 use Rattle.ftp_control.specs.declared.control.Control.{Control}
+use Rattle.ftp_control.specs.declared.whole.Rest.{Rest}
+use Rattle.ftp_control.specs.declared.whole.Rest.TheVariants.{Nothing, More}
 use Rattle.ftp_ends.specs.declared.link.Wants.TheVariants as Want
 use Rattle.ftp_server_model.specs.Calls.{break_step, clock_step, close_step, control_end, control_step, end_step, given_step, listening_step, may_receive, no_port_step, opened_step, refused_step, to_give, wants}
 use Rattle.ftp_server_model.specs.Machine.{may_hear}
@@ -34,6 +36,12 @@ Timely Calls old new =
 abbrev pub ends_line : List ℕ → Bool
 ends_line [] = false
 ends_line (octet ∷ octets) = octet == 10
+
+-- by the code of the reply that comes first in a call in which octets of a download or a listing were given: the last of them went where that is 226,
+-- and none else
+abbrev pub rest_told : Option ℕ → Rest
+rest_told None = More
+rest_told (Some code) = if code == 226 then Nothing else More
 
 -- control octets are heard one by one, and one that ends a line behind the moment
 abbrev pub HearsBy : (is_end : Bool) → List ℕ → (old new : Timed) → Type 0
@@ -69,6 +77,7 @@ server_machine = record {
   End = λ old new. Timely (Steps EndFails end_step) old new;
   Break = λ old new. Timely (Steps EndFails break_step) old new;
   Closed = λ old new. Alone (Acts close_step) old new;
+  rest_after = λ count old new. rest_left (drop count (to_give old.server.view));
   IsCloseDue = λ at. wants at.server.view ≡ Want.CloseData;
   IsDone = λ at. wants at.server.view ≡ Want.CloseAll;
 }

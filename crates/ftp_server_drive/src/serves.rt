@@ -5,17 +5,20 @@ ghost use Rattle.ftp_server_model.specs.Calls.{clock_step};
 ghost use Rattle.ftp_server_model.specs.Far.{Acts, Hears};
 ghost use Rattle.ftp_server_model.specs.Machine.{may_hear};
 ghost use Rattle.ftp_server_drive.specs.Driving.{IsDone};
-ghost use Rattle.ftp_server_drive.specs.Side.{Timely, ends_line, server_machine, timed};
+ghost use Rattle.ftp_server_drive.specs.Side.{Timely, ends_line, rest_told, server_machine, timed};
 
 use crate::clocked::{Clocked, Watches};
-use ftp_control::Watch;
-use ftp_control_drive::EndCalls;
+use ftp_control::{Rest, Watch};
+use ftp_control_drive::{EndCalls, Given};
 use ftp_endpoint::Host;
 use ftp_ends::Wants;
 use ftp_server_model::Far;
 use ftp_tree::Tree;
 use std::alloc::Allocator;
 use std::marker::PhantomData;
+
+/// The code of the reply behind the last octet of a download or a listing (RFC 959, section 4.2).
+const COMPLETE: u16 = 226;
 
 /// Those of a server of a tree `T` that grows by an `A`, beside its clock.
 pub(crate) struct Serves<A, T> {
@@ -123,10 +126,15 @@ where
         end.watcher.saw(&end.server);
     }
 
-    fn data_out(end: &mut Clocked<F, C, O>, room: &mut [u8]) -> usize {
+    /// The reply that it says first behind these octets tells whether they were the last: 226, or 451 where what comes next was not had, or none.
+    fn data_out(end: &mut Clocked<F, C, O>, room: &mut [u8]) -> Given {
+        let before = end.server.owed();
         let count = end.server.data_out(room);
         end.watcher.saw(&end.server);
-        count
+        Given {
+            count,
+            rest: rest_told(end.server.code_at(before)),
+        }
     }
 
     fn data_closed(end: &mut Clocked<F, C, O>) {
@@ -137,6 +145,16 @@ where
     ghost is_over = { λ old new asked serves. asked.1 };
 
     ghost close_due = { λ there wanted. wanted };
+}
+
+/// Whether it has more of a download or a listing to give, by the code of the reply that came first in the call in which it gave.
+fn rest_told(code: Option<u16>) -> Rest
+    ensures { result ≡ rest_told code }
+{
+    match code {
+        Some(COMPLETE) => Rest::Nothing,
+        _ => Rest::More,
+    }
 }
 
 /// The server is told the moment that its clock tells.

@@ -12,7 +12,7 @@ use ftp_server_parts::Counted;
 use ftp_server_transfer::TreeTransfer;
 use ftp_tool_pair::{Beginning, beginning_of, world_of};
 use ftp_tool_script::login_of;
-use ftp_tree::{MemTree, Tree};
+use ftp_tree::{HeldTree, MemTree};
 use rows_base::{Refusing, cut};
 use rows_ends::Holds;
 use std::alloc::{Allocator, Global};

@@ -9,7 +9,7 @@ use ftp_pair::{Event, World};
 use ftp_server_model::Far;
 use ftp_settings::{Kind, Mode, Representation, Structure};
 use ftp_tool_script::{Order, moment_of, order_of};
-use ftp_tree::Tree;
+use ftp_tree::HeldTree;
 use rows_base::Paper;
 use rows_ends::Holds;
 use rows_tree::show_tree;

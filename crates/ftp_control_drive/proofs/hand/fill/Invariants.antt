@@ -1,15 +1,12 @@
-use Rattle.std.proofs.Common.{◌≡◌, length, take, ◌-◌, ◌≤◌}
+use Rattle.std.proofs.Common.{length, take, ◌-◌, ◌≤◌}
 use Rattle.ftp_control.specs.Machine.{Stirring}
-use Rattle.ftp_control.specs.declared.whole.Rest.TheVariants.{More}
 use Rattle.ftp_control_drive.proofs.Words.{IsOpen, Lane, held, with_given}
-use Rattle.ftp_ends.specs.declared.link.Wants.TheVariants.{Send}
 use Rattle.ftp_control_drive.proofs.hand.fill.Given as goal
 
 abbrev pub invariant-loop-at : goal.invariant-loop-at
 invariant-loop-at g l =
     let here = g.K.EndCalls.here in
     (l.at ≤ length l.room)
-    × (l.rest ≡ More → g.K.EndCalls.machine.wants (here l.end) ≡ Send)
     × ((lane : Lane) → IsOpen lane → Stirring g.K.EndCalls.machine (held (here l.fn.end) lane) (held (here l.end) (with_given (take l.at l.room) l.rest lane)))
 
 abbrev pub decreases-loop-at : goal.decreases-loop-at
