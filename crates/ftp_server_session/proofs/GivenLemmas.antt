@@ -1,5 +1,5 @@
 -- Whether octets are still to be given.
-use Rattle.std.proofs.Common.{◌≡◌, ℕ, [], ◌∷◌, not, ◌&&◌, refl}
+use Rattle.std.proofs.Common.{◌≡◌, [], ◌∷◌, not, ◌&&◌, refl}
 use Rattle.ftp_ends.specs.Octets.{has_octets}
 use Rattle.ftp_server_parts.specs.ServerTransfer.{is_out, takes_octets}
 use Rattle.ftp_server_model.specs.Calls.{given_by}
