@@ -6,7 +6,7 @@ use Rattle.ftp_tree.proofs.memory.MemTreeTree.entries.Goals as goal
 
 pub returns-in_default : goal.returns-in_default
 returns-in_default g c =
-    c.new.ensures ∙ sym (entries-none []) ∙ ap (λ table. entries_at table []) (c.in_default.ensures ∙ ap (under c.self.inside.root) (c.key.ensures.names ∙ c.of-above.ensures))
+    c.none.ensures ∙ sym (entries-none []) ∙ ap (λ table. entries_at table []) (c.in_default.ensures ∙ ap (under c.self.inside.root) (c.key.ensures.names ∙ c.of-above.ensures))
     ∙ entries-below c.self.inside.root c.args.root.now c.args.path.now ∙ ap (λ table. entries_at (under table c.args.root.now) c.args.path.now) c.self.view_is
 
 pub returns : goal.returns

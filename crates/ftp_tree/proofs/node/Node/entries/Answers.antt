@@ -8,7 +8,7 @@ use Rattle.ftp_tree.proofs.node.Node.entries.Goals as goal
 
 pub returns-in-File : goal.returns-in-File
 returns-in-File g c =
-    c.new.ensures ∙ sym (entries-file c.in-File.content c.in-File.moment.seconds) ∙ ap (λ table. entries_at table []) (ap branch_table (sym c.in-File.is) ∙ c.self.view_is)
+    c.none.ensures ∙ sym (entries-file c.in-File.content c.in-File.moment.seconds) ∙ ap (λ table. entries_at table []) (ap branch_table (sym c.in-File.is) ∙ c.self.view_is)
 
 pub returns-in-Dir : goal.returns-in-Dir
 returns-in-Dir g c =
