@@ -1,5 +1,5 @@
 // A tree in memory whose device fails.
-ghost use Rattle.std.specs.Prelude.{◌≡◌};
+ghost use Rattle.std.specs.Prelude.{◌≡◌, false, true};
 ghost use Rattle.ftp_tree.specs.Change.{next_count};
 
 use ftp_facts::Moment;
@@ -7,7 +7,8 @@ use ftp_path::{Name, Path};
 use ftp_tree::{Broken, Content, DirEntries, MemTree, NodeKind, Tree, TreeFault};
 use std::alloc::{AllocError, Allocator};
 
-/// A tree in memory, as one on a device: it fails once, at the call whose number it is given among those that a device may fail.
+/// A tree in memory, as one on a device: it fails once, at the call whose number it is given among those that a device may fail, of which a put that
+/// keeps octets is none.
 #[derive(Drop)]
 pub struct FailingTree<A: Allocator + Copy> {
     tree: MemTree<A>,
@@ -249,8 +250,10 @@ impl<A: Allocator + Copy> Tree<A> for FailingTree<A> {
         came: Content<A>,
         moment: Moment,
     ) -> Result<(), TreeFault> {
-        let kept = self.tree.size(root, path).unwrap_or(0).min(keep);
-        if let Some(fault) = self.tree.install_refusal(root, path, kept + came.len()) {
+        if keep > 0 {
+            return self.tree.put(root, path, keep, came, moment);
+        }
+        if let Some(fault) = self.tree.install_refusal(root, path, came.len()) {
             return Err(fault);
         }
         if self.fails() {
