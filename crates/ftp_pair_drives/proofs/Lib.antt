@@ -11,7 +11,9 @@ pub mod Ending
 pub mod Quitting
 pub mod Leaving
 pub mod Playing
+pub mod Finishing
 pub mod Example
+pub mod Fair
 pub mod Losing
 pub mod Theorems
 pub mod Delaying

@@ -3,7 +3,7 @@
 ghost use Rattle.ftp_pair_drives.specs.Broken.{ClientsAreCut, DrivesBrokenAgree, ServersAreCut};
 ghost use Rattle.ftp_pair_drives.specs.Claims.{DrivesAgree, DrivesAreOfWorlds, DrivesAreTheDirectRun, EndsKeepTheMap, PartingAgrees};
 ghost use Rattle.ftp_pair_drives.specs.Delays.{DownBreaksCommute, EndForgetsBreak, EndForgetsLateBreak, OpeningCommutes, UnopenedIsBroken, UpBreaksCommute, UpRepliesCommute};
-ghost use Rattle.ftp_pair_drives.specs.Example.{ExampleIsPlayed};
+ghost use Rattle.ftp_pair_drives.specs.Example.{ExampleHasQuit, ExampleIsFair, ExampleIsOver, ExampleIsPlayed};
 ghost use Rattle.ftp_pair_drives.specs.Over.{DrivesLostAgree, DrivesOverAreTheDirectRun};
 ghost use Rattle.ftp_pair_drives.specs.Quitting.{DrivesThatQuitAreTheDirectRun};
 ghost use Rattle.ftp_pair_drives.specs.Swaps.{DeedsChangePlaces};
@@ -41,6 +41,14 @@ pub fn drives_that_quit_are_the_direct_run()
 /// The premises can be met: of every map that has a root both drives did a login and one operation, which has its report.
 pub fn an_example_is_played()
     ensures { ExampleIsPlayed }
+{}
+
+/// So can those of drives that are over: the contracts of both drives say that the server's was over since the client left, or since it heard QUIT; and
+/// of a map of the root alone the session is fair.
+pub fn an_example_is_over()
+    ensures over { ExampleIsOver }
+    ensures quit { ExampleHasQuit }
+    ensures fair { ExampleIsFair }
 {}
 
 /// Where both were told in the midst of the last operation that the control connection ended, answers and map agree with the operations begun.
