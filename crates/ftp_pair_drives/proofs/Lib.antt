@@ -18,5 +18,6 @@ pub mod Losing
 pub mod Theorems
 pub mod Delaying
 pub mod Swapping
+pub mod Ordering
 pub mod Breaking
 pub mod BothBroken
