@@ -18,6 +18,7 @@ pub mod Losing
 pub mod Theorems
 pub mod Delaying
 pub mod Swapping
+pub mod Mixing
 pub mod Ordering
 pub mod Breaking
 pub mod BothBroken

@@ -5,7 +5,8 @@ use Rattle.ftp_pair_drives.specs.Between.{Between, Can, CanTurn, Client, Far, Ha
 use Rattle.ftp_pair_drives.specs.Swaps.{AreApart, AreOfSameEnds, DeedsGoBehind, IsApartFrom, IsOfControl, NeighboursChangePlaces, OrdersLeaveOne, OrdersLeaveTheEnds, ReadsWritten}
 use Rattle.ftp_pair_drives.specs.Touches.{Touch, None_of_it, Says, Reads, Parts, Listens, Dials, Accepts, IsDenied, IsMissed, Writes, Takes, Ends, Resets, ToldEnd, ToldBreak, touch_in}
 use Rattle.ftp_pair_drives.proofs.Ending.{Goes}
-use Rattle.ftp_pair_drives.proofs.Swapping.{deeds_change_places, same_rest}
+use Rattle.ftp_pair_drives.proofs.Mixing.{change_places}
+use Rattle.ftp_pair_drives.proofs.Swapping.{same_rest}
 
 -- ---- what lies between after an order
 
@@ -66,14 +67,16 @@ swapped before (Client first) (Client second) other now apart alone both = absur
 swapped before (Server first) (Client second) other now apart alone both =
     let old = both.1.0 in
     let same : alone.0 ≡ old = orders_leave_one before alone.0 old alone.1 both.1.1 in
-    let written = written_by Near (touch_in second) old other apart.second_alone (subst (λ (m : Between). Can Near (touch_in second) m other) same alone.2) in
-    let change = deeds_change_places Far (touch_in first) (touch_in second) apart.first_alone apart.second_alone old both.0 now both.1.2 both.2 written in
+    let can : Can Near (touch_in second) old other = subst (λ (m : Between). Can Near (touch_in second) m other) same alone.2 in
+    let change = change_places Far (touch_in first) (touch_in second) apart.alone old both.0 now both.1.2 both.2
+    (λ is. written_by Near (touch_in second) old other is can) in
     (change.0, (old, both.1.1, change.1), change.2)
 swapped before (Client first) (Server second) other now apart alone both =
     let old = both.1.0 in
     let same : alone.0 ≡ old = orders_leave_one before alone.0 old alone.1 both.1.1 in
-    let written = written_by Far (touch_in second) old other apart.second_alone (subst (λ (m : Between). Can Far (touch_in second) m other) same alone.2) in
-    let change = deeds_change_places Near (touch_in first) (touch_in second) apart.first_alone apart.second_alone old both.0 now both.1.2 both.2 written in
+    let can : Can Far (touch_in second) old other = subst (λ (m : Between). Can Far (touch_in second) m other) same alone.2 in
+    let change = change_places Near (touch_in first) (touch_in second) apart.alone old both.0 now both.1.2 both.2
+    (λ is. written_by Far (touch_in second) old other is can) in
     (change.0, (old, both.1.1, change.1), change.2)
 
 -- by the same ends

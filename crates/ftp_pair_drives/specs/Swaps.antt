@@ -1,5 +1,5 @@
 -- Deeds of different ends that change places: a deed comes before one of the other end that was done first, where it reads nothing that this wrote.
-use Rattle.std.specs.Prelude.{◌≡◌, ⊤, ℕ, List, [], ◌∷◌, ◌++◌}
+use Rattle.std.specs.Prelude.{◌≡◌, ◌⊎◌, ⊤, ℕ, List, [], ◌∷◌, ◌++◌}
 use Rattle.ftp_control.specs.Deeds.{Stand}
 use Rattle.ftp_client_drive.specs.Side.{client_side}
 use Rattle.ftp_server_drive.specs.Side.{server_side}
@@ -38,11 +38,10 @@ abbrev pub touch_by : Turn → Touch
 touch_by (Server deed) = touch_in deed
 touch_by (Client deed) = touch_in deed
 
--- deeds of different ends beside the control connection
+-- deeds of different ends, of which one at least is beside the control connection
 pub record AreApart (first second : Turn) : Type 0 where
   pub ends : who_of second ≡ peer (who_of first)
-  pub first_alone : IsOfControl (touch_by first)
-  pub second_alone : IsOfControl (touch_by second)
+  pub alone : IsOfControl (touch_by first) ⊎ IsOfControl (touch_by second)
 
 -- one and each of several
 abbrev pub IsApartFrom : Turn → List Turn → Type 0

@@ -73,9 +73,9 @@ pub fn deeds_change_places()
     ensures { DeedsChangePlaces }
 {}
 
-/// In an order in which each deed can happen, two neighbours of different ends change places where the second can happen without the first, and a deed
-/// goes behind several of the other end that can happen without it: then each can still happen, and the same lies between. An order leaves but one
-/// thing there, and either end what its own deeds leave.
+/// In an order in which each deed can happen, two neighbours of different ends, one of them beside the control connection, change places where the
+/// second can happen without the first, and a deed goes behind several of the other end that can happen without it: then each can still happen, and the
+/// same lies between. An order leaves but one thing there, and either end what its own deeds leave.
 pub fn orders_change()
     ensures one { OrdersLeaveOne }
     ensures neighbours { NeighboursChangePlaces }
