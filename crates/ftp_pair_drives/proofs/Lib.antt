@@ -11,10 +11,14 @@ pub mod Ending
 pub mod Quitting
 pub mod Leaving
 pub mod Playing
+pub mod Finishing
 pub mod Example
+pub mod Fair
 pub mod Losing
 pub mod Theorems
 pub mod Delaying
 pub mod Swapping
+pub mod Mixing
+pub mod Ordering
 pub mod Breaking
 pub mod BothBroken

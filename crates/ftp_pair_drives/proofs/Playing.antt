@@ -1,17 +1,17 @@
 -- Deeds of two drives over control alone that can be done, one after another.
-use Rattle.std.proofs.Common.{◌≡◌, inl, ℕ, ◌==◌, ◌<◌, Bool, true, false, true≢false, not, ◌&&◌, List, [], ◌∷◌, ◌++◌, length, take, drop, Some, None, refl, sym, ap, subst, ◌∙◌, append-nil, arith}
+use Rattle.std.proofs.Common.{◌≡◌, inl, ℕ, ◌==◌, ◌<◌, Bool, true, false, true≢false, not, ◌&&◌, List, [], ◌∷◌, ◌++◌, length, take, drop, None, refl, sym, ap, subst, ◌∙◌, append-nil, arith}
 use Rattle.ftp_command.specs.declared.command.Command.{Command}
 use Rattle.ftp_control.specs.Deeds.{Deed, Done, Heard, HearsNext, Other, Read, ReadsNext, Said as Says, Says as SaysNext, Stand}
 use Rattle.ftp_control.specs.Lane.{no_lane}
-use Rattle.ftp_control.specs.Machine.{Aside, seen, waits}
-use Rattle.ftp_client_drive.specs.Side.{Reporting, Starting, client_side}
+use Rattle.ftp_control.specs.Machine.{seen, waits}
+use Rattle.ftp_control.specs.Side.{Side}
+use Rattle.ftp_client_drive.specs.Side.{Begun, client_side}
 use Rattle.ftp_client_model.specs.Calls as near
 use Rattle.ftp_client_model.specs.View.{View as Near}
 use Rattle.ftp_ends.specs.Ear.{Ear, ear_out, ear_step}
 use Rattle.ftp_ends.specs.declared.link.Wants.{Wants}
 use Rattle.ftp_ends.specs.declared.link.Wants.TheVariants as Want
 use Rattle.ftp_nvt.specs.Lines.{NvtEvent, line}
-use Rattle.ftp_operation.specs.Answer.{Said}
 use Rattle.ftp_operation.specs.declared.op.Op.{Op}
 use Rattle.ftp_server_drive.specs.Side.{HearsBy as HearsOctet, server_side}
 use Rattle.ftp_server_model.specs.Calls as far
@@ -21,48 +21,18 @@ use Rattle.ftp_server_model.specs.Machine.{IsReading, Reading, heard_events, hea
 use Rattle.ftp_server_model.specs.View.{View as Far, line_limit}
 use Rattle.ftp_server_model.specs.declared.heard.HeardLine.TheVariants.{Asks}
 use Rattle.ftp_server_model.specs.declared.session.Life.TheVariants as Lives
-use Rattle.ftp_pair_world.specs.Agreement.{Order, Single}
-use Rattle.ftp_pair_world.specs.Claims.{Beginning}
-use Rattle.ftp_pair_drives.specs.Alone.{ClientAttends, ClientIsCalm, IsAsking, IsServing, ServerAttends, ServerIsCalm, begun_in, reports_in}
-use Rattle.ftp_pair_drives.specs.Between.{Between, CanTurn, Client, Server, Turn, client_deeds, nothing_yet}
-use Rattle.ftp_pair_drives.specs.Claims.{Did}
+use Rattle.ftp_pair_drives.specs.Alone.{ClientAttends, ClientIsCalm, IsAsking, IsServing, ServerAttends, ServerIsCalm}
+use Rattle.ftp_pair_drives.specs.Between.{Between, CanTurn, Client, Happened, Server, Turn, client_deeds, nothing_yet, server_deeds}
+use Rattle.ftp_pair_drives.specs.Over.{AreMidst, IsMidst}
+use Rattle.ftp_pair_drives.proofs.Ending.{Goes}
 use Rattle.ftp_pair_drives.proofs.Moments.{IsStill, still_is}
 use Rattle.ftp_pair_drives.proofs.Worlds.{wants_none, wants_owed}
 
--- ---- one deed more
-
-module _ (b : Beginning) (turns : List Turn) where
-  -- of the server
-  pub server_turn : (deed : Deed server_side) → IsServing deed → (old new : Stand server_side) (client : Stand client_side)
-      → ServerIsCalm old.owner new.owner
-      → ServerAttends new.owner → Done deed old new → (at next : Between) → CanTurn (Server deed) at next → Did b turns at old client
-      → Did b (Server deed ∷ turns) next new client
-  server_turn deed is old new client calm attends done at next can d = record {
-    server_start = d.server_start;
-    client_start = d.client_start;
-    begins = d.begins;
-    happened = (at, d.happened, can);
-    server_led = (old, d.server_led, done);
-    client_led = d.client_led;
-    serves = (d.serves, is, calm, attends);
-    asks = d.asks;
-  }
-
-  -- of the client
-  pub client_turn : (deed : Deed client_side) → IsAsking deed → (server : Stand server_side) (old new : Stand client_side)
-      → ClientIsCalm old.owner new.owner
-      → ClientAttends new.owner → Done deed old new → (at next : Between) → CanTurn (Client deed) at next → Did b turns at server old
-      → Did b (Client deed ∷ turns) next server new
-  client_turn deed is server old new calm attends done at next can d = record {
-    server_start = d.server_start;
-    client_start = d.client_start;
-    begins = d.begins;
-    happened = (at, d.happened, can);
-    server_led = d.server_led;
-    client_led = (old, d.client_led, done);
-    serves = d.serves;
-    asks = (d.asks, is, calm, attends);
-  }
+-- one deed more
+pub goes_on : {side : Side} (Is : Deed side → Type 0) (Keeps : (old new : side.End) → Type 0) (Stands : side.End → Type 0)
+    (deed : Deed side) (before : List (Deed side)) (start old new : Stand side) → Is deed → Keeps old.owner new.owner → Stands new.owner → Done deed old new
+    → Goes Is Keeps Stands before start old → Goes Is Keeps Stands (deed ∷ before) start new
+goes_on Is Keeps Stands deed before start old new is keeps stands done goes = ((old, goes.0, done), (goes.1, is, keeps, stands))
 
 -- ---- stands without a data connection, of which neither reader nor writer tells
 
@@ -87,14 +57,6 @@ near_at n unheard = record {
 -- control octets alone lie between
 abbrev pub between : (up down : List ℕ) → Between
 between up down = record nothing_yet { control = record { to_server = up; to_client = down } }
-
--- some deeds led there
-pub record Plays (b : Beginning) (begun : List Order) (reports : List Said) (up : List ℕ) (v : Far) (unheard : List ℕ) (down : List ℕ) (n : Near)
-    (unheard_near : List ℕ) : Type 0 where
-  pub turns : List Turn
-  pub did : Did b turns (between up down) (far_at v unheard) (near_at n unheard_near)
-  pub begun_is : begun_in 0 (client_deeds turns) ≡ begun
-  pub reports_are : reports_in (client_deeds turns) ≡ reports
 
 -- a server that waits for octets of the control connection
 pub record Attends (v : Far) : Type 0 where
@@ -165,44 +127,203 @@ unfoldable pub can_hear : Near → List ℕ → Bool
 can_hear n [] = true
 can_hear n (octet ∷ octets) = near.may_hear n && (is_nothing (near.wants (near.hears_octet n octet)) && can_hear (near.hears_octet n octet) octets)
 
-module _ (b : Beginning) (begun : List Order) (reports : List Said) where
+-- ---- what a server's deeds do
+
+-- it says all that it owes
+pub far_saying : (v : Far) (u : List ℕ) → v.waiting ≡ None → Done (Says v.owed) (far_at v u) (far_at (record v { owed = [] }) u)
+far_saying v u none =
+    let new : Far = record v { owed = [] } in
+    let is : new ≡ waited v.waiting (control_step (length v.owed) v) =
+    ap (λ o. record v { owed = o }) (drop_length v.owed) ∙ ap (λ q. waited q (control_step (length v.owed) v)) (sym none) in
+    let says : SaysNext v.owed (far_at v u) (far_at new u) = record {
+      gives = record {
+        count = length v.owed;
+        owed = take_length v.owed;
+        gave = (
+          record { done = λ calm. is; failed = λ moved. absurd (moved refl); counted = ((0, omega arith, refl), (0, omega arith, refl)) },
+          refl,
+        );
+        lane = refl;
+      };
+      wrote = tt;
+      left = refl;
+      unheard = refl;
+    } in
+    says
+
+-- it reads octets
+pub far_reading : (v : Far) (octets : List ℕ) → Attends v → v.owed ≡ [] → Done (Read octets) (far_at v []) (far_at v octets)
+far_reading v octets at owed =
+    let reads : ReadsNext octets (far_at v []) (far_at v octets) = record {
+      due = (owed, λ serves. ap waits at.wants);
+      owner = refl;
+      heard = refl;
+      read = tt;
+      ended = refl;
+      unheard = refl;
+      written = refl;
+    } in
+    reads
+
+-- what it hears of an octet that ends no line
+silent_octet : (read : Reading) (octet : ℕ) (v : Far) → ear_out line_limit v.ear octet ≡ []
+    → record v { ear = ear_step line_limit v.ear octet } ≡ hears_octet read v octet
+unfolding hears_octet
+silent_octet read octet v none = ap (λ events. heard_events read events (record v { ear = ear_step line_limit v.ear octet })) (sym none)
+
+-- it hears such an octet
+far_hearing : (octet : ℕ) (rest : List ℕ) (v : Far) → Attends v → may_hear v ≡ true → (octet == 10) ≡ false → ear_out line_limit v.ear octet ≡ []
+    → Done (Heard (octet ∷ [])) (far_at v (octet ∷ rest)) (far_at (record v { ear = ear_step line_limit v.ear octet }) rest)
+far_hearing octet rest v at may ends none =
+    let next : Far = record v { ear = ear_step line_limit v.ear octet } in
+    let calls : Hears (octet ∷ []) (far_at v []).owner.end.server (far_at next []).owner.end.server = λ read reads. record {
+      done = λ calm. silent_octet read octet v none;
+      may = λ calm. (may, tt);
+      failed = λ moved. absurd (moved refl);
+      counted = ((0, omega arith, refl), (0, omega arith, refl));
+    } in
+    let hears : HearsNext (octet ∷ []) (far_at v (octet ∷ rest)) (far_at next rest) = record {
+      hears = (
+        (
+          omega arith,
+          subst (λ e. HearsOctet e (octet ∷ []) (far_at v []).owner.end (far_at next []).owner.end) (sym ends) (calls, refl),
+        ),
+        ap (λ q. seen q (no_lane None)) (sym at.wants),
+        λ serves. ap waits at.wants,
+      );
+      next = refl;
+      left = refl;
+      written = refl;
+    } in
+    hears
+
+-- one that is no line's end
+is_not : (e : Bool) → not e ≡ true → e ≡ false
+is_not true e = absurd (true≢false (sym e))
+is_not false e = refl
+
+-- something is so behind each octet of a line before its end
+pub far_hears : (P : (v : Far) (unheard : List ℕ) → Type 0)
+    → ((octet : ℕ) (rest : List ℕ) (v new : Far) → Attends new → Done (Heard (octet ∷ [])) (far_at v (octet ∷ rest)) (far_at new rest) → P v (octet ∷ rest) → P new rest)
+    → (octets rest : List ℕ) (v : Far) → Attends v → may_hear v ≡ true → is_silent v.ear octets ≡ true → P v (octets ++ rest)
+    → P (record v { ear = ear_after v.ear octets }) rest
+unfolding is_silent ear_after
+far_hears P on [] rest v at may silent p = p
+far_hears P on (octet ∷ octets) rest v at may silent p =
+    let next : Far = record v { ear = ear_step line_limit v.ear octet } in
+    let ends : (octet == 10) ≡ false = is_not (octet == 10) (left_is (not (octet == 10)) _ silent) in
+    let more = right_is (not (octet == 10)) _ silent in
+    let none = are_none (ear_out line_limit v.ear octet) (left_is (no_events (ear_out line_limit v.ear octet)) _ more) in
+    let there : Attends next = record { wants = at.wants; running = at.running; none_waits = at.none_waits } in
+    far_hears P on octets rest next there may (right_is (no_events (ear_out line_limit v.ear octet)) _ more)
+    (on octet (octets ++ rest) v next there (far_hearing octet (octets ++ rest) v at may ends none) p)
+
+-- what it hears at the end of a line
+line_octet : (read : Reading) (v : Far) (text : List ℕ) (asked : Command (List ℕ)) → ear_out line_limit v.ear 10 ≡ line text ∷ [] → read text ≡ Asks asked
+    → heard_line (Asks asked) (record v { ear = ear_step line_limit v.ear 10 }) ≡ hears_octet read v 10
+unfolding hears_octet
+line_octet read v text asked said reads =
+    let w : Far = record v { ear = ear_step line_limit v.ear 10 } in
+    sym (ap (λ events. heard_events read events w) said ∙ ap (λ h. heard_line h w) reads)
+
+-- it hears the end of a line
+pub far_ending : (v new : Far) (text : List ℕ) (asked : Command (List ℕ)) → Attends v → may_hear v ≡ true
+    → ear_out line_limit v.ear 10 ≡ line text ∷ [] → ((read : Reading) → IsReading read → read text ≡ Asks asked)
+    → new ≡ heard_line (Asks asked) (record v { ear = ear_step line_limit v.ear 10; footing = record v.footing { moment = 0 } })
+    → Done (Heard (10 ∷ [])) (far_at v (10 ∷ [])) (far_at new [])
+far_ending v new text asked at may said reads is =
+    let told : Far = clock_step 0 v in
+    let calls : Hears (10 ∷ []) (far_at told []).owner.end.server (far_at new []).owner.end.server = λ read reading. record {
+      done = λ calm. is ∙ line_octet read told text asked said (reads read reading);
+      may = λ calm. (may, tt);
+      failed = λ moved. absurd (moved refl);
+      counted = ((0, omega arith, refl), (0, omega arith, refl));
+    } in
+    let hears : HearsNext (10 ∷ []) (far_at v (10 ∷ [])) (far_at new []) = record {
+      hears = (
+        (
+          omega arith,
+          (
+            0,
+            (far_at told []).owner.end.server,
+            tt,
+            record {
+              done = λ calm. ap (λ q. waited q told) (sym at.none_waits);
+              failed = λ moved. absurd (moved refl);
+              counted = ((0, omega arith, refl), (0, omega arith, refl));
+            },
+            calls,
+          ),
+        ),
+        ap (λ q. seen q (no_lane None)) (sym at.wants),
+        λ serves. ap waits at.wants,
+      );
+      next = refl;
+      left = refl;
+      written = refl;
+    } in
+    hears
+
+-- ---- deeds of both
+
+-- some deeds led there: the client began an operation, and only heard, said and read since
+pub record Plays (start : Stand server_side) (begun : Stand client_side) (op : Op (List ℕ)) (up : List ℕ) (v : Far) (unheard : List ℕ) (down : List ℕ)
+    (n : Near) (unheard_near : List ℕ) : Type 0 where
+  pub turns : List Turn
+  pub happened : Happened turns (between up down)
+  pub far_goes : Goes IsServing ServerIsCalm ServerAttends (server_deeds turns) start (far_at v unheard)
+  pub midst : List (Deed client_side)
+  pub are : AreMidst midst
+  pub client_is : client_deeds turns ≡ midst ++ Other (Begun op) ∷ []
+  pub near_goes : Goes IsAsking ClientIsCalm ClientAttends midst begun (near_at n unheard_near)
+
+module _ (start : Stand server_side) (begun : Stand client_side) (op : Op (List ℕ)) where
+  -- a deed of the server
+  pub far_turn : (deed : Deed server_side) → IsServing deed → (up down next_up next_down : List ℕ) (v new : Far) (u next : List ℕ) (n : Near) (w : List ℕ)
+      → Attends new → Done deed (far_at v u) (far_at new next) → CanTurn (Server deed) (between up down) (between next_up next_down)
+      → Plays start begun op up v u down n w → Plays start begun op next_up new next next_down n w
+  far_turn deed is up down next_up next_down v new u next n w at done can p =
+      let attends : ServerAttends (far_at new next).owner = record { wants = at.wants; running = at.running; none_waits = at.none_waits } in
+      record {
+        turns = Server deed ∷ p.turns;
+        happened = (between up down, p.happened, can);
+        far_goes = goes_on IsServing ServerIsCalm ServerAttends deed (server_deeds p.turns) start (far_at v u) (far_at new next) is refl attends done p.far_goes;
+        midst = p.midst;
+        are = p.are;
+        client_is = p.client_is;
+        near_goes = p.near_goes;
+      }
+
+  -- a deed of the client
+  pub near_turn : (deed : Deed client_side) → IsAsking deed → IsMidst deed → (up down next_up next_down : List ℕ) (v : Far) (u : List ℕ) (n new : Near)
+      (w next : List ℕ) → near.wants new ≡ Want.Nothing → Done deed (near_at n w) (near_at new next)
+      → CanTurn (Client deed) (between up down) (between next_up next_down)
+      → Plays start begun op up v u down n w → Plays start begun op next_up v u next_down new next
+  near_turn deed is amid up down next_up next_down v u n new w next wants done can p = record {
+    turns = Client deed ∷ p.turns;
+    happened = (between up down, p.happened, can);
+    far_goes = p.far_goes;
+    midst = deed ∷ p.midst;
+    are = (p.are, amid);
+    client_is = ap (λ l. deed ∷ l) p.client_is;
+    near_goes = goes_on IsAsking ClientIsCalm ClientAttends deed p.midst begun (near_at n w) (near_at new next) is refl wants done p.near_goes;
+  }
+
   -- the server says all that it owes
-  pub far_says : (up : List ℕ) (v : Far) (u down : List ℕ) (n : Near) (w : List ℕ) → Attends v → Plays b begun reports up v u down n w
-      → Plays b begun reports up (record v { owed = [] }) u (down ++ v.owed) n w
+  pub far_says : (up : List ℕ) (v : Far) (u down : List ℕ) (n : Near) (w : List ℕ) → Attends v → Plays start begun op up v u down n w
+      → Plays start begun op up (record v { owed = [] }) u (down ++ v.owed) n w
   far_says up v u down n w at p =
       let new : Far = record v { owed = [] } in
-      let is : new ≡ waited v.waiting (control_step (length v.owed) v) =
-      ap (λ o. record v { owed = o }) (drop_length v.owed) ∙ ap (λ q. waited q (control_step (length v.owed) v)) (sym at.none_waits) in
-      let says : SaysNext v.owed (far_at v u) (far_at new u) = record {
-        gives = record {
-          count = length v.owed;
-          owed = take_length v.owed;
-          gave = (
-            record { done = λ calm. is; failed = λ moved. absurd (moved refl); counted = ((0, omega arith, refl), (0, omega arith, refl)) },
-            refl,
-          );
-          lane = refl;
-        };
-        wrote = tt;
-        left = refl;
-        unheard = refl;
+      let there : Attends new = record {
+        wants = wants_none (record v { owed = [] }) (still_owed v (still_is v at.wants)) at.running;
+        running = at.running;
+        none_waits = at.none_waits;
       } in
-      record {
-        turns = Server (Says v.owed) ∷ p.turns;
-        did = server_turn b p.turns (Says v.owed) tt (far_at v u) (far_at new u) (near_at n w) refl
-            (record {
-              wants = wants_none (record v { owed = [] }) (still_owed v (still_is v at.wants)) at.running;
-              running = at.running;
-              none_waits = at.none_waits;
-            })
-            says (between up down) (between up (down ++ v.owed)) refl p.did;
-        begun_is = p.begun_is;
-        reports_are = p.reports_are;
-      }
+      far_turn (Says v.owed) tt up down up (down ++ v.owed) v new u u n w there (far_saying v u at.none_waits) refl p
 
   -- the client reads all that is on its way
   pub near_reads : (up : List ℕ) (v : Far) (u down : List ℕ) (n : Near) → near.wants n ≡ Want.Nothing → n.owed ≡ []
-      → Plays b begun reports up v u down n [] → Plays b begun reports up v u [] n down
+      → Plays start begun op up v u down n [] → Plays start begun op up v u [] n down
   near_reads up v u down n wants owed p =
       let reads : ReadsNext down (near_at n []) (near_at n down) = record {
         due = (owed, λ serves. absurd (true≢false (sym serves)));
@@ -213,17 +334,11 @@ module _ (b : Beginning) (begun : List Order) (reports : List Said) where
         unheard = refl;
         written = refl;
       } in
-      record {
-        turns = Client (Read down) ∷ p.turns;
-        did = client_turn b p.turns (Read down) tt (far_at v u) (near_at n []) (near_at n down) refl wants reads (between up down) (between up [])
-            (sym (append-nil down), refl) p.did;
-        begun_is = append-nil _ ∙ p.begun_is;
-        reports_are = append-nil _ ∙ p.reports_are;
-      }
+      near_turn (Read down) tt tt up down up [] v u n n [] down wants reads (sym (append-nil down), refl) p
 
   -- and hears it, octet by octet
   pub near_hears : (up : List ℕ) (v : Far) (u down : List ℕ) (octets : List ℕ) (n : Near) → near.wants n ≡ Want.Nothing → can_hear n octets ≡ true
-      → Plays b begun reports up v u down n octets → Plays b begun reports up v u down (near.hears n octets) []
+      → Plays start begun op up v u down n octets → Plays start begun op up v u down (near.hears n octets) []
   unfolding can_hear
   near_hears up v u down [] n wants can p = p
   near_hears up v u down (octet ∷ octets) n wants can p =
@@ -242,20 +357,15 @@ module _ (b : Beginning) (begun : List Order) (reports : List Said) where
         left = refl;
         written = refl;
       } in
-      near_hears up v u down octets next wants_next (right_is (is_nothing (near.wants next)) (can_hear next octets) more) (record {
-        turns = Client (Heard (octet ∷ [])) ∷ p.turns;
-        did = client_turn b p.turns (Heard (octet ∷ [])) tt (far_at v u) (near_at n (octet ∷ octets)) (near_at next octets) refl wants_next hears
-            (between up down) (between up down) refl p.did;
-        begun_is = append-nil _ ∙ p.begun_is;
-        reports_are = append-nil _ ∙ p.reports_are;
-      })
+      near_hears up v u down octets next wants_next (right_is (is_nothing (near.wants next)) (can_hear next octets) more)
+      (near_turn (Heard (octet ∷ [])) tt tt up down up down v u n next (octet ∷ octets) octets wants_next hears refl p)
     where
       zero_below : (k : ℕ) → k < 1 → 0 ≡ k
       zero_below k less = omega (arith, less)
 
   -- the client says all that it owes
-  pub near_says : (up : List ℕ) (v : Far) (u down : List ℕ) (n : Near) (w : List ℕ) → near.wants n ≡ Want.Nothing → Plays b begun reports up v u down n w
-      → Plays b begun reports (up ++ n.owed) v u down (record n { owed = [] }) w
+  pub near_says : (up : List ℕ) (v : Far) (u down : List ℕ) (n : Near) (w : List ℕ) → near.wants n ≡ Want.Nothing → Plays start begun op up v u down n w
+      → Plays start begun op (up ++ n.owed) v u down (record n { owed = [] }) w
   near_says up v u down n w wants p =
       let new : Near = record n { owed = [] } in
       let says : SaysNext n.owed (near_at n w) (near_at new w) = record {
@@ -269,157 +379,23 @@ module _ (b : Beginning) (begun : List Order) (reports : List Said) where
         left = refl;
         unheard = refl;
       } in
-      record {
-        turns = Client (Says n.owed) ∷ p.turns;
-        did = client_turn b p.turns (Says n.owed) tt (far_at v u) (near_at n w) (near_at new w) refl (wants_owed [] n ∙ wants) says (between up down)
-            (between (up ++ n.owed) down) refl p.did;
-        begun_is = append-nil _ ∙ p.begun_is;
-        reports_are = append-nil _ ∙ p.reports_are;
-      }
+      near_turn (Says n.owed) tt tt up down (up ++ n.owed) down v u n new w w (wants_owed [] n ∙ wants) says refl p
 
   -- the server reads all that is on its way
-  pub far_reads : (up : List ℕ) (v : Far) (down : List ℕ) (n : Near) (w : List ℕ) → Attends v → v.owed ≡ [] → Plays b begun reports up v [] down n w
-      → Plays b begun reports [] v up down n w
-  far_reads up v down n w at owed p =
-      let reads : ReadsNext up (far_at v []) (far_at v up) = record {
-        due = (owed, λ serves. ap waits at.wants);
-        owner = refl;
-        heard = refl;
-        read = tt;
-        ended = refl;
-        unheard = refl;
-        written = refl;
-      } in
-      record {
-        turns = Server (Read up) ∷ p.turns;
-        did = server_turn b p.turns (Read up) tt (far_at v []) (far_at v up) (near_at n w) refl
-            (record { wants = at.wants; running = at.running; none_waits = at.none_waits }) reads (between up down) (between [] down)
-            (sym (append-nil up), refl) p.did;
-        begun_is = p.begun_is;
-        reports_are = p.reports_are;
-      }
+  pub far_reads : (up : List ℕ) (v : Far) (down : List ℕ) (n : Near) (w : List ℕ) → Attends v → v.owed ≡ [] → Plays start begun op up v [] down n w
+      → Plays start begun op [] v up down n w
+  far_reads up v down n w at owed p = far_turn (Read up) tt up down [] down v v [] up n w at (far_reading v up at owed) (sym (append-nil up), refl) p
 
-  -- what it hears of an octet that ends no line
-  silent_octet : (read : Reading) (octet : ℕ) (v : Far) → ear_out line_limit v.ear octet ≡ []
-      → record v { ear = ear_step line_limit v.ear octet } ≡ hears_octet read v octet
-  unfolding hears_octet
-  silent_octet read octet v none = ap (λ events. heard_events read events (record v { ear = ear_step line_limit v.ear octet })) (sym none)
-
-  -- the server hears octets of a line before its end
-  pub far_hears : (up : List ℕ) (down : List ℕ) (n : Near) (w : List ℕ) (octets rest : List ℕ) (v : Far) → Attends v → may_hear v ≡ true
-      → is_silent v.ear octets ≡ true
-      → Plays b begun reports up v (octets ++ rest) down n w → Plays b begun reports up (record v { ear = ear_after v.ear octets }) rest down n w
-  unfolding is_silent ear_after
-  far_hears up down n w [] rest v at may silent p = p
-  far_hears up down n w (octet ∷ octets) rest v at may silent p =
-      let next : Far = record v { ear = ear_step line_limit v.ear octet } in
-      let ends : (octet == 10) ≡ false = is_not (octet == 10) (left_is (not (octet == 10)) _ silent) in
-      let more = right_is (not (octet == 10)) _ silent in
-      let none = are_none (ear_out line_limit v.ear octet) (left_is (no_events (ear_out line_limit v.ear octet)) _ more) in
-      let there : Attends next = record { wants = at.wants; running = at.running; none_waits = at.none_waits } in
-      let calls : Hears (octet ∷ []) (far_at v []).owner.end.server (far_at next []).owner.end.server = λ read reads. record {
-        done = λ calm. silent_octet read octet v none;
-        may = λ calm. (may, tt);
-        failed = λ moved. absurd (moved refl);
-        counted = ((0, omega arith, refl), (0, omega arith, refl));
-      } in
-      let hears : HearsNext (octet ∷ []) (far_at v (octet ∷ (octets ++ rest))) (far_at next (octets ++ rest)) = record {
-        hears = (
-          (
-            omega arith,
-            subst (λ e. HearsOctet e (octet ∷ []) (far_at v []).owner.end (far_at next []).owner.end) (sym ends) (calls, refl),
-          ),
-          ap (λ q. seen q (no_lane None)) (sym at.wants),
-          λ serves. ap waits at.wants,
-        );
-        next = refl;
-        left = refl;
-        written = refl;
-      } in
-      far_hears up down n w octets rest next there may (right_is (no_events (ear_out line_limit v.ear octet)) _ more) (record {
-        turns = Server (Heard (octet ∷ [])) ∷ p.turns;
-        did = server_turn b p.turns (Heard (octet ∷ [])) tt (far_at v (octet ∷ (octets ++ rest))) (far_at next (octets ++ rest)) (near_at n w) refl
-            (record { wants = there.wants; running = there.running; none_waits = there.none_waits }) hears (between up down) (between up down) refl p.did;
-        begun_is = p.begun_is;
-        reports_are = p.reports_are;
-      })
-    where
-      is_not : (e : Bool) → not e ≡ true → e ≡ false
-      is_not true e = absurd (true≢false (sym e))
-      is_not false e = refl
-
-  -- what it hears at the end of a line
-  line_octet : (read : Reading) (v : Far) (text : List ℕ) (asked : Command (List ℕ)) → ear_out line_limit v.ear 10 ≡ line text ∷ [] → read text ≡ Asks asked
-      → heard_line (Asks asked) (record v { ear = ear_step line_limit v.ear 10 }) ≡ hears_octet read v 10
-  unfolding hears_octet
-  line_octet read v text asked said reads =
-      let w : Far = record v { ear = ear_step line_limit v.ear 10 } in
-      sym (ap (λ events. heard_events read events w) said ∙ ap (λ h. heard_line h w) reads)
-
-  -- the server hears the end of a line
-  pub far_ends : (up : List ℕ) (down : List ℕ) (n : Near) (w : List ℕ) (v new : Far) (text : List ℕ) (asked : Command (List ℕ)) → Attends v → may_hear v ≡ true
-      → ear_out line_limit v.ear 10 ≡ line text ∷ [] → ((read : Reading) → IsReading read → read text ≡ Asks asked)
-      → new ≡ heard_line (Asks asked) (record v { ear = ear_step line_limit v.ear 10; footing = record v.footing { moment = 0 } }) → Attends new
-      → Plays b begun reports up v (10 ∷ []) down n w → Plays b begun reports up new [] down n w
-  far_ends up down n w v new text asked at may said reads is there p =
-      let told : Far = clock_step 0 v in
-      let calls : Hears (10 ∷ []) (far_at told []).owner.end.server (far_at new []).owner.end.server = λ read reading. record {
-        done = λ calm. is ∙ line_octet read told text asked said (reads read reading);
-        may = λ calm. (may, tt);
-        failed = λ moved. absurd (moved refl);
-        counted = ((0, omega arith, refl), (0, omega arith, refl));
-      } in
-      let hears : HearsNext (10 ∷ []) (far_at v (10 ∷ [])) (far_at new []) = record {
-        hears = (
-          (
-            omega arith,
-            (
-              0,
-              (far_at told []).owner.end.server,
-              tt,
-              record {
-                done = λ calm. ap (λ q. waited q told) (sym at.none_waits);
-                failed = λ moved. absurd (moved refl);
-                counted = ((0, omega arith, refl), (0, omega arith, refl));
-              },
-              calls,
-            ),
-          ),
-          ap (λ q. seen q (no_lane None)) (sym at.wants),
-          λ serves. ap waits at.wants,
-        );
-        next = refl;
-        left = refl;
-        written = refl;
-      } in
-      record {
-        turns = Server (Heard (10 ∷ [])) ∷ p.turns;
-        did = server_turn b p.turns (Heard (10 ∷ [])) tt (far_at v (10 ∷ [])) (far_at new []) (near_at n w) refl
-            (record { wants = there.wants; running = there.running; none_waits = there.none_waits }) hears (between up down) (between up down) refl p.did;
-        begun_is = p.begun_is;
-        reports_are = p.reports_are;
-      }
-
-  -- an operation begins
-  pub near_begins : (op : Op (List ℕ)) (up : List ℕ) (v : Far) (u down : List ℕ) (n : Near) (w : List ℕ) → near.is_busy n ≡ false
-      → near.wants (near.starts op n) ≡ Want.Nothing
-      → Plays b begun reports up v u down n w → Plays b (begun ++ Single op 0 ∷ []) reports up v u down (near.starts op n) w
-  near_begins op up v u down n w free wants p = record {
-    turns = Client (Other (Aside (Starting op))) ∷ p.turns;
-    did = client_turn b p.turns (Other (Aside (Starting op))) tt (far_at v u) (near_at n w) (near_at (near.starts op n) w) refl wants
-        (((free, (((λ calm. refl), (λ moved. absurd (moved refl))), inl refl)), refl, tt), refl) (between up down) (between up down) refl p.did;
-    begun_is = ap (λ l. l ++ Single op 0 ∷ []) p.begun_is;
-    reports_are = append-nil _ ∙ p.reports_are;
-  }
-
-  -- a report is taken
-  pub near_reports : (said : Said) (up : List ℕ) (v : Far) (u down : List ℕ) (n : Near) (w : List ℕ) → near.report_of n ≡ Some said
-      → near.wants (near.reports n) ≡ Want.Nothing
-      → Plays b begun reports up v u down n w → Plays b begun (reports ++ said ∷ []) up v u down (near.reports n) w
-  near_reports said up v u down n w some wants p = record {
-    turns = Client (Other (Aside (Reporting (Some said)))) ∷ p.turns;
-    did = client_turn b p.turns (Other (Aside (Reporting (Some said)))) tt (far_at v u) (near_at n w) (near_at (near.reports n) w) refl wants
-        (((sym some, (refl, refl)), refl, tt), refl) (between up down) (between up down) refl p.did;
-    begun_is = append-nil _ ∙ p.begun_is;
-    reports_are = ap (λ l. l ++ said ∷ []) p.reports_are;
-  }
+  -- it hears a line: its octets before the end, and that
+  pub far_obeys : (up : List ℕ) (down : List ℕ) (n : Near) (w : List ℕ) (octets : List ℕ) (v new : Far) (text : List ℕ) (asked : Command (List ℕ)) → Attends v
+      → may_hear v ≡ true → is_silent v.ear octets ≡ true → ear_out line_limit (ear_after v.ear octets) 10 ≡ line text ∷ []
+      → ((read : Reading) → IsReading read → read text ≡ Asks asked)
+      → new ≡ heard_line (Asks asked) (record v { ear = ear_step line_limit (ear_after v.ear octets) 10; footing = record v.footing { moment = 0 } })
+      → Attends new → Plays start begun op up v (octets ++ 10 ∷ []) down n w → Plays start begun op up new [] down n w
+  far_obeys up down n w octets v new text asked at may silent said reads is there p =
+      let last : Far = record v { ear = ear_after v.ear octets } in
+      let attends : Attends last = record { wants = at.wants; running = at.running; none_waits = at.none_waits } in
+      let heard = far_hears (λ v u. Plays start begun op up v u down n w)
+      (λ octet rest v new at done p. far_turn (Heard (octet ∷ [])) tt up down up down v new (octet ∷ rest) rest n w at done refl p) octets (10 ∷ []) v at may silent p
+      in
+      far_turn (Heard (10 ∷ [])) tt up down up down last new (10 ∷ []) [] n w there (far_ending last new text asked attends may said reads is) refl heard

@@ -5,7 +5,7 @@ use Rattle.ftp_pair_drives.specs.Swaps.{DeedsChangePlaces, ReadsWritten}
 use Rattle.ftp_pair_drives.specs.Touches.{None_of_it, Says, Reads}
 
 -- what comes after the same first octets is the same
-same_rest : (front one other : List ℕ) → front ++ one ≡ front ++ other → one ≡ other
+pub same_rest : (front one other : List ℕ) → front ++ one ≡ front ++ other → one ≡ other
 same_rest [] one other e = e
 same_rest (octet ∷ front) one other e = same_rest front one other (ap (drop 1) e)
 

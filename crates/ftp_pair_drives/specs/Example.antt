@@ -1,19 +1,22 @@
 -- A session of two drives over control alone, as an example: the premises can be met (RFC 959, section 5.4).
-use Rattle.std.specs.Prelude.{◌≡◌, false, List, [], ◌∷◌, None, Some}
+use Rattle.std.specs.Prelude.{◌≡◌, ℕ, false, List, [], ◌∷◌, None, Some}
 use Rattle.ftp_client_model.specs.Calls.{is_busy}
 use Rattle.ftp_control.specs.Deeds.{Stand}
 use Rattle.ftp_client_drive.specs.Side.{client_side}
 use Rattle.ftp_ends.specs.RowWords.{here}
-use Rattle.ftp_operation.specs.Answer.{Path}
+use Rattle.ftp_operation.specs.Answer.{Path, Said}
 use Rattle.ftp_operation.specs.Rights.{all_rights}
+use Rattle.ftp_operation.specs.declared.op.Op.{Op}
 use Rattle.ftp_operation.specs.declared.op.Op.TheVariants as Ops
 use Rattle.ftp_server_drive.specs.Side.{server_side}
-use Rattle.ftp_tree.specs.Tree.{Dir, Table, node_at}
+use Rattle.ftp_tree.specs.Tree.{Dir, Table, node_at, root_alone}
 use Rattle.ftp_pair_drives.specs.Alone.{begun_in, reports_in}
 use Rattle.ftp_pair_drives.specs.Between.{Turn, client_deeds, nothing_yet}
 use Rattle.ftp_pair_drives.specs.Claims.{Did}
+use Rattle.ftp_pair_drives.specs.Over.{AreOver}
+use Rattle.ftp_pair_drives.specs.Quitting.{HaveQuit}
 use Rattle.ftp_pair_world.specs.Agreement.{Single}
-use Rattle.ftp_pair_world.specs.Claims.{Beginning}
+use Rattle.ftp_pair_world.specs.Claims.{Beginning, IsFair}
 
 -- somebody named `a`, who needs no password, logs in to a map
 abbrev pub example : Table → Beginning
@@ -39,3 +42,21 @@ pub record IsPlayed (table : Table) : Type 0 where
 -- so it is of every map that has a root
 abbrev pub ExampleIsPlayed : Type 0
 ExampleIsPlayed = (table : Table) → node_at table [] ≡ Some Dir → IsPlayed table
+
+-- ---- until both drives are over
+
+-- the operation and its answer
+abbrev pub example_asked : List (Op (List ℕ) × Said)
+example_asked = (Ops.Where, Path (47 ∷ [])) ∷ []
+
+-- of every such map drives did so by their contracts, and the server's was over since the client left after it
+abbrev pub ExampleIsOver : Type 0
+ExampleIsOver = (table : Table) → node_at table [] ≡ Some Dir → (server : Stand server_side) × AreOver (example table) example_asked server
+
+-- or since it heard QUIT, which was written after it
+abbrev pub ExampleHasQuit : Type 0
+ExampleHasQuit = (table : Table) → node_at table [] ≡ Some Dir → (server : Stand server_side) × HaveQuit (example table) example_asked server
+
+-- the root alone is such a map, and the session is fair
+abbrev pub ExampleIsFair : Type 0
+ExampleIsFair = (node_at root_alone [] ≡ Some Dir) × IsFair (example root_alone)

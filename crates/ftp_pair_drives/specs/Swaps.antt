@@ -1,7 +1,12 @@
 -- Deeds of different ends that change places: a deed comes before one of the other end that was done first, where it reads nothing that this wrote.
-use Rattle.std.specs.Prelude.{◌≡◌, ⊤, ℕ, List, ◌++◌}
-use Rattle.ftp_pair_drives.specs.Between.{Between, Can, Who, coming, peer}
-use Rattle.ftp_pair_drives.specs.Touches.{Touch, None_of_it, Says, Reads}
+use Rattle.std.specs.Prelude.{◌≡◌, ◌⊎◌, ⊤, ℕ, List, [], ◌∷◌, ◌++◌}
+use Rattle.ftp_control.specs.Deeds.{Stand}
+use Rattle.ftp_client_drive.specs.Side.{client_side}
+use Rattle.ftp_server_drive.specs.Side.{server_side}
+use Rattle.ftp_pair_drives.specs.Between.{Between, Can, Client, Far, Happened, Near, Server, Turn, Who, client_deeds, coming, peer, server_deeds}
+use Rattle.ftp_pair_drives.specs.Claims.{Did}
+use Rattle.ftp_pair_drives.specs.Touches.{Touch, None_of_it, Says, Reads, touch_in}
+use Rattle.ftp_pair_world.specs.Claims.{Beginning}
 
 -- beside the control connection alone
 abbrev pub IsOfControl : Touch → Type 0
@@ -21,3 +26,54 @@ DeedsChangePlaces =
     (who : Who) (first second : Touch) → IsOfControl first → IsOfControl second → (old mid new : Between) → Can who first old mid
     → Can (peer who) second mid new
     → ReadsWritten (peer who) second old → (other : Between) × Can (peer who) second old other × Can who first other new
+
+-- ---- in an order
+
+-- whose deed it is, and what it does between
+abbrev pub who_of : Turn → Who
+who_of (Server deed) = Far
+who_of (Client deed) = Near
+
+abbrev pub touch_by : Turn → Touch
+touch_by (Server deed) = touch_in deed
+touch_by (Client deed) = touch_in deed
+
+-- deeds of different ends, of which one at least is beside the control connection
+pub record AreApart (first second : Turn) : Type 0 where
+  pub ends : who_of second ≡ peer (who_of first)
+  pub alone : IsOfControl (touch_by first) ⊎ IsOfControl (touch_by second)
+
+-- one and each of several
+abbrev pub IsApartFrom : Turn → List Turn → Type 0
+IsApartFrom first [] = ⊤
+IsApartFrom first (other ∷ others) = IsApartFrom first others × AreApart first other
+
+-- either end does the same deeds in the same order
+pub record AreOfSameEnds (one other : List Turn) : Type 0 where
+  pub server : server_deeds other ≡ server_deeds one
+  pub client : client_deeds other ≡ client_deeds one
+
+-- an order in which each deed can happen leaves but one thing between
+abbrev pub OrdersLeaveOne : Type 0
+OrdersLeaveOne = (turns : List Turn) (one other : Between) → Happened turns one → Happened turns other → one ≡ other
+
+-- where the second of two neighbours can happen without the first, it can come first; then all that came after both can still happen
+abbrev pub NeighboursChangePlaces : Type 0
+NeighboursChangePlaces =
+    (later before : List Turn) (first second : Turn) (other now : Between) → AreApart first second
+    → Happened (second ∷ before) other → Happened (later ++ second ∷ first ∷ before) now
+    → Happened (later ++ first ∷ second ∷ before) now × AreOfSameEnds (later ++ second ∷ first ∷ before) (later ++ first ∷ second ∷ before)
+
+-- so a deed can come later than several, where these can happen without it
+abbrev pub DeedsGoBehind : Type 0
+DeedsGoBehind =
+    (later others before : List Turn) (first : Turn) (other now : Between) → IsApartFrom first others
+    → Happened (others ++ before) other → Happened (later ++ (others ++ first ∷ before)) now
+    → Happened (later ++ first ∷ (others ++ before)) now
+    × AreOfSameEnds (later ++ (others ++ first ∷ before)) (later ++ first ∷ (others ++ before))
+
+-- and both ends are left as in the other order
+abbrev pub OrdersLeaveTheEnds : Type 0
+OrdersLeaveTheEnds =
+    (b : Beginning) (one other : List Turn) (now : Between) (server : Stand server_side) (client : Stand client_side) → AreOfSameEnds one other
+    → Happened other now → Did b one now server client → Did b other now server client

@@ -1,12 +1,12 @@
 //! Laws of two drives: functions that do nothing, whose contracts are the claims of `specs/`, of the deeds that `Drives` of a server's and of a
-//! client's drive cites, in any order in which each can happen, where no data connection was wanted; the last two are what transfers will need.
+//! client's drive cites, in any order in which each can happen, where no data connection was wanted; the last three are what transfers will need.
 ghost use Rattle.ftp_pair_drives.specs.Broken.{ClientsAreCut, DrivesBrokenAgree, ServersAreCut};
 ghost use Rattle.ftp_pair_drives.specs.Claims.{DrivesAgree, DrivesAreOfWorlds, DrivesAreTheDirectRun, EndsKeepTheMap, PartingAgrees};
 ghost use Rattle.ftp_pair_drives.specs.Delays.{DownBreaksCommute, EndForgetsBreak, EndForgetsLateBreak, OpeningCommutes, UnopenedIsBroken, UpBreaksCommute, UpRepliesCommute};
-ghost use Rattle.ftp_pair_drives.specs.Example.{ExampleIsPlayed};
+ghost use Rattle.ftp_pair_drives.specs.Example.{ExampleHasQuit, ExampleIsFair, ExampleIsOver, ExampleIsPlayed};
 ghost use Rattle.ftp_pair_drives.specs.Over.{DrivesLostAgree, DrivesOverAreTheDirectRun};
 ghost use Rattle.ftp_pair_drives.specs.Quitting.{DrivesThatQuitAreTheDirectRun};
-ghost use Rattle.ftp_pair_drives.specs.Swaps.{DeedsChangePlaces};
+ghost use Rattle.ftp_pair_drives.specs.Swaps.{DeedsChangePlaces, DeedsGoBehind, NeighboursChangePlaces, OrdersLeaveOne, OrdersLeaveTheEnds};
 
 /// One server's drive and drives of one client leave what a list of the world's events leads to from the beginning, but for the moment that the
 /// server was told last.
@@ -43,6 +43,14 @@ pub fn an_example_is_played()
     ensures { ExampleIsPlayed }
 {}
 
+/// So can those of drives that are over: the contracts of both drives say that the server's was over since the client left, or since it heard QUIT; and
+/// of a map of the root alone the session is fair.
+pub fn an_example_is_over()
+    ensures over { ExampleIsOver }
+    ensures quit { ExampleHasQuit }
+    ensures fair { ExampleIsFair }
+{}
+
 /// Where both were told in the midst of the last operation that the control connection ended, answers and map agree with the operations begun.
 pub fn drives_lost_agree()
     ensures { DrivesLostAgree }
@@ -63,6 +71,16 @@ pub fn drives_that_broke_off_are_cut()
 /// A deed beside the control connection can come before one of the other end that was done first, where it reads nothing that this wrote.
 pub fn deeds_change_places()
     ensures { DeedsChangePlaces }
+{}
+
+/// In an order in which each deed can happen, two neighbours of different ends, one of them beside the control connection, change places where the
+/// second can happen without the first, and a deed goes behind several of the other end that can happen without it: then each can still happen, and the
+/// same lies between. An order leaves but one thing there, and either end what its own deeds leave.
+pub fn orders_change()
+    ensures one { OrdersLeaveOne }
+    ensures neighbours { NeighboursChangePlaces }
+    ensures behind { DeedsGoBehind }
+    ensures ends { OrdersLeaveTheEnds }
 {}
 
 /// A client holds the same whether the break of its data connection, an octet or the opening at its port comes before its final reply or after it;
