@@ -1,5 +1,5 @@
 -- A client as the end of a session that is driven: what its calls do, as `Near` says it (RFC 959, section 2.3).
-use Rattle.std.specs.Prelude.{◌≡◌, ℕ, Bool, true, false, IsTrue, length, List, Option}
+use Rattle.std.specs.Prelude.{◌≡◌, ℕ, Bool, true, false, IsTrue, length, List, Option, take}
 use Rattle.ftp_control.specs.Deeds.{Stand}
 use Rattle.ftp_control.specs.Machine.{Machine, Call, Aside, Held, rest_by, side_of, stand_of}
 use Rattle.ftp_control.specs.Side.{Side}
@@ -56,7 +56,6 @@ client_machine = record {
   wants = λ client. wants client.view;
   serves = false;
   owed = λ client. client.view.owed;
-  to_give = λ client. to_give client.view;
   may_hear = λ client. may_hear client.view;
   may_receive = λ client. may_receive client.view;
   Hears = λ octets unheard old new. Counted (HearsIfRoom old new unheard (length octets)) old new;
@@ -67,13 +66,13 @@ client_machine = record {
   Listening = λ port old new. Counted (HoldsIfRoom old new (listening port old.view) (listening_short port old.view)) old new;
   Opened = λ host old new. Counted (HoldsIfRoom old new (data_opened host old.view) (data_opened_short old.view)) old new;
   Received = λ octets count old new. Counted (ReceivesIfRoom old new octets count) old new;
-  Gave = λ count old new. Counted (HoldsIfRoom old new (gives_data count old.view) (short old.view)) old new;
+  Gave = λ count octets rest old new.
+      (octets ≡ take count (to_give old.view)) × Counted (HoldsIfRoom old new (gives_data count old.view) (short old.view)) old new × (rest ≡ rest_by (wants new.view));
   NoPort = λ old new. Counted (HoldsIfRoom old new (listen_refused old.view) (listen_refused_short old.view)) old new;
   Refused = λ old new. Counted (HoldsIfRoom old new (data_refused old.view) (data_refused_short old.view)) old new;
   End = λ old new. Counted (HoldsIfRoom old new (data_end old.view) (data_end_short old.view)) old new;
   Break = λ old new. Counted (HoldsIfRoom old new (data_fault old.view) (data_fault_short old.view)) old new;
   Closed = λ old new. Holds old new (data_closed old.view);
-  rest_after = λ count old new. rest_by (wants new.view);
   IsCloseDue = λ client. IsTrue (is_sound client.view.standing) → IsTrue (is_under_way client.view.job) → wants client.view ≡ Want.CloseData;
   IsDone = λ client. is_under_way client.view.job ≡ false;
 }

@@ -71,21 +71,21 @@ module _ (machine : Machine) where
   -- it gave more into the room behind what it gave before
   pub given_more : (old mid new : machine.Here) (lane : Lane) (at count : ℕ) (room front out : List ℕ) (before rest : Rest) → IsOpen lane → machine.wants mid ≡ Want.Send
       → Stirring machine (held old lane) (held mid (with_given (take at room) before lane)) → front ≡ take at room → length front ≡ at → count ≤ length out
-      → take count out ≡ take count (machine.to_give mid) → machine.Gave count mid new → rest ≡ machine.rest_after count mid new
+      → machine.Gave count (take count out) rest mid new
       → Stirring machine (held old lane) (held new (with_given (take (at + count) (front ++ out)) rest lane))
-  given_more old mid new lane at count room front out before rest is_open sends first is len fits owed gave by left unheard written =
+  given_more old mid new lane at count room front out before rest is_open sends first is len fits gave left unheard written =
       let there = with_given (take at room) before lane in
       let then = with_given (take (at + count) (front ++ out)) rest lane in
       stirs_then _ _ _ (first left unheard written)
       (quiet_call (side_of machine) (Gave count (take count out) rest) (held mid there) (held new then)
-      ((owed, gave, by), (ap (λ l. record lane { rest = rest; unwritten = l }) (more_given lane.unwritten at count room front out is len fits), is_open), sends) left unheard written)
+      (gave, (ap (λ l. record lane { rest = rest; unwritten = l }) (more_given lane.unwritten at count room front out is len fits), is_open), sends) left unheard written)
 
   -- it gave these first
   pub given_first : (old new : machine.Here) (lane : Lane) (count : ℕ) (out : List ℕ) (rest : Rest) → IsOpen lane → machine.wants old ≡ Want.Send
-      → take count out ≡ take count (machine.to_give old) → machine.Gave count old new → rest ≡ machine.rest_after count old new
+      → machine.Gave count (take count out) rest old new
       → Stirring machine (held old lane) (held new (with_given (take count out) rest lane))
-  given_first old new lane count out rest is_open sends owed gave by left unheard written =
-      stirs_by (Other (Gave count (take count out) rest)) _ _ tt (((owed, gave, by), (refl, is_open), sends), refl)
+  given_first old new lane count out rest is_open sends gave left unheard written =
+      stirs_by (Other (Gave count (take count out) rest)) _ _ tt ((gave, (refl, is_open), sends), refl)
 
   -- control octets that it owed it gave
   pub gave_some : (old new : machine.Here) (lane : Lane) (count : ℕ) (octets : List ℕ) → octets ≡ take count (machine.owed old) → machine.Gives count old new

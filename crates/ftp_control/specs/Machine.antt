@@ -22,11 +22,10 @@ use Rattle.ftp_ends.specs.declared.link.Wants.TheVariants as Want
 
 -- an end, and what its calls do to it
 pub record Machine : Type 1 where
-  -- what it holds; what it wants, and what it owes over the control connection and over a data connection
+  -- what it holds; what it wants, and what it owes over the control connection
   pub Here : Type 0
   pub wants : Here → Wants
   pub owed : Here → List ℕ
-  pub to_give : Here → List ℕ
   -- whether it serves: lines may wait unheard, for a transfer's end and while it wants a port, an opening or a close
   pub serves : Bool
   -- whether it may take an octet of the control connection, and of a data connection
@@ -43,14 +42,13 @@ pub record Machine : Type 1 where
   pub Listening : (port : ℕ) → (old new : Here) → Type 0
   pub Opened : Host → (old new : Here) → Type 0
   pub Received : (octets : List ℕ) → (count : ℕ) → (old new : Here) → Type 0
-  pub Gave : (count : ℕ) → (old new : Here) → Type 0
+  -- of octets for its data connection it gave so many, these, and says whether it has more to give
+  pub Gave : (count : ℕ) → (octets : List ℕ) → (rest : Rest) → (old new : Here) → Type 0
   pub NoPort : (old new : Here) → Type 0
   pub Refused : (old new : Here) → Type 0
   pub End : (old new : Here) → Type 0
   pub Break : (old new : Here) → Type 0
   pub Closed : (old new : Here) → Type 0
-  -- whether it has more to give behind a call in which it gave so many octets
-  pub rest_after : (count : ℕ) → (old new : Here) → Rest
   -- when it is told of a close, and when it is done with its data connections
   pub IsCloseDue : Here → Type 0
   pub IsDone : Here → Type 0
@@ -183,7 +181,7 @@ abbrev pub held : {Here : Type 0} → Here → Lane → Held Here
 held end lane = record { end = end; lane = lane }
 
 module _ (machine : Machine) where
-  -- what each call does to the end; whether it has more to give is as it wants it right after one is opened, and behind octets that it gave as it
+  -- what each call does to the end; whether it has more to give is as it wants it right after one is opened, and after octets that it gave as it
   -- says itself; octets that came are let go only where it wants no more of them
   abbrev pub Does : Call machine.Own → (old new : machine.Here) → Type 0
   Does (Aside own) old new = machine.Owns own old new
@@ -191,7 +189,7 @@ module _ (machine : Machine) where
   Does (Opened host asked at_first so_far rest) old new = machine.Opened host old new × (rest ≡ rest_by (machine.wants new))
   Does (Refused asked) old new = machine.Refused old new
   Does (Received octets count) old new = machine.Received octets count old new
-  Does (Gave count octets rest) old new = (octets ≡ take count (machine.to_give old)) × machine.Gave count old new × (rest ≡ machine.rest_after count old new)
+  Does (Gave count octets rest) old new = machine.Gave count octets rest old new
   Does NoPort old new = machine.NoPort old new
   Does End old new = machine.End old new
   Does Break old new = machine.Break old new

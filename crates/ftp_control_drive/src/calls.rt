@@ -102,9 +102,7 @@ pub trait EndCalls<E> {
     /// Gives octets of the data connection, and says how many; where it wanted to send, also whether it has more to give.
     fn data_out(end: &mut E, room: &mut [u8]) -> Given
         ensures within { result.count ≤ length room.old }
-        ensures gave { take result.count room.new ≡ take result.count (machine.to_give (here end.old)) }
-        ensures now { machine.Gave result.count (here end.old) (here end.new) }
-        ensures rest { machine.wants (here end.old) ≡ Wants.Send → result.rest ≡ machine.rest_after result.count (here end.old) (here end.new) };
+        ensures gave { machine.wants (here end.old) ≡ Wants.Send → machine.Gave result.count (take result.count room.new) result.rest (here end.old) (here end.new) };
 
     /// A close that it wanted is done.
     fn data_closed(end: &mut E)

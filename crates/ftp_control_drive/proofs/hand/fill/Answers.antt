@@ -7,8 +7,8 @@ pub loop-at-init : goal.loop-at-init
 loop-at-init g c =
     let gave = c.data_out-first in (
       search rules,
-      λ lane is_open. given_first g.K.EndCalls.machine _ _ lane gave.result.count gave.new.room gave.result.rest is_open c.requires gave.ensures.gave
-          gave.ensures.now (gave.ensures.rest c.requires),
+      λ lane is_open. given_first g.K.EndCalls.machine _ _ lane gave.result.count gave.new.room gave.result.rest is_open c.requires
+          (gave.ensures.gave c.requires),
     )
 
 pub returns-then-given-eq0-clause-stirs : goal.returns-then-given-eq0-clause-stirs
@@ -17,7 +17,7 @@ returns-then-given-eq0-clause-stirs g c lane is_open =
     let split = c.split_at_mut-free.ensures in
     let sends : g.K.EndCalls.machine.wants (g.K.EndCalls.here c.loop-at.end) ≡ Send = search rules in
     given_more g.K.EndCalls.machine _ _ _ lane c.loop-at.at gave.result.count c.loop-at.room _ gave.new.room c.loop-at.rest gave.result.rest is_open sends
-    (c.loop-at.invariant.1 lane is_open) split.front split.front_len (search rules) gave.ensures.gave gave.ensures.now (gave.ensures.rest sends)
+    (c.loop-at.invariant.1 lane is_open) split.front split.front_len (search rules) (gave.ensures.gave sends)
 
 pub loop-at-preserved : goal.loop-at-preserved
 loop-at-preserved g c =
@@ -26,6 +26,5 @@ loop-at-preserved g c =
     let sends : g.K.EndCalls.machine.wants (g.K.EndCalls.here c.loop-at.end) ≡ Send = search rules in (
       search rules,
       λ lane is_open. given_more g.K.EndCalls.machine _ _ _ lane c.loop-at.at gave.result.count c.loop-at.room _ gave.new.room c.loop-at.rest gave.result.rest
-          is_open sends (c.loop-at.invariant.1 lane is_open) split.front split.front_len (search rules) gave.ensures.gave gave.ensures.now
-          (gave.ensures.rest sends),
+          is_open sends (c.loop-at.invariant.1 lane is_open) split.front split.front_len (search rules) (gave.ensures.gave sends),
     )
