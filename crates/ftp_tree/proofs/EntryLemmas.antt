@@ -9,9 +9,9 @@ use Rattle.std.specs.FinMap.{IsAntisymmetric, nat_cmp-IsAntisymmetric, slice_cmp
 use Rattle.std.specs.FinMap.Entries.{put, below_all, is_sorted-put}
 use lib.Dec.{T}
 use Rattle.std.proofs.lemmas.Bool.{and_parts, true≢false}
-use Rattle.ftp_tree.specs.Tree.{Node}
+use Rattle.ftp_tree.specs.Map.{Node}
 use Rattle.ftp_path.specs.Path.{Names, path_cmp}
-use Rattle.ftp_tree.specs.Store.{Rows, is_in_order}
+use Rattle.ftp_tree.specs.Rows.{Rows, is_in_order}
 
 pub path_total : IsTotalOrder path_cmp
 path_total = lists_total (lists_total nat_cmp_total)

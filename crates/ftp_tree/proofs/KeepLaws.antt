@@ -3,27 +3,50 @@ use Rattle.std.proofs.Common.{ℕ, ◌-◌, ◌<◌, ◌≡◌, Bool, true, fals
 use Rattle.std.specs.List.{Contains}
 use Rattle.std.specs.Cmp.{tied_itself}
 use Rattle.std.specs.Ordering.{eq_by_cmp, is_eq}
-use Rattle.std.specs.FinMap as fin
 use Rattle.std.proofs.lemmas.Bool.{and_parts, cond-true, cond-false, true≢false}
 use Rattle.std.proofs.lemmas.List.{append-nil, append_assoc, length-append, length-take}
 use Rattle.ftp_path.specs.Path.{parent, Names, path_cmp, is_within}
-use Rattle.ftp_tree.specs.Tree.{Node, Dir, File, Table, node_at, children, root_alone, made, removed, installed, moved, IsTree, whenever, freed, takes_place, onto_refusal, directory_refusal, place_refusal, nodes_refusal, make_refusal, file_refusal, delete_refusal, empty_refusal, remove_answer, remove_refusal, source_answer, source_refusal, rename_refusal, room_answer, room_refusal, octets_refusal, install_refusal}
+use Rattle.ftp_tree.specs.declared.limits.Limits.{Limits}
+use Rattle.ftp_tree.specs.Map.{Node, Dir, File}
+use Rattle.ftp_tree.specs.Tree.{Table, default_limits, node_at, children, root_alone, root_within, made, removed, installed, moved, IsTree, whenever, freed, takes_place, onto_refusal, directory_refusal, place_refusal, nodes_refusal, make_refusal, file_refusal, delete_refusal, empty_refusal, remove_answer, remove_refusal, source_answer, source_refusal, rename_refusal, room_answer, room_refusal, octets_refusal, install_refusal}
 use Rattle.ftp_tree.specs.declared.fault.TreeFault.{TreeFault}
 use Rattle.ftp_tree.specs.declared.fault.TreeFault.TheVariants.{Exists, WrongKind}
 use Rattle.ftp_tree.specs.Laws.{ChangesKeepTrees, MovesAll}
 use Rattle.ftp_path.proofs.PathLemmas.{parent-last}
 use Rattle.ftp_tree.proofs.EntryLemmas.{path_total}
 use Rattle.ftp_path.proofs.KeyLemmas.{within-parts, within-append}
-use Rattle.ftp_tree.proofs.TableLemmas.{both-none, held, table_of-none, node_at-root}
-use Rattle.ftp_tree.proofs.LawLemmas.{same, false-where, parent-append, target-parts, moves-where, children-stand}
+use Rattle.ftp_tree.proofs.TableLemmas.{both-none, held}
+use Rattle.ftp_tree.proofs.MapLemmas.{same, false-where}
+use Rattle.ftp_tree.proofs.LawLemmas.{parent-append, target-parts, moves-where, children-stand}
+use Rattle.std.specs.FinMap as fin
+use Rattle.ftp_tree.specs.Map as maps
+use Rattle.ftp_tree.proofs.MapLemmas as on_map
 
-pub at-insert : (table : Table) (path : Names) (node : Node) (other : Names) → node_at (fin.insert table path node) other ≡ cond (eq_by_cmp path_cmp other path) (Some node) (node_at table other)
-unfolding node_at
-at-insert table path node other = fin.get-insert path_total table path node other
+-- a table with a node at a path, and without what stands there
+abbrev pub with_node : Table → Names → Node → Table
+with_node table path node = record table { map = fin.insert table.map path node }
 
-pub at-remove : (table : Table) (path other : Names) → node_at (fin.remove table path) other ≡ cond (eq_by_cmp path_cmp other path) None (node_at table other)
+abbrev pub but_node : Table → Names → Table
+but_node table path = record table { map = fin.remove table.map path }
+
+pub at-insert : (table : Table) (path : Names) (node : Node) (other : Names) → node_at (with_node table path node) other ≡ cond (eq_by_cmp path_cmp other path) (Some node) (node_at table other)
 unfolding node_at
-at-remove table path other = fin.get-remove path_total table path other
+at-insert table path node other = on_map.at-insert table.map path node other
+
+pub at-remove : (table : Table) (path other : Names) → node_at (but_node table path) other ≡ cond (eq_by_cmp path_cmp other path) None (node_at table other)
+unfolding node_at
+at-remove table path other = on_map.at-remove table.map path other
+
+-- a node alone, and nothing at all, within some limits
+abbrev pub alone : Limits → Node → Table
+alone limits node = record { limits = limits; map = fin.insert fin.empty [] node }
+
+abbrev pub nothing : Limits → Table
+nothing limits = record { limits = limits; map = fin.empty }
+
+pub nothing-at : (limits : Limits) (path : Names) → node_at (nothing limits) path ≡ None
+unfolding node_at
+nothing-at limits path = on_map.empty-at path
 
 parent-none : parent [] ≡ []
 unfolding parent
@@ -39,7 +62,7 @@ is-dir (Some Dir) none = refl
 is-dir (Some (File octets moment)) none = cc
 
 -- a node that comes below a directory, and in the place of no directory unless it is one
-pub IsTree-insert : (table : Table) (path : Names) (node : Node) → IsTree table → node_at table (parent path) ≡ Some Dir → (node_at table path ≡ Some Dir → node ≡ Dir) → IsTree (fin.insert table path node)
+pub IsTree-insert : (table : Table) (path : Names) (node : Node) → IsTree table → node_at table (parent path) ≡ Some Dir → (node_at table path ≡ Some Dir → node ≡ Dir) → IsTree (with_node table path node)
 IsTree-insert table path node tree above keeps =
     record {
       root = at-insert table path node [] ∙ put [] tree.root;
@@ -53,7 +76,7 @@ IsTree-insert table path node tree above keeps =
           | false ↦ λ other_path. stands
         ] refl
 
-    up : (other : Names) → IsSome (node_at (fin.insert table path node) other) → node_at table (parent other) ≡ Some Dir
+    up : (other : Names) → IsSome (node_at (with_node table path node) other) → node_at table (parent other) ≡ Some Dir
     up other some =
         elim (eq_by_cmp path_cmp other path) as (λ b. eq_by_cmp path_cmp other path ≡ b → node_at table (parent other) ≡ Some Dir) [
           | true ↦ λ equal. ap (λ p. node_at table (parent p)) (same other path equal) ∙ above
@@ -61,23 +84,23 @@ IsTree-insert table path node tree above keeps =
         ] refl
 
 -- a node that is not the root and has nothing below it goes
-pub IsTree-remove : (table : Table) (path : Names) → IsTree table → (path ≡ [] → ⊥) → ((other : Names) → IsSome (node_at table other) → (other ≡ [] → ⊥) → parent other ≡ path → ⊥) → IsTree (fin.remove table path)
+pub IsTree-remove : (table : Table) (path : Names) → IsTree table → (path ≡ [] → ⊥) → ((other : Names) → IsSome (node_at table other) → (other ≡ [] → ⊥) → parent other ≡ path → ⊥) → IsTree (but_node table path)
 IsTree-remove table path tree not_root none_below =
     record {
       root = at-remove table path [] ∙ cond-false (eq_by_cmp path_cmp [] path) None (node_at table []) (false-where _ (λ equal. not_root (sym (same [] path equal)))) ∙ tree.root;
       parents = λ other some. up other some;
     }
   where
-    stood : (other : Names) → IsSome (node_at (fin.remove table path) other) → IsSome (node_at table other)
+    stood : (other : Names) → IsSome (node_at (but_node table path) other) → IsSome (node_at table other)
     stood other some =
         elim (eq_by_cmp path_cmp other path) as (λ b. eq_by_cmp path_cmp other path ≡ b → IsSome (node_at table other)) [
           | true ↦ λ equal. absurd (true≢false (sym (ap is_some (sym (at-remove table path other ∙ cond-true (eq_by_cmp path_cmp other path) None (node_at table other) equal)) ∙ some)))
           | false ↦ λ other_path. subst (λ o. IsSome o) (at-remove table path other ∙ cond-false (eq_by_cmp path_cmp other path) None (node_at table other) other_path) some
         ] refl
 
-    up : (other : Names) → IsSome (node_at (fin.remove table path) other) → node_at (fin.remove table path) (parent other) ≡ Some Dir
+    up : (other : Names) → IsSome (node_at (but_node table path) other) → node_at (but_node table path) (parent other) ≡ Some Dir
     up [] some =
-        ap (node_at (fin.remove table path)) parent-none ∙ at-remove table path [] ∙ cond-false (eq_by_cmp path_cmp [] path) None (node_at table []) (false-where _ (λ equal. not_root (sym (same [] path equal)))) ∙ tree.root
+        ap (node_at (but_node table path)) parent-none ∙ at-remove table path [] ∙ cond-false (eq_by_cmp path_cmp [] path) None (node_at table []) (false-where _ (λ equal. not_root (sym (same [] path equal)))) ∙ tree.root
     up (name ∷ names) some =
         let there = stood (name ∷ names) some in
         at-remove table path (parent (name ∷ names))
@@ -85,20 +108,28 @@ IsTree-remove table path tree not_root none_below =
         (false-where _ (λ equal. none_below (name ∷ names) there (λ e. cc) (same (parent (name ∷ names)) path equal)))
         ∙ tree.parents (name ∷ names) there
 
-pub at-root_alone : (path : Names) → node_at root_alone path ≡ cond (eq_by_cmp path_cmp path []) (Some Dir) None
-unfolding node_at root_alone
-at-root_alone path = fin.get-insert path_total fin.empty [] Dir path ∙ ap (cond (eq_by_cmp path_cmp path []) (Some Dir)) (fin.get-empty path_cmp path)
+pub at-root_within : (limits : Limits) (path : Names) → node_at (root_within limits) path ≡ cond (eq_by_cmp path_cmp path []) (Some Dir) None
+unfolding node_at maps.node_at root_within maps.root_alone
+at-root_within limits path = fin.get-insert path_total fin.empty [] Dir path ∙ ap (cond (eq_by_cmp path_cmp path []) (Some Dir)) (fin.get-empty path_cmp path)
 
-pub root-tree : IsTree root_alone
-root-tree =
+pub at-root_alone : (path : Names) → node_at root_alone path ≡ cond (eq_by_cmp path_cmp path []) (Some Dir) None
+unfolding root_alone
+at-root_alone path = at-root_within default_limits path
+
+pub within-tree : (limits : Limits) → IsTree (root_within limits)
+within-tree limits =
     record {
-      root = ap (λ table. node_at table []) (sym table_of-none) ∙ node_at-root [] refl;
-      parents = λ path some. up path (subst (λ o. IsSome o) (at-root_alone path) some);
+      root = at-root_within limits [];
+      parents = λ path some. up path (subst (λ o. IsSome o) (at-root_within limits path) some);
     }
   where
-    up : (path : Names) → IsSome (cond (eq_by_cmp path_cmp path []) (Some Dir) None) → node_at root_alone (parent path) ≡ Some Dir
-    up [] some = ap (node_at root_alone) parent-none ∙ ap (λ table. node_at table []) (sym table_of-none) ∙ node_at-root [] refl
+    up : (path : Names) → IsSome (cond (eq_by_cmp path_cmp path []) (Some Dir) None) → node_at (root_within limits) (parent path) ≡ Some Dir
+    up [] some = ap (node_at (root_within limits)) parent-none ∙ at-root_within limits []
     up (name ∷ names) some = absurd (true≢false (sym some))
+
+pub root-tree : IsTree root_alone
+unfolding root_alone
+root-tree = within-tree default_limits
 
 keeps-made : (table : Table) (path : Names) → IsTree table → make_refusal table path ≡ None → IsTree (made table path)
 unfolding make_refusal made

@@ -1,76 +1,35 @@
 -- Laws of the tree's definitions, path by path.
 use Rattle.std.proofs.Common.{ℕ, zero, suc, ◌+◌, ◌-◌, ◌<◌, ◌≤◌, ◌≡◌, Bool, true, false, cond, Option, Some, None, is_some, List, [], ◌∷◌, ◌++◌, length, take, drop, get_or, refl, sym, ap, ◌∙◌, subst, arith}
 use Rattle.std.specs.Prelude.{map}
-use Rattle.std.specs.List.{filter, filter_map, cons_option, slice_get, AllByRecursion, Contains}
+use Rattle.std.specs.List.{filter_map, cons_option, slice_get, AllByRecursion, Contains}
 use Rattle.std.specs.Ordering.{eq_by_cmp, is_eq, is_lt, nat_cmp, ordering_then}
 use Rattle.std.specs.declared.cmp.Ordering.{Ordering}
 use Rattle.std.specs.declared.cmp.Ordering.TheVariants.{Less, Equal, Greater}
-use Rattle.std.specs.Cmp.{tied_itself, nat_cmp_total}
-use Rattle.std.specs.Cmp.Lexicographic.{lists_total, slice_cmp}
-use Rattle.std.specs.FinMap as fin
+use Rattle.std.specs.Cmp.{tied_itself}
+use Rattle.std.specs.Cmp.Lexicographic.{slice_cmp}
 use Rattle.std.specs.FinMap.{is_sorted}
 use Rattle.std.specs.FinMap.Entries.{find, below_all}
 use Rattle.std.proofs.lemmas.Bool.{and_parts, cond-true, cond-false, true≢false}
 use Rattle.std.proofs.lemmas.List.{append-nil, length-append, length-take, drop_at}
 use Rattle.ftp_path.specs.Path.{parent, Names, path_cmp, is_within, only_name, name_in, moved_path}
-use Rattle.ftp_tree.specs.Store.{Rows}
-use Rattle.ftp_tree.specs.Tree.{Node, Table, node_at, children, under, moved, IsTree, whenever, directory_refusal, source_refusal, target_refusal, rename_refusal}
+use Rattle.ftp_tree.specs.Rows.{Rows}
+use Rattle.ftp_tree.specs.Map.{Node}
+use Rattle.ftp_tree.specs.Tree.{Table, node_at, children, under, moved, IsTree, whenever, directory_refusal, source_refusal, target_refusal, rename_refusal}
 use Rattle.ftp_tree.specs.declared.fault.TreeFault.TheVariants.{Exists, WrongKind}
 use Rattle.ftp_tree.specs.Laws.{MovesAll, UnderStandsBelow, RenameMovesAll, ChildrenStand, NamesRise}
-use Rattle.ftp_tree.proofs.EntryLemmas.{path_total, path_same, less-from, true-from}
+use Rattle.ftp_tree.proofs.EntryLemmas.{path_total, less-from, true-from}
 use Rattle.ftp_path.proofs.KeyLemmas.{within-parts, within-append}
 use Rattle.ftp_tree.proofs.TableLemmas.{both-none, not-held}
-
--- ---- paths with one front
-
-pub cmp-front : (front a b : Names) → path_cmp (front ++ a) (front ++ b) ≡ path_cmp a b
-cmp-front [] a b = refl
-cmp-front (name ∷ front) a b = ap (λ r. ordering_then r (path_cmp (front ++ a) (front ++ b))) (tied_itself (lists_total nat_cmp_total) name) ∙ cmp-front front a b
-
-pub equal-from : (r : Ordering) → is_eq r ≡ true → r ≡ Equal
-equal-from Less e = absurd (true≢false (sym e))
-equal-from Equal e = refl
-equal-from Greater e = absurd (true≢false (sym e))
-
-pub same : (a b : Names) → eq_by_cmp path_cmp a b ≡ true → a ≡ b
-same a b equal = path_same a b (equal-from (path_cmp a b) equal)
-
-pub false-where : (b : Bool) → (b ≡ true → ⊥) → b ≡ false
-false-where true never = absurd (never refl)
-false-where false never = refl
-
--- paths of which one is within another path, and one is not, differ
-pub apart : (above a b : Names) → is_within above a ≡ false → is_within above b ≡ true → eq_by_cmp path_cmp a b ≡ false
-apart above a b out inside = false-where _ (λ equal. true≢false (sym inside ∙ ap (is_within above) (sym (same a b equal)) ∙ out))
-
-pub apart-back : (above a b : Names) → is_within above a ≡ true → is_within above b ≡ false → eq_by_cmp path_cmp a b ≡ false
-apart-back above a b inside out = false-where _ (λ equal. true≢false (sym inside ∙ ap (is_within above) (same a b equal) ∙ out))
-
--- the same rest behind two fronts
-pub eq-fronts : (first second a b : Names) → eq_by_cmp path_cmp (first ++ a) (first ++ b) ≡ eq_by_cmp path_cmp (second ++ a) (second ++ b)
-eq-fronts first second a b = ap is_eq (cmp-front first a b ∙ sym (cmp-front second a b))
+use Rattle.ftp_tree.proofs.MapLemmas.{cmp-front, same, false-where, apart, apart-back, eq-fronts}
+use Rattle.std.specs.FinMap as fin
+use Rattle.ftp_tree.specs.Map as maps
+use Rattle.ftp_tree.proofs.MapLemmas as on_map
 
 -- ---- below a path
 
-below : (root path : Names) (es : Rows) → find path_cmp path (map (λ e. (drop (length root) e.0, e.1)) (filter (λ e. is_within root e.0) es)) ≡ find path_cmp (root ++ path) es
-below root path [] = refl
-below root path (e ∷ es) =
-    let rest = below root path es in
-    elim (is_within root e.0) as (λ b. is_within root e.0 ≡ b
-    → find path_cmp path (map (λ e. (drop (length root) e.0, e.1)) (cond b (e ∷ filter (λ e. is_within root e.0) es) (filter (λ e. is_within root e.0) es)))
-    ≡ cond (eq_by_cmp path_cmp (root ++ path) e.0) (Some e.1) (find path_cmp (root ++ path) es)) [
-      | true ↦ λ inside.
-          ap (cond (eq_by_cmp path_cmp path (drop (length root) e.0)) (Some e.1)) rest
-          ∙ ap (λ b. cond b (Some e.1) (find path_cmp (root ++ path) es)) (eq-fronts [] root path (drop (length root) e.0)
-          ∙ ap (eq_by_cmp path_cmp (root ++ path)) (sym (within-parts root e.0 inside)))
-      | false ↦ λ outside. rest ∙ sym (cond-false (eq_by_cmp path_cmp (root ++ path) e.0) (Some e.1) (find path_cmp (root ++ path) es) (apart-back root (root ++ path) e.0 (within-append root path) outside))
-    ] refl
-
 pub under-stands : UnderStandsBelow
 unfolding node_at under
-under-stands table root path =
-    fin.get-from_entries path_total (map (λ e. (drop (length root) e.0, e.1)) (filter (λ e. is_within root e.0) (fin.entries table))) path
-    ∙ below root path (fin.entries table) ∙ sym (fin.get-entries table (root ++ path))
+under-stands table root path = on_map.under-stands table.map root path
 
 -- ---- all that stands
 
@@ -162,13 +121,13 @@ module _ (from to : Names) (apart_from : is_within from to ≡ false) where
         | false ↦ λ out_e. ap (λ p. cond (eq_by_cmp path_cmp path p) (Some e.1) (find path_cmp path (all es))) (moved-out e.0 out_e) ∙ ap (cond (eq_by_cmp path_cmp path e.0) (Some e.1)) next
       ] refl
 
-pub get-moved : (table : Table) (from to path : Names) → node_at (moved table from to) path ≡ find path_cmp path (map (λ e. (moved_path from to e.0, e.1)) (fin.entries table))
-unfolding node_at moved
-get-moved table from to path = fin.get-from_entries path_total (map (λ e. (moved_path from to e.0, e.1)) (fin.entries table)) path
+pub get-moved : (table : Table) (from to path : Names) → node_at (moved table from to) path ≡ find path_cmp path (map (λ e. (moved_path from to e.0, e.1)) (fin.entries table.map))
+unfolding node_at maps.node_at moved
+get-moved table from to path = fin.get-from_entries path_total (map (λ e. (moved_path from to e.0, e.1)) (fin.entries table.map)) path
 
-pub get-node : (table : Table) (path : Names) → find path_cmp path (fin.entries table) ≡ node_at table path
+pub get-node : (table : Table) (path : Names) → find path_cmp path (fin.entries table.map) ≡ node_at table path
 unfolding node_at
-get-node table path = sym (fin.get-entries table path)
+get-node table path = on_map.get-node table.map path
 
 -- what a rename that is not refused asks of the new path
 pub target-parts : (table : Table) (from to : Names) → rename_refusal table from to ≡ None
@@ -190,7 +149,7 @@ free-to table to tree none path some =
 
 pub moves-where : (table : Table) (from to : Names) → IsTree table → is_some (node_at table to) ≡ false → is_within from to ≡ false → MovesAll table (moved table from to) from to
 moves-where table from to tree absent beside =
-    let es = fin.entries table in
+    let es = fin.entries table.map in
     let free = each-found (λ p. is_within to p ≡ false) es (λ p found. free-to table to tree absent p (ap is_some (sym (get-node table p)) ∙ found)) in
     record {
       comes = λ rest. get-moved table from to (to ++ rest) ∙ comes from to beside rest es free ∙ get-node table (from ++ rest);
@@ -273,11 +232,11 @@ found-named path name (e ∷ es) found =
     by more first here (suc k) within is = either (eq_by_cmp path_cmp (path ++ name ∷ []) e.0) (more (k, omega arith, is))
 
 pub children-stand : ChildrenStand
-unfolding children
+unfolding children maps.children
 children-stand table path name =
-    let here : children table path ≡ names path (fin.entries table) = names-keys path (fin.entries table) in (
-      λ found. ap is_some (sym (get-node table (path ++ name ∷ []))) ∙ found-named path name (fin.entries table) (subst (λ l. Contains l name) here found),
-      λ some. subst (λ l. Contains l name) (sym here) (named-found path name (fin.entries table) (ap is_some (get-node table (path ++ name ∷ [])) ∙ some)),
+    let here : children table path ≡ names path (fin.entries table.map) = names-keys path (fin.entries table.map) in (
+      λ found. ap is_some (sym (get-node table (path ++ name ∷ []))) ∙ found-named path name (fin.entries table.map) (subst (λ l. Contains l name) here found),
+      λ some. subst (λ l. Contains l name) (sym here) (named-found path name (fin.entries table.map) (ap is_some (get-node table (path ++ name ∷ [])) ∙ some)),
     )
 
 -- ---- their order
@@ -330,7 +289,7 @@ names-rise-rows path (e ∷ es) sorted =
     ] refl
 
 pub names-rise : NamesRise
-unfolding children AreRising
+unfolding children maps.children AreRising
 names-rise table path place later name other less is at =
-    let here : children table path ≡ names path (fin.entries table) = names-keys path (fin.entries table) in
-    names-rise-rows path (fin.entries table) (true-from _ (fin.entries_sorted table)) place later name other less (ap (λ l. slice_get l place) (sym here) ∙ is) (ap (λ l. slice_get l later) (sym here) ∙ at)
+    let here : children table path ≡ names path (fin.entries table.map) = names-keys path (fin.entries table.map) in
+    names-rise-rows path (fin.entries table.map) (true-from _ (fin.entries_sorted table.map)) place later name other less (ap (λ l. slice_get l place) (sym here) ∙ is) (ap (λ l. slice_get l later) (sym here) ∙ at)

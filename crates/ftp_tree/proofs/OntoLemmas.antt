@@ -1,8 +1,7 @@
 -- A file in the place of another: what is freed for it is free, and nothing refuses the move.
-use Rattle.std.proofs.Common.{ℕ, ◌≡◌, ◌≤◌, Bool, true, false, not, ◌||◌, cond, Option, Some, None, is_some, List, [], ◌∷◌, ◌++◌, length, drop, refl, sym, ap, ◌∙◌, subst, arith}
+use Rattle.std.proofs.Common.{◌≡◌, ◌≤◌, Bool, true, false, not, ◌||◌, cond, Option, Some, None, is_some, [], ◌∷◌, ◌++◌, length, drop, refl, sym, ap, ◌∙◌, subst, arith}
 use Rattle.std.specs.Prelude.{map}
 use Rattle.std.specs.List.{AllByRecursion, list_all}
-use Rattle.std.specs.FinMap as fin
 use Rattle.std.specs.Option.{unwrap_or}
 use Rattle.std.specs.FinMap.Entries.{find}
 use Rattle.std.specs.Ordering.{eq_by_cmp}
@@ -12,15 +11,18 @@ use Rattle.ftp_path.specs.Path.{Names, fits, is_name, is_within, moved_path, par
 use Rattle.ftp_path.proofs.KeyLemmas.{within-parts}
 use Rattle.ftp_tree.specs.Laws.{MovesAll, OntoMovesAll}
 use Rattle.ftp_tree.specs.Sound.{IsSoundTable, IsSoundTree, is_sound_entry, is_sound_node}
-use Rattle.ftp_tree.specs.Store.{Rows}
-use Rattle.ftp_tree.specs.Tree.{Node, Dir, File, IsTree, Table, delete_refusal, directory_refusal, file_refusal, freed, moved, moves_fit, node_at, octets_at, octets_of, octets_or_none, of_node, onto_refusal, or_else, removed, rename_refusal, source_answer, source_refusal, takes_place, target_refusal, under, whenever}
+use Rattle.ftp_tree.specs.Rows.{Rows}
+use Rattle.ftp_tree.specs.Map.{Node, Dir, File, octets_of, of_node}
+use Rattle.ftp_tree.specs.Tree.{IsTree, Table, delete_refusal, directory_refusal, file_refusal, freed, moved, moves_fit, node_at, octets_at, octets_or_none, onto_refusal, or_else, removed, rename_refusal, source_answer, source_refusal, takes_place, target_refusal, under, whenever}
 use Rattle.ftp_tree.specs.declared.fault.TreeFault.{TreeFault}
 use Rattle.ftp_tree.specs.declared.fault.TreeFault.TheVariants.{Exists, TooBig, WrongKind}
-use Rattle.ftp_tree.proofs.KeepLaws.{at-remove, beside-other, by-freed, file-below, file-stands, onto-takes, root-inside, takes-freed, takes-parts, vacant}
-use Rattle.ftp_tree.proofs.LawLemmas.{each-found, get-node, moves-where, same, under-stands}
+use Rattle.ftp_tree.proofs.KeepLaws.{at-remove, beside-other, by-freed, file-below, file-stands, nothing, onto-takes, root-inside, takes-freed, takes-parts, vacant}
+use Rattle.ftp_tree.proofs.LawLemmas.{each-found, get-node, moves-where, under-stands}
+use Rattle.ftp_tree.proofs.MapLemmas.{same}
 use Rattle.ftp_tree.proofs.LeafLemmas.{IsLeaf, none-file, outside, root-dir, take-leaf}
 use Rattle.ftp_tree.proofs.PartLemmas.{parts-trees}
 use Rattle.ftp_tree.proofs.SoundLemmas.{sound-empty, sound-part}
+use Rattle.std.specs.FinMap as fin
 
 -- ---- what is refused of no file that is moved onto another
 
@@ -56,8 +58,8 @@ goes from to path inside = cond-true (is_within from path) (to ++ drop (length f
 leaf-fits : (table : Table) (from to : Names) → IsLeaf table from → fits to ≡ true → moves_fit table from to ≡ true
 unfolding moves_fit
 leaf-fits table from to leaf fit =
-    all-keys (λ path. not (is_within from path) || fits (moved_path from to path)) (fin.entries table)
-    (each-found (λ path. (not (is_within from path) || fits (moved_path from to path)) ≡ true) (fin.entries table) (λ path found. by path (ap is_some (sym
+    all-keys (λ path. not (is_within from path) || fits (moved_path from to path)) (fin.entries table.map)
+    (each-found (λ path. (not (is_within from path) || fits (moved_path from to path)) ≡ true) (fin.entries table.map) (λ path found. by path (ap is_some (sym
     (get-node table path)) ∙ found)))
   where
     within : (path rest : Names) → path ≡ from ++ rest → is_some (node_at table path) ≡ true → fits (to ++ rest) ≡ true
@@ -146,11 +148,11 @@ unfolding removed
 freed-sound onto table from to sound =
     by-freed IsSoundTree onto table from to sound (λ takes.
     let target = (takes-parts table from to takes).target in
-    let named = named-found to (fin.entries table) sound.entries (ap is_some (get-node table to) ∙ file-stands (node_at table to) target) in
+    let named = named-found to (fin.entries table.map) sound.entries (ap is_some (get-node table to) ∙ file-stands (node_at table to) target) in
     record {
       tree = (vacant table to sound.tree target).tree;
       entries = subst IsSoundTable (take-leaf table to (file-leaf table to (node_at table to) sound.tree refl target))
-          (sound-part table to fin.empty named sound.entries sound-empty);
+          (sound-part table to (nothing table.limits) named sound.entries sound-empty);
     })
 
 -- no file gets longer

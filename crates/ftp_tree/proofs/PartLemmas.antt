@@ -1,99 +1,59 @@
 -- A part of a map: taken, changed and put back.
-use Rattle.std.proofs.Common.{ℕ, ◌≡◌, true, false, not, cond, Option, Some, None, IsSome, is_some, List, [], ◌∷◌, ◌++◌, length, drop, refl, sym, ap, ◌∙◌, subst, arith}
-use Rattle.std.specs.Prelude.{map}
-use Rattle.std.specs.List.{filter}
-use Rattle.std.specs.Option.{option_or}
-use Rattle.std.specs.Ordering.{eq_by_cmp}
-use Rattle.std.specs.FinMap as fin
-use Rattle.std.specs.FinMap.Entries.{find}
-use Rattle.std.proofs.lemmas.Bool.{cond-false, true≢false}
+use Rattle.std.proofs.Common.{ℕ, ◌≡◌, true, false, Some, IsSome, is_some, List, [], ◌∷◌, ◌++◌, length, drop, refl, sym, ap, ◌∙◌, subst, arith}
+use Rattle.std.proofs.lemmas.Bool.{true≢false}
 use Rattle.std.proofs.lemmas.List.{append-nil, append_assoc, length-append}
-use Rattle.ftp_path.specs.Path.{parent, Names, path_cmp, is_within}
-use Rattle.ftp_tree.specs.Store.{Rows}
-use Rattle.ftp_tree.specs.Tree.{Node, Dir, Table, node_at, under, with_part, IsTree}
+use Rattle.ftp_path.specs.Path.{parent, Names, is_within}
+use Rattle.ftp_tree.specs.Rows.{whole}
+use Rattle.ftp_tree.specs.declared.limits.Limits.{Limits}
+use Rattle.ftp_tree.specs.Map.{Dir, Map}
+use Rattle.ftp_tree.specs.Tree.{Table, node_at, under, with_part, IsTree}
 use Rattle.ftp_tree.specs.Laws.{PartsArePut, PartsComeBack, PartsAreTrees}
 use Rattle.ftp_path.proofs.PathLemmas.{parent-last}
 use Rattle.ftp_path.proofs.KeyLemmas.{within-parts, within-append}
-use Rattle.ftp_tree.proofs.EntryLemmas.{path_total, path_same}
-use Rattle.ftp_tree.proofs.LawLemmas.{same, false-where, apart-back, eq-fronts, get-node, parent-append, parent-length, under-stands}
-
--- ---- rows outside a path, and rows below it
-
-abbrev outside : Names → Rows → Rows
-outside root = filter (λ e. not (is_within root e.0))
-
-abbrev put_below : Names → Rows → Rows
-put_below root = map (λ e. (root ++ e.0, e.1))
-
-find-append : (path : Names) (es fs : Rows) → find path_cmp path (es ++ fs) ≡ option_or (find path_cmp path es) (find path_cmp path fs)
-find-append path [] fs = refl
-find-append path (e ∷ es) fs =
-    elim (eq_by_cmp path_cmp path e.0) as (λ b. cond b (Some e.1) (find path_cmp path (es ++ fs)) ≡ option_or (cond b (Some e.1) (find path_cmp path es)) (find path_cmp path fs)) [
-      | true ↦ refl
-      | false ↦ find-append path es fs
-    ]
-
-none-outside : (root path : Names) (es : Rows) → is_within root path ≡ true → find path_cmp path (outside root es) ≡ None
-none-outside root path [] inside = refl
-none-outside root path (e ∷ es) inside =
-    elim (is_within root e.0) as (λ b. is_within root e.0 ≡ b → find path_cmp path (cond (not b) (e ∷ outside root es) (outside root es)) ≡ None) [
-      | true ↦ λ _. none-outside root path es inside
-      | false ↦ λ out. cond-false (eq_by_cmp path_cmp path e.0) (Some e.1) (find path_cmp path (outside root es)) (apart-back root path e.0 inside out) ∙ none-outside root path es inside
-    ] refl
-
-all-outside : (root path : Names) (es : Rows) → is_within root path ≡ false → find path_cmp path (outside root es) ≡ find path_cmp path es
-all-outside root path [] out = refl
-all-outside root path (e ∷ es) out =
-    elim (is_within root e.0) as (λ b. is_within root e.0 ≡ b → find path_cmp path (cond (not b) (e ∷ outside root es) (outside root es)) ≡ find path_cmp path (e ∷ es)) [
-      | true ↦ λ inside.
-          all-outside root path es out
-          ∙ sym (cond-false (eq_by_cmp path_cmp path e.0) (Some e.1) (find path_cmp path es) (false-where _ (λ equal. true≢false (sym inside ∙ ap (is_within root) (sym (same path e.0 equal)) ∙ out))))
-      | false ↦ λ _. ap (cond (eq_by_cmp path_cmp path e.0) (Some e.1)) (all-outside root path es out)
-    ] refl
-
-all-below : (root path : Names) (es : Rows) → find path_cmp (root ++ path) (put_below root es) ≡ find path_cmp path es
-all-below root path [] = refl
-all-below root path (e ∷ es) =
-    ap (λ b. cond b (Some e.1) (find path_cmp (root ++ path) (put_below root es))) (eq-fronts root [] path e.0) ∙ ap (cond (eq_by_cmp path_cmp path e.0) (Some e.1)) (all-below root path es)
-
-none-below : (root path : Names) (es : Rows) → is_within root path ≡ false → find path_cmp path (put_below root es) ≡ None
-none-below root path [] out = refl
-none-below root path (e ∷ es) out =
-    cond-false (eq_by_cmp path_cmp path (root ++ e.0)) (Some e.1) (find path_cmp path (put_below root es))
-    (false-where _ (λ equal. true≢false (sym (within-append root e.0) ∙ ap (is_within root) (sym (same path (root ++ e.0) equal)) ∙ out)))
-    ∙ none-below root path es out
+use Rattle.ftp_tree.proofs.MapLemmas.{false-where, same}
+use Rattle.ftp_tree.proofs.LawLemmas.{parent-append, parent-length, under-stands}
+use Rattle.ftp_tree.specs.Map as maps
+use Rattle.ftp_tree.proofs.MapLemmas as on_map
 
 -- ---- what stands once a part is put
 
-get-part : (table : Table) (root : Names) (part : Table) (path : Names)
-    → node_at (with_part table root part) path ≡ option_or (find path_cmp path (outside root (fin.entries table))) (find path_cmp path (put_below root (fin.entries part)))
-unfolding node_at with_part
-get-part table root part path =
-    fin.get-from_entries path_total (outside root (fin.entries table) ++ put_below root (fin.entries part)) path ∙ find-append path (outside root (fin.entries table)) (put_below root (fin.entries part))
-
 pub part-comes : (table : Table) (root : Names) (part : Table) (path : Names) → node_at (with_part table root part) (root ++ path) ≡ node_at part path
-part-comes table root part path =
-    get-part table root part (root ++ path)
-    ∙ ap (λ o. option_or o (find path_cmp (root ++ path) (put_below root (fin.entries part)))) (none-outside root (root ++ path) (fin.entries table) (within-append root path))
-    ∙ all-below root path (fin.entries part) ∙ get-node part path
-
-or-none : (o : Option Node) → option_or o None ≡ o
-or-none None = refl
-or-none (Some node) = refl
+unfolding node_at with_part
+part-comes table root part path = on_map.part-comes table.map root part.map path
 
 pub part-stays : (table : Table) (root : Names) (part : Table) (path : Names) → is_within root path ≡ false → node_at (with_part table root part) path ≡ node_at table path
-part-stays table root part path out =
-    get-part table root part path
-    ∙ ap (λ o. option_or (find path_cmp path (outside root (fin.entries table))) o) (none-below root path (fin.entries part) out)
-    ∙ or-none _ ∙ all-outside root path (fin.entries table) out ∙ get-node table path
+unfolding node_at with_part
+part-stays table root part path out = on_map.part-stays table.map root part.map path out
 
--- maps at whose paths the same stands are one
-pub same-nodes : (one other : Table) → ((path : Names) → node_at one path ≡ node_at other path) → one ≡ other
+-- a part has the limits of its table, and a table with a part those of the part
+pub under-limits : (table : Table) (root : Names) → (under table root).limits ≡ table.limits
+unfolding under
+under-limits table root = refl
+
+pub part-limits : (table : Table) (root : Names) (part : Table) → (with_part table root part).limits ≡ part.limits
+unfolding with_part
+part-limits table root part = refl
+
+-- what a map becomes with a part, or a part of it is, that is so of tables within the same limits
+pub put-whole : (limits : Limits) (old part new : Map) (names : Names) → new ≡ maps.with_part old names part → whole limits new ≡ with_part (whole limits old) names (whole limits part)
+unfolding with_part
+put-whole limits old part new names is = ap (whole limits) is
+
+pub taken-whole : (limits : Limits) (old part : Map) (names : Names) → part ≡ maps.under old names → whole limits part ≡ under (whole limits old) names
+unfolding under
+taken-whole limits old part names is = ap (whole limits) is
+
+-- tables of the same limits, at whose paths the same stands, are one
+pub same-nodes : (one other : Table) → one.limits ≡ other.limits → ((path : Names) → node_at one path ≡ node_at other path) → one ≡ other
 unfolding node_at
-same-nodes one other all = fin.same_map path_total path_same one other all
+same-nodes one other limits all =
+    let maps = on_map.same-nodes one.map other.map all in
+    λ i. record { limits = limits i; map = maps i }
 
 pub part-taken : (table : Table) (root : Names) (part : Table) → under (with_part table root part) root ≡ part
-part-taken table root part = same-nodes _ _ (λ path. under-stands (with_part table root part) root path ∙ part-comes table root part path)
+part-taken table root part =
+    same-nodes _ _ (under-limits (with_part table root part) root ∙ part-limits table root part)
+    (λ path. under-stands (with_part table root part) root path ∙ part-comes table root part path)
 
 pub parts-put : PartsArePut
 parts-put table root part =
@@ -103,11 +63,11 @@ parts-put table root part =
       taken = part-taken table root part;
     }
 
--- a map in which the part stands at the root, and all else as before, is the map with that part
-pub as-part : (table : Table) (root : Names) (part new : Table) → ((path : Names) → node_at new (root ++ path) ≡ node_at part path)
+-- a map in which the part stands at the root, and all else as before, is the map with that part, where it has its limits
+pub as-part : (table : Table) (root : Names) (part new : Table) → new.limits ≡ part.limits → ((path : Names) → node_at new (root ++ path) ≡ node_at part path)
     → ((path : Names) → is_within root path ≡ false → node_at new path ≡ node_at table path) → with_part table root part ≡ new
-as-part table root part new comes stays =
-    same-nodes _ _ (λ path. elim (is_within root path) as (λ b. is_within root path ≡ b → node_at (with_part table root part) path ≡ node_at new path) [
+as-part table root part new limits comes stays =
+    same-nodes _ _ (part-limits table root part ∙ sym limits) (λ path. elim (is_within root path) as (λ b. is_within root path ≡ b → node_at (with_part table root part) path ≡ node_at new path) [
       | true ↦ λ inside.
           let is = within-parts root path inside in
           ap (node_at (with_part table root part)) is ∙ part-comes table root part (drop (length root) path) ∙ sym (comes (drop (length root) path)) ∙ ap (node_at new) (sym is)
@@ -117,20 +77,20 @@ as-part table root part new comes stays =
 -- a part put twice is the last
 pub put_again : (table : Table) (root : Names) (one other : Table) → with_part (with_part table root one) root other ≡ with_part table root other
 put_again table root one other =
-    sym (as-part table root other (with_part (with_part table root one) root other) (part-comes (with_part table root one) root other)
+    sym (as-part table root other (with_part (with_part table root one) root other) (part-limits (with_part table root one) root other) (part-comes (with_part table root one) root other)
     (λ path out. part-stays (with_part table root one) root other path out ∙ part-stays table root one path out))
 
 within-all : (path : Names) → is_within [] path ≡ true
 within-all path = within-append [] path
 
 pub under_all : (table : Table) → under table [] ≡ table
-under_all table = same-nodes _ _ (λ path. under-stands table [] path)
+under_all table = same-nodes _ _ (under-limits table []) (λ path. under-stands table [] path)
 
 pub part-back : (table : Table) (root : Names) → with_part table root (under table root) ≡ table
-part-back table root = as-part table root (under table root) table (λ path. sym (under-stands table root path)) (λ path out. refl)
+part-back table root = as-part table root (under table root) table (sym (under-limits table root)) (λ path. sym (under-stands table root path)) (λ path out. refl)
 
 pub part_whole : (table part : Table) → with_part table [] part ≡ part
-part_whole table part = as-part table [] part part (λ path. refl) (λ path out. absurd (true≢false (sym (within-all path) ∙ out)))
+part_whole table part = as-part table [] part part refl (λ path. refl) (λ path out. absurd (true≢false (sym (within-all path) ∙ out)))
 
 pub parts-back : PartsComeBack
 parts-back =

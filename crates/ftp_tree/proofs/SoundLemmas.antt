@@ -1,21 +1,24 @@
 -- What stands in a tree stays sound: a part that is taken, put or left out is.
-use Rattle.std.proofs.Common.{◌≡◌, ◌≤◌, ℕ, Bool, true, false, not, cond, List, [], ◌∷◌, ◌++◌, length, drop, refl, sym, ap, ◌∙◌}
+use Rattle.std.proofs.Common.{◌≡◌, ℕ, Bool, true, false, not, cond, List, [], ◌∷◌, ◌++◌, length, drop, refl, sym, ap, ◌∙◌}
 use Rattle.std.specs.Prelude.{map}
-use Rattle.std.specs.FinMap as fin
 use Rattle.std.specs.FinMap.Entries.{by_order, put}
 use Rattle.std.specs.List.{filter, list_all}
 use Rattle.std.specs.declared.cmp.Ordering.TheVariants.{Less, Equal, Greater}
-use Rattle.std.proofs.lemmas.Bool.{and_parts, and_from, le-leb}
+use Rattle.std.proofs.lemmas.Bool.{and_parts, and_from}
 use Rattle.std.proofs.lemmas.List.Folds.{list_all-append}
 use Rattle.ftp_path.specs.Kept.{names_of}
 use Rattle.ftp_path.specs.Path.{Names, is_component, is_name, is_within, path_cmp}
-use Rattle.ftp_tree.specs.Branch.{file_alone}
-use Rattle.ftp_tree.specs.Sound.{IsSoundTable, is_sound_entry, is_sound_node, last_second}
-use Rattle.ftp_tree.specs.Store.{IsPlace, Rows, is_short}
-use Rattle.ftp_tree.specs.Tree.{File, Node, Table, root_alone, under, with_part}
-use Rattle.ftp_tree.proofs.BranchLemmas.{file-entries, no-entries}
-use Rattle.ftp_tree.proofs.PlaceLemmas.{all-drop}
+use Rattle.ftp_tree.specs.Sound.{IsSoundMap, IsSoundTable, is_sound_entry, is_sound_node}
+use Rattle.ftp_tree.specs.Text.{IsPlace, is_short}
+use Rattle.ftp_tree.specs.Rows.{Rows}
+use Rattle.ftp_tree.specs.Map.{Node}
+use Rattle.ftp_tree.specs.Tree.{Table, default_limits, root_alone, root_within, under, with_part}
+use Rattle.ftp_tree.specs.declared.limits.Limits.{Limits}
+use Rattle.ftp_tree.proofs.RowLemmas.{no-entries}
+use Rattle.ftp_tree.proofs.TextLemmas.{all-drop}
 use Rattle.ftp_tree.proofs.TableLemmas.{entries-all, entries-table, put_all, table_of-none}
+use Rattle.std.specs.FinMap as fin
+use Rattle.ftp_tree.specs.Map as maps
 
 -- names that are joined, each short, are names
 pub place-names : (text : List ℕ) → IsPlace text → list_all is_name (names_of text) ≡ true
@@ -50,7 +53,7 @@ sound-all (row ∷ rows) all =
     let both = and_parts (is_sound_entry row) (list_all is_sound_entry rows) all in
     sound-put row.0 row.1 (put_all rows) both.0 (sound-all rows both.1)
 
-sound-from : (rows : Rows) → list_all is_sound_entry rows ≡ true → IsSoundTable (fin.from_entries {R = path_cmp} rows)
+sound-from : (rows : Rows) → list_all is_sound_entry rows ≡ true → IsSoundMap (fin.from_entries {R = path_cmp} rows)
 sound-from rows all = ap (list_all is_sound_entry) (entries-all rows) ∙ sound-all rows all
 
 -- those of some rows that pass a test
@@ -83,30 +86,32 @@ sound-rest count (row ∷ rows) all =
 
 -- ---- maps
 
-pub sound-empty : IsSoundTable fin.empty
+pub sound-empty : IsSoundMap fin.empty
 sound-empty = ap (list_all is_sound_entry) no-entries
 
-pub sound-alone : IsSoundTable root_alone
-sound-alone = ap (λ table. list_all is_sound_entry (fin.entries table)) (sym table_of-none) ∙ ap (list_all is_sound_entry) (entries-table [] refl)
+pub sound-root : IsSoundMap maps.root_alone
+sound-root = ap (λ all. list_all is_sound_entry (fin.entries all)) (sym table_of-none) ∙ ap (list_all is_sound_entry) (entries-table [] refl)
 
--- a file since a moment
-pub sound-file : (octets : List ℕ) (moment : ℕ) → moment ≤ last_second → IsSoundTable (file_alone octets moment)
-sound-file octets moment early =
-    ap (list_all is_sound_entry) (file-entries octets moment)
-    ∙ and_from (is_sound_entry ([], File octets moment)) true (and_from true (is_sound_node (File octets moment)) refl (le-leb moment last_second early)) refl
+pub sound-within : (limits : Limits) → IsSoundTable (root_within limits)
+unfolding root_within
+sound-within limits = sound-root
+
+pub sound-alone : IsSoundTable root_alone
+unfolding root_alone
+sound-alone = sound-within default_limits
 
 -- a part
 pub sound-under : (table : Table) (root : Names) → IsSoundTable table → IsSoundTable (under table root)
-unfolding under
+unfolding under maps.under
 sound-under table root all =
-    sound-from _ (sound-rest (length root) _ (sound-some (λ entry. is_within root entry.0) (fin.entries table) all))
+    sound-from _ (sound-rest (length root) _ (sound-some (λ entry. is_within root entry.0) (fin.entries table.map) all))
 
 -- a map with another part in the place of one
 pub sound-part : (table : Table) (root : Names) (part : Table) → list_all is_name root ≡ true → IsSoundTable table → IsSoundTable part → IsSoundTable (with_part table root part)
-unfolding with_part
+unfolding with_part maps.with_part
 sound-part table root part named all below =
-    let outside = filter (λ entry. not (is_within root entry.0)) (fin.entries table) in
-    let behind = map (λ entry. (root ++ entry.0, entry.1)) (fin.entries part) in
+    let outside = filter (λ entry. not (is_within root entry.0)) (fin.entries table.map) in
+    let behind = map (λ entry. (root ++ entry.0, entry.1)) (fin.entries part.map) in
     sound-from _ (list_all-append is_sound_entry outside behind
     ∙ and_from (list_all is_sound_entry outside) (list_all is_sound_entry behind)
-    (sound-some (λ entry. not (is_within root entry.0)) (fin.entries table) all) (sound-behind root (fin.entries part) named below))
+    (sound-some (λ entry. not (is_within root entry.0)) (fin.entries table.map) all) (sound-behind root (fin.entries part.map) named below))

@@ -3,14 +3,15 @@ use Rattle.std.proofs.Common.{ℕ, suc, ◌<◌, ◌≡◌, Bool, true, false, n
 use Rattle.std.specs.Prelude.{map}
 use Rattle.std.specs.List.{filter_map, sum_by, cons_option}
 use Rattle.std.specs.Ordering.{eq_by_cmp}
-use Rattle.std.specs.FinMap as fin
 use Rattle.std.specs.FinMap.Entries.{find, put}
 use Rattle.std.proofs.lemmas.Bool.{true≢false}
 use Rattle.ftp_path.specs.Path.{joined, Names, path_cmp, name_in, is_within}
-use Rattle.ftp_tree.specs.Tree.{Node, Dir, node_at, length_of, octets_in, children, root_alone, or_else, whenever}
+use Rattle.ftp_tree.specs.Map.{Node, Dir, node_at, length_of, octets_in, children, root_alone}
+use Rattle.ftp_tree.specs.Tree.{or_else, whenever}
 use Rattle.ftp_tree.specs.declared.fault.TreeFault.{TreeFault}
-use Rattle.ftp_tree.specs.Store.{Rows, is_in_order, octets_of_rows, table_of}
+use Rattle.ftp_tree.specs.Rows.{Rows, is_in_order, octets_of_rows, table_of}
 use Rattle.ftp_tree.proofs.EntryLemmas.{path_total, T-from}
+use Rattle.std.specs.FinMap as fin
 
 -- ---- what a table holds
 

@@ -1,8 +1,6 @@
 -- An entry of a directory, as it is kept and as it is lent.
-use Rattle.std.specs.Prelude.{ℕ, List, [], Option}
+use Rattle.std.specs.Prelude.{ℕ, List, Option}
 use Rattle.std.specs.Option.{option_map}
-use Rattle.ftp_tree.specs.Branch.{Part}
-use Rattle.ftp_tree.specs.Tree.{node_at, of_node, shown_of}
 use Rattle.ftp_tree.specs.declared.entries.Row.{Row}
 use Rattle.ftp_tree.specs.declared.tree.DirEntry.{DirEntry}
 use Rattle.ftp_tree.specs.declared.tree.FileFacts.{FileFacts}
@@ -17,7 +15,3 @@ shown_entry entry = (entry.name.octets.now, shown_file entry.file)
 
 abbrev pub shown_row : {A : Type 0} → Row A → List ℕ × Option (ℕ × ℕ)
 shown_row row = (row.name, shown_file row.file)
-
--- what a directory shows of a part of it
-abbrev pub shown_part : Part → List ℕ × Option (ℕ × ℕ)
-shown_part part = (part.0, of_node shown_of (node_at part.1 []))

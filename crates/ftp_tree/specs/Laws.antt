@@ -1,12 +1,13 @@
 -- What the definitions of a tree say of single paths.
 use Rattle.std.specs.Prelude.{◌≡◌, ◌↔◌, ℕ, ◌+◌, ◌<◌, ◌≤◌, false, true, List, [], ◌∷◌, ◌++◌, length, None, Some, IsSome}
 use Rattle.std.specs.Cmp.Lexicographic.{slice_cmp}
-use Rattle.std.specs.FinMap as fin
 use Rattle.std.specs.List.{Contains, slice_get}
 use Rattle.std.specs.Ordering.{nat_cmp}
 use Rattle.std.specs.declared.cmp.Ordering.TheVariants.{Less}
 use Rattle.ftp_path.specs.Path.{Names, is_within}
-use Rattle.ftp_tree.specs.Tree.{Dir, Table, node_at, under, with_part, moved, freed, children, root_alone, made, removed, installed, octets_or_none, octets_in, file_limit, node_limit, total_limit, IsTree, make_refusal, delete_refusal, remove_refusal, rename_refusal, onto_refusal, install_refusal}
+use Rattle.ftp_tree.specs.Map.{Dir}
+use Rattle.ftp_tree.specs.Tree.{Table, node_at, under, with_part, moved, freed, children, root_alone, made, removed, installed, octets_or_none, octets_in, default_limits, IsTree, make_refusal, delete_refusal, remove_refusal, rename_refusal, onto_refusal, install_refusal}
+use Rattle.std.specs.FinMap as fin
 
 -- what stands below a path
 abbrev pub UnderStandsBelow : Type 0
@@ -58,12 +59,12 @@ NamesRise = (table : Table) (path : Names) (place later : ℕ) (name other : Lis
 -- a map within some limits: of the octets of a file, of the nodes beside the root, of the octets of all files together
 pub record KeepsLimits (octets nodes all : ℕ) (table : Table) : Type 0 where
   pub files : (path : Names) → length (octets_or_none table path) ≤ octets
-  pub counted : fin.len table ≤ nodes + 1
+  pub counted : fin.len table.map ≤ nodes + 1
   pub together : octets_in table ≤ all
 
--- every map within the limits of before (a file's 16,777,216 octets, 4,096 nodes) is within those of now
+-- every map within the limits of before (a file's 16,777,216 octets, 4,096 nodes) is within the default limits
 abbrev pub OldMapsAreNew : Type 0
-OldMapsAreNew = (table : Table) → KeepsLimits 16777216 4096 67108864 table → KeepsLimits file_limit node_limit total_limit table
+OldMapsAreNew = (table : Table) → KeepsLimits 16777216 4096 67108864 table → KeepsLimits default_limits.file default_limits.nodes default_limits.total table
 
 -- the root is a directory and so is the parent of each path, at first and after each change that is not refused
 pub record ChangesKeepTrees : Type 0 where

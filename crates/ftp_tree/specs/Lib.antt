@@ -1,10 +1,8 @@
-pub mod Branch
-pub mod BranchFalls
 pub mod Change
 pub mod Entries
-pub mod Folder
-pub mod Kept
 pub mod Laws
+pub mod Map
+pub mod Rows
 pub mod Sound
-pub mod Store
+pub mod Text
 pub mod Tree

@@ -1,32 +1,40 @@
 -- The tree of a server, as a finite map from paths (lists of names) to directories and files; what may be changed, and what
 -- is refused. No command and no reply stands here (RFC 959, section 4.1.3; the limits are own choices).
-use Rattle.std.specs.Prelude.{◌≡◌, ℕ, ◌-◌, ◌||◌, ◌&&◌, not, min, List, [], ◌∷◌, ◌++◌, length, drop, map, Bool, Option, Some, None, IsSome, is_none, is_some, nat_le, if◌then◌else◌}
+use Rattle.std.specs.Prelude.{◌≡◌, ℕ, ◌-◌, ◌||◌, ◌&&◌, not, min, List, [], ◌∷◌, length, map, Bool, Option, Some, None, IsSome, is_none, is_some, nat_le, if◌then◌else◌}
 use Rattle.std.specs.Option.{option_map, option_or, unwrap_or}
-use Rattle.std.specs.List.{filter, filter_map, list_all, sum_by}
-use Rattle.std.specs.FinMap as fin
-use Rattle.std.specs.FinMap.{FinMap}
-use Rattle.ftp_path.specs.Path.{Names, parent, fits, path_cmp, is_within, name_in, moved_path}
+use Rattle.std.specs.List.{list_all}
+use Rattle.ftp_path.specs.Path.{Names, parent, fits, is_within, moved_path}
 use Rattle.ftp_path.specs.declared.fault.PathFault.{PathFault}
-use Rattle.ftp_path.specs.declared.fault.PathFault.TheVariants as PathFaults
 use Rattle.ftp_tree.specs.declared.fault.TreeFault.{TreeFault}
 use Rattle.ftp_tree.specs.declared.fault.TreeFault.TheVariants.{Absent, Exists, NotEmpty, WrongKind, TooBig, Full, Busy, BadOffset, Memory}
+use Rattle.ftp_tree.specs.declared.limits.Limits.{Limits}
 use Rattle.ftp_tree.specs.declared.tree.NodeKind.{NodeKind}
+use Rattle.ftp_tree.specs.Map.{Node, Dir, File, Map, octets_of, moment_of, of_node}
+use Rattle.std.specs.FinMap as fin
+use Rattle.ftp_path.specs.declared.fault.PathFault.TheVariants as PathFaults
 use Rattle.ftp_tree.specs.declared.tree.NodeKind.TheVariants as Kinds
+use Rattle.ftp_tree.specs.Map as maps
 
--- what stands at a path: a directory, or a file with its octets and the second in which it was installed
-pub data Node : Type 0 where
-  Dir : Node
-  File : (octets : List ℕ) → (moment : ℕ) → Node
+-- the map of all paths at which something stands, and its limits: the most octets of a file, of all files together, and the
+-- most nodes beside the root
+pub record Table : Type 0 where
+  pub limits : Limits
+  pub map : Map
 
--- the map of all paths at which something stands
-abbrev pub Table : Type 0
-Table = FinMap path_cmp Node
+-- the limits of every tree that is told no others (own choices)
+abbrev pub default_limits : Limits
+default_limits = record { file = 67108864; total = 67108864; nodes = 16384 }
+
+-- the most octets that any limit lets a file have, or all files together: numbers of 18 digits tell each length, also doubled
+-- (own choice)
+abbrev pub most_octets : ℕ
+most_octets = 100000000000000000
 
 -- ---- what stands where
 
 -- what stands at a path
 unfoldable pub node_at : Table → Names → Option Node
-node_at table path = fin.get table path
+node_at table path = maps.node_at table.map path
 
 abbrev pub kind_of : Node → NodeKind
 kind_of Dir = Kinds.Dir
@@ -35,24 +43,6 @@ kind_of (File octets moment) = Kinds.File
 -- which kind of node stands at a path
 unfoldable pub kind_at : Table → Names → Option NodeKind
 kind_at table path = option_map kind_of (node_at table path)
-
--- the octets and the moment of a file
-abbrev pub octets_of : Node → Option (List ℕ)
-octets_of Dir = None
-octets_of (File octets moment) = Some octets
-
-abbrev pub moment_of : Node → Option ℕ
-moment_of Dir = None
-moment_of (File octets moment) = Some moment
-
--- what a directory shows of what stands in it: of a file its octets counted, and its moment
-abbrev pub shown_of : Node → Option (ℕ × ℕ)
-shown_of Dir = None
-shown_of (File octets moment) = Some (length octets, moment)
-
-abbrev pub of_node : {X : Type 0} → (Node → Option X) → Option Node → Option X
-of_node f None = None
-of_node f (Some node) = f node
 
 -- the octets of the file at a path, where one stands there; how many they are; the second in which it was installed
 unfoldable pub octets_at : Table → Names → Option (List ℕ)
@@ -70,18 +60,15 @@ octets_or_none table path = unwrap_or (octets_at table path) []
 
 -- the names in a directory, in the order of their octets
 unfoldable pub children : Table → Names → List (List ℕ)
-children table path = filter_map (name_in path) (fin.keys table)
+children table path = maps.children table.map path
 
 -- what a directory shows, in that order: each name and, of a file, its octets counted and its moment
 unfoldable pub entries_at : Table → Names → List (List ℕ × Option (ℕ × ℕ))
-entries_at table path = map (λ name. (name, of_node shown_of (node_at table (path ++ name ∷ [])))) (children table path)
-
-abbrev pub length_of : Node → ℕ
-length_of node = length (unwrap_or (octets_of node) [])
+entries_at table path = maps.entries_at table.map path
 
 -- the octets of all files together
 unfoldable pub octets_in : Table → ℕ
-octets_in table = sum_by (λ entry. length_of entry.1) (fin.entries table)
+octets_in table = maps.octets_in table.map
 
 -- the root is a directory, and so is the parent of each path at which something stands
 pub record IsTree (table : Table) : Type 0 where
@@ -90,36 +77,38 @@ pub record IsTree (table : Table) : Type 0 where
 
 -- ---- changes of the whole map
 
--- the tree of the root alone
+-- the tree of the root alone, within some limits
+unfoldable pub root_within : Limits → Table
+root_within limits = record { limits = limits; map = maps.root_alone }
+
 unfoldable pub root_alone : Table
-root_alone = fin.insert fin.empty [] Dir
+root_alone = root_within default_limits
 
 -- with a directory at a path, and all else as before
 unfoldable pub made : Table → Names → Table
-made table path = fin.insert table path Dir
+made table path = record table { map = fin.insert table.map path Dir }
 
 -- without what stood at a path
 unfoldable pub removed : Table → Names → Table
-removed table path = fin.remove table path
+removed table path = record table { map = fin.remove table.map path }
 
 -- with a file at a path
 unfoldable pub installed : Table → Names → List ℕ → ℕ → Table
-installed table path octets moment = fin.insert table path (File octets moment)
+installed table path octets moment = record table { map = fin.insert table.map path (File octets moment) }
 
 -- with all that stood at `from` or below it at `to` and below it
 unfoldable pub moved : Table → Names → Names → Table
-moved table from to = fin.from_entries (map (λ entry. (moved_path from to entry.0, entry.1)) (fin.entries table))
+moved table from to = record table { map = fin.from_entries (map (λ entry. (moved_path from to entry.0, entry.1)) (fin.entries table.map)) }
 
 -- ---- a part of the map: what an account sees below its root
 
--- the part of a map at or below a path, with that path taken off each path
+-- the part of a map at or below a path, with that path taken off each path; its limits are those of the map
 unfoldable pub under : Table → Names → Table
-under table path = fin.from_entries (map (λ entry. (drop (length path) entry.0, entry.1)) (filter (λ entry. is_within path entry.0) (fin.entries table)))
+under table path = record table { map = maps.under table.map path }
 
--- the map with a part in the place of what stood at or below a path
+-- the map with a part in the place of what stood at or below a path; its limits are those of the part
 unfoldable pub with_part : Table → Names → Table → Table
-with_part table path part =
-    fin.from_entries (filter (λ entry. not (is_within path entry.0)) (fin.entries table) ++ map (λ entry. (path ++ entry.0, entry.1)) (fin.entries part))
+with_part table path part = record part { map = maps.with_part table.map path part.map }
 
 -- ---- what is refused, and why: the first reason that applies
 
@@ -147,13 +136,13 @@ directory_refusal (Some (File octets moment)) = Some WrongKind
 abbrev pub place_refusal : Table → Names → Option TreeFault
 place_refusal table path = or_else (directory_refusal (node_at table (parent path))) (whenever (not (fits path)) TooBig)
 
--- the most nodes beside the root (own choice)
-abbrev pub node_limit : ℕ
-node_limit = 16384
+-- the most nodes beside the root
+abbrev pub node_limit : Table → ℕ
+node_limit table = table.limits.nodes
 
 -- so many are all
 abbrev pub nodes_refusal : Table → Option TreeFault
-nodes_refusal table = whenever (not (nat_le (fin.len table) node_limit)) Full
+nodes_refusal table = whenever (not (nat_le (fin.len table.map) (node_limit table))) Full
 
 -- a directory is made where nothing is, in a directory, within the limits
 unfoldable pub make_refusal : Table → Names → Option TreeFault
@@ -194,7 +183,7 @@ source_refusal table path = source_answer (node_at table path) path
 
 -- each path at or below `from` is within the limits once it is moved
 unfoldable pub moves_fit : Table → Names → Names → Bool
-moves_fit table from to = list_all (λ path. not (is_within from path) || fits (moved_path from to path)) (fin.keys table)
+moves_fit table from to = list_all (λ path. not (is_within from path) || fits (moved_path from to path)) (fin.keys table.map)
 
 -- it is moved to where nothing is, not below itself, into a directory, and no path there grows too long
 unfoldable pub target_refusal : Table → Names → Names → Option TreeFault
@@ -227,21 +216,21 @@ room_answer None table path = or_else (place_refusal table path) (nodes_refusal 
 unfoldable pub room_refusal : Table → Names → Option TreeFault
 room_refusal table path = room_answer (node_at table path) table path
 
--- the most octets of a file, and of all files together (own choices)
-abbrev pub file_limit : ℕ
-file_limit = 67108864
+-- the most octets of a file, and of all files together
+abbrev pub file_limit : Table → ℕ
+file_limit table = min table.limits.file most_octets
 
-abbrev pub total_limit : ℕ
-total_limit = 67108864
+abbrev pub total_limit : Table → ℕ
+total_limit table = min table.limits.total most_octets
 
 -- the most octets that a file may have at a path: those of the file that stands there count as freed
 unfoldable pub room_at : Table → Names → ℕ
-room_at table path = min file_limit (total_limit - (octets_in table - length (octets_or_none table path)))
+room_at table path = min (file_limit table) (total_limit table - (octets_in table - length (octets_or_none table path)))
 
 -- so many octets are too many for a file, or for all files together
 abbrev pub octets_refusal : Table → Names → ℕ → Option TreeFault
 octets_refusal table path count =
-    or_else (whenever (not (nat_le count file_limit)) TooBig) (whenever (not (nat_le count (room_at table path))) Full)
+    or_else (whenever (not (nat_le count (file_limit table))) TooBig) (whenever (not (nat_le count (room_at table path))) Full)
 
 unfoldable pub install_refusal : Table → Names → ℕ → Option TreeFault
 install_refusal table path count = or_else (room_refusal table path) (octets_refusal table path count)

@@ -54,7 +54,7 @@ impl<A: Allocator + Copy> DirEntries<A> {
     }
 
     /// No entries, with memory for so many.
-    pub(crate) fn with_capacity(alloc: A, count: usize) -> Result<DirEntries<A>, AllocError>
+    pub fn with_capacity(alloc: A, count: usize) -> Result<DirEntries<A>, AllocError>
         ensures { IfOk result (λ entries. entries ≡ []) }
     {
         let rows = Vec::with_capacity(alloc, count)?;
@@ -62,7 +62,7 @@ impl<A: Allocator + Copy> DirEntries<A> {
     }
 
     /// Puts an entry behind those that it has.
-    pub(crate) fn push(&mut self, name: Label<A>, file: Option<FileFacts>) -> Result<(), AllocError>
+    pub fn push(&mut self, name: Label<A>, file: Option<FileFacts>) -> Result<(), AllocError>
         requires { IsTrue (is_name name) }
         ensures { OnOk result (self.new ≡ self.old ++ (name, shown_file file) ∷ []) }
     {

@@ -21,10 +21,10 @@ pub enum TreeFault {
     /// no path text.
     #[error("what stands there is of the wrong kind")]
     WrongKind,
-    /// A name of over 255 octets, a canonical text of over 900, or a file of over 67,108,864.
+    /// A name of over 255 octets, a canonical text of over 900, or a file past its limit.
     #[error("too long")]
     TooBig,
-    /// 16,384 nodes stand beside the root, or all files together would pass 67,108,864 octets.
+    /// As many nodes stand beside the root as may, or all files together would pass their limit.
     #[error("the tree is full")]
     Full,
     /// The root, or a directory in use.

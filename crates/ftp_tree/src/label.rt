@@ -6,7 +6,7 @@ use std::marker::Model;
 use std::rc::Rc;
 
 /// The octets of a name: a tree holds them, and so does each listing that has the name, by counting. None is copied.
-pub(crate) struct Label<A: Allocator + Copy> {
+pub struct Label<A: Allocator + Copy> {
     octets: Rc<Vec<u8, A>, A>,
 }
 
@@ -27,7 +27,7 @@ impl<A: Allocator + Copy> Model for Label<A> {
 
 impl<A: Allocator + Copy> Label<A> {
     /// Octets copied from some that are lent.
-    pub(crate) fn new(alloc: A, octets: &[u8]) -> Result<Label<A>, AllocError>
+    pub fn new(alloc: A, octets: &[u8]) -> Result<Label<A>, AllocError>
         ensures { IfOk result (λ label. label ≡ octets.now) }
     {
         let octets = Vec::from_slice(alloc, octets)?;
@@ -38,21 +38,21 @@ impl<A: Allocator + Copy> Label<A> {
     }
 
     /// How many octets it has.
-    pub(crate) fn len(&self) -> usize
+    pub fn len(&self) -> usize
         ensures { result ≡ length self.now }
     {
         self.octets.as_ref().len()
     }
 
     /// Lends the octets.
-    pub(crate) fn as_slice(&self) -> &[u8]
+    pub fn as_slice(&self) -> &[u8]
         ensures { result.now ≡ self.now }
     {
         self.octets.as_ref().as_slice()
     }
 
     /// The same octets, held by one more.
-    pub(crate) fn share(&self) -> Result<Label<A>, AllocError>
+    pub fn share(&self) -> Result<Label<A>, AllocError>
         ensures { IfOk result (λ label. label ≡ self.now) }
     {
         let octets = self.octets.clone()?;

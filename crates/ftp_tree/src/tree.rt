@@ -2,7 +2,7 @@
 ghost use Rattle.std.specs.Prelude.{◌≡◌, ◌≤◌, ◌<◌, ◌++◌, ℕ, List, [], None, IfOk, IfErr, OnOk, OnErr, length, nat_le, take, drop, option_map, true};
 ghost use Rattle.std.specs.List.{slice_get};
 ghost use Rattle.ftp_tree.specs.Tree.{Table, children, delete_refusal, entries_at, file_refusal, install_refusal, installed, kind_at, made, make_refusal, freed, moved, node_at, octets_in, octets_or_none, onto_refusal, remove_refusal, removed, rename_refusal, room_at, room_refusal, size_at, stamp_at, total_limit, under, with_part};
-ghost use Rattle.ftp_tree.specs.Change.{IsDone, IsRefused, Refuses, next_count};
+ghost use Rattle.ftp_tree.specs.Change.{Failures, IsDone, IsRefused, IsSteady, NoStray, Refuses, Tells, TellsOne};
 ghost use Rattle.ftp_tree.specs.Sound.{IsSoundTree};
 
 use crate::draft::Draft;
@@ -36,6 +36,9 @@ pub struct DirEntry<'a> {
 /// A finite map from paths to directories and files (RFC 959, section 4.1.3). A refused call changes nothing; of several
 /// refusals the first of the call's own order is given, then `Memory`, then `Device`, which comes just where the count of
 /// device failures moves on in the call, by one.
+///
+/// A device may stray, which nobody can tell: what it gives is not what the map says, or others changed what it keeps. Only `look`, `read`
+/// and `put` meet that, and of a call that does nothing is said but how the count of failures moved.
 pub trait Tree<A: Allocator + Copy>: Drop {
     /// A file as it was when it was opened, whatever became of the tree after that.
     type Open: Drop;
@@ -44,10 +47,21 @@ pub trait Tree<A: Allocator + Copy>: Drop {
 
     /// The map that it holds, however it is kept.
     ghost table: { Self → Table };
-    /// The count of its device's failures, moved on by wrapping.
-    ghost failures: { Self → ℕ };
+    /// What its device did so far: failures told, which move on by wrapping, and strays.
+    ghost failures: { Self → Failures };
     /// The octets of a file as it was opened.
     ghost opened: { Self.Open → List ℕ };
+
+    /// Looks whether what stands at a path, above it, or in the directory there was changed by others, and takes up what it finds. A command
+    /// looks before it reads a path. Where nobody else can change anything there is nothing to do.
+    fn look<B: Allocator + Copy, C: Allocator + Copy>(
+        &mut self,
+        root: &Path<B>,
+        path: &Path<C>,
+    ) -> Result<(), Broken>
+        ensures same { NoStray (failures self.old) (failures self.new) → table self.new ≡ table self.old }
+        ensures steady { OnOk result (IsSteady (failures self.old) (failures self.new)) }
+        ensures failed { OnErr result (TellsOne (failures self.old) (failures self.new)) };
 
     /// What stands at a path, if anything does.
     fn kind<B: Allocator + Copy, C: Allocator + Copy>(
@@ -92,13 +106,13 @@ pub trait Tree<A: Allocator + Copy>: Drop {
     /// Reads octets of an open file from a place on into the front of the room, and says how many: none only at its end, or
     /// where there is no room. What follows them in the room may be anything. Tree and file stay as they are.
     fn read(&mut self, file: &mut Self::Open, at: u64, room: &mut [u8]) -> Result<usize, Broken>
-        ensures octets { IfOk result (λ count. take count room.new ≡ take count (drop at (opened file.old))) }
+        ensures octets { NoStray (failures self.old) (failures self.new) → IfOk result (λ count. take count room.new ≡ take count (drop at (opened file.old))) }
         ensures most { IfOk result (λ count. (count ≤ length room.old) × (count ≤ length (drop at (opened file.old)))) }
         ensures some { IfOk result (λ count. 0 < length room.old → at < length (opened file.old) → 0 < count) }
         ensures file { opened file.new ≡ opened file.old }
         ensures table { table self.new ≡ table self.old }
-        ensures steady { OnOk result (failures self.new ≡ failures self.old) }
-        ensures failed { OnErr result (failures self.new ≡ next_count (failures self.old)) };
+        ensures steady { OnOk result (IsSteady (failures self.old) (failures self.new)) }
+        ensures failed { OnErr result (TellsOne (failures self.old) (failures self.new)) };
 
     /// The name that comes at a place, counted from 0, among those in a directory in the order of their octets.
     fn nth_name<B: Allocator + Copy, C: Allocator + Copy>(
@@ -118,7 +132,7 @@ pub trait Tree<A: Allocator + Copy>: Drop {
         ensures { IfOk result (λ entries. entries ≡ entries_at (under (table self.now) root.now) path.now) };
 
     /// The most octets that `put` takes at a path, or why it takes none: `WrongKind` where a directory stands there or a
-    /// file above, `Absent` where nothing stands above, `Full` where 16,384 nodes stand beside the root.
+    /// file above, `Absent` where nothing stands above, `Full` where as many nodes stand beside the root as may.
     fn room<B: Allocator + Copy, C: Allocator + Copy>(
         &self,
         root: &Path<B>,
@@ -133,20 +147,20 @@ pub trait Tree<A: Allocator + Copy>: Drop {
 
     /// How many failures of its device it has counted; the count moves on by wrapping.
     fn device_failures(&self) -> u64
-        ensures { result ≡ failures self.now };
+        ensures { result ≡ (failures self.now).told };
 
-    /// Whether the octets of all files below a root together are within the limit, 67,108,864. `put` keeps each root that
+    /// Whether the octets of all files below a root together are within the limit. `put` keeps each root that
     /// it is given within it; a root above two of them may be past it.
     ///
     /// Whatever it answers, the map is a tree, and what stands in it is sound: paths of names, and of every file a moment.
     fn fits<B: Allocator + Copy>(&self, root: &Path<B>) -> bool
-        ensures octets { result ≡ nat_le (octets_in (under (table self.now) root.now)) total_limit }
+        ensures octets { result ≡ nat_le (octets_in (under (table self.now) root.now)) (total_limit (table self.now)) }
         ensures sound { IsSoundTree (table self.now) };
 
     /// Makes a directory.
     ///
     /// Refused: `Exists` where something stands there, `Absent` where nothing stands above, `WrongKind` where a file does,
-    /// `Full` where 16,384 nodes stand beside the root.
+    /// `Full` where as many nodes stand beside the root as may.
     fn make_dir<B: Allocator + Copy, C: Allocator + Copy>(
         &mut self,
         root: &Path<B>,
@@ -217,7 +231,7 @@ pub trait Tree<A: Allocator + Copy>: Drop {
     /// Puts a file at a path, in the place of one that stands there: the first octets of that, `keep` of them if it has so
     /// many, and then those that came.
     ///
-    /// Refused: as `room` says, then `TooBig` past 67,108,864 octets, `Full` where all files below the root together would.
+    /// Refused: as `room` says, then `TooBig` past the most octets of a file, `Full` where all files below the root together would.
     fn put<B: Allocator + Copy, C: Allocator + Copy>(
         &mut self,
         root: &Path<B>,
@@ -226,6 +240,14 @@ pub trait Tree<A: Allocator + Copy>: Drop {
         came: Self::Draft,
         moment: Moment,
     ) -> Result<(), TreeFault>
-        ensures done { OnOk result (let part = under (table self.old) root.now in let octets = take keep (octets_or_none part path.now) ++ Self.Draft.octets came in IsDone (install_refusal part path.now (length octets)) (with_part (table self.old) root.now (installed part path.now octets moment.seconds)) (table self.new) (failures self.old) (failures self.new)) }
-        ensures refused { IfErr result (λ fault. let part = under (table self.old) root.now in let octets = take keep (octets_or_none part path.now) ++ Self.Draft.octets came in IsRefused (install_refusal part path.now (length octets)) fault (table self.old) (table self.new) (failures self.old) (failures self.new)) };
+        ensures done { NoStray (failures self.old) (failures self.new) → OnOk result (let part = under (table self.old) root.now in let octets = take keep (octets_or_none part path.now) ++ Self.Draft.octets came in IsDone (install_refusal part path.now (length octets)) (with_part (table self.old) root.now (installed part path.now octets moment.seconds)) (table self.new) (failures self.old) (failures self.new)) }
+        ensures refused { NoStray (failures self.old) (failures self.new) → IfErr result (λ fault. let part = under (table self.old) root.now in let octets = take keep (octets_or_none part path.now) ++ Self.Draft.octets came in IsRefused (install_refusal part path.now (length octets)) fault (table self.old) (table self.new) (failures self.old) (failures self.new)) }
+        ensures told { Tells result (failures self.old) (failures self.new) };
+}
+
+/// A tree whose device never strays: what is said of a tree where it does not stray is said of this one as it is.
+pub trait SureTree<A: Allocator + Copy>: Tree<A> {
+    ghost use Rattle.std.specs.Prelude.{◌≡◌};
+
+    ghost never: { (tree : Self) → (Self.failures tree).strays ≡ 0 };
 }

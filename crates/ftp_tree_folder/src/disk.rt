@@ -4,7 +4,7 @@ use crate::fault::LoadFault;
 use crate::reading::{read_same, tell_entries};
 use crate::writing::{sync_above, write_new, write_over};
 use ftp_facts::Moment;
-use ftp_tree::Content;
+use ftp_tree_memory::Content;
 use std::alloc::{Allocator, Global};
 use std::fs::{Files, Metadata};
 use std::{fs, io};

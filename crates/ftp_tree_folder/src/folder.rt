@@ -8,7 +8,7 @@ use crate::place::{check_free, check_two, check_way, place_of};
 use crate::{Disk, Folder, FolderFault, Mirror};
 use ftp_facts::Moment;
 use ftp_path::Path;
-use ftp_tree::Content;
+use ftp_tree_memory::Content;
 use std::alloc::{AllocError, Allocator, Global};
 use std::io;
 

@@ -14,7 +14,7 @@ mod writing;
 pub use disk::{Disk, Entries};
 pub use fault::{LoadFault, Reason};
 pub use folder::{DiskFolder, Explains};
-pub use ftp_tree::{Folder, FolderFault, Mirror};
+pub use ftp_tree_memory::{Folder, FolderFault, Mirror};
 pub use loading::{load, open};
 pub use look::Seen;
 pub use reloading::{LeftOut, reloaded};

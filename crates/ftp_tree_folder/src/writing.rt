@@ -4,7 +4,7 @@ ghost use Rattle.std.specs.Io.KnownBytes.{Appends};
 
 use crate::place::check_none;
 use ftp_facts::Moment;
-use ftp_tree::Content;
+use ftp_tree_memory::Content;
 use std::alloc::{AllocError, Allocator, Global};
 use std::fs::{File, FileTimes, Files, OpenFile, OpenOptions, Permissions};
 use std::io::{BufWriter, Error, ErrorKind, Write};

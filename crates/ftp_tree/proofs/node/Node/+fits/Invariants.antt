@@ -1,8 +1,0 @@
-use Rattle.std.proofs.Common.{◌≡◌, true, take}
-use Rattle.ftp_tree.specs.Branch.{is_within_room, parts}
-use Rattle.ftp_tree.proofs.BranchLemmas.{all-parts}
-use Rattle.ftp_tree.proofs.node.Node.+fits.Given as goal
-
--- each path behind a name so far
-abbrev pub invariant-loop-child : goal.invariant-loop-child
-invariant-loop-child g l = all-parts (is_within_room l.room) (parts (take l.child-index l.child-items)) ≡ true

@@ -1,0 +1,5 @@
+pub mod Branch
+pub mod BranchFalls
+pub mod Folder
+pub mod Kept
+pub mod Store
