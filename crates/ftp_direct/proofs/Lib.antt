@@ -2,6 +2,7 @@ pub mod BelowLemmas
 pub mod DueLemmas
 pub mod FaultLemmas
 pub mod ListingLemmas
+pub mod LookLemmas
 pub mod NodeLemmas
 pub mod OntoLemmas
 pub mod OpenLemmas

@@ -12,7 +12,8 @@ use Rattle.std.proofs.lemmas.Option.{slice_get_within, get_or_from_slice_get}
 use Rattle.std.proofs.lemmas.List.Folds.{list_all-append}
 use mathlib.Core.Bool.{false≢true, true≢false}
 use Rattle.ftp_path.specs.Path.{is_slash, is_name_octet, is_part, is_here, is_above, is_component, is_name, is_rooted, followed, resolved, fits, Names}
-use Rattle.ftp_tree.specs.Tree.{Node, Dir, File, Table, node_at, octets_of, moment_of, of_node, octets_at, size_at, stamp_at}
+use Rattle.ftp_tree.specs.Map.{Node, Dir, File, octets_of, moment_of, of_node}
+use Rattle.ftp_tree.specs.Tree.{Table, node_at, octets_at, size_at, stamp_at}
 use Rattle.ftp_path.proofs.PathLemmas.{component-octets, name_octet-slash, followed-name}
 use Rattle.ftp_path.proofs.TextLemmas.{name-text}
 use Rattle.ftp_operation.specs.Answer.{Listed}

@@ -3,7 +3,8 @@ use Rattle.std.proofs.Common.{◌≡◌, ℕ, Bool, true, false, not, List, [], 
 use mathlib.Core.Bool.{false≢true, true≢false}
 use Rattle.ftp_path.specs.Path.{fits, resolved, Names, is_within}
 use Rattle.std.specs.Option.{option_map, unwrap_or}
-use Rattle.ftp_tree.specs.Tree.{Node, Dir, File, Table, freed, node_at, kind_of, kind_at, moment_of, of_node, octets_at, size_at, stamp_at, octets_or_none, directory_refusal, file_refusal, under, whenever, or_else, source_answer, source_refusal, target_refusal, rename_refusal}
+use Rattle.ftp_tree.specs.Map.{Node, Dir, File, moment_of, of_node}
+use Rattle.ftp_tree.specs.Tree.{Table, freed, node_at, kind_of, kind_at, octets_at, size_at, stamp_at, octets_or_none, directory_refusal, file_refusal, under, whenever, or_else, source_answer, source_refusal, target_refusal, rename_refusal}
 use Rattle.ftp_tree.specs.declared.fault.TreeFault.{TreeFault}
 use Rattle.ftp_tree.specs.declared.fault.TreeFault.TheVariants.{Absent, WrongKind, Busy}
 use Rattle.ftp_tree.proofs.KeepLaws.{freed-source}

@@ -1,9 +1,10 @@
 -- A file in the place of another: where it may take it, and that nothing refuses the move then but the device.
 use Rattle.std.proofs.Common.{◌≡◌, ◌≢◌, ℕ, Bool, true, false, not, ◌&&◌, Option, Some, None, Result, Ok, Err, IfErr, OnOk, is_none, refl, ap, sym, subst, ◌∙◌}
 use Rattle.ftp_path.specs.Path.{Names, fits, is_within}
-use Rattle.ftp_tree.specs.Change.{IsDone, IsRefused}
+use Rattle.ftp_tree.specs.Change.{Failures, IsDone, IsRefused}
 use Rattle.ftp_tree.specs.Sound.{IsSoundTree}
-use Rattle.ftp_tree.specs.Tree.{Node, Dir, File, Table, file_refusal, freed, moved, node_at, onto_refusal, rename_refusal, takes_place, under, with_part}
+use Rattle.ftp_tree.specs.Map.{Node, Dir, File}
+use Rattle.ftp_tree.specs.Tree.{Table, file_refusal, freed, moved, node_at, onto_refusal, rename_refusal, takes_place, under, with_part}
 use Rattle.ftp_tree.specs.declared.fault.TreeFault.{TreeFault}
 use Rattle.ftp_tree.proofs.KeepLaws.{not-freed, stays-freed, takes-onto}
 use Rattle.ftp_tree.proofs.OntoLemmas.{free-freed, part-tree}
@@ -51,7 +52,7 @@ none_taken table root from to onto stays = stays-freed onto (under table root) f
 pub none_may : (table : Table) (root from to : Names) (onto : Bool) → onto ≡ false → freed onto (under table root) from to ≡ under table root
 none_may table root from to onto is = ap (λ b. freed b (under table root) from to) is ∙ not-freed (under table root) from to
 
-module _ (table : Table) (root from to : Names) (new : Table) (before after : ℕ) where
+module _ (table : Table) (root from to : Names) (new : Table) (before after : Failures) where
   -- what is looked at
   abbrev seen : Bool → Table
   seen onto = freed onto (under table root) from to

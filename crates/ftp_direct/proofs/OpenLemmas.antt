@@ -1,10 +1,11 @@
 -- A file that is opened, and read into the front of a room.
-use Rattle.std.proofs.Common.{◌≡◌, ◌≢◌, ℕ, ◌≤◌, inl, inr, List, [], length, take, drop, Option, Some, None, refl, ap, sym, ◌∙◌}
+use Rattle.std.proofs.Common.{◌≡◌, ◌≢◌, ℕ, ◌+◌, ◌≤◌, arith, inl, inr, List, [], length, take, drop, Option, Some, None, refl, ap, sym, ◌∙◌}
 use Rattle.std.specs.Option.{unwrap_or}
-use Rattle.std.proofs.lemmas.List.{length-take-le, take-take}
+use Rattle.std.proofs.lemmas.List.{length-drop, length-take-le, take-take}
 use Rattle.ftp_path.specs.Path.{Names}
-use Rattle.ftp_tree.specs.Change.{IsRefused}
-use Rattle.ftp_tree.specs.Tree.{Table, Node, Dir, File, file_refusal, node_at, octets_at, octets_of, octets_or_none, of_node}
+use Rattle.ftp_tree.specs.Change.{Failures, IsRefused}
+use Rattle.ftp_tree.specs.Tree.{Table, file_refusal, node_at, octets_at, octets_or_none}
+use Rattle.ftp_tree.specs.Map.{Node, Dir, File, octets_of, of_node}
 use Rattle.ftp_tree.specs.declared.fault.TreeFault.{TreeFault}
 use Rattle.ftp_tree.specs.declared.fault.TreeFault.TheVariants.{Device, Memory}
 
@@ -14,14 +15,14 @@ no_octets (Some Dir) why is = refl
 no_octets (Some (File octets moment)) why is = cc
 
 -- the reason that the map gave
-reason_of : (refusal : Option TreeFault) (fault : TreeFault) (old new : Table) (before after : ℕ) → IsRefused refusal fault old new before after → fault ≢ Memory → fault ≢ Device
+reason_of : (refusal : Option TreeFault) (fault : TreeFault) (old new : Table) (before after : Failures) → IsRefused refusal fault old new before after → fault ≢ Memory → fault ≢ Device
     → refusal ≡ Some fault
 reason_of None fault old new before after (same, inl (memory, kept)) other ours = absurd (other memory)
 reason_of None fault old new before after (same, inr (device, moved)) other ours = absurd (ours device)
 reason_of (Some why) fault old new before after (same, (reason, kept)) other ours = ap Some (sym reason)
 
 -- where none is had by the map, no octets are there
-pub none_there : (table : Table) (path : Names) (fault : TreeFault) (old new : Table) (before after : ℕ) → IsRefused (file_refusal (node_at table path)) fault old new before after
+pub none_there : (table : Table) (path : Names) (fault : TreeFault) (old new : Table) (before after : Failures) → IsRefused (file_refusal (node_at table path)) fault old new before after
     → fault ≢ Memory → fault ≢ Device → octets_or_none table path ≡ []
 unfolding octets_at
 none_there table path fault old new before after refused other ours =
@@ -38,3 +39,7 @@ piece_of first file room at count same gives within =
 pub front_of : (file room : List ℕ) (at few count : ℕ) → few ≤ count → take count room ≡ take count (drop at file) → take few room ≡ take few (drop at file)
 front_of file room at few count le gives =
     sym (take-take few count room le) ∙ ap (λ piece. take few piece) gives ∙ take-take few count (drop at file) le
+
+-- no octets come from past the end
+pub within_end : (first file : List ℕ) (at count : ℕ) → file ≡ first → count ≤ length (drop at file) → at ≤ length first → at + count ≤ length first
+within_end first file at count same most before = omega (arith, ap length same, length-drop at file, most, before)

@@ -1,7 +1,8 @@
 -- What an account has no right to do is refused first, and all else is done as of an account that may do all.
-use Rattle.std.proofs.Common.{◌≡◌, ℕ, Bool, true, false, List, [], ◌∷◌, Option, Some, None, Result, Ok, Err, IfOk, refl, ap, sym, subst, ◌∙◌, ◌&&◌}
-use Rattle.std.specs.Prelude.{⊤, if◌then◌else◌, is_none}
+use Rattle.std.proofs.Common.{◌≡◌, ℕ, Bool, true, false, List, [], ◌∷◌, Option, Some, None, Result, Ok, Err, IfOk, OnErr, inl, inr, refl, ap, sym, subst, ◌∙◌, ◌&&◌}
+use Rattle.std.specs.Prelude.{⊤, if◌then◌else◌, is_none, unwrap_or}
 use Rattle.ftp_path.specs.Path.{Names, fits}
+use Rattle.ftp_tree.specs.Change.{Failures, NoStray}
 use Rattle.ftp_tree.specs.Tree.{Table, node_at}
 use Rattle.ftp_operation.specs.Answer.{Said, BadOperation, Refused, said_of}
 use Rattle.ftp_operation.specs.Operation.{can_be_sent}
@@ -13,10 +14,12 @@ use Rattle.ftp_operation.specs.declared.op.Op.TheVariants as Ops
 use Rattle.ftp_direct.specs.declared.refusal.Refusal.{Refusal}
 use Rattle.ftp_direct.specs.declared.refusal.Refusal.TheVariants.{NotLoggedIn}
 use Rattle.ftp_direct.specs.Direct.{State, answer, answers, barred, barred_put, chosen, done, due, first_refusal, here, here_onto, is_file, offset_refusal, or_refused, part, refusal, standing}
+use Rattle.ftp_direct.specs.Look.{Bars}
 use Rattle.ftp_direct.specs.Refusal.{code_of}
 use Rattle.ftp_direct.specs.Rights.{LookersChangeNothing, RightsComeFirst, barring, free}
-use Rattle.ftp_direct.specs.Run.{Gives, IsAnswer}
-use Rattle.ftp_direct.proofs.RefusalLemmas.{as_told, gives_refused, still}
+use Rattle.ftp_direct.specs.Run.{IsAnswer, IsAsBefore}
+use Rattle.ftp_direct.proofs.LookLemmas.{failed_look, if_looked_before, looked, looked_still}
+use Rattle.ftp_direct.proofs.RefusalLemmas.{as_told, gives_refused}
 
 -- an offset without a meaning is told before a right that is wanting
 offset_first : (offset barred rest : Option Refusal)
@@ -82,36 +85,47 @@ due_alike state op moment may =
 
 -- ---- one operation
 
--- a right that is wanting is told
-pub permitted_not : (count : ℕ) (table : Table) (root cwd : Names) (rights : Rights) (op : Op (List ℕ)) (moment : ℕ) (why : Refusal) (said : Said)
-    → said ≡ Refused (code_of why) → Some why ≡ barring (standing table root cwd true rights) op
-    → IsAnswer count count (due (standing table root cwd true rights) op moment) (standing table root cwd true rights) said (standing table root cwd true rights)
-permitted_not count table root cwd rights op moment why said told is =
-    let state = standing table root cwd true rights in
-    still count _ state said
+-- a right that is wanting is told, or a failed look
+pub permitted_not : (before after : Failures) (table now : Table) (root cwd : Names) (rights : Rights) (op : Op (List ℕ)) (moment : ℕ) (why : Refusal) (said : Said)
+    → said ≡ Refused (code_of why) → Bars (barring (standing now root cwd true rights) op) (Some why) before after → (NoStray before after → now ≡ table)
+    → IsAnswer before after (due (standing table root cwd true rights) op moment) (standing table root cwd true rights) said (standing now root cwd true rights)
+permitted_not before after table now root cwd rights op moment why said told (inl (is, steady)) same =
+    let state = standing now root cwd true rights in
+    looked_still before after table now steady same (λ t. due (standing t root cwd true rights) op moment) (λ t. standing t root cwd true rights) said state
     (as_told _ said (Refused (code_of why)) state told
     (gives_refused state op moment why (rights_come_first state op ∙ ap (λ why. or_refused why (refusal (free state) op)) (sym is))))
+permitted_not before after table now root cwd rights op moment why said told (inr (is, one)) same =
+    failed_look before after table now one same _ (λ t. standing t root cwd true rights) said (told ∙ ap (λ w. Refused (code_of (unwrap_or w why))) is)
 
 -- an answer of an account that may do all is one of an account with these rights
-answer_alike : (before after : ℕ) (rights : Rights) (due : Said × State) (old new : State) (said : Said) → IsAnswer before after due old said new
+answer_alike : (before after : Failures) (rights : Rights) (due : Said × State) (old new : State) (said : Said) → IsAnswer before after due old said new
     → IsAnswer before after (due.0, record due.1 { rights = rights }) (record old { rights = rights }) said (record new { rights = rights })
 answer_alike before after rights due old new said is = record {
   steady = λ same. ((is.steady same).0, ap (λ (state : State). record state { rights = rights }) (is.steady same).1);
-  failed = λ other. ((is.failed other).0, ((is.failed other).1.0, ap (λ (state : State). record state { rights = rights }) (is.failed other).1.1));
+  failed = λ moved. ((is.failed moved).0, ap (λ (state : State). record state { rights = rights }) (is.failed moved).1);
+  counted = is.counted;
 }
 
 -- where no right is wanting, what is answered to an account that may do all is answered
-pub permitted_due : {A E : Type 0} (result : Result (Answer A) E) (before after : ℕ) (table new : Table) (root cwd at : Names) (rights : Rights) (op : Op (List ℕ)) (moment : ℕ)
-    → None ≡ barring (standing table root cwd true rights) op
-    → IfOk result (λ answer. IsAnswer before after (due (here_onto table root cwd rights.onto) op moment) (here_onto table root cwd rights.onto) (said_of answer) (here_onto new root at rights.onto))
+pub permitted_due : {A E : Type 0} (result : Result (Answer A) E) (before mid after : Failures) (table now new : Table) (root cwd at : Names) (rights : Rights) (op : Op (List ℕ)) (moment : ℕ)
+    → Bars (barring (standing now root cwd true rights) op) None before mid → (NoStray before mid → now ≡ table)
+    → IfOk result (λ answer. IsAnswer mid after (due (here_onto now root cwd rights.onto) op moment) (here_onto now root cwd rights.onto) (said_of answer) (here_onto new root at rights.onto))
     → IfOk result (λ answer. IsAnswer before after (due (standing table root cwd true rights) op moment) (standing table root cwd true rights) (said_of answer)
     (standing new root at true rights))
-permitted_due (Ok answer) before after table new root cwd at rights op moment may is =
-    let state = standing table root cwd true rights in
-    let own = here_onto table root cwd rights.onto in
-    subst (λ due. IsAnswer before after due state (said_of answer) (standing new root at true rights)) (sym (due_alike state op moment (sym may)))
-    (answer_alike before after rights (due own op moment) own (here_onto new root at rights.onto) (said_of answer) is)
-permitted_due (Err fault) before after table new root cwd at rights op moment may is = tt
+permitted_due (Ok answer) before mid after table now new root cwd at rights op moment (inl (may, steady)) same is =
+    let state = standing now root cwd true rights in
+    let own = here_onto now root cwd rights.onto in
+    looked before mid after table now steady same (λ t. due (standing t root cwd true rights) op moment) (λ t. standing t root cwd true rights) (said_of answer) (standing new root at true rights)
+    (subst (λ due. IsAnswer mid after due state (said_of answer) (standing new root at true rights)) (sym (due_alike state op moment (sym may)))
+    (answer_alike mid after rights (due own op moment) own (here_onto new root at rights.onto) (said_of answer) is))
+permitted_due (Ok answer) before mid after table now new root cwd at rights op moment (inr (is, one)) same answered = absurd (cc)
+permitted_due (Err fault) before mid after table now new root cwd at rights op moment may same is = tt
+
+-- so are the counts and the map where memory was refused
+pub permitted_before : {X E : Type 0} (result : Result X E) (before mid after : Failures) (table now new : Table) (due : Option Refusal) → Bars due None before mid → (NoStray before mid → now ≡ table)
+    → OnErr result (IsAsBefore mid after now new) → OnErr result (IsAsBefore before after table new)
+permitted_before result before mid after table now new due (inl (may, steady)) same is = if_looked_before before mid after table now steady same result new is
+permitted_before result before mid after table now new due (inr (is, one)) same refused = absurd (cc)
 
 -- ---- an operation that renames nothing
 
@@ -175,7 +189,7 @@ module _ (table : Table) (root cwd : Names) (onto : Bool) where
   chosen_else (Some why) op moment other = refl
 
   -- so it is answered alike
-  pub due_else : {A E : Type 0} (result : Result (Answer A) E) (before after : ℕ) (new : Table) (at : Names) (op : Op (List ℕ)) (moment : ℕ) → RenamesNothing op
+  pub due_else : {A E : Type 0} (result : Result (Answer A) E) (before after : Failures) (new : Table) (at : Names) (op : Op (List ℕ)) (moment : ℕ) → RenamesNothing op
       → IfOk result (λ answer. IsAnswer before after (due all op moment) all (said_of answer) (here new root at))
       → IfOk result (λ answer. IsAnswer before after (due some op moment) some (said_of answer) (here_onto new root at onto))
   due_else (Ok answer) before after new at op moment other is =

@@ -1,8 +1,7 @@
 -- One operation, and operations one after another.
-use Rattle.std.proofs.Common.{◌≡◌, ℕ, Vec, Bool, true, false, List, [], ◌∷◌, ◌++◌, Option, Some, None, Result, Ok, Err, IfOk, IfErr, ◌+◌, ◌%◌, ◌^◌, ◌==◌, ◌<◌, ◌≤◌, zero, suc, length, take, get_or, add-one, arith, refl, ap, sym, ◌∙◌, subst, if◌then◌else◌}
+use Rattle.std.proofs.Common.{◌≡◌, ℕ, Vec, Bool, true, false, List, [], ◌∷◌, ◌++◌, Option, Some, None, Result, Ok, Err, IfOk, IfErr, inl, inr, ◌+◌, ◌%◌, ◌^◌, ◌<◌, ◌≤◌, zero, suc, length, take, get_or, add-one, arith, refl, ap, sym, ◌∙◌, subst, if◌then◌else◌}
 use Rattle.std.specs.Prelude.{map}
 use Rattle.std.proofs.lemmas.List.{map-append, take_all, length-map, length-take}
-use Rattle.std.proofs.lemmas.Bool.Decides.{Decides-eqb, not_from_Decides}
 use Rattle.ftp_facts.specs.declared.moment.Moment.{Moment}
 use Rattle.ftp_path.specs.Path.{Names}
 use Rattle.ftp_tree.specs.Tree.{Table, node_at}
@@ -14,8 +13,9 @@ use Rattle.ftp_operation.specs.declared.answer.Answer.{Answer}
 use Rattle.ftp_operation.specs.Answer.{Said, BadOperation, Refused, said_of}
 use Rattle.ftp_operation.specs.Operation.{can_be_sent}
 use Rattle.ftp_direct.specs.Direct.{State, answer, answers, chosen, done, first_refusal, due, here, is_directory, refusal, standing, start}
-use Rattle.ftp_tree.specs.Change.{next_count}
+use Rattle.ftp_tree.specs.Change.{Failures, NoStray, next_count, one_more}
 use Rattle.ftp_direct.specs.Run.{Gives, IsAnswer, Ran, Turn, answer_of, failures_of, moved_on, order_of, orders_of, run}
+use Rattle.ftp_direct.proofs.LookLemmas.{same-counts}
 use Rattle.ftp_direct.proofs.RefusalLemmas.{still}
 use Rattle.ftp_direct.specs.declared.refusal.Refusal.TheVariants.{NotLoggedIn, LocalFault}
 use Rattle.ftp_direct.specs.Refusal.{code_of}
@@ -30,20 +30,20 @@ as_answer state op moment sent is = ap (λ b. if b then chosen (first_refusal st
 gives_by : (one other : Said × State) → one ≡ other → Gives other other.0 other.1 → Gives one other.0 other.1
 gives_by one other is gives = (ap (λ p. p.0) (sym is), ap (λ p. p.1) (sym is))
 
-pub bad_operation : (count : ℕ) (state : State) (op : Op (List ℕ)) (moment : ℕ) → can_be_sent op ≡ false
+pub bad_operation : (count : Failures) (state : State) (op : Op (List ℕ)) (moment : ℕ) → can_be_sent op ≡ false
     → IsAnswer count count (answer state op moment) state BadOperation state
 bad_operation count state op moment unsent =
     let e = as_answer state op moment false unsent in
     still count _ state BadOperation (ap (λ p. p.0) (sym e), ap (λ p. p.1) (sym e))
 
-pub unknown_login : (count : ℕ) (table : Table) (root cwd : Names) (known : Bool) (rights : Rights) (op : Op (List ℕ)) (moment : ℕ) (said : Said) → said ≡ Refused (code_of NotLoggedIn) → can_be_sent op ≡ true → known ≡ false
+pub unknown_login : (count : Failures) (table : Table) (root cwd : Names) (known : Bool) (rights : Rights) (op : Op (List ℕ)) (moment : ℕ) (said : Said) → said ≡ Refused (code_of NotLoggedIn) → can_be_sent op ≡ true → known ≡ false
     → IsAnswer count count (answer (standing table root cwd known rights) op moment) (standing table root cwd known rights) said (standing table root cwd known rights)
 unknown_login count table root cwd known rights op moment said told sent unknown =
     let state = standing table root cwd known rights in
     let e = as_answer state op moment true sent ∙ ap (λ b. chosen (if b then refusal state op else Some NotLoggedIn) state (done state op moment)) unknown in
     still count _ state said (told ∙ ap (λ p. p.0) (sym e), ap (λ p. p.1) (sym e))
 
-pub known_due : {A E : Type 0} (result : Result (Answer A) E) (before after : ℕ) (table new : Table) (root cwd at : Names) (known : Bool) (rights : Rights) (op : Op (List ℕ)) (moment : ℕ)
+pub known_due : {A E : Type 0} (result : Result (Answer A) E) (before after : Failures) (table new : Table) (root cwd at : Names) (known : Bool) (rights : Rights) (op : Op (List ℕ)) (moment : ℕ)
     → can_be_sent op ≡ true → known ≡ true
     → IfOk result (λ answer. IsAnswer before after (due (standing table root cwd true rights) op moment) (standing table root cwd true rights) (said_of answer) (standing new root at true rights))
     → IfOk result (λ said. IsAnswer before after (answer (standing table root cwd known rights) op moment) (standing table root cwd known rights) (said_of said) (standing new root at known rights))
@@ -158,19 +158,17 @@ turn_more before middle after old state new orders said turn one so_far says lea
     by true = refl
     by false = refl
 
-pub runs_more : (before middle after : ℕ) (old state new : State) (orders : List (Op (List ℕ) × ℕ)) (said : List Said) (op : Op (List ℕ)) (moment : ℕ) (one : Said)
-    → RunsTo before old orders said middle state → IsAnswer middle after (answer state op moment) state one new
-    → RunsTo before old (orders ++ (op, moment) ∷ []) (said ++ one ∷ []) after new
-runs_more before middle after old state new orders said op moment one so_far is = by (after == middle) refl
-  where
-    by : (same : Bool) → (after == middle) ≡ same → RunsTo before old (orders ++ (op, moment) ∷ []) (said ++ one ∷ []) after new
-    by true same =
-        let kept : after ≡ middle = (Decides-eqb after middle).0 same in
-        let gives = is.steady kept in
-        turn_more before middle after old state new orders said (record { op = op; moment = moment; fails = false }) one so_far (sym gives.0) (sym gives.1) kept
-    by false same =
-        let failed = is.failed (not_from_Decides (after == middle) (Decides-eqb after middle) same) in
-        turn_more before middle after old state new orders said (record { op = op; moment = moment; fails = true }) one so_far (sym failed.1.0) (sym failed.1.1) failed.0
+pub runs_more : (before : ℕ) (middle after : Failures) (old state new : State) (orders : List (Op (List ℕ) × ℕ)) (said : List Said) (op : Op (List ℕ)) (moment : ℕ) (one : Said)
+    → NoStray middle after → RunsTo before old orders said middle.told state → IsAnswer middle after (answer state op moment) state one new
+    → RunsTo before old (orders ++ (op, moment) ∷ []) (said ++ one ∷ []) after.told new
+runs_more before middle after old state new orders said op moment one stray so_far is = elim is.counted [
+  | inl steady ↦
+      let gives = is.steady (same-counts middle after steady.0 stray) in
+      turn_more before middle.told after.told old state new orders said (record { op = op; moment = moment; fails = false }) one so_far (sym gives.0) (sym gives.1) steady.0
+  | inr failed ↦
+      let gives = is.failed (same-counts (one_more middle) after failed.0 stray) in
+      turn_more before middle.told after.told old state new orders said (record { op = op; moment = moment; fails = true }) one so_far (sym gives.0) (sym gives.1) failed.0
+]
 
 pub ran : (before after count : ℕ) (old new : State) (orders : List (Op (List ℕ) × ℕ)) (said : List Said) (table : Table)
     → RunsTo before old orders said after new → count ≡ after → new.table ≡ table → Ran before old orders said count table
@@ -203,13 +201,13 @@ runs_as before after old new orders others said same first second so_far = recor
 }
 
 -- one more operation of a list
-pub stepped : {A : Type 0} (before middle after : ℕ) (old state new : State) (list : List (Op (List ℕ) × Moment)) (i : ℕ) (order : Op (List ℕ) × Moment)
-    (said : List (Answer A)) (one : Answer A) → i < length list → order ≡ get_or list i order → RunsTo before old (take i (orders_of list)) (map said_of said) middle state
-    → IsAnswer middle after (answer state order.0 order.1.seconds) state (said_of one) new
-    → RunsTo before old (take (i + 1) (orders_of list)) (map said_of (said ++ one ∷ [])) after new
-stepped before middle after old state new list i order said one within is so_far answered =
-    runs_as before after old new _ _ _ _ (sym (orders_more list i order within is)) (sym (map-append said_of said (one ∷ [])))
-    (runs_more before middle after old state new (take i (orders_of list)) (map said_of said) order.0 order.1.seconds (said_of one) so_far answered)
+pub stepped : {A : Type 0} (before : ℕ) (middle after : Failures) (old state new : State) (list : List (Op (List ℕ) × Moment)) (i : ℕ) (order : Op (List ℕ) × Moment)
+    (said : List (Answer A)) (one : Answer A) → i < length list → order ≡ get_or list i order → NoStray middle after
+    → RunsTo before old (take i (orders_of list)) (map said_of said) middle.told state → IsAnswer middle after (answer state order.0 order.1.seconds) state (said_of one) new
+    → RunsTo before old (take (i + 1) (orders_of list)) (map said_of (said ++ one ∷ [])) after.told new
+stepped before middle after old state new list i order said one within is stray so_far answered =
+    runs_as before after.told old new _ _ _ _ (sym (orders_more list i order within is)) (sym (map-append said_of said (one ∷ [])))
+    (runs_more before middle after old state new (take i (orders_of list)) (map said_of said) order.0 order.1.seconds (said_of one) stray so_far answered)
 
 -- a beginning of a list was run
 abbrev pub Begun : ℕ → State → List (Op (List ℕ) × Moment) → ℕ → Table → Type 0

@@ -5,7 +5,8 @@ use Rattle.std.specs.Prelude.{ℕ, ◌+◌, ◌==◌, ◌&&◌, ◌||◌, Bool, 
 use Rattle.std.specs.Option.{is_some, option_map, option_or, unwrap_or}
 use Rattle.std.specs.List.{filter_map, find, ends_with, range_with_len}
 use Rattle.ftp_path.specs.Path.{parent, fits, resolved, text_of, Names, is_within}
-use Rattle.ftp_tree.specs.Tree.{Node, Dir, File, Table, node_at, octets_or_none, stamp_at, children, or_else, whenever, directory_refusal, made, removed, installed, moved, freed, under, with_part, make_refusal, remove_refusal, delete_refusal, file_refusal, source_refusal, target_refusal, room_refusal, octets_refusal}
+use Rattle.ftp_tree.specs.Map.{Node, Dir, File}
+use Rattle.ftp_tree.specs.Tree.{Table, node_at, octets_or_none, stamp_at, children, or_else, whenever, directory_refusal, made, removed, installed, moved, freed, under, with_part, make_refusal, remove_refusal, delete_refusal, file_refusal, source_refusal, target_refusal, room_refusal, octets_refusal}
 use Rattle.ftp_tree.specs.declared.fault.TreeFault.{TreeFault}
 use Rattle.ftp_tree.specs.declared.fault.TreeFault.TheVariants as Faults
 use Rattle.ftp_repr.specs.Ascii.{asc}

@@ -1,9 +1,9 @@
 -- Operations one after another on a tree whose device may fail.
-use Rattle.std.specs.Prelude.{◌≡◌, ◌≢◌, ℕ, zero, suc, ◌==◌, Bool, false, List, [], ◌∷◌, length, map, if◌then◌else◌}
+use Rattle.std.specs.Prelude.{◌≡◌, ◌⊎◌, ℕ, zero, suc, ◌==◌, Bool, false, List, [], ◌∷◌, length, map, if◌then◌else◌}
 use Rattle.std.specs.List.{filter}
 use Rattle.ftp_facts.specs.declared.moment.Moment.{Moment}
 use Rattle.ftp_tree.specs.Tree.{Table}
-use Rattle.ftp_tree.specs.Change.{next_count}
+use Rattle.ftp_tree.specs.Change.{Failures, IsSteady, NoStray, TellsOne, next_count, one_more}
 use Rattle.ftp_operation.specs.declared.op.Op.{Op}
 use Rattle.ftp_operation.specs.Answer.{Said, Refused}
 use Rattle.ftp_direct.specs.declared.refusal.Refusal.TheVariants.{LocalFault}
@@ -15,10 +15,16 @@ abbrev pub Gives : Said × State → Said → State → Type 0
 Gives due said new = (said ≡ due.0) × (new ≡ due.1)
 
 -- What one operation said and left: what was due if the count of device failures did not change, and else 451 and the state as
--- it was, with the count moved on by one.
-pub record IsAnswer (before after : ℕ) (due : Said × State) (old : State) (said : Said) (new : State) : Type 0 where
+-- it was, with the count moved on by one. Where the device strayed only the counts are told of.
+pub record IsAnswer (before after : Failures) (due : Said × State) (old : State) (said : Said) (new : State) : Type 0 where
   pub steady : after ≡ before → Gives due said new
-  pub failed : after ≢ before → (after ≡ next_count before) × Gives (Refused (code_of LocalFault), old) said new
+  pub failed : after ≡ one_more before → Gives (Refused (code_of LocalFault), old) said new
+  pub counted : IsSteady before after ⊎ TellsOne before after
+
+-- memory was refused before anything was done: map and counts are as they were, unless the device strayed
+pub record IsAsBefore (before after : Failures) (old new : Table) : Type 0 where
+  pub table : NoStray before after → new ≡ old
+  pub counts : IsSteady before after
 
 -- an operation, its moment, and whether the device fails at it
 pub record Turn : Type 0 where
@@ -51,8 +57,8 @@ abbrev pub moved_on : ℕ → ℕ → ℕ
 moved_on zero count = count
 moved_on (suc failures) count = next_count (moved_on failures count)
 
--- These operations were run, the device failing at some of them, each failure counted, and they said this and left this count and
--- this map.
+-- These operations were run, the device failing at some of them, each failure counted, and they said this and left this count of told
+-- failures and this map.
 pub record Ran (before : ℕ) (old : State) (orders : List (Op (List ℕ) × ℕ)) (said : List Said) (after : ℕ) (table : Table) : Type 0 where
   pub turns : List Turn
   pub ordered : map order_of turns ≡ orders

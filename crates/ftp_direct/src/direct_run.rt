@@ -1,10 +1,11 @@
 // Operations one after another.
-ghost use Rattle.std.specs.Prelude.{◌≡◌, ℕ, [], IsTrue, IfOk, IfErr, List, OnErr, map, take, true};
+ghost use Rattle.std.specs.Prelude.{◌≤◌, ℕ, [], IsTrue, IfOk, IfErr, List, OnErr, map, take, true};
+ghost use Rattle.ftp_tree.specs.Change.{NoStray};
 ghost use Rattle.ftp_operation.specs.Account.{login_account};
 ghost use Rattle.ftp_operation.specs.Answer.{Said, said_of};
 ghost use Rattle.ftp_direct.specs.Direct.{answer, due, here_onto, standing, start};
 ghost use Rattle.ftp_operation.specs.Operation.{can_be_sent};
-ghost use Rattle.ftp_direct.specs.Run.{IsAnswer, Ran, orders_of};
+ghost use Rattle.ftp_direct.specs.Run.{IsAnswer, IsAsBefore, Ran, orders_of};
 
 use crate::files::{append, put, put_from};
 use crate::listings::{facts, list, names};
@@ -23,7 +24,8 @@ use std::alloc::{AllocError, Allocator};
 /// the part of the tree at and below the root of that user's account, and the current directory is that root at first.
 ///
 /// Where the count of the tree's device failures changes in an operation's call, that operation is refused by 451 and changes
-/// nothing. It gives up only where memory was refused: then a beginning of the list was done, and the rest was not begun.
+/// nothing. It gives up only where memory was refused: then a beginning of the list was done, and the rest was not begun. An operation
+/// looks at a path before it reads it. All that is said of a run in which the device did not stray.
 pub fn direct<A: Allocator + Copy, T: Tree<A>>(
     alloc: &A,
     tree: &mut T,
@@ -31,10 +33,11 @@ pub fn direct<A: Allocator + Copy, T: Tree<A>>(
     login: &Login<A>,
     list: &[(Op<Text<A>>, Moment)],
 ) -> Result<Vec<Answer<A>, A>, AllocError>
-    ensures answers { IfOk result (λ answers. let account = login_account accounts.now login.now.user login.now.pass in
-        Ran (T.failures tree.old) (start (T.table tree.old) account) (orders_of list.now) (map said_of answers.items) (T.failures tree.new) (T.table tree.new)) }
-    ensures begun { IfErr result (λ _. let account = login_account accounts.now login.now.user login.now.pass in
-        (count : ℕ) × (said : List Said) × Ran (T.failures tree.old) (start (T.table tree.old) account) (take count (orders_of list.now)) said (T.failures tree.new) (T.table tree.new)) }
+    ensures answers { NoStray (T.failures tree.old) (T.failures tree.new) → IfOk result (λ answers. let account = login_account accounts.now login.now.user login.now.pass in
+        Ran (T.failures tree.old).told (start (T.table tree.old) account) (orders_of list.now) (map said_of answers.items) (T.failures tree.new).told (T.table tree.new)) }
+    ensures begun { NoStray (T.failures tree.old) (T.failures tree.new) → IfErr result (λ _. let account = login_account accounts.now login.now.user login.now.pass in
+        (count : ℕ) × (said : List Said) × Ran (T.failures tree.old).told (start (T.table tree.old) account) (take count (orders_of list.now)) said (T.failures tree.new).told (T.table tree.new)) }
+    ensures strays { (T.failures tree.old).strays ≤ (T.failures tree.new).strays }
 {
     let top = Path::root(*alloc);
     match accounts.login_account(login) {
@@ -55,10 +58,11 @@ fn run<A: Allocator + Copy, T: Tree<A>>(
     rights: Rights,
     list: &[(Op<Text<A>>, Moment)],
 ) -> Result<Vec<Answer<A>, A>, AllocError>
-    ensures answers { IfOk result (λ answers.
-        Ran (T.failures tree.old) (standing (T.table tree.old) root.now [] known rights) (orders_of list.now) (map said_of answers.items) (T.failures tree.new) (T.table tree.new)) }
-    ensures begun { IfErr result (λ _.
-        (count : ℕ) × (said : List Said) × Ran (T.failures tree.old) (standing (T.table tree.old) root.now [] known rights) (take count (orders_of list.now)) said (T.failures tree.new) (T.table tree.new)) }
+    ensures answers { NoStray (T.failures tree.old) (T.failures tree.new) → IfOk result (λ answers.
+        Ran (T.failures tree.old).told (standing (T.table tree.old) root.now [] known rights) (orders_of list.now) (map said_of answers.items) (T.failures tree.new).told (T.table tree.new)) }
+    ensures begun { NoStray (T.failures tree.old) (T.failures tree.new) → IfErr result (λ _.
+        (count : ℕ) × (said : List Said) × Ran (T.failures tree.old).told (standing (T.table tree.old) root.now [] known rights) (take count (orders_of list.now)) said (T.failures tree.new).told (T.table tree.new)) }
+    ensures strays { (T.failures tree.old).strays ≤ (T.failures tree.new).strays }
 {
     let mut answers = Vec::new(*alloc);
     let mut cwd = Path::root(*alloc);
@@ -81,7 +85,7 @@ fn answer<A: Allocator + Copy, T: Tree<A>>(
 ) -> Result<Answer<A>, AllocError>
     ensures answer { IfOk result (λ said. let old = standing (T.table tree.old) root.now cwd.old known rights in
         IsAnswer (T.failures tree.old) (T.failures tree.new) (answer old op.now moment.seconds) old (said_of said) (standing (T.table tree.new) root.now cwd.new known rights)) }
-    ensures kept { OnErr result ((T.table tree.new ≡ T.table tree.old) × (T.failures tree.new ≡ T.failures tree.old)) }
+    ensures kept { OnErr result (IsAsBefore (T.failures tree.old) (T.failures tree.new) (T.table tree.old) (T.table tree.new)) }
 {
     if !can_be_sent(op) {
         return Ok(Answer::BadOperation);
@@ -105,7 +109,7 @@ fn permitted<A: Allocator + Copy, T: Tree<A>>(
     requires { IsTrue (can_be_sent op.now) }
     ensures answer { IfOk result (λ answer. let old = standing (T.table tree.old) root.now cwd.old true rights in
         IsAnswer (T.failures tree.old) (T.failures tree.new) (due old op.now moment.seconds) old (said_of answer) (standing (T.table tree.new) root.now cwd.new true rights)) }
-    ensures kept { OnErr result ((T.table tree.new ≡ T.table tree.old) × (T.failures tree.new ≡ T.failures tree.old)) }
+    ensures kept { OnErr result (IsAsBefore (T.failures tree.old) (T.failures tree.new) (T.table tree.old) (T.table tree.new)) }
 {
     if let Some(why) = barring(alloc, tree, root, cwd, rights, op)? {
         return Ok(tell(why));
@@ -126,7 +130,7 @@ fn due<A: Allocator + Copy, T: Tree<A>>(
     requires { IsTrue (can_be_sent op.now) }
     ensures answer { IfOk result (λ answer. let old = here_onto (T.table tree.old) root.now cwd.old onto in
         IsAnswer (T.failures tree.old) (T.failures tree.new) (due old op.now moment.seconds) old (said_of answer) (here_onto (T.table tree.new) root.now cwd.new onto)) }
-    ensures kept { OnErr result ((T.table tree.new ≡ T.table tree.old) × (T.failures tree.new ≡ T.failures tree.old)) }
+    ensures kept { OnErr result (IsAsBefore (T.failures tree.old) (T.failures tree.new) (T.table tree.old) (T.table tree.new)) }
 {
     match op {
         Op::Where => say_where(alloc, cwd),

@@ -6,7 +6,7 @@ ghost use Rattle.ftp_operation.specs.Answer.{said_of};
 ghost use Rattle.ftp_direct.specs.Direct.{chosen, due, here, put, put_refusal};
 ghost use Rattle.ftp_operation.specs.Operation.{is_path_text};
 ghost use Rattle.ftp_direct.specs.Refusal.{name_refusal};
-ghost use Rattle.ftp_direct.specs.Run.{IsAnswer};
+ghost use Rattle.ftp_direct.specs.Run.{IsAnswer, IsAsBefore};
 
 use crate::nodes::len_at;
 use crate::offsets::{place_at, takes_offset};
@@ -29,7 +29,7 @@ pub(crate) fn put<A: Allocator + Copy, T: Tree<A>>(
     requires { IsTrue (is_path_text text.now) }
     ensures answer { (how : How) → IfOk result (λ answer. let old = here (T.table tree.old) root.now cwd.now in
         IsAnswer (T.failures tree.old) (T.failures tree.new) (due old (Op.Put text.now octets.now how) moment.seconds) old (said_of answer) (here (T.table tree.new) root.now cwd.now)) }
-    ensures kept { OnErr result ((T.table tree.new ≡ T.table tree.old) × (T.failures tree.new ≡ T.failures tree.old)) }
+    ensures kept { OnErr result (IsAsBefore (T.failures tree.old) (T.failures tree.new) (T.table tree.old) (T.table tree.new)) }
 {
     let Some(path) = find(alloc, cwd, text)? else {
         return Ok(tell(Refusal::BadName));
@@ -50,7 +50,7 @@ pub(crate) fn append<A: Allocator + Copy, T: Tree<A>>(
     requires { IsTrue (is_path_text text.now) }
     ensures answer { (how : How) → IfOk result (λ answer. let old = here (T.table tree.old) root.now cwd.now in
         IsAnswer (T.failures tree.old) (T.failures tree.new) (due old (Op.Append text.now octets.now how) moment.seconds) old (said_of answer) (here (T.table tree.new) root.now cwd.now)) }
-    ensures kept { OnErr result ((T.table tree.new ≡ T.table tree.old) × (T.failures tree.new ≡ T.failures tree.old)) }
+    ensures kept { OnErr result (IsAsBefore (T.failures tree.old) (T.failures tree.new) (T.table tree.old) (T.table tree.new)) }
 {
     let Some(path) = find(alloc, cwd, text)? else {
         return Ok(tell(Refusal::BadName));
@@ -74,7 +74,7 @@ pub(crate) fn put_from<A: Allocator + Copy, T: Tree<A>>(
     requires { IsTrue (is_path_text text.now) }
     ensures answer { IfOk result (λ answer. let old = here (T.table tree.old) root.now cwd.now in
         IsAnswer (T.failures tree.old) (T.failures tree.new) (due old (Op.PutFrom text.now offset octets.now how) moment.seconds) old (said_of answer) (here (T.table tree.new) root.now cwd.now)) }
-    ensures kept { OnErr result ((T.table tree.new ≡ T.table tree.old) × (T.failures tree.new ≡ T.failures tree.old)) }
+    ensures kept { OnErr result (IsAsBefore (T.failures tree.old) (T.failures tree.new) (T.table tree.old) (T.table tree.new)) }
 {
     if !takes_offset(offset, how) {
         return Ok(tell(Refusal::BadParameter));
@@ -104,7 +104,7 @@ fn put_behind<A: Allocator + Copy, T: Tree<A>>(
         IsAnswer (T.failures tree.old) (T.failures tree.new)
         (chosen (put_refusal old path.now (kept + length octets.now)) old (put old path.now (take kept (octets_or_none (under (T.table tree.old) root.now) path.now)) octets.now moment.seconds))
         old (said_of answer) (here (T.table tree.new) root.now cwd)) }
-    ensures kept { OnErr result ((T.table tree.new ≡ T.table tree.old) × (T.failures tree.new ≡ T.failures tree.old)) }
+    ensures kept { OnErr result (IsAsBefore (T.failures tree.old) (T.failures tree.new) (T.table tree.old) (T.table tree.new)) }
 {
     let room = match tree.room(root, path) {
         Ok(room) => room,

@@ -1,19 +1,12 @@
 // What holds of runs.
-ghost use Rattle.std.specs.Prelude.{◌≡◌, ◌<◌, ◌^◌, ℕ, List, IfOk, IfErr, length, map, take};
-ghost use Rattle.ftp_operation.specs.Account.{login_account};
+ghost use Rattle.std.specs.Prelude.{◌≡◌, ◌<◌, ◌^◌, ℕ, List, length, map};
 ghost use Rattle.ftp_operation.specs.declared.op.Op.{Op};
-ghost use Rattle.ftp_operation.specs.Answer.{Said, said_of};
+ghost use Rattle.ftp_operation.specs.Answer.{Said};
 ghost use Rattle.ftp_tree.specs.Tree.{Table};
-ghost use Rattle.ftp_direct.specs.Direct.{State, answers, start};
-ghost use Rattle.ftp_direct.specs.Run.{Ran, faults_told, moved_on, orders_of};
+ghost use Rattle.ftp_direct.specs.Direct.{State, answers};
+ghost use Rattle.ftp_direct.specs.Run.{Ran, faults_told, moved_on};
 ghost use Rattle.ftp_direct.specs.Laws.{OffsetsLead, PartsAreApart};
 ghost use Rattle.ftp_direct.specs.Rights.{LookersChangeNothing, RightsComeFirst};
-
-use crate::direct_run::direct;
-use ftp_facts::{Moment, Text};
-use ftp_operation::{Accounts, Answer, Login, Op};
-use ftp_tree::MemTree;
-use std::alloc::{AllocError, Allocator};
 
 /// A run of fewer than 2^64 operations that left the count of device failures as it was says and leaves what the operations do on
 /// a map, one after another.
@@ -50,20 +43,3 @@ pub fn rights_come_first()
 pub fn lookers_change_nothing()
     ensures { LookersChangeNothing }
 {}
-
-/// `direct` on a tree in memory, whose device never fails: what the operations do on a map, one after another, or a beginning of
-/// them where memory was refused.
-pub fn direct_in_memory<A: Allocator + Copy>(
-    alloc: &A,
-    tree: &mut MemTree<A>,
-    accounts: &Accounts<A>,
-    login: &Login<A>,
-    list: &[(Op<Text<A>>, Moment)],
-) -> Result<Vec<Answer<A>, A>, AllocError>
-    ensures answers { IfOk result (λ all. let done = answers (start tree.old (login_account accounts.now login.now.user login.now.pass)) (orders_of list.now) in
-        (map said_of all.items ≡ done.0) × (tree.new ≡ done.1.table)) }
-    ensures begun { IfErr result (λ _. let from = start tree.old (login_account accounts.now login.now.user login.now.pass) in
-        (count : ℕ) × (tree.new ≡ (answers from (take count (orders_of list.now))).1.table)) }
-{
-    direct(alloc, tree, accounts, login, list)
-}

@@ -6,6 +6,7 @@ mod direct_run;
 mod files;
 mod laws;
 mod listings;
+mod looking;
 mod nodes;
 mod offsets;
 mod opening;
@@ -20,8 +21,8 @@ pub use ftp_operation::{
     Account, Accounts, AccountsFault, Answer, How, Login, Op, RefusedAccounts, Rights,
 };
 pub use laws::{
-    direct_in_memory, failures_are_told, lookers_change_nothing, offsets_lead, parts_are_apart,
-    rights_come_first, steady_run,
+    failures_are_told, lookers_change_nothing, offsets_lead, parts_are_apart, rights_come_first,
+    steady_run,
 };
 pub use nodes::{absent_fault, directory_fault, file_fault, is_dir, is_file, len_at};
 pub use offsets::{place_at, takes_offset};

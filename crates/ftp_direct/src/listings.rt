@@ -1,16 +1,18 @@
 // Operations that list.
-ghost use Rattle.std.specs.Prelude.{◌≡◌, ◌<◌, ◌++◌, IsTrue, IfOk, OnOk, MatchOption, false, map, option_and_then, option_map, true};
+ghost use Rattle.std.specs.Prelude.{◌≡◌, ◌<◌, ◌++◌, IsTrue, IfOk, OnErr, OnOk, map, option_and_then, option_map};
 ghost use Rattle.std.specs.List.{filter_map, list_all};
 ghost use Rattle.std.specs.Option.{ForSome, option_to_list};
 ghost use Rattle.ftp_facts.specs.Fact.{IsValue};
-ghost use Rattle.ftp_path.specs.Path.{IsPathText, fits, is_name};
-ghost use Rattle.ftp_tree.specs.Tree.{Dir, children, size_at, under};
+ghost use Rattle.ftp_path.specs.Path.{IsPathText, is_name};
+ghost use Rattle.ftp_tree.specs.Map.{Dir};
+ghost use Rattle.ftp_tree.specs.Tree.{children, size_at, under};
 ghost use Rattle.ftp_operation.specs.Answer.{listed_of, said_of};
-ghost use Rattle.ftp_direct.specs.Direct.{behind, due, entries_in, entry_at, entry_in, file_in, here, names_for, perm_of, place, size_fact};
+ghost use Rattle.ftp_direct.specs.Direct.{behind, due, entries_in, entry_at, entry_in, file_in, here, names_for, perm_of, size_fact};
 ghost use Rattle.ftp_operation.specs.Operation.{is_optional_text};
 ghost use Rattle.ftp_direct.specs.Refusal.{listing_refusal};
-ghost use Rattle.ftp_direct.specs.Run.{Gives};
+ghost use Rattle.ftp_direct.specs.Run.{IsAnswer, IsAsBefore};
 
+use crate::looking::see_here;
 use crate::nodes::{absent_fault, directory_fault, is_file};
 use crate::refusal::{Refusal, find, tell};
 use ftp_facts::{Entry, EntryKind, Text};
@@ -21,16 +23,19 @@ use std::alloc::{AllocError, Allocator};
 /// Says the entry of what stands at a path.
 pub(crate) fn facts<A: Allocator + Copy, T: Tree<A>>(
     alloc: &A,
-    tree: &T,
+    tree: &mut T,
     root: &Path<A>,
     cwd: &Path<A>,
     text: &Text<A>,
 ) -> Result<Answer<A>, AllocError>
     requires { IsTrue (is_optional_text text.now) }
-    ensures { IfOk result (λ answer. let old = here (T.table tree.now) root.now cwd.now in Gives (due old (Op.Facts text.now) 0) (said_of answer) old) }
+    ensures answer { IfOk result (λ answer. let old = here (T.table tree.old) root.now cwd.now in
+        IsAnswer (T.failures tree.old) (T.failures tree.new) (due old (Op.Facts text.now) 0) old (said_of answer) (here (T.table tree.new) root.now cwd.now)) }
+    ensures kept { OnErr result (IsAsBefore (T.failures tree.old) (T.failures tree.new) (T.table tree.old) (T.table tree.new)) }
 {
-    let Some(path) = find_here(alloc, cwd, text)? else {
-        return Ok(tell(Refusal::Unavailable));
+    let path = match see_here(alloc, tree, root, cwd, text)? {
+        Ok(path) => path,
+        Err(why) => return Ok(tell(why)),
     };
     if absent_fault(tree, root, &path).is_some() {
         return Ok(tell(Refusal::Unavailable));
@@ -41,16 +46,19 @@ pub(crate) fn facts<A: Allocator + Copy, T: Tree<A>>(
 /// Lists a directory.
 pub(crate) fn list<A: Allocator + Copy, T: Tree<A>>(
     alloc: &A,
-    tree: &T,
+    tree: &mut T,
     root: &Path<A>,
     cwd: &Path<A>,
     text: &Text<A>,
 ) -> Result<Answer<A>, AllocError>
     requires { IsTrue (is_optional_text text.now) }
-    ensures { (how : How) → IfOk result (λ answer. let old = here (T.table tree.now) root.now cwd.now in Gives (due old (Op.List text.now how) 0) (said_of answer) old) }
+    ensures answer { (how : How) → IfOk result (λ answer. let old = here (T.table tree.old) root.now cwd.now in
+        IsAnswer (T.failures tree.old) (T.failures tree.new) (due old (Op.List text.now how) 0) old (said_of answer) (here (T.table tree.new) root.now cwd.now)) }
+    ensures kept { OnErr result (IsAsBefore (T.failures tree.old) (T.failures tree.new) (T.table tree.old) (T.table tree.new)) }
 {
-    let Some(path) = find_here(alloc, cwd, text)? else {
-        return Ok(tell(Refusal::Unavailable));
+    let path = match see_here(alloc, tree, root, cwd, text)? {
+        Ok(path) => path,
+        Err(why) => return Ok(tell(why)),
     };
     match directory_fault(tree, root, &path) {
         None => Ok(Answer::Entries(entries(alloc, tree, root, &path)?)),
@@ -71,38 +79,24 @@ fn listing_refusal(fault: TreeFault) -> Refusal
 /// Names a directory's files, or a file.
 pub(crate) fn names<A: Allocator + Copy, T: Tree<A>>(
     alloc: &A,
-    tree: &T,
+    tree: &mut T,
     root: &Path<A>,
     cwd: &Path<A>,
     text: &Text<A>,
 ) -> Result<Answer<A>, AllocError>
     requires { IsTrue (is_optional_text text.now) }
-    ensures { (how : How) → IfOk result (λ answer. let old = here (T.table tree.now) root.now cwd.now in Gives (due old (Op.Names text.now how) 0) (said_of answer) old) }
+    ensures answer { (how : How) → IfOk result (λ answer. let old = here (T.table tree.old) root.now cwd.now in
+        IsAnswer (T.failures tree.old) (T.failures tree.new) (due old (Op.Names text.now how) 0) old (said_of answer) (here (T.table tree.new) root.now cwd.now)) }
+    ensures kept { OnErr result (IsAsBefore (T.failures tree.old) (T.failures tree.new) (T.table tree.old) (T.table tree.new)) }
 {
-    let Some(path) = find_here(alloc, cwd, text)? else {
-        return Ok(tell(Refusal::Unavailable));
+    let path = match see_here(alloc, tree, root, cwd, text)? {
+        Ok(path) => path,
+        Err(why) => return Ok(tell(why)),
     };
     if absent_fault(tree, root, &path).is_some() {
         return Ok(tell(Refusal::Unavailable));
     }
     Ok(Answer::Names(pathnames(alloc, tree, root, &path, text)?))
-}
-
-/// The path that a text names, or the current directory's where it is empty; `None` past the limits of paths.
-fn find_here<A: Allocator + Copy>(
-    alloc: &A,
-    cwd: &Path<A>,
-    text: &Text<A>,
-) -> Result<Option<Path<A>>, AllocError>
-    requires { IsTrue (is_optional_text text.now) }
-    ensures { IfOk result (λ found. let path = place cwd.now text.now in
-        MatchOption found (fits path ≡ false) (λ is. (is ≡ path) × (fits is ≡ true))) }
-{
-    if !text.as_slice().is_empty() {
-        return find(alloc, cwd, text);
-    }
-    let here = Text::copy_of(*alloc, b".")?;
-    find(alloc, cwd, &here)
 }
 
 /// The entry of what stands at a path, under a name.

@@ -1,6 +1,6 @@
 // Offsets: how many octets of a file's transfer are skipped, and of the file by them (RFC 3659, section 5).
-ghost use Rattle.std.specs.Prelude.{◌≡◌, ◌≤◌, IfErr, IfOk, IfSome, None, OnOk, Some, length, nat_le, if◌then◌else◌};
-ghost use Rattle.ftp_tree.specs.Change.{Refuses};
+ghost use Rattle.std.specs.Prelude.{◌≡◌, ◌⊎◌, ◌≤◌, IfErr, IfOk, IfSome, None, OnOk, Some, length, nat_le, if◌then◌else◌};
+ghost use Rattle.ftp_tree.specs.Change.{NoStray, Tells};
 ghost use Rattle.ftp_tree.specs.Tree.{octets_or_none, under};
 ghost use Rattle.ftp_direct.specs.Direct.{is_in_files, offset_refusal, place_in};
 
@@ -43,11 +43,11 @@ pub fn place_at<A: Allocator + Copy, T: Tree<A>>(
     kind: Kind,
     offset: u64,
 ) -> Result<Option<u64>, TreeFault>
-    ensures place { IfOk result (λ place. place ≡ place_in kind (octets_or_none (under (T.table tree.old) root.now) path.now) offset) }
+    ensures place { NoStray (T.failures tree.old) (T.failures tree.new) → IfOk result (λ place. place ≡ place_in kind (octets_or_none (under (T.table tree.old) root.now) path.now) offset) }
     ensures within { IfOk result (λ place. IfSome place (λ place. place ≤ length (octets_or_none (under (T.table tree.old) root.now) path.now))) }
     ensures table { T.table tree.new ≡ T.table tree.old }
-    ensures steady { OnOk result (T.failures tree.new ≡ T.failures tree.old) }
-    ensures refused { IfErr result (λ fault. Refuses None fault (T.failures tree.old) (T.failures tree.new)) }
+    ensures refused { IfErr result (λ fault. (fault ≡ TreeFault.Memory) ⊎ (fault ≡ TreeFault.Device)) }
+    ensures told { Tells result (T.failures tree.old) (T.failures tree.new) }
 {
     match kind {
         Kind::Image => Ok(if_within(offset, len_at(tree, root, path))),
@@ -71,11 +71,11 @@ fn ascii_place<A: Allocator + Copy, T: Tree<A>>(
     mut file: T::Open,
     offset: u64,
 ) -> Result<Option<u64>, TreeFault>
-    ensures place { IfOk result (λ place. place ≡ place_in Kind.Ascii (T.opened file) offset) }
+    ensures place { NoStray (T.failures tree.old) (T.failures tree.new) → IfOk result (λ place. place ≡ place_in Kind.Ascii (T.opened file) offset) }
     ensures within { IfOk result (λ place. IfSome place (λ place. place ≤ length (T.opened file))) }
     ensures table { T.table tree.new ≡ T.table tree.old }
-    ensures steady { OnOk result (T.failures tree.new ≡ T.failures tree.old) }
-    ensures refused { IfErr result (λ fault. Refuses None fault (T.failures tree.old) (T.failures tree.new)) }
+    ensures refused { IfErr result (λ fault. (fault ≡ TreeFault.Memory) ⊎ (fault ≡ TreeFault.Device)) }
+    ensures told { Tells result (T.failures tree.old) (T.failures tree.new) }
 {
     let end = T::open_len(&file);
     let mut buffer = [0u8; PIECE];

@@ -6,10 +6,11 @@ ghost use Rattle.ftp_tree.specs.Change.{IsDone, IsRefused};
 ghost use Rattle.ftp_tree.specs.Tree.{Table, freed, moved, or_else, rename_refusal, source_refusal, takes_place, under, with_part};
 ghost use Rattle.ftp_direct.specs.Direct.{busy_refusal, due, here, here_onto};
 ghost use Rattle.ftp_operation.specs.Operation.{is_path_text};
-ghost use Rattle.ftp_direct.specs.Run.{Gives, IsAnswer};
+ghost use Rattle.ftp_direct.specs.Run.{Gives, IsAnswer, IsAsBefore};
 
+use crate::looking::see;
 use crate::nodes::{absent_fault, directory_fault, is_file};
-use crate::refusal::{Refusal, find, refused, tell};
+use crate::refusal::{Refusal, refused, tell};
 use ftp_facts::Text;
 use ftp_operation::{Answer, Op};
 use ftp_path::key::is_within;
@@ -29,18 +30,20 @@ pub(crate) fn say_where<A: Allocator + Copy>(
 /// Goes to a directory.
 pub(crate) fn change_dir<A: Allocator + Copy, T: Tree<A>>(
     alloc: &A,
-    tree: &T,
+    tree: &mut T,
     root: &Path<A>,
     cwd: &mut Path<A>,
     text: &Text<A>,
 ) -> Result<Answer<A>, AllocError>
     requires { IsTrue (is_path_text text.now) }
-    ensures answer { IfOk result (λ answer. let table = T.table tree.now in
-        Gives (due (here table root.now cwd.old) (Op.ChangeDir text.now) 0) (said_of answer) (here table root.now cwd.new)) }
-    ensures kept { OnErr result (cwd.new ≡ cwd.old) }
+    ensures answer { IfOk result (λ answer. let old = here (T.table tree.old) root.now cwd.old in
+        IsAnswer (T.failures tree.old) (T.failures tree.new) (due old (Op.ChangeDir text.now) 0) old (said_of answer) (here (T.table tree.new) root.now cwd.new)) }
+    ensures kept { OnErr result (IsAsBefore (T.failures tree.old) (T.failures tree.new) (T.table tree.old) (T.table tree.new)) }
+    ensures stays { OnErr result (cwd.new ≡ cwd.old) }
 {
-    let Some(path) = find(alloc, cwd, text)? else {
-        return Ok(tell(Refusal::Unavailable));
+    let path = match see(alloc, tree, root, cwd, text, Refusal::Unavailable)? {
+        Ok(path) => path,
+        Err(why) => return Ok(tell(why)),
     };
     if directory_fault(tree, root, &path).is_some() {
         return Ok(tell(Refusal::Unavailable));
@@ -78,10 +81,11 @@ pub(crate) fn make_dir<A: Allocator + Copy, T: Tree<A>>(
     requires { IsTrue (is_path_text text.now) }
     ensures answer { IfOk result (λ answer. let old = here (T.table tree.old) root.now cwd.now in
         IsAnswer (T.failures tree.old) (T.failures tree.new) (due old (Op.MakeDir text.now) 0) old (said_of answer) (here (T.table tree.new) root.now cwd.now)) }
-    ensures kept { OnErr result ((T.table tree.new ≡ T.table tree.old) × (T.failures tree.new ≡ T.failures tree.old)) }
+    ensures kept { OnErr result (IsAsBefore (T.failures tree.old) (T.failures tree.new) (T.table tree.old) (T.table tree.new)) }
 {
-    let Some(path) = find(alloc, cwd, text)? else {
-        return Ok(tell(Refusal::Unavailable));
+    let path = match see(alloc, tree, root, cwd, text, Refusal::Unavailable)? {
+        Ok(path) => path,
+        Err(why) => return Ok(tell(why)),
     };
     let made = Text::copy_of(*alloc, path.text())?;
     match tree.make_dir(root, &path) {
@@ -101,10 +105,11 @@ pub(crate) fn remove_dir<A: Allocator + Copy, T: Tree<A>>(
     requires { IsTrue (is_path_text text.now) }
     ensures answer { IfOk result (λ answer. let old = here (T.table tree.old) root.now cwd.now in
         IsAnswer (T.failures tree.old) (T.failures tree.new) (due old (Op.RemoveDir text.now) 0) old (said_of answer) (here (T.table tree.new) root.now cwd.now)) }
-    ensures kept { OnErr result ((T.table tree.new ≡ T.table tree.old) × (T.failures tree.new ≡ T.failures tree.old)) }
+    ensures kept { OnErr result (IsAsBefore (T.failures tree.old) (T.failures tree.new) (T.table tree.old) (T.table tree.new)) }
 {
-    let Some(path) = find(alloc, cwd, text)? else {
-        return Ok(tell(Refusal::Unavailable));
+    let path = match see(alloc, tree, root, cwd, text, Refusal::Unavailable)? {
+        Ok(path) => path,
+        Err(why) => return Ok(tell(why)),
     };
     if is_busy(&path, cwd) {
         return Ok(tell(Refusal::Unavailable));
@@ -126,10 +131,11 @@ pub(crate) fn delete<A: Allocator + Copy, T: Tree<A>>(
     requires { IsTrue (is_path_text text.now) }
     ensures answer { IfOk result (λ answer. let old = here (T.table tree.old) root.now cwd.now in
         IsAnswer (T.failures tree.old) (T.failures tree.new) (due old (Op.Delete text.now) 0) old (said_of answer) (here (T.table tree.new) root.now cwd.now)) }
-    ensures kept { OnErr result ((T.table tree.new ≡ T.table tree.old) × (T.failures tree.new ≡ T.failures tree.old)) }
+    ensures kept { OnErr result (IsAsBefore (T.failures tree.old) (T.failures tree.new) (T.table tree.old) (T.table tree.new)) }
 {
-    let Some(path) = find(alloc, cwd, text)? else {
-        return Ok(tell(Refusal::Unavailable));
+    let path = match see(alloc, tree, root, cwd, text, Refusal::Unavailable)? {
+        Ok(path) => path,
+        Err(why) => return Ok(tell(why)),
     };
     match tree.delete(root, &path) {
         Ok(()) => Ok(Answer::Done),
@@ -151,16 +157,18 @@ pub(crate) fn rename<A: Allocator + Copy, T: Tree<A>>(
     requires new { IsTrue (is_path_text to.now) }
     ensures answer { IfOk result (λ answer. let old = here_onto (T.table tree.old) root.now cwd.now onto in
         IsAnswer (T.failures tree.old) (T.failures tree.new) (due old (Op.Rename from.now to.now) 0) old (said_of answer) (here_onto (T.table tree.new) root.now cwd.now onto)) }
-    ensures kept { OnErr result ((T.table tree.new ≡ T.table tree.old) × (T.failures tree.new ≡ T.failures tree.old)) }
+    ensures kept { OnErr result (IsAsBefore (T.failures tree.old) (T.failures tree.new) (T.table tree.old) (T.table tree.new)) }
 {
-    let Some(source) = find(alloc, cwd, from)? else {
-        return Ok(tell(Refusal::Unavailable));
+    let source = match see(alloc, tree, root, cwd, from, Refusal::Unavailable)? {
+        Ok(source) => source,
+        Err(why) => return Ok(tell(why)),
     };
     if is_held(tree, root, &source, cwd) {
         return Ok(tell(Refusal::Unavailable));
     }
-    let Some(target) = find(alloc, cwd, to)? else {
-        return Ok(tell(Refusal::BadName));
+    let target = match see(alloc, tree, root, cwd, to, Refusal::BadName)? {
+        Ok(target) => target,
+        Err(why) => return Ok(tell(why)),
     };
     match move_to(tree, onto, root, &source, &target) {
         Ok(()) => Ok(Answer::Done),

@@ -1,17 +1,19 @@
 // Operations that get a file's octets, or ask for its moment.
-ghost use Rattle.std.specs.Prelude.{◌≡◌, ◌≤◌, IfErr, IfOk, IsTrue, MatchOption, None, OnErr, OnOk, Some, drop, length, min, take};
-ghost use Rattle.ftp_path.specs.Path.{Names, resolved};
-ghost use Rattle.ftp_tree.specs.Change.{Refuses};
+ghost use Rattle.std.specs.Prelude.{◌≡◌, ◌⊎◌, ◌≤◌, IfErr, IfOk, IsTrue, OnErr, drop, length, min, take};
+ghost use Rattle.ftp_path.specs.Path.{Names};
+ghost use Rattle.ftp_tree.specs.Change.{NoStray, Tells};
 ghost use Rattle.ftp_tree.specs.Tree.{octets_or_none, under};
 ghost use Rattle.ftp_operation.specs.Answer.{Octets, said_of};
-ghost use Rattle.ftp_direct.specs.Direct.{due, here, refused_file};
+ghost use Rattle.ftp_direct.specs.Direct.{due, here};
 ghost use Rattle.ftp_operation.specs.Operation.{is_path_text};
-ghost use Rattle.ftp_direct.specs.Run.{Gives, IsAnswer};
+ghost use Rattle.ftp_direct.specs.Look.{SeesFile};
+ghost use Rattle.ftp_direct.specs.Run.{IsAnswer, IsAsBefore};
 
+use crate::looking::see;
 use crate::nodes::{file_fault, len_at};
 use crate::offsets::{PIECE, place_at, takes_offset};
 use crate::opening::open_there;
-use crate::refusal::{Refusal, find, refused, tell};
+use crate::refusal::{Refusal, refused, tell};
 use ftp_facts::Text;
 use ftp_operation::{Answer, How, Op};
 use ftp_tree::{Path, Tree, TreeFault};
@@ -28,10 +30,11 @@ pub(crate) fn get<A: Allocator + Copy, T: Tree<A>>(
     requires { IsTrue (is_path_text text.now) }
     ensures answer { (how : How) → IfOk result (λ answer. let old = here (T.table tree.old) root.now cwd.now in
         IsAnswer (T.failures tree.old) (T.failures tree.new) (due old (Op.Get text.now how) 0) old (said_of answer) (here (T.table tree.new) root.now cwd.now)) }
-    ensures kept { OnErr result ((T.table tree.new ≡ T.table tree.old) × (T.failures tree.new ≡ T.failures tree.old)) }
+    ensures kept { OnErr result (IsAsBefore (T.failures tree.old) (T.failures tree.new) (T.table tree.old) (T.table tree.new)) }
 {
-    let Some(path) = find_file(alloc, tree, root, cwd, text)? else {
-        return Ok(tell(Refusal::Unavailable));
+    let path = match find_file(alloc, tree, root, cwd, text)? {
+        Ok(path) => path,
+        Err(why) => return Ok(tell(why)),
     };
     let end = len_at(tree, root, &path);
     say_octets(alloc, tree, root, &path, 0, end)
@@ -50,13 +53,14 @@ pub(crate) fn get_from<A: Allocator + Copy, T: Tree<A>>(
     requires { IsTrue (is_path_text text.now) }
     ensures answer { IfOk result (λ answer. let old = here (T.table tree.old) root.now cwd.now in
         IsAnswer (T.failures tree.old) (T.failures tree.new) (due old (Op.GetFrom text.now offset how) 0) old (said_of answer) (here (T.table tree.new) root.now cwd.now)) }
-    ensures kept { OnErr result ((T.table tree.new ≡ T.table tree.old) × (T.failures tree.new ≡ T.failures tree.old)) }
+    ensures kept { OnErr result (IsAsBefore (T.failures tree.old) (T.failures tree.new) (T.table tree.old) (T.table tree.new)) }
 {
     if !takes_offset(offset, how) {
         return Ok(tell(Refusal::BadParameter));
     }
-    let Some(path) = find_file(alloc, tree, root, cwd, text)? else {
-        return Ok(tell(Refusal::Unavailable));
+    let path = match find_file(alloc, tree, root, cwd, text)? {
+        Ok(path) => path,
+        Err(why) => return Ok(tell(why)),
     };
     match place_at(tree, root, &path, how.representation.kind, offset) {
         Ok(Some(place)) => {
@@ -80,10 +84,11 @@ pub(crate) fn peek<A: Allocator + Copy, T: Tree<A>>(
     requires { IsTrue (is_path_text text.now) }
     ensures answer { (how : How) → IfOk result (λ answer. let old = here (T.table tree.old) root.now cwd.now in
         IsAnswer (T.failures tree.old) (T.failures tree.new) (due old (Op.Peek text.now count how) 0) old (said_of answer) (here (T.table tree.new) root.now cwd.now)) }
-    ensures kept { OnErr result ((T.table tree.new ≡ T.table tree.old) × (T.failures tree.new ≡ T.failures tree.old)) }
+    ensures kept { OnErr result (IsAsBefore (T.failures tree.old) (T.failures tree.new) (T.table tree.old) (T.table tree.new)) }
 {
-    let Some(path) = find_file(alloc, tree, root, cwd, text)? else {
-        return Ok(tell(Refusal::Unavailable));
+    let path = match find_file(alloc, tree, root, cwd, text)? {
+        Ok(path) => path,
+        Err(why) => return Ok(tell(why)),
     };
     let end = lesser(count, len_at(tree, root, &path));
     say_octets(alloc, tree, root, &path, 0, end)
@@ -92,16 +97,19 @@ pub(crate) fn peek<A: Allocator + Copy, T: Tree<A>>(
 /// Says when a file was installed.
 pub(crate) fn modified<A: Allocator + Copy, T: Tree<A>>(
     alloc: &A,
-    tree: &T,
+    tree: &mut T,
     root: &Path<A>,
     cwd: &Path<A>,
     text: &Text<A>,
 ) -> Result<Answer<A>, AllocError>
     requires { IsTrue (is_path_text text.now) }
-    ensures { IfOk result (λ answer. let old = here (T.table tree.now) root.now cwd.now in Gives (due old (Op.Modified text.now) 0) (said_of answer) old) }
+    ensures answer { IfOk result (λ answer. let old = here (T.table tree.old) root.now cwd.now in
+        IsAnswer (T.failures tree.old) (T.failures tree.new) (due old (Op.Modified text.now) 0) old (said_of answer) (here (T.table tree.new) root.now cwd.now)) }
+    ensures kept { OnErr result (IsAsBefore (T.failures tree.old) (T.failures tree.new) (T.table tree.old) (T.table tree.new)) }
 {
-    let Some(path) = find(alloc, cwd, text)? else {
-        return Ok(tell(Refusal::Unavailable));
+    let path = match see(alloc, tree, root, cwd, text, Refusal::Unavailable)? {
+        Ok(path) => path,
+        Err(why) => return Ok(tell(why)),
     };
     match tree.stamp(root, &path) {
         Some(moment) => Ok(Answer::Stamp(moment)),
@@ -109,25 +117,27 @@ pub(crate) fn modified<A: Allocator + Copy, T: Tree<A>>(
     }
 }
 
-/// The path of the file that a text names, or `None` where no file stands there.
+/// The path of the file that a text names, after a look at it; or the refusal to tell where no file stands there or the device failed.
 pub(crate) fn find_file<A: Allocator + Copy, T: Tree<A>>(
     alloc: &A,
-    tree: &T,
+    tree: &mut T,
     root: &Path<A>,
     cwd: &Path<A>,
     text: &Text<A>,
-) -> Result<Option<Path<A>>, AllocError>
+) -> Result<Result<Path<A>, Refusal>, AllocError>
     requires { IsTrue (is_path_text text.now) }
-    ensures { IfOk result (λ found. let refused = refused_file (here (T.table tree.now) root.now cwd.now) text.now in
-        MatchOption found (refused ≡ Some Refusal.Unavailable) (λ path. (path ≡ resolved cwd.now text.now) × (refused ≡ None))) }
+    ensures seen { IfOk result (λ seen. SeesFile (here (T.table tree.new) root.now cwd.now) text.now seen (T.failures tree.old) (T.failures tree.new)) }
+    ensures same { NoStray (T.failures tree.old) (T.failures tree.new) → T.table tree.new ≡ T.table tree.old }
+    ensures kept { OnErr result (T.failures tree.new ≡ T.failures tree.old) }
 {
-    let Some(path) = find(alloc, cwd, text)? else {
-        return Ok(None);
+    let path = match see(alloc, tree, root, cwd, text, Refusal::Unavailable)? {
+        Ok(path) => path,
+        Err(why) => return Ok(Err(why)),
     };
     if file_fault(tree, root, &path).is_some() {
-        return Ok(None);
+        return Ok(Err(Refusal::Unavailable));
     }
-    Ok(Some(path))
+    Ok(Ok(path))
 }
 
 /// Answers the octets of the file at a path from a place on up to another.
@@ -143,7 +153,7 @@ fn say_octets<A: Allocator + Copy, T: Tree<A>>(
     ensures answer { (cwd : Names) → IfOk result (λ answer. let old = here (T.table tree.old) root.now cwd in
         IsAnswer (T.failures tree.old) (T.failures tree.new) (Octets (drop from (take end (octets_or_none (under (T.table tree.old) root.now) path.now))), old)
         old (said_of answer) (here (T.table tree.new) root.now cwd)) }
-    ensures kept { OnErr result ((T.table tree.new ≡ T.table tree.old) × (T.failures tree.new ≡ T.failures tree.old)) }
+    ensures kept { OnErr result (IsAsBefore (T.failures tree.old) (T.failures tree.new) (T.table tree.old) (T.table tree.new)) }
 {
     match read(*alloc, tree, root, path, from, end) {
         Ok(octets) => Ok(Answer::Octets(Text::copy_of(*alloc, octets.as_slice())?)),
@@ -161,10 +171,10 @@ fn read<A: Allocator + Copy, T: Tree<A>>(
     end: u64,
 ) -> Result<Vec<u8, A>, TreeFault>
     requires { end ≤ length (octets_or_none (under (T.table tree.old) root.now) path.now) }
-    ensures octets { IfOk result (λ octets. octets.items ≡ drop from (take end (octets_or_none (under (T.table tree.old) root.now) path.now))) }
+    ensures octets { NoStray (T.failures tree.old) (T.failures tree.new) → IfOk result (λ octets. octets.items ≡ drop from (take end (octets_or_none (under (T.table tree.old) root.now) path.now))) }
     ensures table { T.table tree.new ≡ T.table tree.old }
-    ensures steady { OnOk result (T.failures tree.new ≡ T.failures tree.old) }
-    ensures refused { IfErr result (λ fault. Refuses None fault (T.failures tree.old) (T.failures tree.new)) }
+    ensures refused { IfErr result (λ fault. (fault ≡ TreeFault.Memory) ⊎ (fault ≡ TreeFault.Device)) }
+    ensures told { Tells result (T.failures tree.old) (T.failures tree.new) }
 {
     match open_there(tree, root, path)? {
         Some(file) => read_open(alloc, tree, file, from, end),
@@ -181,10 +191,10 @@ fn read_open<A: Allocator + Copy, T: Tree<A>>(
     end: u64,
 ) -> Result<Vec<u8, A>, TreeFault>
     requires { end ≤ length (T.opened file) }
-    ensures octets { IfOk result (λ octets. octets.items ≡ drop from (take end (T.opened file))) }
+    ensures octets { NoStray (T.failures tree.old) (T.failures tree.new) → IfOk result (λ octets. octets.items ≡ drop from (take end (T.opened file))) }
     ensures table { T.table tree.new ≡ T.table tree.old }
-    ensures steady { OnOk result (T.failures tree.new ≡ T.failures tree.old) }
-    ensures refused { IfErr result (λ fault. Refuses None fault (T.failures tree.old) (T.failures tree.new)) }
+    ensures refused { IfErr result (λ fault. (fault ≡ TreeFault.Memory) ⊎ (fault ≡ TreeFault.Device)) }
+    ensures told { Tells result (T.failures tree.old) (T.failures tree.new) }
 {
     let mut octets = Vec::new(alloc);
     let mut buffer = [0u8; PIECE];

@@ -1,15 +1,18 @@
 // What an account may not do, as the definitions ask for it.
-ghost use Rattle.std.specs.Prelude.{◌≡◌, ◌&&◌, IsTrue, IfOk, None, Some, if◌then◌else◌, true};
+ghost use Rattle.std.specs.Prelude.{◌≡◌, ◌&&◌, IsTrue, IfOk, OnErr, true};
 ghost use Rattle.ftp_path.specs.Path.{fits};
+ghost use Rattle.ftp_tree.specs.Change.{NoStray};
 ghost use Rattle.ftp_tree.specs.Tree.{node_at, under};
 ghost use Rattle.ftp_operation.specs.Operation.{can_be_sent, is_path_text};
 ghost use Rattle.ftp_operation.specs.Rights.{may_put};
 ghost use Rattle.ftp_direct.specs.Direct.{barred, barred_put, is_file, named, standing};
+ghost use Rattle.ftp_direct.specs.Look.{Bars};
 ghost use Rattle.ftp_direct.specs.Rights.{barring};
 
+use crate::looking::see;
 use crate::nodes::is_file;
 use crate::offsets::takes_offset;
-use crate::refusal::{Refusal, find};
+use crate::refusal::Refusal;
 use ftp_facts::Text;
 use ftp_operation::{Op, Rights};
 use ftp_tree::{Path, Tree};
@@ -35,35 +38,43 @@ fn barred(may: bool) -> Option<Refusal>
     if may { None } else { Some(Refusal::NotAllowed) }
 }
 
-/// Why an account may not put a file where a text leads.
+/// Why an account may not put a file where a text leads, after a look there; or a local fault where the device failed at the look.
 fn barred_put<A: Allocator + Copy, T: Tree<A>>(
     alloc: &A,
-    tree: &T,
+    tree: &mut T,
     root: &Path<A>,
     cwd: &Path<A>,
     rights: Rights,
     text: &Text<A>,
 ) -> Result<Option<Refusal>, AllocError>
     requires { IsTrue (is_path_text text.now) }
-    ensures { IfOk result (λ why. let state = standing (T.table tree.now) root.now cwd.now true rights in why ≡ barred_put state (named state text.now)) }
+    ensures why { IfOk result (λ why. let state = standing (T.table tree.new) root.now cwd.now true rights in
+        Bars (barred_put state (named state text.now)) why (T.failures tree.old) (T.failures tree.new)) }
+    ensures same { NoStray (T.failures tree.old) (T.failures tree.new) → T.table tree.new ≡ T.table tree.old }
+    ensures kept { OnErr result (T.failures tree.new ≡ T.failures tree.old) }
 {
-    match find(alloc, cwd, text)? {
-        Some(path) => Ok(barred(may_put_at(tree, root, &path, rights))),
-        None => Ok(barred(rights.may_put(false))),
+    match see(alloc, tree, root, cwd, text, Refusal::BadName)? {
+        Ok(path) => Ok(barred(may_put_at(tree, root, &path, rights))),
+        Err(Refusal::LocalFault) => Ok(Some(Refusal::LocalFault)),
+        Err(_) => Ok(barred(rights.may_put(false))),
     }
 }
 
-/// Why an account may not do an operation that can be sent.
+/// Why an account may not do an operation that can be sent. Where that is asked of the map, the path is looked at first, and a local fault is told
+/// where the device failed at the look.
 pub(crate) fn barring<A: Allocator + Copy, T: Tree<A>>(
     alloc: &A,
-    tree: &T,
+    tree: &mut T,
     root: &Path<A>,
     cwd: &Path<A>,
     rights: Rights,
     op: &Op<Text<A>>,
 ) -> Result<Option<Refusal>, AllocError>
     requires { IsTrue (can_be_sent op.now) }
-    ensures { IfOk result (λ why. why ≡ barring (standing (T.table tree.now) root.now cwd.now true rights) op.now) }
+    ensures why { IfOk result (λ why. let state = standing (T.table tree.new) root.now cwd.now true rights in
+        Bars (barring state op.now) why (T.failures tree.old) (T.failures tree.new)) }
+    ensures same { NoStray (T.failures tree.old) (T.failures tree.new) → T.table tree.new ≡ T.table tree.old }
+    ensures kept { OnErr result (T.failures tree.new ≡ T.failures tree.old) }
 {
     match op {
         Op::MakeDir(_) => Ok(barred(rights.make_dir)),

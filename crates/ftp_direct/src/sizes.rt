@@ -1,11 +1,11 @@
 // How many octets a file would have on the wire.
-ghost use Rattle.std.specs.Prelude.{◌≡◌, ◌-◌, ◌^◌, IfErr, IfOk, IsTrue, None, OnErr, OnOk, min, if◌then◌else◌};
-ghost use Rattle.ftp_tree.specs.Change.{Refuses};
+ghost use Rattle.std.specs.Prelude.{◌≡◌, ◌⊎◌, ◌-◌, ◌^◌, IfErr, IfOk, IsTrue, None, OnErr, OnOk, min, if◌then◌else◌};
+ghost use Rattle.ftp_tree.specs.Change.{NoStray, Tells};
 ghost use Rattle.ftp_tree.specs.Tree.{octets_or_none, under};
 ghost use Rattle.ftp_operation.specs.Answer.{Number, Refused, said_of};
 ghost use Rattle.ftp_direct.specs.Direct.{due, here, size_in};
 ghost use Rattle.ftp_operation.specs.Operation.{is_number, is_path_text};
-ghost use Rattle.ftp_direct.specs.Run.{IsAnswer};
+ghost use Rattle.ftp_direct.specs.Run.{IsAnswer, IsAsBefore};
 
 use crate::nodes::len_at;
 use crate::offsets::PIECE;
@@ -30,10 +30,11 @@ pub(crate) fn size<A: Allocator + Copy, T: Tree<A>>(
     requires { IsTrue (is_path_text text.now) }
     ensures answer { IfOk result (λ answer. let old = here (T.table tree.old) root.now cwd.now in
         IsAnswer (T.failures tree.old) (T.failures tree.new) (due old (Op.Size text.now how) 0) old (said_of answer) (here (T.table tree.new) root.now cwd.now)) }
-    ensures kept { OnErr result ((T.table tree.new ≡ T.table tree.old) × (T.failures tree.new ≡ T.failures tree.old)) }
+    ensures kept { OnErr result (IsAsBefore (T.failures tree.old) (T.failures tree.new) (T.table tree.old) (T.table tree.new)) }
 {
-    let Some(path) = find_file(alloc, tree, root, cwd, text)? else {
-        return Ok(tell(Refusal::Unavailable));
+    let path = match find_file(alloc, tree, root, cwd, text)? {
+        Ok(path) => path,
+        Err(why) => return Ok(tell(why)),
     };
     match wire_len(tree, root, &path, how.representation.kind) {
         Ok(size) => Ok(tell_number(size)),
@@ -62,10 +63,10 @@ pub fn wire_len<A: Allocator + Copy, T: Tree<A>>(
     path: &Path<A>,
     kind: Kind,
 ) -> Result<u64, TreeFault>
-    ensures count { IfOk result (λ count. count ≡ min (size_in kind (octets_or_none (under (T.table tree.old) root.now) path.now)) (2 ^ 64 - 1)) }
+    ensures count { NoStray (T.failures tree.old) (T.failures tree.new) → IfOk result (λ count. count ≡ min (size_in kind (octets_or_none (under (T.table tree.old) root.now) path.now)) (2 ^ 64 - 1)) }
     ensures table { T.table tree.new ≡ T.table tree.old }
-    ensures steady { OnOk result (T.failures tree.new ≡ T.failures tree.old) }
-    ensures refused { IfErr result (λ fault. Refuses None fault (T.failures tree.old) (T.failures tree.new)) }
+    ensures refused { IfErr result (λ fault. (fault ≡ TreeFault.Memory) ⊎ (fault ≡ TreeFault.Device)) }
+    ensures told { Tells result (T.failures tree.old) (T.failures tree.new) }
 {
     match kind {
         Kind::Image => Ok(len_at(tree, root, path)),
@@ -81,10 +82,10 @@ fn ascii_len<A: Allocator + Copy, T: Tree<A>>(
     tree: &mut T,
     mut file: T::Open,
 ) -> Result<u64, TreeFault>
-    ensures count { IfOk result (λ count. count ≡ min (size_in Kind.Ascii (T.opened file)) (2 ^ 64 - 1)) }
+    ensures count { NoStray (T.failures tree.old) (T.failures tree.new) → IfOk result (λ count. count ≡ min (size_in Kind.Ascii (T.opened file)) (2 ^ 64 - 1)) }
     ensures table { T.table tree.new ≡ T.table tree.old }
-    ensures steady { OnOk result (T.failures tree.new ≡ T.failures tree.old) }
-    ensures refused { IfErr result (λ fault. Refuses None fault (T.failures tree.old) (T.failures tree.new)) }
+    ensures refused { IfErr result (λ fault. (fault ≡ TreeFault.Memory) ⊎ (fault ≡ TreeFault.Device)) }
+    ensures told { Tells result (T.failures tree.old) (T.failures tree.new) }
 {
     let end = T::open_len(&file);
     let mut buffer = [0u8; PIECE];

@@ -3,7 +3,8 @@ use crate::paths::place;
 use crate::step::{Line, Step};
 use ftp_facts::Moment;
 use ftp_path::Path;
-use ftp_tree::{Content, HeldTree, Tree, TreeFault};
+use ftp_tree::{Tree, TreeFault};
+use ftp_tree_memory::{Content, HeldTree};
 use rows_base::{Paper, number};
 use std::alloc::Allocator;
 

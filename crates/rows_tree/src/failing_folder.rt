@@ -1,13 +1,14 @@
 // A folder in memory that fails.
 ghost use Rattle.std.specs.Prelude.{◌≡◌, IfOk, OnErr, OnOk, Some};
 ghost use Rattle.ftp_tree.specs.Change.{next_count};
-ghost use Rattle.ftp_tree.specs.Folder.{HasFailed, IsKept, changed_below};
+ghost use Rattle.ftp_tree_memory.specs.Folder.{HasFailed, IsKept, changed_below};
 ghost use Rattle.ftp_tree.specs.Tree.{installed, root_alone};
 
 use ftp_facts::Moment;
 use ftp_path::Path;
-use ftp_tree::{Content, HeldTree, MemTree, Tree};
+use ftp_tree::Tree;
 use ftp_tree_folder::{Folder, FolderFault};
+use ftp_tree_memory::{Content, HeldTree, MemTree};
 use std::alloc::{AllocError, Allocator};
 
 /// A folder that is kept in memory. It fails once, at the call whose number it is given, and where its tree refuses.

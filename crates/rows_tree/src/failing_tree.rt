@@ -1,14 +1,15 @@
 // A tree in memory whose device fails.
 ghost use Rattle.std.specs.Prelude.{◌≡◌, false, true};
-ghost use Rattle.ftp_tree.specs.Change.{next_count};
+ghost use Rattle.ftp_tree.specs.Change.{never_strayed, next_count};
 
 use ftp_facts::Moment;
 use ftp_path::{Name, Path};
-use ftp_tree::{Broken, Content, DirEntries, MemTree, NodeKind, Tree, TreeFault};
+use ftp_tree::{Broken, DirEntries, NodeKind, SureTree, Tree, TreeFault};
+use ftp_tree_memory::{Content, MemTree};
 use std::alloc::{AllocError, Allocator};
 
-/// A tree in memory, as one on a device: it fails once, at the call whose number it is given among those that a device may fail, of which a put that
-/// keeps octets is none.
+/// A tree in memory, as one on a device that never strays: it fails once, at the call whose number it is given among those that a device may fail, a
+/// look among them, of which a put that keeps octets is none.
 #[derive(Drop)]
 pub struct FailingTree<A: Allocator + Copy> {
     tree: MemTree<A>,
@@ -67,9 +68,20 @@ impl<A: Allocator + Copy> Tree<A> for FailingTree<A> {
 
     ghost table = { λ it. it.tree };
 
-    ghost failures = { λ it. it.failures };
+    ghost failures = { λ it. never_strayed it.failures };
 
     ghost opened = { λ file. file };
+
+    fn look<B: Allocator + Copy, C: Allocator + Copy>(
+        &mut self,
+        _root: &Path<B>,
+        _path: &Path<C>,
+    ) -> Result<(), Broken> {
+        if self.fails() {
+            return Err(Broken);
+        }
+        Ok(())
+    }
 
     fn kind<B: Allocator + Copy, C: Allocator + Copy>(
         &self,
@@ -261,4 +273,10 @@ impl<A: Allocator + Copy> Tree<A> for FailingTree<A> {
         }
         self.tree.put(root, path, keep, came, moment)
     }
+}
+
+impl<A: Allocator + Copy> SureTree<A> for FailingTree<A> {
+    ghost use Rattle.std.specs.Prelude.{refl};
+
+    ghost never = { λ tree. refl };
 }

@@ -7,6 +7,7 @@ mod apart;
 mod change;
 mod failing_folder;
 mod failing_tree;
+mod in_memory;
 mod keys;
 mod octets;
 mod operation;
@@ -24,6 +25,7 @@ mod words;
 
 pub use change::make_dirs;
 pub use failing_tree::FailingTree;
+pub use in_memory::direct_in_memory;
 pub use paths::place;
 pub use row::play_all;
 pub use tree::show_tree;

@@ -2,7 +2,8 @@
 use crate::paths::place;
 use crate::step::{Line, Step};
 use ftp_path::Path;
-use ftp_tree::{HeldTree, NodeKind, Tree, TreeFault};
+use ftp_tree::{NodeKind, Tree, TreeFault};
+use ftp_tree_memory::HeldTree;
 use rows_base::{Paper, cut, number};
 use std::alloc::{Allocator, Global};
 

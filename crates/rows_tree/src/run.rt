@@ -10,8 +10,9 @@ use crate::reading::{show_places, show_reading};
 use crate::step::{Line, Step, line_of};
 use crate::told::Told;
 use crate::words::{cut_before, heading};
-use ftp_tree::{HeldTree, MemTree, Tree, TreeFault};
+use ftp_tree::{Tree, TreeFault};
 use ftp_tree_folder::Mirror;
+use ftp_tree_memory::{HeldTree, MemTree};
 use rows_base::{Paper, cut, number};
 use std::alloc::{Allocator, Global};
 

@@ -2,7 +2,8 @@
 use crate::paths::place;
 use ftp_facts::moment_text;
 use ftp_path::Path;
-use ftp_tree::{HeldTree, NodeKind, Tree};
+use ftp_tree::{NodeKind, Tree};
+use ftp_tree_memory::HeldTree;
 use rows_base::{Paper, Tally, cut};
 use std::alloc::{Allocator, Global};
 

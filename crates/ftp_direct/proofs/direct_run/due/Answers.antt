@@ -15,9 +15,9 @@ pub returns-in-ChangeDir-clause-answer : goal.returns-in-ChangeDir-clause-answer
 returns-in-ChangeDir-clause-answer g c =
     rw c.in-ChangeDir.is
     (due_else (g.T.Tree.table c.args.tree.now) c.args.root.now c.args.cwd.now c.args.onto c.change_dir.result
-    (g.T.Tree.failures c.args.tree.now) (g.T.Tree.failures c.args.tree.now) (g.T.Tree.table c.args.tree.now) c.change_dir.new.cwd
+    (g.T.Tree.failures c.args.tree.now) (g.T.Tree.failures c.change_dir.new.tree) (g.T.Tree.table c.change_dir.new.tree) c.change_dir.new.cwd
     (Ops.ChangeDir c.in-ChangeDir.text) 0 tt
-    (if_gives c.change_dir.result _ _ _ _ c.change_dir.ensures.answer))
+    c.change_dir.ensures.answer)
 
 pub returns-in-Up-clause-answer : goal.returns-in-Up-clause-answer
 returns-in-Up-clause-answer g c =
@@ -111,30 +111,30 @@ pub returns-in-Modified-clause-answer : goal.returns-in-Modified-clause-answer
 returns-in-Modified-clause-answer g c =
     rw c.in-Modified.is
     (due_else (g.T.Tree.table c.args.tree.now) c.args.root.now c.args.cwd.now c.args.onto c.modified.result
-    (g.T.Tree.failures c.args.tree.now) (g.T.Tree.failures c.args.tree.now) (g.T.Tree.table c.args.tree.now) c.args.cwd.now
+    (g.T.Tree.failures c.args.tree.now) (g.T.Tree.failures c.modified.new.tree) (g.T.Tree.table c.modified.new.tree) c.args.cwd.now
     (Ops.Modified c.in-Modified.text) 0 tt
-    (if_gives c.modified.result _ _ _ _ c.modified.ensures))
+    c.modified.ensures.answer)
 
 pub returns-in-Facts-clause-answer : goal.returns-in-Facts-clause-answer
 returns-in-Facts-clause-answer g c =
     rw c.in-Facts.is
     (due_else (g.T.Tree.table c.args.tree.now) c.args.root.now c.args.cwd.now c.args.onto c.facts.result
-    (g.T.Tree.failures c.args.tree.now) (g.T.Tree.failures c.args.tree.now) (g.T.Tree.table c.args.tree.now) c.args.cwd.now
+    (g.T.Tree.failures c.args.tree.now) (g.T.Tree.failures c.facts.new.tree) (g.T.Tree.table c.facts.new.tree) c.args.cwd.now
     (Ops.Facts c.in-Facts.text) 0 tt
-    (if_gives c.facts.result _ _ _ _ c.facts.ensures))
+    c.facts.ensures.answer)
 
 pub returns-in-List-clause-answer : goal.returns-in-List-clause-answer
 returns-in-List-clause-answer g c =
     rw c.in-List.is
     (due_else (g.T.Tree.table c.args.tree.now) c.args.root.now c.args.cwd.now c.args.onto c.list.result
-    (g.T.Tree.failures c.args.tree.now) (g.T.Tree.failures c.args.tree.now) (g.T.Tree.table c.args.tree.now) c.args.cwd.now
+    (g.T.Tree.failures c.args.tree.now) (g.T.Tree.failures c.list.new.tree) (g.T.Tree.table c.list.new.tree) c.args.cwd.now
     (Ops.List c.in-List.text c.in-List.field-1) 0 tt
-    (if_gives c.list.result _ _ _ _ (c.list.ensures c.in-List.field-1)))
+    (c.list.ensures.answer c.in-List.field-1))
 
 pub returns-in-Names-clause-answer : goal.returns-in-Names-clause-answer
 returns-in-Names-clause-answer g c =
     rw c.in-Names.is
     (due_else (g.T.Tree.table c.args.tree.now) c.args.root.now c.args.cwd.now c.args.onto c.names.result
-    (g.T.Tree.failures c.args.tree.now) (g.T.Tree.failures c.args.tree.now) (g.T.Tree.table c.args.tree.now) c.args.cwd.now
+    (g.T.Tree.failures c.args.tree.now) (g.T.Tree.failures c.names.new.tree) (g.T.Tree.table c.names.new.tree) c.args.cwd.now
     (Ops.Names c.in-Names.text c.in-Names.field-1) 0 tt
-    (if_gives c.names.result _ _ _ _ (c.names.ensures c.in-Names.field-1)))
+    (c.names.ensures.answer c.in-Names.field-1))

@@ -1,15 +1,16 @@
 use Rattle.std.proofs.Common.{◌≡◌, ◌≤◌, ◌-◌, ◌^◌, min, take}
+use Rattle.ftp_tree.specs.Change.{IsSteady, NoStray}
 use Rattle.ftp_settings.specs.declared.representation.Kind.TheVariants.{Ascii}
 use Rattle.ftp_direct.specs.Direct.{size_in}
 use Rattle.ftp_direct.proofs.sizes.ascii_len.Given as goal
 
 abbrev pub invariant-loop-at : goal.invariant-loop-at
 invariant-loop-at g l = record {
-  count : l.total ≡ min (size_in Ascii (take l.at (g.T.Tree.opened l.fn.file))) (2 ^ 64 - 1);
+  count : NoStray (g.T.Tree.failures l.fn.tree) (g.T.Tree.failures l.tree) → l.total ≡ min (size_in Ascii (take l.at (g.T.Tree.opened l.fn.file))) (2 ^ 64 - 1);
   before : l.at ≤ l.end;
   file : g.T.Tree.opened l.file ≡ g.T.Tree.opened l.fn.file;
   table : g.T.Tree.table l.tree ≡ g.T.Tree.table l.fn.tree;
-  steady : g.T.Tree.failures l.tree ≡ g.T.Tree.failures l.fn.tree;
+  steady : IsSteady (g.T.Tree.failures l.fn.tree) (g.T.Tree.failures l.tree);
 }
 
 abbrev pub decreases-loop-at : goal.decreases-loop-at
