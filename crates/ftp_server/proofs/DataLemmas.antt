@@ -5,8 +5,8 @@ use Rattle.ftp_ends.specs.declared.link.Wants.TheVariants as Want
 use Rattle.ftp_server_parts.specs.ServerTransfer.{takes_octets}
 use Rattle.ftp_server_model.specs.Calls.{wants_of}
 use Rattle.ftp_server_model.specs.Endpoint.{disconnected}
-use Rattle.ftp_server_model.specs.Counting.{CountsOn}
-use Rattle.ftp_server_model.specs.Failing.{AreReceived, InstallFails, Late, WaitingFails}
+use Rattle.ftp_server_model.specs.Counting.{CountsOn, TellsSome}
+use Rattle.ftp_server_model.specs.Failing.{AreReceived, InstallFails, KeepsCourse, Late, WaitingFails}
 use Rattle.ftp_server_model.specs.Far.{Receives, Server, Steps}
 use Rattle.ftp_server_model.specs.Machine.{later, with_session}
 use Rattle.ftp_server_model.specs.View.{Session, Transfer, View}
@@ -18,103 +18,125 @@ use Rattle.ftp_server_parts.specs.declared.transfer.Told.{Told}
 use Rattle.ftp_server_parts.specs.declared.transfer.Told.TheVariants.{Nothing, Mark, Faulty, NoMemory}
 use Rattle.ftp_server.specs.Breaking.{InstallIsLost}
 use Rattle.ftp_server.specs.Data.{IsSaid, ReceivesTo, SayingFails}
-use Rattle.ftp_server.specs.Settled.{IsSettled}
+use Rattle.ftp_server.proofs.CallLemmas.{on_course}
+use Rattle.ftp_server.proofs.CountingLemmas.{same_counts}
+use Rattle.ftp_server.specs.Settled.{HasMoved, IsSettled}
+use Rattle.ftp_tree.proofs.CountLemmas.{stray-first, stray-second}
+use Rattle.ftp_tree.specs.Change.{IsSteady}
 
 -- ---- octets come
 
 -- what came, and what was then said of it
-pub said_done : {T E : Type 0} (told : Told) (octets : List ℕ) (v w : View) (s : Session) (r : Result T E) → ComesIn v octets told s
-    → OnOk r (IsSaid told (with_session s v) w) → OnOk r (ReceivesTo octets v w)
-said_done told octets v w s (Err e) comes said = tt
-said_done Nothing octets v w s (Ok x) comes said = (said ∙ sym comes.1, comes.0)
-said_done (Mark marker) octets v w s (Ok x) comes said = (said ∙ sym comes.1, comes.0)
-said_done Faulty octets v w s (Ok x) comes said = (said ∙ sym comes.1, comes.0)
-said_done NoMemory octets v w s (Ok x) comes said = absurd said
+pub said_done : (told : Told) (octets : List ℕ) (v w : View) (s : Session) → ComesIn v octets told s → IsSaid told (with_session s v) w → ReceivesTo octets v w
+said_done Nothing octets v w s comes said = (said ∙ sym comes.1, comes.0)
+said_done (Mark marker) octets v w s comes said = (said ∙ sym comes.1, comes.0)
+said_done Faulty octets v w s comes said = (said ∙ sym comes.1, comes.0)
+said_done NoMemory octets v w s comes said = absurd said
 
-pub said_lost : {T E : Type 0} (told : Told) (octets : List ℕ) (v w : View) (s : Session) (r : Result T E) → ComesIn v octets told s
-    → OnErr r (SayingFails told (with_session s v) w) → OnErr r (AreReceived v octets w)
-said_lost told octets v w s (Ok x) comes lost = tt
-said_lost Nothing octets v w s (Err e) comes lost = absurd lost
-said_lost (Mark marker) octets v w s (Err e) comes lost = absurd lost
-said_lost Faulty octets v w s (Err e) comes lost = comes.2 w lost
-said_lost NoMemory octets v w s (Err e) comes lost = comes w lost
+pub said_lost : (told : Told) (octets : List ℕ) (v w : View) (s : Session) → ComesIn v octets told s → SayingFails told (with_session s v) w → AreReceived v octets w
+said_lost Nothing octets v w s comes lost = absurd lost
+said_lost (Mark marker) octets v w s comes lost = absurd lost
+said_lost Faulty octets v w s comes lost = comes.2 w lost
+said_lost NoMemory octets v w s comes lost = comes w lost
 
 -- and then the count: `mid` is behind the octets
-pub received : {T E : Type 0} (octets : List ℕ) (old new : Server) (mid : View) (r : Result T E) → OnOk r (ReceivesTo octets old.view mid) → OnErr r (AreReceived old.view octets mid)
-    → new.view ≡ mid → OnOk r (new.counts ≡ old.counts) → OnErr r (new.counts ≢ old.counts) → CountsOn old.counts new.counts
-    → Receives octets old new
-received octets old new mid (Ok x) taken lost view same moved counted = record {
-  done = λ e. view ∙ taken.0;
-  may = λ e. taken.1;
-  failed = λ differ. absurd (differ same);
-  counted = counted;
-}
-received octets old new mid (Err x) taken lost view same moved counted = record {
-  done = λ e. absurd (moved e);
-  may = λ e. absurd (moved e);
-  failed = λ differ. subst (λ w. AreReceived old.view octets w) (sym view) lost;
-  counted = counted;
-}
+pub received : {T E : Type 0} (octets : List ℕ) (old mid new : Server) (failures : ℕ) (r : Result T E) → failures ≡ old.counts.failures.told → mid.counts.refusals ≡ old.counts.refusals
+    → OnOk r (KeepsCourse old.counts mid.counts → ReceivesTo octets old.view mid.view) → OnErr r (KeepsCourse old.counts mid.counts → AreReceived old.view octets mid.view)
+    → OnOk r (IsSteady old.counts.failures mid.counts.failures) → new.view ≡ mid.view → new.counts.failures ≡ mid.counts.failures
+    → OnOk r (new.counts ≡ mid.counts) → OnErr r (HasMoved failures mid.counts new.counts) → CountsOn old.counts new.counts → Receives octets old new
+received octets old mid new failures (Ok x) stood refusals taken lost steady view still same moved counted =
+    let course : KeepsCourse old.counts new.counts → KeepsCourse old.counts mid.counts = λ c. ap (λ f. f.strays) (sym still) ∙ c in
+    record {
+      done = λ e. view ∙ (taken (course (on_course old.counts new.counts e))).0;
+      may = λ e. (taken (course (on_course old.counts new.counts e))).1;
+      failed = λ c differ. absurd (differ (same ∙ same_counts old.counts mid.counts refusals steady (course c)));
+      counted = counted;
+    }
+received octets old mid new failures (Err x) stood refusals taken lost steady view still same moved counted =
+    let moves : new.counts ≢ old.counts = λ e. moved (ap (λ n. n.refusals) e ∙ sym refusals) (ap (λ n. n.failures.told) e ∙ sym stood) in
+    record {
+      done = λ e. absurd (moves e);
+      may = λ e. absurd (moves e);
+      failed = λ c differ. subst (λ w. AreReceived old.view octets w) (sym view) (lost (ap (λ f. f.strays) (sym still) ∙ c));
+      counted = counted;
+    }
 
 -- ---- the line that waits, behind a step: `mid` is behind that line
 
-pub late_of : {T E : Type 0} (l : Result T E) (v w : View) → OnOk l (w ≡ later v) → OnErr l (WaitingFails v.waiting v w) → Late v w
-late_of (Ok x) v w done lost = inl done
-late_of (Err x) v w done lost = inr lost
+pub late_of : {T E C : Type 0} (l : Result T E) (v w : View) → OnOk l (C → w ≡ later v) → OnErr l (C → WaitingFails v.waiting v w) → C → Late v w
+late_of (Ok x) v w done lost course = inl (done course)
+late_of (Err x) v w done lost course = inr (lost course)
 
-pub settles_behind_fault : {T E : Type 0} (step : Result T E) (failures : ℕ) (old mid new : Server) → is_err step ≡ true → Late old.view mid.view → mid.counts.refusals ≡ old.counts.refusals
-    → new.view ≡ mid.view → OnErr step (new.counts ≢ record mid.counts { failures = failures }) → IsSettled step failures old new
-settles_behind_fault (Ok x) failures old mid new failed late same view moved = absurd (let wrong : false ≡ true = failed in cc)
-settles_behind_fault (Err x) failures old mid new failed late same view moved =
-    (subst (λ w. Late old.view w) (sym view) late, λ e. moved (e ∙ λ i. record { refusals = sym same i; failures = failures }))
-
-pub settles : {T E U F : Type 0} (step : Result T E) (l : Result U F) (failures : ℕ) (old mid new : Server) → is_err step ≡ false → OnOk l (mid.view ≡ later old.view)
-    → OnErr l (WaitingFails old.view.waiting old.view mid.view) → mid.counts.refusals ≡ old.counts.refusals → OnOk l (mid.counts.failures ≡ old.counts.failures)
-    → new.view ≡ mid.view → OnOk l (new.counts ≡ mid.counts) → OnErr l (new.counts ≢ record mid.counts { failures = failures }) → CountsOn old.counts new.counts
+pub settles_behind_fault : {T E : Type 0} (step : Result T E) (failures : ℕ) (old mid new : Server) → is_err step ≡ true → (KeepsCourse old.counts mid.counts → Late old.view mid.view)
+    → mid.counts.refusals ≡ old.counts.refusals → new.view ≡ mid.view → new.counts.failures ≡ mid.counts.failures → OnErr step (HasMoved failures mid.counts new.counts)
     → IsSettled step failures old new
-settles (Err x) l failures old mid new fine done lost same steady view counts moved counted = absurd (let wrong : true ≡ false = fine in cc)
-settles (Ok x) (Ok y) failures old mid new fine done lost same steady view counts moved counted = λ stood. record {
-  done = λ e. view ∙ done;
-  failed = λ differ. absurd (differ (counts ∙ λ i. record { refusals = same i; failures = steady i }));
-  counted = counted;
-}
-settles (Ok x) (Err y) failures old mid new fine done lost same steady view counts moved counted = λ stood. record {
-  done = λ e. absurd (moved (e ∙ λ i. record { refusals = sym same i; failures = sym stood i }));
-  failed = λ differ. inr (inr (subst (λ w. WaitingFails old.view.waiting old.view w) (sym view) lost));
+settles_behind_fault (Ok x) failures old mid new failed late same view still moved = absurd (let wrong : false ≡ true = failed in cc)
+settles_behind_fault (Err x) failures old mid new failed late same view still moved =
+    (λ c. subst (λ w. Late old.view w) (sym view) (late (ap (λ f. f.strays) (sym still) ∙ c)), λ refusals. moved (refusals ∙ sym same))
+
+pub settles : {T E U F : Type 0} (step : Result T E) (l : Result U F) (failures : ℕ) (old mid new : Server) → is_err step ≡ false
+    → OnOk l (KeepsCourse old.counts mid.counts → mid.view ≡ later old.view) → OnErr l (KeepsCourse old.counts mid.counts → WaitingFails old.view.waiting old.view mid.view)
+    → mid.counts.refusals ≡ old.counts.refusals → OnOk l (IsSteady old.counts.failures mid.counts.failures) → new.view ≡ mid.view → new.counts.failures ≡ mid.counts.failures
+    → OnOk l (new.counts ≡ mid.counts) → OnErr l (HasMoved failures mid.counts new.counts) → CountsOn old.counts new.counts
+    → IsSettled step failures old new
+settles (Err x) l failures old mid new fine done lost same steady view still counts moved counted = absurd (let wrong : true ≡ false = fine in cc)
+settles (Ok x) (Ok y) failures old mid new fine done lost same steady view still counts moved counted = λ stood.
+    let course : KeepsCourse old.counts new.counts → KeepsCourse old.counts mid.counts = λ c. ap (λ f. f.strays) (sym still) ∙ c in
+    record {
+      done = λ e. view ∙ done (course (on_course old.counts new.counts e));
+      failed = λ c differ. absurd (differ (counts ∙ same_counts old.counts mid.counts same steady (course c)));
+      counted = counted;
+    }
+settles (Ok x) (Err y) failures old mid new fine done lost same steady view still counts moved counted = λ stood. record {
+  done = λ e. absurd (moved (ap (λ n. n.refusals) e ∙ sym same) (ap (λ n. n.failures.told) e ∙ sym stood));
+  failed = λ c differ. inr (inr (subst (λ w. WaitingFails old.view.waiting old.view w) (sym view) (lost (ap (λ f. f.strays) (sym still) ∙ c))));
   counted = counted;
 }
 
 -- ---- a step that may fail, and then the line that waits: `mid` is behind the step
 
--- where no count has moved, the step was done
-pub not_failed : {T E : Type 0} {P : Type 0} (r : Result T E) (failures : ℕ) (old mid new : Server) → failures ≡ old.counts.failures → mid.counts.refusals ≡ old.counts.refusals
-    → IsSettled r failures mid new → new.counts ≡ old.counts → OnOk r P → P
-not_failed (Ok x) failures old mid new stood refusals settled same p = p
-not_failed (Err x) failures old mid new stood refusals settled same p =
-    absurd (settled.1 (same ∙ λ i. record { refusals = sym refusals i; failures = sym stood i }))
+-- where no count has moved, the step was done, and the device did not stray in it
+pub not_failed : {T E : Type 0} {P : Type 0} (r : Result T E) (failures : ℕ) (old mid new : Server) → failures ≡ old.counts.failures.told
+    → mid.counts.refusals ≡ old.counts.refusals → TellsSome 1 old.counts.failures mid.counts.failures → TellsSome 1 mid.counts.failures new.counts.failures
+    → IsSettled r failures mid new → new.counts ≡ old.counts → OnOk r (KeepsCourse old.counts mid.counts → P) → P
+not_failed (Ok x) failures old mid new stood refusals few more settled same p =
+    p (stray-first old.counts.failures mid.counts.failures new.counts.failures few.1 more.1 (on_course old.counts new.counts same))
+not_failed (Err x) failures old mid new stood refusals few more settled same p =
+    absurd (settled.1 (ap (λ n. n.refusals) same ∙ sym refusals) (ap (λ n. n.failures.told) same ∙ sym stood))
 
 pub on_any : {T E : Type 0} {P : Type 0} (r : Result T E) → P → OnOk r P
 on_any (Ok x) p = p
 on_any (Err x) p = tt
 
-pub steps : {T E : Type 0} (Fails : View → View → Type 0) (step : View → View) (old mid new : Server) (failures : ℕ) (r : Result T E) → failures ≡ old.counts.failures
-    → mid.counts.refusals ≡ old.counts.refusals → OnOk r (mid.view ≡ step old.view) → OnOk r (mid.counts ≡ old.counts)
-    → OnErr r ((x : View) → Late mid.view x → Fails old.view x) → IsSettled r failures mid new → CountsOn old.counts new.counts
-    → Steps Fails step old new
-steps Fails step old mid new failures (Ok x) stood refusals view counts lost settled counted =
-    let acts = settled (stood ∙ ap (λ n. n.failures) (sym counts)) in
+pub steps : {T E : Type 0} (Fails : View → View → Type 0) (step : View → View) (old mid new : Server) (failures : ℕ) (r : Result T E) → failures ≡ old.counts.failures.told
+    → mid.counts.refusals ≡ old.counts.refusals → OnOk r (KeepsCourse old.counts mid.counts → mid.view ≡ step old.view)
+    → OnOk r (IsSteady old.counts.failures mid.counts.failures) → OnErr r (KeepsCourse old.counts mid.counts → (x : View) → Late mid.view x → Fails old.view x)
+    → TellsSome 1 old.counts.failures mid.counts.failures → TellsSome 1 mid.counts.failures new.counts.failures → IsSettled r failures mid new
+    → CountsOn old.counts new.counts → Steps Fails step old new
+steps Fails step old mid new failures (Ok x) stood refusals view steady lost few more settled counted =
+    let acts = settled (stood ∙ sym steady.0) in
     record {
-      done = λ same. acts.done (same ∙ sym counts) ∙ ap later view;
-      failed = λ moved. inr (subst (λ v. Late v new.view) view (late (acts.failed (λ same. moved (same ∙ counts)))));
+      done = λ same. let c = first (on_course old.counts new.counts same) in acts.done (same ∙ sym (counts c)) ∙ ap later (view c);
+      failed = λ c moved. inr (subst (λ v. Late v new.view) (view (first c)) (late (acts.failed (second c) (λ same. moved (same ∙ counts (first c))))));
       counted = counted;
     }
   where
     late : ⊥ ⊎ Late mid.view new.view → Late mid.view new.view
     late (inl none) = absurd none
     late (inr is) = is
-steps Fails step old mid new failures (Err x) stood refusals view counts lost settled counted = record {
-  done = λ same. absurd (settled.1 (same ∙ λ i. record { refusals = sym refusals i; failures = sym stood i }));
-  failed = λ moved. inl (lost new.view settled.0);
+
+    first : KeepsCourse old.counts new.counts → KeepsCourse old.counts mid.counts
+    first c = stray-first old.counts.failures mid.counts.failures new.counts.failures few.1 more.1 c
+
+    second : KeepsCourse old.counts new.counts → KeepsCourse mid.counts new.counts
+    second c = stray-second old.counts.failures mid.counts.failures new.counts.failures few.1 more.1 c
+
+    counts : KeepsCourse old.counts mid.counts → mid.counts ≡ old.counts
+    counts c = same_counts old.counts mid.counts refusals steady c
+steps Fails step old mid new failures (Err x) stood refusals view steady lost few more settled counted = record {
+  done = λ same. absurd (settled.1 (ap (λ n. n.refusals) same ∙ sym refusals) (ap (λ n. n.failures.told) same ∙ sym stood));
+  failed = λ c moved. inl (lost (stray-first old.counts.failures mid.counts.failures new.counts.failures few.1 more.1 c) new.view
+      (settled.0 (stray-second old.counts.failures mid.counts.failures new.counts.failures few.1 more.1 c)));
   counted = counted;
 }
 

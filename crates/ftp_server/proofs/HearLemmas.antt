@@ -43,11 +43,14 @@ pub line_fails : (heard : HeardLine (List ℕ)) (v w : View) → is_abort heard 
 line_fails heard v w e h = subst (λ b. ActingFails b heard v w) (sym e) h
 
 -- a line that says no command is answered whatever memory there is
-pub bad_is_heard : {T E : Type 0} (r : Result T E) (fault : CommandFault) (v w : View) → OnOk r (w ≡ heard_line (Bad fault) v)
-    → OnErr r (ActingFails (is_abort (Bad fault) v) (Bad fault) v w) → w ≡ heard_line (Bad fault) v
-bad_is_heard (Ok x) fault v w done lost = done
-bad_is_heard (Err e) fault v w done (inl is) = is
-bad_is_heard (Err e) fault v w done (inr h) = absurd h.1
+pub bad_is_heard : {T E C : Type 0} (r : Result T E) (fault : CommandFault) (v w : View) → OnOk r (C → w ≡ heard_line (Bad fault) v)
+    → OnErr r (C → ActingFails (is_abort (Bad fault) v) (Bad fault) v w) → C → w ≡ heard_line (Bad fault) v
+bad_is_heard (Ok x) fault v w done lost course = done course
+bad_is_heard (Err e) fault v w done lost course = by (lost course)
+  where
+    by : ActingFails (is_abort (Bad fault) v) (Bad fault) v w → w ≡ heard_line (Bad fault) v
+    by (inl is) = is
+    by (inr h) = absurd h.1
 
 pub line_not_read : (heard : HeardLine (List ℕ)) (v w : View) → HoldsText heard → w ≡ heard_line (Bad Memory) v → LineIsHeard heard v w
 line_not_read (Asks command) v w holds is = not_read (holds, is)

@@ -28,7 +28,13 @@ use Rattle.ftp_server_session.specs.Receiving.{ComesIn}
 use Rattle.ftp_server_model.specs.Machine.{with_session}
 use Rattle.ftp_server.specs.Data.{TellsSaid, refused}
 use Rattle.ftp_server.specs.HearsTo.{HearsTo, TellsTo}
-use Rattle.ftp_server.specs.Settled.{IsSettled}
+use Rattle.ftp_server.specs.Settled.{HasMoved, IsSettled}
+use Rattle.ftp_server.proofs.CallLemmas.{on_course}
+use Rattle.ftp_server.proofs.CountingLemmas.{same_counts}
+use Rattle.ftp_server_model.specs.Counting.{TellsSome}
+use Rattle.ftp_server_model.specs.Failing.{KeepsCourse}
+use Rattle.ftp_tree.proofs.CountLemmas.{stray-first}
+use Rattle.ftp_tree.specs.Change.{IsSteady}
 
 -- ---- the line that waits
 
@@ -74,10 +80,10 @@ idle_later v heard waits idle = (
 )
 
 -- the line that waited was acted on, as it stood then
-pub obeyed_told : {T E : Type 0} (r : Result T E) (heard : HeardLine (List ℕ)) (v : View) (told : Option Heard) → v.waiting ≡ Some heard → is_idle v ≡ true
-    → OnOk r (told ≡ Some (told_of heard (record v { waiting = None }))) → OnOk r (told ≡ later_heard v)
-obeyed_told (Ok x) heard v told waits idle is = is ∙ sym (idle_later v heard waits idle).1
-obeyed_told (Err x) heard v told waits idle is = tt
+pub obeyed_told : (C : Type 0) {T E : Type 0} (r : Result T E) (heard : HeardLine (List ℕ)) (v : View) (told : Option Heard) → v.waiting ≡ Some heard → is_idle v ≡ true
+    → OnOk r (C → told ≡ Some (told_of heard (record v { waiting = None }))) → OnOk r (C → told ≡ later_heard v)
+obeyed_told C (Ok x) heard v told waits idle is = λ c. is c ∙ sym (idle_later v heard waits idle).1
+obeyed_told C (Err x) heard v told waits idle is = tt
 
 pub latest_none : (told : Option Heard) → latest None told ≡ told
 latest_none None = refl
@@ -89,22 +95,27 @@ pub tells : (step : View → View) (heard : Option Heard) (old mid new : Server)
 tells step heard old mid new view counts told = λ same. told (same ∙ sym counts) ∙ ap later_heard view
 
 -- a step that may fail, and then the line that waits
-pub tells_step : {T E : Type 0} (step : View → View) (heard : Option Heard) (old mid new : Server) (failures : ℕ) (r : Result T E) → failures ≡ old.counts.failures
-    → mid.counts.refusals ≡ old.counts.refusals → OnOk r (mid.view ≡ step old.view) → OnOk r (mid.counts ≡ old.counts) → IsSettled r failures mid new
-    → OnOk r (failures ≡ mid.counts.failures → Tells (λ v. v) heard mid new) → Tells step heard old new
-tells_step step heard old mid new failures (Ok x) stood refusals view counts settled told =
-    tells step heard old mid new view counts (told (stood ∙ ap (λ n. n.failures) (sym counts)))
-tells_step step heard old mid new failures (Err x) stood refusals view counts settled told =
-    λ same. absurd (settled.1 (same ∙ λ i. record { refusals = sym refusals i; failures = sym stood i }))
+pub tells_step : {T E : Type 0} (step : View → View) (heard : Option Heard) (old mid new : Server) (failures : ℕ) (r : Result T E) → failures ≡ old.counts.failures.told
+    → mid.counts.refusals ≡ old.counts.refusals → OnOk r (KeepsCourse old.counts mid.counts → mid.view ≡ step old.view)
+    → OnOk r (IsSteady old.counts.failures mid.counts.failures) → TellsSome 1 old.counts.failures mid.counts.failures
+    → TellsSome 1 mid.counts.failures new.counts.failures → IsSettled r failures mid new
+    → OnOk r (failures ≡ mid.counts.failures.told → Tells (λ v. v) heard mid new) → Tells step heard old new
+tells_step step heard old mid new failures (Ok x) stood refusals view steady few more settled told = λ same.
+    let c = stray-first old.counts.failures mid.counts.failures new.counts.failures few.1 more.1 (on_course old.counts new.counts same) in
+    told (stood ∙ sym steady.0) (same ∙ sym (same_counts old.counts mid.counts refusals steady c)) ∙ ap later_heard (view c)
+tells_step step heard old mid new failures (Err x) stood refusals view steady few more settled told =
+    λ same. absurd (settled.1 (ap (λ n. n.refusals) same ∙ sym refusals) (ap (λ n. n.failures.told) same ∙ sym stood))
 
 -- the line that waits, and then the count: `mid` is behind that line
 pub settles_told : {T E U F : Type 0} (step : Result T E) (l : Result U F) (failures : ℕ) (old mid new : Server) (heard after : Option Heard) → is_err step ≡ false
-    → OnOk l (heard ≡ later_heard old.view) → after ≡ heard → mid.counts.refusals ≡ old.counts.refusals → OnErr l (new.counts ≢ record mid.counts { failures = failures })
-    → OnOk step (failures ≡ old.counts.failures → Tells (λ v. v) after old new)
-settles_told (Err x) l failures old mid new heard after fine told same refusals moved = tt
-settles_told (Ok x) (Ok y) failures old mid new heard after fine told same refusals moved = λ stood counts. same ∙ told
-settles_told (Ok x) (Err y) failures old mid new heard after fine told same refusals moved =
-    λ stood counts. absurd (moved (counts ∙ λ i. record { refusals = sym refusals i; failures = sym stood i }))
+    → OnOk l (KeepsCourse old.counts mid.counts → heard ≡ later_heard old.view) → after ≡ heard → mid.counts.refusals ≡ old.counts.refusals
+    → new.counts.failures ≡ mid.counts.failures → OnErr l (HasMoved failures mid.counts new.counts)
+    → OnOk step (failures ≡ old.counts.failures.told → Tells (λ v. v) after old new)
+settles_told (Err x) l failures old mid new heard after fine told same refusals still moved = tt
+settles_told (Ok x) (Ok y) failures old mid new heard after fine told same refusals still moved =
+    λ stood counts. same ∙ told (ap (λ f. f.strays) (sym still) ∙ on_course old.counts new.counts counts)
+settles_told (Ok x) (Err y) failures old mid new heard after fine told same refusals still moved =
+    λ stood counts. absurd (moved (ap (λ n. n.refusals) counts ∙ sym refusals) (ap (λ n. n.failures.told) counts ∙ sym stood))
 
 -- nothing is told of a step that failed
 pub fault_told : {T E : Type 0} (P : Type 0) (step : Result T E) → is_err step ≡ true → OnOk step P
@@ -423,11 +434,10 @@ fault_is_told told v Y octets waiting session footing may is = by v.waiting refl
     by (Some heard) waits = ended_told told v Y octets heard waits (waiting ∙ waits) session footing may is
 
 -- what came, and what was then said of it
-pub said_told : {T E : Type 0} (told : Told) (octets : List ℕ) (v : View) (s : Session) (before after : Option Heard) (r : Result T E) → ComesIn v octets told s
-    → (told ≡ Faulty → s ≡ forgotten v.session) → OnOk r (TellsSaid told (with_session s v) before after) → OnOk r (after ≡ heard_received before v octets)
-said_told told octets v s before after (Err e) comes over said = tt
-said_told Nothing octets v s before after (Ok x) comes over said = said ∙ sym (no_line_acted_on before v octets (ap (λ w. w.waiting) comes.1))
-said_told (Mark mark) octets v s before after (Ok x) comes over said = said ∙ sym (no_line_acted_on before v octets (ap (λ w. w.waiting) comes.1))
-said_told Faulty octets v s before after (Ok x) comes over said =
+pub said_told : (told : Told) (octets : List ℕ) (v : View) (s : Session) (before after : Option Heard) → ComesIn v octets told s
+    → (told ≡ Faulty → s ≡ forgotten v.session) → TellsSaid told (with_session s v) before after → after ≡ heard_received before v octets
+said_told Nothing octets v s before after comes over said = said ∙ sym (no_line_acted_on before v octets (ap (λ w. w.waiting) comes.1))
+said_told (Mark mark) octets v s before after comes over said = said ∙ sym (no_line_acted_on before v octets (ap (λ w. w.waiting) comes.1))
+said_told Faulty octets v s before after comes over said =
     said ∙ sym (fault_is_told before v (refused (with_session s v)) octets refl (over refl) refl comes.0 comes.1)
-said_told NoMemory octets v s before after (Ok x) comes over said = absurd said
+said_told NoMemory octets v s before after comes over said = absurd said

@@ -1,11 +1,12 @@
 // ABOR during a transfer (RFC 959, section 4.1.3).
 ghost use Rattle.std.specs.Prelude.{◌≡◌, ◌≤◌, ◌+◌, None, OnErr, OnOk, length, true};
-ghost use Rattle.ftp_server_model.specs.Counting.{MovesOn};
+ghost use Rattle.ftp_server_model.specs.Counting.{TellsSome};
 ghost use Rattle.ftp_server_model.specs.Endpoint.{forgotten};
 ghost use Rattle.ftp_server_model.specs.Failing.{AbortFails};
 ghost use Rattle.ftp_server_model.specs.Machine.{aborted, aborts, is_transferring, with_session};
 ghost use Rattle.ftp_server.specs.Breaking.{InstallIsLost};
 ghost use Rattle.ftp_server_session.specs.Session.{connection_of};
+ghost use Rattle.ftp_tree.specs.Change.{IsSteady};
 
 use crate::conclude::at_break;
 use crate::hear::is_transferring;
@@ -18,18 +19,18 @@ use std::alloc::Allocator;
 use std::mem;
 
 impl<A: Allocator + Copy, T: Tree<A>, J: ServerTransfer<A, T>> Server<A, T, J> {
-    ghost use Rattle.ftp_server.specs.Server.{counts_of, view_of};
+    ghost use Rattle.ftp_server.specs.Server.{OnCourse, counts_of, view_of};
 
     /// The transfer ends, and ABOR is answered; no line waits.
     pub(crate) fn abort(&mut self) -> Result<(), Failed>
         requires room { length self.old.output ≤ 4096 }
         requires none { self.old.waiting ≡ None }
         requires busy { is_transferring (view_of T.table J.view self.old).session.connection ≡ true }
-        ensures done { OnOk result (view_of T.table J.view self.new ≡ aborted (view_of T.table J.view self.old)) }
-        ensures steady { OnOk result (counts_of T.failures self.new ≡ counts_of T.failures self.old) }
-        ensures lost { OnErr result (AbortFails (view_of T.table J.view self.old).session.connection (view_of T.table J.view self.old) (view_of T.table J.view self.new)) }
+        ensures done { OnOk result (OnCourse T.failures self.old self.new → view_of T.table J.view self.new ≡ aborted (view_of T.table J.view self.old)) }
+        ensures steady { OnOk result (IsSteady (T.failures self.old.session.tree) (T.failures self.new.session.tree)) }
+        ensures lost { OnErr result (OnCourse T.failures self.old self.new → AbortFails (view_of T.table J.view self.old).session.connection (view_of T.table J.view self.old) (view_of T.table J.view self.new)) }
         ensures refusals { self.new.refusals ≡ self.old.refusals }
-        ensures few { MovesOn 1 (T.failures self.old.session.tree) (T.failures self.new.session.tree) }
+        ensures few { TellsSome 1 (T.failures self.old.session.tree) (T.failures self.new.session.tree) }
     {
         let broken = self.break_off();
         self.output.put_fixed(FixedReply::AbortDone);
@@ -39,13 +40,13 @@ impl<A: Allocator + Copy, T: Tree<A>, J: ServerTransfer<A, T>> Server<A, T, J> {
     /// What stands of a transfer ends as by a break.
     fn break_off(&mut self) -> Result<(), Failed>
         requires room { length self.old.output ≤ 4096 }
-        ensures done { OnOk result (view_of T.table J.view self.new ≡ aborts (view_of T.table J.view self.old).session.connection (view_of T.table J.view self.old)) }
-        ensures steady { OnOk result (counts_of T.failures self.new ≡ counts_of T.failures self.old) }
-        ensures lost { OnErr result (InstallIsLost (view_of T.table J.view self.old).session.connection (forgotten (view_of T.table J.view self.old).session) (view_of T.table J.view self.old) (view_of T.table J.view self.new)) }
+        ensures done { OnOk result (OnCourse T.failures self.old self.new → view_of T.table J.view self.new ≡ aborts (view_of T.table J.view self.old).session.connection (view_of T.table J.view self.old)) }
+        ensures steady { OnOk result (IsSteady (T.failures self.old.session.tree) (T.failures self.new.session.tree)) }
+        ensures lost { OnErr result (OnCourse T.failures self.old self.new → InstallIsLost (view_of T.table J.view self.old).session.connection (forgotten (view_of T.table J.view self.old).session) (view_of T.table J.view self.old) (view_of T.table J.view self.new)) }
         ensures refusals { self.new.refusals ≡ self.old.refusals }
         ensures room { length self.new.output ≤ length self.old.output + 64 }
         ensures waiting { self.new.waiting ≡ self.old.waiting }
-        ensures few { MovesOn 1 (T.failures self.old.session.tree) (T.failures self.new.session.tree) }
+        ensures few { TellsSome 1 (T.failures self.old.session.tree) (T.failures self.new.session.tree) }
     {
         if !is_transferring(&self.session.connection) {
             return Ok(());

@@ -1,10 +1,10 @@
 // The calls of a server: a step, and then the line that waits (RFC 959, sections 3.2 and 4.1).
-ghost use Rattle.std.specs.Prelude.{◌≡◌, ◌≢◌, ◌<◌, ◌≤◌, length, min, take, None, OnErr, OnOk};
-ghost use Rattle.ftp_server_model.specs.Counting.{MovesOn};
+ghost use Rattle.std.specs.Prelude.{◌≡◌, ◌<◌, ◌≤◌, length, min, take, None, OnErr, OnOk};
+ghost use Rattle.ftp_server_model.specs.Counting.{MovesOn, TellsSome};
 ghost use Rattle.ftp_server_model.specs.Calls.{clock_step, close_step, control_end, control_step, listening_step, no_port_step, opened_step, refused_step};
-ghost use Rattle.ftp_server_model.specs.Far.{Acts, counts_told};
+ghost use Rattle.ftp_server_model.specs.Far.{Acts, AreTold};
 ghost use Rattle.ftp_server_model.specs.Heard.{Tells};
-ghost use Rattle.ftp_server.specs.Settled.{IsSettled};
+ghost use Rattle.ftp_server.specs.Settled.{HasMoved, IsSettled};
 
 use crate::line::Failed;
 use crate::server::Server;
@@ -20,7 +20,7 @@ impl<A: Allocator + Copy, T: Tree<A>, J: ServerTransfer<A, T>> Server<A, T, J> {
 
     /// What has failed so far.
     pub fn counts(&self) -> Counts
-        ensures { counts_told result ≡ counts_of T.failures self.now }
+        ensures { AreTold result (counts_of T.failures self.now) }
     {
         Counts {
             refusals: self.refusals,
@@ -32,7 +32,7 @@ impl<A: Allocator + Copy, T: Tree<A>, J: ServerTransfer<A, T>> Server<A, T, J> {
     pub(crate) fn count(&mut self, outcome: Result<(), Failed>, failures: u64)
         ensures view { view_of T.table J.view self.new ≡ view_of T.table J.view self.old }
         ensures done { OnOk outcome (counts_of T.failures self.new ≡ counts_of T.failures self.old) }
-        ensures failed { OnErr outcome (counts_of T.failures self.new ≢ record (counts_of T.failures self.old) { failures = failures }) }
+        ensures failed { OnErr outcome (HasMoved failures (counts_of T.failures self.old) (counts_of T.failures self.new)) }
         ensures few { MovesOn 1 self.old.refusals self.new.refusals }
         ensures device { T.failures self.new.session.tree ≡ T.failures self.old.session.tree }
         ensures told { self.new.heard ≡ self.old.heard }
@@ -46,7 +46,12 @@ impl<A: Allocator + Copy, T: Tree<A>, J: ServerTransfer<A, T>> Server<A, T, J> {
     pub(crate) fn settle(&mut self)
         ensures acts { Acts (λ v. v) (server_of T.table T.failures J.view self.old) (server_of T.table T.failures J.view self.new) }
         ensures told { Tells (λ v. v) self.new.heard (server_of T.table T.failures J.view self.old) (server_of T.table T.failures J.view self.new) }
+        ensures alone { self.old.waiting ≡ None → server_of T.table T.failures J.view self.new ≡ server_of T.table T.failures J.view self.old }
     {
+        if self.waiting.is_none() {
+            self.heard = None;
+            return;
+        }
         let failures = self.session.tree.device_failures();
         self.settle_behind(Ok(()), failures);
     }
@@ -54,9 +59,9 @@ impl<A: Allocator + Copy, T: Tree<A>, J: ServerTransfer<A, T>> Server<A, T, J> {
     /// The end of a call whose step may have failed; it began where the device's count stood at `failures`.
     pub(crate) fn settle_behind(&mut self, step: Result<(), Failed>, failures: u64)
         ensures settled { IsSettled step failures (server_of T.table T.failures J.view self.old) (server_of T.table T.failures J.view self.new) }
-        ensures told { OnOk step (failures ≡ T.failures self.old.session.tree → Tells (λ v. v) self.new.heard (server_of T.table T.failures J.view self.old) (server_of T.table T.failures J.view self.new)) }
+        ensures told { OnOk step (failures ≡ (T.failures self.old.session.tree).told → Tells (λ v. v) self.new.heard (server_of T.table T.failures J.view self.old) (server_of T.table T.failures J.view self.new)) }
         ensures refusals { MovesOn 1 self.old.refusals self.new.refusals }
-        ensures few { MovesOn 1 (T.failures self.old.session.tree) (T.failures self.new.session.tree) }
+        ensures few { TellsSome 1 (T.failures self.old.session.tree) (T.failures self.new.session.tree) }
     {
         let settled = self.later();
         if step.is_err() {
@@ -71,6 +76,9 @@ impl<A: Allocator + Copy, T: Tree<A>, J: ServerTransfer<A, T>> Server<A, T, J> {
     pub fn clock(&mut self, moment: Moment)
         ensures acts { Acts (clock_step moment.seconds) (server_of T.table T.failures J.view self.old) (server_of T.table T.failures J.view self.new) }
         ensures told { Tells (clock_step moment.seconds) self.new.heard (server_of T.table T.failures J.view self.old) (server_of T.table T.failures J.view self.new) }
+
+        // Where no line waits that is all, and the tree's device is not asked.
+        ensures alone { let old = server_of T.table T.failures J.view self.old in old.view.waiting ≡ None → server_of T.table T.failures J.view self.new ≡ record old { view = clock_step moment.seconds old.view } }
     {
         self.footing.moment = moment;
         self.settle();

@@ -12,7 +12,7 @@ use ftp_tree::Tree;
 use std::alloc::Allocator;
 
 impl<A: Allocator + Copy, T: Tree<A>, J: ServerTransfer<A, T>> Server<A, T, J> {
-    ghost use Rattle.ftp_server.specs.Server.{counts_of, server_of, view_of};
+    ghost use Rattle.ftp_server.specs.Server.{OnCourse, counts_of, server_of, view_of};
 
     /// Takes octets of the data connection, and says how many.
     pub fn data_hear(&mut self, piece: &[u8]) -> usize
@@ -52,8 +52,9 @@ impl<A: Allocator + Copy, T: Tree<A>, J: ServerTransfer<A, T>> Server<A, T, J> {
 
     /// Gives octets of the data connection, and says how many.
     pub fn data_out(&mut self, room: &mut [u8]) -> usize
-        ensures within { (result ≤ length room.old) × (result ≤ length (to_give (view_of T.table J.view self.old))) }
-        ensures gave { take result room.new ≡ take result (to_give (view_of T.table J.view self.old)) }
+        ensures within { result ≤ length room.old }
+        ensures left { OnCourse T.failures self.old self.new → result ≤ length (to_give (view_of T.table J.view self.old)) }
+        ensures gave { OnCourse T.failures self.old self.new → take result room.new ≡ take result (to_give (view_of T.table J.view self.old)) }
         ensures now { Steps (GiveFails result) (given_step result) (server_of T.table T.failures J.view self.old) (server_of T.table T.failures J.view self.new) }
         ensures told { Tells (given_step result) self.new.heard (server_of T.table T.failures J.view self.old) (server_of T.table T.failures J.view self.new) }
         ensures some { let old = server_of T.table T.failures J.view self.old in (server_of T.table T.failures J.view self.new).counts ≡ old.counts → 0 < length room.old → 0 < length (to_give old.view) → 0 < result }

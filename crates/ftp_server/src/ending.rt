@@ -1,12 +1,13 @@
 // The data connection ends or breaks (RFC 959, section 3.4).
 ghost use Rattle.std.specs.Prelude.{◌≡◌, OnErr, OnOk};
-ghost use Rattle.ftp_server_model.specs.Counting.{MovesOn};
+ghost use Rattle.ftp_server_model.specs.Counting.{TellsSome};
 ghost use Rattle.ftp_server_model.specs.Calls.{break_step, connection_of as connection_in, end_step};
 ghost use Rattle.ftp_server_model.specs.Endpoint.{disconnected};
 ghost use Rattle.ftp_server_model.specs.Machine.{with_session};
 ghost use Rattle.ftp_server.specs.Breaking.{InstallIsLost};
 ghost use Rattle.ftp_server.specs.Busy.{HasRoom};
 ghost use Rattle.ftp_server_session.specs.Session.{connection_of};
+ghost use Rattle.ftp_tree.specs.Change.{IsSteady};
 
 use crate::conclude::{at_break, at_end};
 use crate::line::Failed;
@@ -18,15 +19,15 @@ use std::alloc::Allocator;
 use std::mem;
 
 impl<A: Allocator + Copy, T: Tree<A>, J: ServerTransfer<A, T>> Server<A, T, J> {
-    ghost use Rattle.ftp_server.specs.Server.{counts_of, view_of};
+    ghost use Rattle.ftp_server.specs.Server.{OnCourse, counts_of, view_of};
 
     /// The client closed it: what came of an upload is installed.
     pub(crate) fn end_transfer(&mut self) -> Result<(), Failed>
-        ensures done { OnOk result (view_of T.table J.view self.new ≡ end_step (view_of T.table J.view self.old)) }
-        ensures steady { OnOk result (counts_of T.failures self.new ≡ counts_of T.failures self.old) }
-        ensures lost { let v = view_of T.table J.view self.old in OnErr result (InstallIsLost (connection_in v.session) (disconnected v.session) v (view_of T.table J.view self.new)) }
+        ensures done { OnOk result (OnCourse T.failures self.old self.new → view_of T.table J.view self.new ≡ end_step (view_of T.table J.view self.old)) }
+        ensures steady { OnOk result (IsSteady (T.failures self.old.session.tree) (T.failures self.new.session.tree)) }
+        ensures lost { let v = view_of T.table J.view self.old in OnErr result (OnCourse T.failures self.old self.new → InstallIsLost (connection_in v.session) (disconnected v.session) v (view_of T.table J.view self.new)) }
         ensures refusals { self.new.refusals ≡ self.old.refusals }
-        ensures few { MovesOn 1 (T.failures self.old.session.tree) (T.failures self.new.session.tree) }
+        ensures few { TellsSome 1 (T.failures self.old.session.tree) (T.failures self.new.session.tree) }
     {
         if self.session.closing {
             return Ok(());
@@ -54,11 +55,11 @@ impl<A: Allocator + Copy, T: Tree<A>, J: ServerTransfer<A, T>> Server<A, T, J> {
 
     /// It broke: what was settled of an upload is installed.
     pub(crate) fn break_transfer(&mut self) -> Result<(), Failed>
-        ensures done { OnOk result (view_of T.table J.view self.new ≡ break_step (view_of T.table J.view self.old)) }
-        ensures steady { OnOk result (counts_of T.failures self.new ≡ counts_of T.failures self.old) }
-        ensures lost { let v = view_of T.table J.view self.old in OnErr result (InstallIsLost (connection_in v.session) (disconnected v.session) v (view_of T.table J.view self.new)) }
+        ensures done { OnOk result (OnCourse T.failures self.old self.new → view_of T.table J.view self.new ≡ break_step (view_of T.table J.view self.old)) }
+        ensures steady { OnOk result (IsSteady (T.failures self.old.session.tree) (T.failures self.new.session.tree)) }
+        ensures lost { let v = view_of T.table J.view self.old in OnErr result (OnCourse T.failures self.old self.new → InstallIsLost (connection_in v.session) (disconnected v.session) v (view_of T.table J.view self.new)) }
         ensures refusals { self.new.refusals ≡ self.old.refusals }
-        ensures few { MovesOn 1 (T.failures self.old.session.tree) (T.failures self.new.session.tree) }
+        ensures few { TellsSome 1 (T.failures self.old.session.tree) (T.failures self.new.session.tree) }
     {
         if self.session.closing {
             return Ok(());

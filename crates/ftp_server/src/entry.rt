@@ -4,7 +4,8 @@ ghost use Rattle.ftp_direct.specs.Direct.{perm_of, size_fact};
 ghost use Rattle.ftp_ends.specs.Reply.{reply_octets};
 ghost use Rattle.ftp_server_model.specs.Replies.{entry_reply};
 ghost use Rattle.ftp_server_session.specs.Session.{session_of};
-ghost use Rattle.ftp_tree.specs.Tree.{Dir, size_at, under};
+ghost use Rattle.ftp_tree.specs.Map.{Dir};
+ghost use Rattle.ftp_tree.specs.Tree.{size_at, under};
 
 use ftp_direct::is_file;
 use ftp_operation::is_number;

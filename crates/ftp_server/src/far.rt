@@ -5,9 +5,9 @@ use ftp_ends::Wants;
 use ftp_facts::Moment;
 use ftp_operation::Rights;
 use ftp_path::Path;
-use ftp_server_model::{Answered, Counts, Far};
+use ftp_server_model::{Answered, Counts, Far, SureFar};
 use ftp_server_session::ServerTransfer;
-use ftp_tree::Tree;
+use ftp_tree::{SureTree, Tree};
 use std::alloc::Allocator;
 
 impl<A: Allocator + Copy, T: Tree<A>, J: ServerTransfer<A, T>> Far<A, T> for Server<A, T, J> {
@@ -120,4 +120,9 @@ impl<A: Allocator + Copy, T: Tree<A>, J: ServerTransfer<A, T>> Far<A, T> for Ser
     fn tree(&self) -> &T {
         self.tree()
     }
+}
+
+impl<A: Allocator + Copy, T: SureTree<A>, J: ServerTransfer<A, T>> SureFar<A, T>
+    for Server<A, T, J> {
+    ghost never = { λ server. T.never server.session.tree };
 }

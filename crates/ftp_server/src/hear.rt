@@ -2,7 +2,7 @@
 ghost use Rattle.std.specs.Prelude.{◌≡◌, ◌≤◌, ◌<◌, IsTrue, None, OnErr, OnOk, Some, length, take, true};
 ghost use Rattle.ftp_command.specs.Line.{line_limit};
 ghost use Rattle.ftp_nvt.specs.Ear.{line_of};
-ghost use Rattle.ftp_server_model.specs.Counting.{MovesOn};
+ghost use Rattle.ftp_server_model.specs.Counting.{TellsSome};
 ghost use Rattle.ftp_server_model.specs.Far.{Hears};
 ghost use Rattle.ftp_server_model.specs.Failing.{ActingFails, AreHeard, LineIsHeard, OctetIsHeard};
 ghost use Rattle.ftp_server_model.specs.Heard.{TellsHeard, heard_by_line, heard_by_octet};
@@ -11,6 +11,7 @@ ghost use Rattle.ftp_server_model.specs.Most.{IsMostHeard};
 ghost use Rattle.ftp_server.specs.Busy.{MayWait};
 ghost use Rattle.ftp_server.specs.HearsTo.{AreHeardTo, HearsTo, TellsTo};
 ghost use Rattle.ftp_server_session.specs.Session.{has_transfer};
+ghost use Rattle.ftp_tree.specs.Change.{IsSteady};
 
 use crate::line::{Failed, Moved};
 use crate::reading::read_line;
@@ -24,7 +25,7 @@ use ftp_tree::Tree;
 use std::alloc::Allocator;
 
 impl<A: Allocator + Copy, T: Tree<A>, J: ServerTransfer<A, T>> Server<A, T, J> {
-    ghost use Rattle.ftp_server.specs.Server.{counts_of, server_of, view_of};
+    ghost use Rattle.ftp_server.specs.Server.{OnCourse, counts_of, server_of, view_of};
 
     /// Takes octets of the control connection, and says how many.
     pub fn hear(&mut self, piece: &[u8]) -> usize
@@ -64,12 +65,12 @@ impl<A: Allocator + Copy, T: Tree<A>, J: ServerTransfer<A, T>> Server<A, T, J> {
         requires room { length self.old.output ≤ 4096 }
         requires none { self.old.waiting ≡ None }
         requires waits { MayWait (Some heard) }
-        ensures done { OnOk result (view_of T.table J.view self.new ≡ heard_line heard (view_of T.table J.view self.old)) }
-        ensures told { OnOk result (self.new.heard ≡ heard_by_line heard (view_of T.table J.view self.old)) }
-        ensures steady { OnOk result (counts_of T.failures self.new ≡ counts_of T.failures self.old) }
-        ensures lost { OnErr result (ActingFails (is_abort heard (view_of T.table J.view self.old)) heard (view_of T.table J.view self.old) (view_of T.table J.view self.new)) }
+        ensures done { OnOk result (OnCourse T.failures self.old self.new → view_of T.table J.view self.new ≡ heard_line heard (view_of T.table J.view self.old)) }
+        ensures told { OnOk result (OnCourse T.failures self.old self.new → self.new.heard ≡ heard_by_line heard (view_of T.table J.view self.old)) }
+        ensures steady { OnOk result (IsSteady (T.failures self.old.session.tree) (T.failures self.new.session.tree)) }
+        ensures lost { OnErr result (OnCourse T.failures self.old self.new → ActingFails (is_abort heard (view_of T.table J.view self.old)) heard (view_of T.table J.view self.old) (view_of T.table J.view self.new)) }
         ensures refusals { self.new.refusals ≡ self.old.refusals }
-        ensures few { MovesOn 1 (T.failures self.old.session.tree) (T.failures self.new.session.tree) }
+        ensures few { TellsSome 1 (T.failures self.old.session.tree) (T.failures self.new.session.tree) }
     {
         if self.is_abort(&heard) {
             let aborted = self.abort();
@@ -85,12 +86,12 @@ impl<A: Allocator + Copy, T: Tree<A>, J: ServerTransfer<A, T>> Server<A, T, J> {
         requires room { length self.old.output ≤ 4096 }
         requires none { self.old.waiting ≡ None }
         requires short { length (line_of self.old.reader.ear) ≤ line_limit }
-        ensures done { OnOk result ((read : Reading) → IsReading read → view_of T.table J.view self.new ≡ heard_line (read (line_of self.old.reader.ear)) (view_of T.table J.view self.old)) }
-        ensures told { OnOk result ((read : Reading) → IsReading read → self.new.heard ≡ heard_by_line (read (line_of self.old.reader.ear)) (view_of T.table J.view self.old)) }
-        ensures steady { OnOk result (counts_of T.failures self.new ≡ counts_of T.failures self.old) }
-        ensures lost { OnErr result ((read : Reading) → IsReading read → LineIsHeard (read (line_of self.old.reader.ear)) (view_of T.table J.view self.old) (view_of T.table J.view self.new)) }
+        ensures done { OnOk result (OnCourse T.failures self.old self.new → (read : Reading) → IsReading read → view_of T.table J.view self.new ≡ heard_line (read (line_of self.old.reader.ear)) (view_of T.table J.view self.old)) }
+        ensures told { OnOk result (OnCourse T.failures self.old self.new → (read : Reading) → IsReading read → self.new.heard ≡ heard_by_line (read (line_of self.old.reader.ear)) (view_of T.table J.view self.old)) }
+        ensures steady { OnOk result (IsSteady (T.failures self.old.session.tree) (T.failures self.new.session.tree)) }
+        ensures lost { OnErr result (OnCourse T.failures self.old self.new → (read : Reading) → IsReading read → LineIsHeard (read (line_of self.old.reader.ear)) (view_of T.table J.view self.old) (view_of T.table J.view self.new)) }
         ensures refusals { self.new.refusals ≡ self.old.refusals }
-        ensures few { MovesOn 1 (T.failures self.old.session.tree) (T.failures self.new.session.tree) }
+        ensures few { TellsSome 1 (T.failures self.old.session.tree) (T.failures self.new.session.tree) }
     {
         match read_line(self.session.alloc, self.reader.line()) {
             Some(heard) => self.hear_line(heard),
@@ -104,14 +105,14 @@ impl<A: Allocator + Copy, T: Tree<A>, J: ServerTransfer<A, T>> Server<A, T, J> {
     /// Takes octets as long as it may, and says how many; the last of them may have failed.
     pub(crate) fn hear_octets(&mut self, piece: &[u8]) -> Moved
         ensures within { result.count ≤ length piece.now }
-        ensures done { OnOk result.outcome (HearsTo (take result.count piece.now) (view_of T.table J.view self.old) (view_of T.table J.view self.new)) }
-        ensures told { OnOk result.outcome (TellsTo (take result.count piece.now) (view_of T.table J.view self.old) self.new.heard) }
-        ensures steady { OnOk result.outcome (counts_of T.failures self.new ≡ counts_of T.failures self.old) }
-        ensures lost { OnErr result.outcome (AreHeardTo (take result.count piece.now) (view_of T.table J.view self.old) (view_of T.table J.view self.new)) }
+        ensures done { OnOk result.outcome (OnCourse T.failures self.old self.new → HearsTo (take result.count piece.now) (view_of T.table J.view self.old) (view_of T.table J.view self.new)) }
+        ensures told { OnOk result.outcome (OnCourse T.failures self.old self.new → TellsTo (take result.count piece.now) (view_of T.table J.view self.old) self.new.heard) }
+        ensures steady { OnOk result.outcome (IsSteady (T.failures self.old.session.tree) (T.failures self.new.session.tree)) }
+        ensures lost { OnErr result.outcome (OnCourse T.failures self.old self.new → AreHeardTo (take result.count piece.now) (view_of T.table J.view self.old) (view_of T.table J.view self.new)) }
         ensures refusals { self.new.refusals ≡ self.old.refusals }
         ensures some { may_hear (view_of T.table J.view self.old) ≡ true → 0 < length piece.now → 0 < result.count }
-        ensures most { OnOk result.outcome (IsMostHeard result.count piece.now (view_of T.table J.view self.new)) }
-        ensures few { MovesOn 1 (T.failures self.old.session.tree) (T.failures self.new.session.tree) }
+        ensures most { OnOk result.outcome (OnCourse T.failures self.old self.new → IsMostHeard result.count piece.now (view_of T.table J.view self.new)) }
+        ensures few { TellsSome 1 (T.failures self.old.session.tree) (T.failures self.new.session.tree) }
     {
         self.heard = None;
         let mut count = 0;
@@ -136,12 +137,12 @@ impl<A: Allocator + Copy, T: Tree<A>, J: ServerTransfer<A, T>> Server<A, T, J> {
     fn hear_octet(&mut self, octet: u8) -> Result<(), Failed>
         requires room { length self.old.output ≤ 4096 }
         requires none { self.old.waiting ≡ None }
-        ensures done { OnOk result ((read : Reading) → IsReading read → view_of T.table J.view self.new ≡ hears_octet read (view_of T.table J.view self.old) octet) }
-        ensures told { OnOk result ((read : Reading) → IsReading read → self.new.heard ≡ heard_by_octet read (view_of T.table J.view self.old) octet) }
-        ensures steady { OnOk result (counts_of T.failures self.new ≡ counts_of T.failures self.old) }
-        ensures lost { OnErr result ((read : Reading) → IsReading read → OctetIsHeard read (view_of T.table J.view self.old) octet (view_of T.table J.view self.new)) }
+        ensures done { OnOk result (OnCourse T.failures self.old self.new → (read : Reading) → IsReading read → view_of T.table J.view self.new ≡ hears_octet read (view_of T.table J.view self.old) octet) }
+        ensures told { OnOk result (OnCourse T.failures self.old self.new → (read : Reading) → IsReading read → self.new.heard ≡ heard_by_octet read (view_of T.table J.view self.old) octet) }
+        ensures steady { OnOk result (IsSteady (T.failures self.old.session.tree) (T.failures self.new.session.tree)) }
+        ensures lost { OnErr result (OnCourse T.failures self.old self.new → (read : Reading) → IsReading read → OctetIsHeard read (view_of T.table J.view self.old) octet (view_of T.table J.view self.new)) }
         ensures refusals { self.new.refusals ≡ self.old.refusals }
-        ensures few { MovesOn 1 (T.failures self.old.session.tree) (T.failures self.new.session.tree) }
+        ensures few { TellsSome 1 (T.failures self.old.session.tree) (T.failures self.new.session.tree) }
     {
         self.heard = None;
         match self.reader.hear(octet) {

@@ -1,12 +1,13 @@
 // A line is acted on, or waits (RFC 959, sections 4.1.3 and 5.4).
 ghost use Rattle.std.specs.Prelude.{◌≡◌, ◌≤◌, OnErr, OnOk, Some, true, false};
-ghost use Rattle.ftp_server_model.specs.Counting.{MovesOn};
+ghost use Rattle.ftp_server_model.specs.Counting.{TellsSome};
 ghost use Rattle.ftp_server_model.specs.Heard.{later_heard, latest, told_of};
 ghost use Rattle.ftp_server_model.specs.Machine.{completed, is_idle, later, obeyed};
 ghost use Rattle.ftp_server_model.specs.Failing.{LineFails, WaitingFails};
 ghost use Rattle.ftp_path.specs.Login.{login_limit};
 ghost use Rattle.ftp_server.specs.Busy.{heard_name_len};
 ghost use Rattle.ftp_server_session.specs.Line.{HeardPaths};
+ghost use Rattle.ftp_tree.specs.Change.{IsSteady};
 
 use crate::say::say;
 use crate::server::Server;
@@ -30,7 +31,7 @@ pub(crate) struct Moved {
 }
 
 impl<A: Allocator + Copy, T: Tree<A>, J: ServerTransfer<A, T>> Server<A, T, J> {
-    ghost use Rattle.ftp_server.specs.Server.{counts_of, view_of};
+    ghost use Rattle.ftp_server.specs.Server.{OnCourse, counts_of, view_of};
 
     /// A download or a listing whose last octet was given is over.
     pub(crate) fn complete(&mut self)
@@ -51,12 +52,12 @@ impl<A: Allocator + Copy, T: Tree<A>, J: ServerTransfer<A, T>> Server<A, T, J> {
         requires idle { is_idle (view_of T.table J.view self.old) ≡ true }
         requires paths { HeardPaths heard }
         requires named { heard_name_len heard ≤ login_limit }
-        ensures done { OnOk result (view_of T.table J.view self.new ≡ obeyed heard (view_of T.table J.view self.old)) }
-        ensures told { OnOk result (self.new.heard ≡ Some (told_of heard (view_of T.table J.view self.old))) }
-        ensures steady { OnOk result (T.failures self.new.session.tree ≡ T.failures self.old.session.tree) }
-        ensures lost { OnErr result (LineFails heard (view_of T.table J.view self.old) (view_of T.table J.view self.new)) }
+        ensures done { OnOk result (OnCourse T.failures self.old self.new → view_of T.table J.view self.new ≡ obeyed heard (view_of T.table J.view self.old)) }
+        ensures told { OnOk result (OnCourse T.failures self.old self.new → self.new.heard ≡ Some (told_of heard (view_of T.table J.view self.old))) }
+        ensures steady { OnOk result (IsSteady (T.failures self.old.session.tree) (T.failures self.new.session.tree)) }
+        ensures lost { OnErr result (OnCourse T.failures self.old self.new → LineFails heard (view_of T.table J.view self.old) (view_of T.table J.view self.new)) }
         ensures refusals { self.new.refusals ≡ self.old.refusals }
-        ensures few { MovesOn 1 (T.failures self.old.session.tree) (T.failures self.new.session.tree) }
+        ensures few { TellsSome 1 (T.failures self.old.session.tree) (T.failures self.new.session.tree) }
     {
         let told = ActedLine::of(&heard);
         match self.session.decide(&self.footing, heard) {
@@ -83,12 +84,12 @@ impl<A: Allocator + Copy, T: Tree<A>, J: ServerTransfer<A, T>> Server<A, T, J> {
 
     /// Acts on the line that waits, where that may be.
     pub(crate) fn later(&mut self) -> Result<(), Failed>
-        ensures done { OnOk result (view_of T.table J.view self.new ≡ later (view_of T.table J.view self.old)) }
-        ensures told { OnOk result (self.new.heard ≡ later_heard (view_of T.table J.view self.old)) }
-        ensures steady { OnOk result (T.failures self.new.session.tree ≡ T.failures self.old.session.tree) }
-        ensures lost { OnErr result (WaitingFails (view_of T.table J.view self.old).waiting (view_of T.table J.view self.old) (view_of T.table J.view self.new)) }
+        ensures done { OnOk result (OnCourse T.failures self.old self.new → view_of T.table J.view self.new ≡ later (view_of T.table J.view self.old)) }
+        ensures told { OnOk result (OnCourse T.failures self.old self.new → self.new.heard ≡ later_heard (view_of T.table J.view self.old)) }
+        ensures steady { OnOk result (IsSteady (T.failures self.old.session.tree) (T.failures self.new.session.tree)) }
+        ensures lost { OnErr result (OnCourse T.failures self.old self.new → WaitingFails (view_of T.table J.view self.old).waiting (view_of T.table J.view self.old) (view_of T.table J.view self.new)) }
         ensures refusals { self.new.refusals ≡ self.old.refusals }
-        ensures few { MovesOn 1 (T.failures self.old.session.tree) (T.failures self.new.session.tree) }
+        ensures few { TellsSome 1 (T.failures self.old.session.tree) (T.failures self.new.session.tree) }
     {
         self.heard = None;
         if !self.is_idle() {
@@ -102,12 +103,12 @@ impl<A: Allocator + Copy, T: Tree<A>, J: ServerTransfer<A, T>> Server<A, T, J> {
 
     /// The same in the midst of a call: where no line is acted on, the one that this call acted on before is still the last.
     pub(crate) fn later_again(&mut self) -> Result<(), Failed>
-        ensures done { OnOk result (view_of T.table J.view self.new ≡ later (view_of T.table J.view self.old)) }
-        ensures told { OnOk result (self.new.heard ≡ latest self.old.heard (later_heard (view_of T.table J.view self.old))) }
-        ensures steady { OnOk result (T.failures self.new.session.tree ≡ T.failures self.old.session.tree) }
-        ensures lost { OnErr result (WaitingFails (view_of T.table J.view self.old).waiting (view_of T.table J.view self.old) (view_of T.table J.view self.new)) }
+        ensures done { OnOk result (OnCourse T.failures self.old self.new → view_of T.table J.view self.new ≡ later (view_of T.table J.view self.old)) }
+        ensures told { OnOk result (OnCourse T.failures self.old self.new → self.new.heard ≡ latest self.old.heard (later_heard (view_of T.table J.view self.old))) }
+        ensures steady { OnOk result (IsSteady (T.failures self.old.session.tree) (T.failures self.new.session.tree)) }
+        ensures lost { OnErr result (OnCourse T.failures self.old self.new → WaitingFails (view_of T.table J.view self.old).waiting (view_of T.table J.view self.old) (view_of T.table J.view self.new)) }
         ensures refusals { self.new.refusals ≡ self.old.refusals }
-        ensures few { MovesOn 1 (T.failures self.old.session.tree) (T.failures self.new.session.tree) }
+        ensures few { TellsSome 1 (T.failures self.old.session.tree) (T.failures self.new.session.tree) }
     {
         let before = mem::replace(&mut self.heard, None);
         let settled = self.later();

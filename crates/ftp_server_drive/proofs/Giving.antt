@@ -1,16 +1,16 @@
 -- What a call in which octets were given says first: 226 behind the last octet, 451 where what comes next was not had, and else nothing.
 use Rattle.std.proofs.Common.{◌≡◌, ◌≢◌, ◌⊎◌, inl, inr, ℕ, ◌<◌, Bool, true, false, List, [], ◌∷◌, ◌++◌, length, drop, Option, Some, None, refl, sym, ap}
 use Rattle.std.proofs.Common.{◌∙◌, subst, append_assoc, append-nil, arith}
-use Rattle.std.specs.Prelude.{◌==◌, if◌then◌else◌}
+use Rattle.std.specs.Prelude.{if◌then◌else◌}
 use Rattle.std.proofs.Math.Seq.{drop-append_seam, drop-length}
-use Rattle.std.proofs.lemmas.Bool.{eqb-true, eqb-false}
 use Rattle.std.proofs.lemmas.List.{length-drop}
 use Rattle.ftp_control.specs.Machine.{rest_left}
 use Rattle.ftp_control.specs.declared.whole.Rest.{Rest}
 use Rattle.ftp_control.specs.declared.whole.Rest.TheVariants.{Nothing, More}
 use Rattle.ftp_ends.specs.declared.link.Wants.TheVariants as Want
+use Rattle.ftp_server_model.proofs.CountLemmas.{same_counts}
 use Rattle.ftp_server_model.specs.Calls.{connection_of, given_by, given_step, is_done, takes_given, to_give, wants, wants_of, with_connection}
-use Rattle.ftp_server_model.specs.Failing.{Counts, GiveFails, Late, LineFails, WaitingFails}
+use Rattle.ftp_server_model.specs.Failing.{GiveFails, KeepsCourse, Late, LineFails, WaitingFails}
 use Rattle.ftp_server_model.specs.Far.{Server, Steps}
 use Rattle.ftp_server_model.specs.Heard.{code_in, turn_of}
 use Rattle.ftp_server_model.specs.Machine.{completed, faulted, given_out, is_idle, obeyed, turned, waited}
@@ -165,27 +165,10 @@ sends_by true done connection is = let e : Want.CloseData ≡ Want.Send = is in 
 sends_by false true connection is = let e : Want.CloseAll ≡ Want.Send = is in cc
 sends_by false false connection is = is
 
-decided : (b : Bool) → (b ≡ true) ⊎ (b ≡ false)
-decided true = inl refl
-decided false = inr refl
-
--- the counts changed, or not
-counts_same : (a b : Counts) → a.refusals ≡ b.refusals → a.failures ≡ b.failures → a ≡ b
-counts_same a b p q = ap (λ n. record { refusals = n; failures = a.failures }) p ∙ ap (λ n. record { refusals = b.refusals; failures = n }) q
-
-same_or_not : (a b : Counts) → (a ≡ b) ⊎ (a ≢ b)
-same_or_not a b = by (decided (a.refusals == b.refusals)) (decided (a.failures == b.failures))
-  where
-    by : ((a.refusals == b.refusals) ≡ true) ⊎ ((a.refusals == b.refusals) ≡ false) → ((a.failures == b.failures) ≡ true) ⊎ ((a.failures == b.failures) ≡ false)
-        → (a ≡ b) ⊎ (a ≢ b)
-    by (inl p) (inl q) = inl (counts_same a b (eqb-true _ _ p) (eqb-true _ _ q))
-    by (inr p) q = inr (λ same. eqb-false _ _ p (ap (λ c. c.refusals) same))
-    by (inl p) (inr q) = inr (λ same. eqb-false _ _ q (ap (λ c. c.failures) same))
-
--- the reply that such a call says first tells whether all was given
-pub told_exactly : (count : ℕ) (old new : Server) → Steps (GiveFails count) (given_step count) old new → wants old.view ≡ Want.Send
+-- where the device doesn't stray, the reply that such a call says first tells whether all was given
+pub told_exactly : (count : ℕ) (old new : Server) → KeepsCourse old.counts new.counts → Steps (GiveFails count) (given_step count) old new → wants old.view ≡ Want.Send
     → rest_told (code_in (drop (length old.view.owed) new.view.owed)) ≡ rest_left (drop count (to_give old.view))
-told_exactly count old new steps sends = by (same_or_not new.counts old.counts)
+told_exactly count old new course steps sends = by (same_counts new.counts old.counts)
   where
     connection : ServerLink Transfer
     connection = connection_of old.view.session
@@ -198,4 +181,4 @@ told_exactly count old new steps sends = by (same_or_not new.counts old.counts)
     by : (new.counts ≡ old.counts) ⊎ (new.counts ≢ old.counts)
         → rest_told (code_in (drop (length old.view.owed) new.view.owed)) ≡ rest_left (drop count (to_give old.view))
     by (inl same) = first (inr (inl (steps.done same)))
-    by (inr differ) = first (steps.failed differ)
+    by (inr differ) = first (steps.failed course differ)

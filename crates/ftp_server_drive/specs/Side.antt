@@ -10,7 +10,7 @@ use Rattle.ftp_control.specs.declared.whole.Rest.TheVariants.{Nothing, More}
 use Rattle.ftp_ends.specs.declared.link.Wants.TheVariants as Want
 use Rattle.ftp_server_model.specs.Calls.{break_step, clock_step, close_step, control_end, control_step, end_step, given_step, listening_step, may_receive, no_port_step, opened_step, refused_step, to_give, wants}
 use Rattle.ftp_server_model.specs.Machine.{may_hear}
-use Rattle.ftp_server_model.specs.Failing.{EndFails, GiveFails}
+use Rattle.ftp_server_model.specs.Failing.{EndFails, GiveFails, KeepsCourse}
 use Rattle.ftp_server_model.specs.Far.{Acts, Hears, Receives, Server, Steps}
 use Rattle.ftp_server_drive.specs.declared.clocked.Clocked.{Clocked}
 
@@ -52,6 +52,11 @@ HearsBy false octets old new = Alone (Hears octets) old new
 abbrev pub ended : Timed → Timed
 ended at = record at { server = record at.server { view = control_end at.server.view } }
 
+-- of what it has to give it gave the first octets, and it has more to give where more is left; unless the device of its tree strayed
+abbrev pub Gives : (count : ℕ) → (octets : List ℕ) → (rest : Rest) → (old new : Server) → Type 0
+Gives count octets rest old new =
+    KeepsCourse old.counts new.counts → (octets ≡ take count (to_give old.view)) × (rest ≡ rest_left (drop count (to_give old.view)))
+
 -- it is told the moment right before each line's end, and each end and break of a data connection, and only there; its own call is to be asked
 -- whether it is done with the control connection, where it is not
 abbrev pub server_machine : Machine
@@ -60,7 +65,6 @@ server_machine = record {
   wants = λ at. wants at.server.view;
   serves = true;
   owed = λ at. at.server.view.owed;
-  to_give = λ at. to_give at.server.view;
   may_hear = λ at. may_hear at.server.view;
   may_receive = λ at. may_receive at.server.view;
   Hears = λ octets unheard old new. (length octets ≤ 1) × HearsBy (ends_line unheard) octets old new;
@@ -71,13 +75,12 @@ server_machine = record {
   Listening = λ port old new. Alone (Acts (listening_step port)) old new;
   Opened = λ host old new. Alone (Acts (opened_step host)) old new;
   Received = λ octets count old new. Alone (Receives (take count octets)) old new;
-  Gave = λ count old new. Alone (Steps (GiveFails count) (given_step count)) old new;
+  Gave = λ count octets rest old new. Gives count octets rest old.server new.server × Alone (Steps (GiveFails count) (given_step count)) old new;
   NoPort = λ old new. Alone (Acts no_port_step) old new;
   Refused = λ old new. Alone (Acts refused_step) old new;
   End = λ old new. Timely (Steps EndFails end_step) old new;
   Break = λ old new. Timely (Steps EndFails break_step) old new;
   Closed = λ old new. Alone (Acts close_step) old new;
-  rest_after = λ count old new. rest_left (drop count (to_give old.server.view));
   IsCloseDue = λ at. wants at.server.view ≡ Want.CloseData;
   IsDone = λ at. wants at.server.view ≡ Want.CloseAll;
 }

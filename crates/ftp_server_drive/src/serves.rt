@@ -165,7 +165,8 @@ where
     F: Far<A, T>,
     C: Watch,
     O: Watches<F>,
-    ensures { (moment : ℕ) × Adds (C.told end.old.watch) (C.told end.new.watch) (moment ∷ []) × Acts (clock_step moment) (F.server end.old.server) (F.server end.new.server) }
+    ensures timed { (moment : ℕ) × Adds (C.told end.old.watch) (C.told end.new.watch) (moment ∷ []) × Acts (clock_step moment) (F.server end.old.server) (F.server end.new.server) }
+    ensures hears { IsTrue (may_hear (F.server end.old.server).view) → IsTrue (may_hear (F.server end.new.server).view) }
 {
     let moment = end.watch.moment();
     end.server.clock(moment);

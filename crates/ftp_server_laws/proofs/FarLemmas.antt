@@ -1,9 +1,7 @@
--- A server stays small with each call of `Far`, whatever fails.
-use Rattle.std.proofs.Common.{◌≡◌, ◌≢◌, ℕ, ◌⊎◌, inl, inr, List, [], ◌∷◌, Bool, true, false, refl, sym, ap, subst, ◌∙◌, arith, eqb-true, eq-eqb, true≢false}
-use Rattle.std.specs.Prelude.{◌==◌}
-use Rattle.ftp_nvt.proofs.CutLemmas.{decided as is_so}
+-- A server stays small with each call of `Far` in which the device doesn't stray, whatever fails.
+use Rattle.std.proofs.Common.{◌≡◌, ℕ, inl, inr, List, [], ◌∷◌, Bool, true, false, refl, sym, ap, subst, ◌∙◌, arith}
 use Rattle.ftp_server_model.specs.Calls.{MayReceive, breaks, connection_of, ends, listening_turn, opens, port_opens, port_opens_for, refuses, takes_given, unheard, break_step, clock_step, clocked, close_step, control_step, data_closed, data_end, data_fault, data_opened, data_refused, end_step, given_step, gives_control, gives_data, listen_refused, listening, listening_step, no_port_step, opened_step, receives, receives_octet, refused_step}
-use Rattle.ftp_server_model.specs.Failing.{AreHeard, AreReceived, Counts, EndFails, GiveFails}
+use Rattle.ftp_server_model.specs.Failing.{AreHeard, AreReceived, EndFails, GiveFails, KeepsCourse}
 use Rattle.ftp_server_model.specs.Far.{Acts, Hears, Receives, Server, Steps}
 use Rattle.ftp_server_model.specs.Machine.{IsReading, MayHear, Reading, completed, given_out, turned, hears, hears_octet, later}
 use Rattle.ftp_server_model.specs.View.{Transfer, View}
@@ -14,29 +12,13 @@ use Rattle.ftp_server_model.specs.declared.session.ServerLink.TheVariants as Dat
 use Rattle.ftp_server_model.specs.declared.session.Transfer.TheVariants as Transfers
 use Rattle.ftp_ends.specs.Link.{same_host}
 use Rattle.ftp_server_model.proofs.CallLemmas.{each_call_keeps}
+use Rattle.ftp_server_model.proofs.CountLemmas.{same_counts}
 use Rattle.ftp_server_model.proofs.LinesDecided.{reading_exists}
 use Rattle.ftp_server_laws.specs.Losses.{FarStaysSmall}
 use Rattle.ftp_server_laws.specs.Small.{IsShort, IsSmall}
 use Rattle.ftp_server_laws.proofs.LossLemmas.{end_fails, give_fails, heard_small, late_by, received_small, silent, silent_small}
 use Rattle.ftp_server_laws.proofs.Theorems.{hears_small, receives_small}
 use Rattle.ftp_server_laws.proofs.ViewLemmas.{break_step_short, clock_short, close_short, control_end_short, control_short, end_step_short, given_short, later_short, listening_short, no_port_short, opened_short, refused_short}
-
--- ---- whether a count changed
-
-same_number : (m n : ℕ) → (m ≡ n) ⊎ (m ≢ n)
-same_number m n =
-    elim (is_so (m == n)) [
-      | inl e ↦ inl (eqb-true m n e)
-      | inr e ↦ inr (λ same. true≢false (sym (eq-eqb m n same) ∙ e))
-    ]
-
-pub same_counts : (a b : Counts) → (a ≡ b) ⊎ (a ≢ b)
-same_counts a b = both (same_number a.refusals b.refusals) (same_number a.failures b.failures)
-  where
-    both : (a.refusals ≡ b.refusals) ⊎ (a.refusals ≢ b.refusals) → (a.failures ≡ b.failures) ⊎ (a.failures ≢ b.failures) → (a ≡ b) ⊎ (a ≢ b)
-    both (inl p) (inl q) = inl (λ i. record { refusals = p i; failures = q i })
-    both (inl p) (inr q) = inr (λ same. q (ap (λ (c : Counts). c.failures) same))
-    both (inr p) q = inr (λ same. p (ap (λ (c : Counts). c.refusals) same))
 
 -- ---- a step, where a line waits and where none does
 
@@ -135,8 +117,9 @@ record StepKeeps (step : View → View) (v : View) : Type 0 where
   pub silent_keeps : ServerKeeps (later (step (silent v)))
   pub short : IsShort (step v)
 
-steps_small : (Fails : View → View → Type 0) (step : View → View) (old new : Server) → StepKeeps step old.view → (Fails old.view new.view → IsSmall new.view) → Steps Fails step old new → IsSmall new.view
-steps_small Fails step old new k fails steps =
+steps_small : (Fails : View → View → Type 0) (step : View → View) (old new : Server) → KeepsCourse old.counts new.counts → StepKeeps step old.view
+    → (Fails old.view new.view → IsSmall new.view) → Steps Fails step old new → IsSmall new.view
+steps_small Fails step old new course k fails steps =
     let u : View = step old.view in
     let done : IsSmall (later u) = record { keeps = k.keeps; short = later_short u k.short } in
     let still : IsSmall (silent u) = record {
@@ -145,7 +128,7 @@ steps_small Fails step old new k fails steps =
     } in
     elim (same_counts new.counts old.counts) [
       | inl same ↦ subst IsSmall (sym (steps.done same)) done
-      | inr other ↦ elim (steps.failed other) [ inl lost ↦ fails lost | inr late ↦ late_by u new.view late done still ]
+      | inr other ↦ elim (steps.failed course other) [ inl lost ↦ fails lost | inr late ↦ late_by u new.view late done still ]
     ]
 
 -- ---- octets
@@ -166,59 +149,59 @@ are_received : (octets : List ℕ) (v w : View) → AreReceived v octets w → I
 are_received [] v w is k = subst IsSmall (sym is) k
 are_received (octet ∷ octets) v w is k = are_received octets is.1 w is.3 (received_small v is.1 octet is.0 is.2 k)
 
-heard_all : (octets : List ℕ) (old new : Server) → Hears octets old new → IsSmall old.view → IsSmall new.view
-heard_all octets old new hears k =
+heard_all : (octets : List ℕ) (old new : Server) → KeepsCourse old.counts new.counts → Hears octets old new → IsSmall old.view → IsSmall new.view
+heard_all octets old new course hears k =
     let read : Reading = reading_exists.0 in
     let reading = reading_exists.1 in
     let by = hears read reading in
     elim (same_counts new.counts old.counts) [
       | inl same ↦ subst IsSmall (sym (by.done same)) (all_heard read octets old.view reading (by.may same) k)
-      | inr other ↦ are_heard read octets old.view new.view reading (by.failed other) k
+      | inr other ↦ are_heard read octets old.view new.view reading (by.failed course other) k
     ]
 
-received_all : (octets : List ℕ) (old new : Server) → Receives octets old new → IsSmall old.view → IsSmall new.view
-received_all octets old new by k =
+received_all : (octets : List ℕ) (old new : Server) → KeepsCourse old.counts new.counts → Receives octets old new → IsSmall old.view → IsSmall new.view
+received_all octets old new course by k =
     elim (same_counts new.counts old.counts) [
       | inl same ↦ subst IsSmall (sym (by.done same)) (all_received octets old.view (by.may same) k)
-      | inr other ↦ are_received octets old.view new.view (by.failed other) k
+      | inr other ↦ are_received octets old.view new.view (by.failed course other) k
     ]
 
 -- ---- all calls
 
-acts_small : (step : View → View) (old new : Server) → StepKeeps step old.view → Acts step old new → IsSmall new.view
-acts_small step old new k acts = steps_small (λ v w. ⊥) step old new k (λ lost. absurd lost) acts
+acts_small : (step : View → View) (old new : Server) → KeepsCourse old.counts new.counts → StepKeeps step old.view → Acts step old new → IsSmall new.view
+acts_small step old new course k acts = steps_small (λ v w. ⊥) step old new course k (λ lost. absurd lost) acts
 
 pub far_stays_small : FarStaysSmall
 unfolding clocked gives_control listening listen_refused data_opened data_refused gives_data data_end data_fault data_closed
-far_stays_small old new k =
+far_stays_small old new course k =
     let v : View = old.view in
     let s : View = silent v in
     let calls = each_call_keeps v k.keeps in
     let quiet = each_call_keeps s (silent_small v k).keeps in
     record {
-      clock = λ moment is. acts_small (clock_step moment) old new (record { same = refl; keeps = calls.clock moment; silent_keeps = quiet.clock moment; short = clock_short moment v k.short }) is;
-      hear = λ octets is. heard_all octets old new is k;
-      control_out = λ count is. acts_small (control_step count) old new (record { same = refl; keeps = calls.control count; silent_keeps = quiet.control count; short = control_short count v k.short }) is;
+      clock = λ moment is. acts_small (clock_step moment) old new course (record { same = refl; keeps = calls.clock moment; silent_keeps = quiet.clock moment; short = clock_short moment v k.short }) is;
+      hear = λ octets is. heard_all octets old new course is k;
+      control_out = λ count is. acts_small (control_step count) old new course (record { same = refl; keeps = calls.control count; silent_keeps = quiet.control count; short = control_short count v k.short }) is;
       control_ended = λ is. subst (λ (server : Server). IsSmall server.view) (sym is) (record { keeps = calls.control_ended; short = control_end_short v k.short });
-      listens = λ port small is. acts_small (listening_step port) old new
+      listens = λ port small is. acts_small (listening_step port) old new course
           (record { same = listens_silent port (connection_of v.session) v; keeps = calls.listened port small; silent_keeps = quiet.listened port small; short = listening_short port v k.short }) is;
-      no_port = λ is. acts_small no_port_step old new (record { same = unheard_silent (connection_of v.session) v; keeps = calls.no_port; silent_keeps = quiet.no_port; short = no_port_short v k.short }) is;
-      opened = λ host is. acts_small (opened_step host) old new (record {
+      no_port = λ is. acts_small no_port_step old new course (record { same = unheard_silent (connection_of v.session) v; keeps = calls.no_port; silent_keeps = quiet.no_port; short = no_port_short v k.short }) is;
+      opened = λ host is. acts_small (opened_step host) old new course (record {
         same = completed_silent (opens (connection_of v.session) (same_host host v.footing.peer) s) (opens (connection_of v.session) (same_host host v.footing.peer) v)
             (opens_silent (connection_of v.session) (same_host host v.footing.peer) v);
         keeps = calls.opened host;
         silent_keeps = quiet.opened host;
         short = opened_short host v k.short;
       }) is;
-      refused = λ is. acts_small refused_step old new (record { same = refuses_silent (connection_of v.session) v; keeps = calls.refused; silent_keeps = quiet.refused; short = refused_short v k.short }) is;
-      received = λ octets is. received_all octets old new is k;
-      ended = λ is. steps_small EndFails end_step old new (record { same = ends_silent (connection_of v.session) v; keeps = calls.ended; silent_keeps = quiet.ended; short = end_step_short v k.short }) (λ lost. end_fails v new.view lost k) is;
-      broke = λ is. steps_small EndFails break_step old new (record { same = breaks_silent (connection_of v.session) v; keeps = calls.broke; silent_keeps = quiet.broke; short = break_step_short v k.short }) (λ lost. end_fails v new.view lost k) is;
-      gave = λ count is. steps_small (GiveFails count) (given_step count) old new (record {
+      refused = λ is. acts_small refused_step old new course (record { same = refuses_silent (connection_of v.session) v; keeps = calls.refused; silent_keeps = quiet.refused; short = refused_short v k.short }) is;
+      received = λ octets is. received_all octets old new course is k;
+      ended = λ is. steps_small EndFails end_step old new course (record { same = ends_silent (connection_of v.session) v; keeps = calls.ended; silent_keeps = quiet.ended; short = end_step_short v k.short }) (λ lost. end_fails v new.view lost k) is;
+      broke = λ is. steps_small EndFails break_step old new course (record { same = breaks_silent (connection_of v.session) v; keeps = calls.broke; silent_keeps = quiet.broke; short = break_step_short v k.short }) (λ lost. end_fails v new.view lost k) is;
+      gave = λ count is. steps_small (GiveFails count) (given_step count) old new course (record {
         same = completed_silent (takes_given (connection_of v.session) count s) (takes_given (connection_of v.session) count v) (takes_given_silent count (connection_of v.session) v);
         keeps = calls.given count;
         silent_keeps = quiet.given count;
         short = given_short count v k.short;
       }) (λ lost. give_fails count v new.view lost k) is;
-      closed = λ is. acts_small close_step old new (record { same = refl; keeps = calls.closed; silent_keeps = quiet.closed; short = close_short v k.short }) is;
+      closed = λ is. acts_small close_step old new course (record { same = refl; keeps = calls.closed; silent_keeps = quiet.closed; short = close_short v k.short }) is;
     }

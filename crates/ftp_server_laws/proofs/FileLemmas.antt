@@ -9,23 +9,25 @@ use Rattle.std.specs.Option.{is_some, unwrap_or}
 use Rattle.std.specs.Ordering.{eq_by_cmp, is_eq, is_lt}
 use Rattle.std.proofs.lemmas.Bool.{and_parts, cond_both, leb-true}
 use Rattle.ftp_path.specs.Path.{Names, moved_path, path_cmp}
-use Rattle.ftp_tree.specs.Store.{Rows}
-use Rattle.ftp_tree.specs.Tree.{Node, Dir, File, Table, node_at, octets_at, octets_of, of_node, octets_or_none, octets_refusal, or_else, room_at, room_refusal, whenever, made, removed, installed, freed, moved, under, with_part}
+use Rattle.ftp_tree.specs.Rows.{Rows}
+use Rattle.ftp_tree.specs.Map.{Node, Dir, File, octets_of, of_node}
+use Rattle.ftp_tree.specs.Tree.{Table, file_limit, most_octets, node_at, octets_at, octets_or_none, octets_refusal, or_else, room_at, room_refusal, whenever, made, removed, installed, freed, moved, under, with_part}
 use Rattle.ftp_direct.specs.Direct.{State, limited, or_refused, part, place_in, put_refusal, refused_octets, refused_room, size_in}
 use Rattle.ftp_direct.specs.declared.refusal.Refusal.{Refusal}
 use Rattle.ftp_settings.specs.declared.representation.Kind.{Kind}
 use Rattle.ftp_tree.specs.declared.fault.TreeFault.{TreeFault}
 use Rattle.ftp_tree.specs.declared.fault.TreeFault.TheVariants.{TooBig, Full}
 use Rattle.ftp_tree.proofs.EntryLemmas.{less-from, true-from}
-use Rattle.ftp_tree.proofs.KeepLaws.{at-insert, at-remove, by-freed}
-use Rattle.ftp_tree.proofs.LawLemmas.{cmp-front, get-moved, get-node, same, under-stands}
+use Rattle.ftp_tree.proofs.KeepLaws.{at-insert, at-remove, but_node, by-freed, with_node}
+use Rattle.ftp_tree.proofs.MapLemmas.{cmp-front, same}
+use Rattle.ftp_tree.proofs.LawLemmas.{get-moved, get-node, under-stands}
 use Rattle.ftp_tree.proofs.PartLemmas.{part-taken, put_again}
 use Rattle.ftp_tree.proofs.UnderLemmas.{insert-under, remove-under, moved-under}
 use Rattle.ftp_server_model.specs.Held.{HasShortFiles}
 
 -- what stands at a path, as a file within the limit, or as none
 abbrev pub IsShortNode : Option Node → Type 0
-IsShortNode node = length (unwrap_or (of_node octets_of node) []) ≤ 67108864
+IsShortNode node = length (unwrap_or (of_node octets_of node) []) ≤ most_octets
 
 nodes_short : (table : Table) → HasShortFiles table → (path : Names) → IsShortNode (node_at table path)
 unfolding octets_at
@@ -37,15 +39,15 @@ files_short table short path = short path
 
 -- ---- one path changes
 
-insert_short : (table : Table) (path : Names) (node : Node) → IsShortNode (Some node) → HasShortFiles table → HasShortFiles (fin.insert table path node)
+insert_short : (table : Table) (path : Names) (node : Node) → IsShortNode (Some node) → HasShortFiles table → HasShortFiles (with_node table path node)
 insert_short table path node one short =
-    files_short (fin.insert table path node)
+    files_short (with_node table path node)
     (λ other. subst IsShortNode (sym (at-insert table path node other))
     (cond_both (eq_by_cmp path_cmp other path) (Some node) (node_at table other) IsShortNode (λ is. one) (λ is. nodes_short table short other)))
 
-remove_short : (table : Table) (path : Names) → HasShortFiles table → HasShortFiles (fin.remove table path)
+remove_short : (table : Table) (path : Names) → HasShortFiles table → HasShortFiles (but_node table path)
 remove_short table path short =
-    files_short (fin.remove table path)
+    files_short (but_node table path)
     (λ other. subst IsShortNode (sym (at-remove table path other))
     (cond_both (eq_by_cmp path_cmp other path) None (node_at table other) IsShortNode (λ is. omega arith) (λ is. nodes_short table short other)))
 
@@ -88,8 +90,8 @@ found_short from to path (e ∷ es) short =
 
 moved_short : (table : Table) (from to : Names) → HasShortFiles table → HasShortFiles (moved table from to)
 moved_short table from to short =
-    let rows = rows_short (fin.entries table) (true-from _ (fin.entries_sorted table)) (λ path. subst IsShortNode (sym (get-node table path)) (nodes_short table short path)) in
-    files_short (moved table from to) (λ path. subst IsShortNode (sym (get-moved table from to path)) (found_short from to path (fin.entries table) rows))
+    let rows = rows_short (fin.entries table.map) (true-from _ (fin.entries_sorted table.map)) (λ path. subst IsShortNode (sym (get-node table path)) (nodes_short table short path)) in
+    files_short (moved table from to) (λ path. subst IsShortNode (sym (get-moved table from to path)) (found_short from to path (fin.entries table.map) rows))
 
 -- ---- the part that a session sees changes
 
@@ -101,7 +103,7 @@ pub removed_short : (table : Table) (root path : Names) → HasShortFiles table 
 unfolding removed
 removed_short table root path short = subst HasShortFiles (sym (remove-under table root path)) (remove_short table (root ++ path) short)
 
-pub installed_short : (table : Table) (root path : Names) (octets : List ℕ) (moment : ℕ) → length octets ≤ 67108864 → HasShortFiles table
+pub installed_short : (table : Table) (root path : Names) (octets : List ℕ) (moment : ℕ) → length octets ≤ most_octets → HasShortFiles table
     → HasShortFiles (with_part table root (installed (under table root) path octets moment))
 unfolding installed
 installed_short table root path octets moment few short =
@@ -120,19 +122,19 @@ renamed_short onto table root from to short =
     (moves_short without root from to (removed_short table root to short)))
 
 -- a file of it is within the limit
-pub seen_short : (table : Table) (root path : Names) → HasShortFiles table → length (octets_or_none (under table root) path) ≤ 67108864
+pub seen_short : (table : Table) (root path : Names) → HasShortFiles table → length (octets_or_none (under table root) path) ≤ most_octets
 unfolding octets_at
 seen_short table root path short = subst IsShortNode (sym (under-stands table root path)) (nodes_short table short (root ++ path))
 
 -- ---- the limit of a file
 
-few_by : (small : Bool) (count : ℕ) (why : Option TreeFault) → nat_le count 67108864 ≡ small → is_some (or_else (whenever (not small) TooBig) why) ≡ false → count ≤ 67108864
-few_by true count why is none = leb-true count 67108864 is
-few_by false count why is none = absurd (let e : true ≡ false = none in cc)
+few_by : (table : Table) (small : Bool) (count : ℕ) (why : Option TreeFault) → nat_le count (file_limit table) ≡ small → is_some (or_else (whenever (not small) TooBig) why) ≡ false → count ≤ most_octets
+few_by table true count why is none = omega (arith, leb-true count (file_limit table) is)
+few_by table false count why is none = absurd (let e : true ≡ false = none in cc)
 
 -- so many octets pass no limit of octets
-pub not_over : (table : Table) (path : Names) (count : ℕ) → is_some (octets_refusal table path count) ≡ false → count ≤ 67108864
-not_over table path count none = few_by (nat_le count 67108864) count (whenever (not (nat_le count (room_at table path))) Full) refl none
+pub not_over : (table : Table) (path : Names) (count : ℕ) → is_some (octets_refusal table path count) ≡ false → count ≤ most_octets
+not_over table path count none = few_by table (nat_le count (file_limit table)) count (whenever (not (nat_le count (room_at table path))) Full) refl none
 
 -- nor does one that may be put
 pub second_is_none : (first second : Option Refusal) → or_refused first second ≡ None → second ≡ None
@@ -143,7 +145,7 @@ octets_fit : (fault : Option TreeFault) → refused_octets fault ≡ None → is
 octets_fit None is = refl
 octets_fit (Some fault) is = absurd (cc)
 
-pub put_fits : (state : State) (path : Names) (count : ℕ) → put_refusal state path count ≡ None → count ≤ 67108864
+pub put_fits : (state : State) (path : Names) (count : ℕ) → put_refusal state path count ≡ None → count ≤ most_octets
 put_fits state path count none =
     let few = second_is_none (refused_room (limited path (room_refusal (part state) path))) _ none in
     not_over (part state) path count (octets_fit (octets_refusal (part state) path count) few)

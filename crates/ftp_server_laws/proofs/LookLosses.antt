@@ -1,5 +1,5 @@
--- What a call leaves that was refused memory or whose device failed has the same map too, where nobody may change anything: a lemma for each
--- definition of `Failing` of `ftp_server_model`.
+-- What a call leaves that was refused memory or whose device failed has the same map too, where nobody may change anything and the device doesn't
+-- stray: a lemma for each definition of `Failing` of `ftp_server_model`.
 use Rattle.std.proofs.Common.{ℕ, inl, inr, List, [], ◌∷◌, Bool, true, false, Option, Some, None, sym, subst}
 use Rattle.std.proofs.lemmas.Bool.{cond_both}
 use Rattle.ftp_command.specs.declared.command.Command.{Command}
@@ -8,7 +8,7 @@ use Rattle.ftp_ends.specs.Ear.{ear_out, ear_step}
 use Rattle.ftp_nvt.specs.Lines.{NvtEvent, line, too_long, owed}
 use Rattle.ftp_tree.specs.Tree.{Table}
 use Rattle.ftp_server_model.specs.Calls.{break_step, clock_step, close_step, connection_of, control_step, end_step, given_step, listening_step, no_port_step, opened_step, refused_step, takes_given}
-use Rattle.ftp_server_model.specs.Failing.{AbortFails, ActingFails, AreHeard, AreReceived, EndFails, EventIsHeard, EventsAreHeard, GiveFails, InstallFails, Late, LineFails, LineIsHeard, as_ever, not_read, not_done, OctetIsHeard, OctetIsReceived, ReadingFails, UploadFails, WaitingFails, line_lost}
+use Rattle.ftp_server_model.specs.Failing.{AbortFails, ActingFails, AreHeard, AreReceived, EndFails, EventIsHeard, EventsAreHeard, GiveFails, InstallFails, KeepsCourse, Late, LineFails, LineIsHeard, as_ever, not_read, not_done, OctetIsHeard, OctetIsReceived, ReadingFails, UploadFails, WaitingFails, line_lost}
 use Rattle.ftp_server_model.specs.Far.{Acts, Hears, Receives, Server, Steps}
 use Rattle.ftp_server_model.specs.Machine.{Reading, faulted, is_abort}
 use Rattle.ftp_server_model.specs.View.{Session, Transfer, View, line_limit}
@@ -19,9 +19,9 @@ use Rattle.ftp_server_model.specs.declared.session.Pending.TheVariants as Pendin
 use Rattle.ftp_server_model.specs.declared.session.ServerLink.{ServerLink}
 use Rattle.ftp_server_model.specs.declared.session.ServerLink.TheVariants as Data
 use Rattle.ftp_server_model.specs.declared.session.Transfer.TheVariants as Transfers
+use Rattle.ftp_server_model.proofs.CountLemmas.{same_counts}
 use Rattle.ftp_server_model.proofs.LinesDecided.{reading_exists}
 use Rattle.ftp_server_laws.specs.Lookers.{FarLeavesTheMap, HasNoUpload, OnlyLooks}
-use Rattle.ftp_server_laws.proofs.FarLemmas.{same_counts}
 use Rattle.ftp_server_laws.proofs.LookLemmas.{all_heard, all_received, break_step_looks, clock_looks, close_looks, control_end_looks, control_looks, end_step_looks, event_looks, forgets_with, given_by_looks, given_looks, later_looks, line_looks, listening_looks, no_port_looks, opened_looks, receives_looks, refused_looks}
 use Rattle.ftp_server_laws.proofs.LookTurns.{forgets_looks}
 
@@ -116,13 +116,13 @@ module _ (table : Table) where
   are_heard read [] v w is k = subst (OnlyLooks table) (sym is) k
   are_heard read (octet ∷ octets) v w is k = are_heard read octets is.1 w is.3 (octet_heard read v is.1 octet is.2 k)
 
-  hear_looks : (octets : List ℕ) (old new : Server) → Hears octets old new → OnlyLooks table old.view → OnlyLooks table new.view
-  hear_looks octets old new hears k =
+  hear_looks : (octets : List ℕ) (old new : Server) → KeepsCourse old.counts new.counts → Hears octets old new → OnlyLooks table old.view → OnlyLooks table new.view
+  hear_looks octets old new course hears k =
       let read : Reading = reading_exists.0 in
       let by = hears read reading_exists.1 in
       elim (same_counts new.counts old.counts) [
         | inl same ↦ subst (OnlyLooks table) (sym (by.done same)) (all_heard table read octets old.view k)
-        | inr other ↦ are_heard read octets old.view new.view (by.failed other) k
+        | inr other ↦ are_heard read octets old.view new.view (by.failed course other) k
       ]
 
   -- ---- data octets
@@ -135,43 +135,43 @@ module _ (table : Table) where
   are_received [] v w is k = subst (OnlyLooks table) (sym is) k
   are_received (octet ∷ octets) v w is k = are_received octets is.1 w is.3 (octet_received v is.1 octet is.2 k)
 
-  receive_looks : (octets : List ℕ) (old new : Server) → Receives octets old new → OnlyLooks table old.view → OnlyLooks table new.view
-  receive_looks octets old new by k =
+  receive_looks : (octets : List ℕ) (old new : Server) → KeepsCourse old.counts new.counts → Receives octets old new → OnlyLooks table old.view → OnlyLooks table new.view
+  receive_looks octets old new course by k =
       elim (same_counts new.counts old.counts) [
         | inl same ↦ subst (OnlyLooks table) (sym (by.done same)) (all_received table octets old.view k)
-        | inr other ↦ are_received octets old.view new.view (by.failed other) k
+        | inr other ↦ are_received octets old.view new.view (by.failed course other) k
       ]
 
   -- ---- the other calls
 
-  steps_look : (Fails : View → View → Type 0) (step : View → View) (old new : Server) → OnlyLooks table (step old.view)
+  steps_look : (Fails : View → View → Type 0) (step : View → View) (old new : Server) → KeepsCourse old.counts new.counts → OnlyLooks table (step old.view)
       → (Fails old.view new.view → OnlyLooks table new.view) → Steps Fails step old new → OnlyLooks table new.view
-  steps_look Fails step old new k fails steps =
+  steps_look Fails step old new course k fails steps =
       elim (same_counts new.counts old.counts) [
         | inl same ↦ late_looks (step old.view) new.view (inl (steps.done same)) k
-        | inr other ↦ elim (steps.failed other) [ inl lost ↦ fails lost | inr late ↦ late_looks (step old.view) new.view late k ]
+        | inr other ↦ elim (steps.failed course other) [ inl lost ↦ fails lost | inr late ↦ late_looks (step old.view) new.view late k ]
       ]
 
-  acts_look : (step : View → View) (old new : Server) → OnlyLooks table (step old.view) → Acts step old new → OnlyLooks table new.view
-  acts_look step old new k acts = steps_look (λ v w. ⊥) step old new k (λ lost. absurd lost) acts
+  acts_look : (step : View → View) (old new : Server) → KeepsCourse old.counts new.counts → OnlyLooks table (step old.view) → Acts step old new → OnlyLooks table new.view
+  acts_look step old new course k acts = steps_look (λ v w. ⊥) step old new course k (λ lost. absurd lost) acts
 
 pub far_leaves_the_map : FarLeavesTheMap
-far_leaves_the_map table old new k =
+far_leaves_the_map table old new course k =
     let v : View = old.view in
     let none = found_none v new.view k.session.connection in
     record {
-      clock = λ moment is. acts_look table (clock_step moment) old new (clock_looks table moment v k) is;
-      hear = λ octets is. hear_looks table octets old new is k;
-      control_out = λ count is. acts_look table (control_step count) old new (control_looks table count v k) is;
+      clock = λ moment is. acts_look table (clock_step moment) old new course (clock_looks table moment v k) is;
+      hear = λ octets is. hear_looks table octets old new course is k;
+      control_out = λ count is. acts_look table (control_step count) old new course (control_looks table count v k) is;
       control_ended = λ is. subst (λ (server : Server). OnlyLooks table server.view) (sym is) (control_end_looks table v k);
-      listens = λ port is. acts_look table (listening_step port) old new (listening_looks table port v k) is;
-      no_port = λ is. acts_look table no_port_step old new (no_port_looks table v k) is;
-      opened = λ host is. acts_look table (opened_step host) old new (opened_looks table host v k) is;
-      refused = λ is. acts_look table refused_step old new (refused_looks table v k) is;
-      received = λ octets is. receive_looks table octets old new is k;
-      ended = λ is. steps_look table EndFails end_step old new (end_step_looks table v k) (λ lost. absurd (none.install lost)) is;
-      broke = λ is. steps_look table EndFails break_step old new (break_step_looks table v k) (λ lost. absurd (none.install lost)) is;
-      gave = λ count is. steps_look table (GiveFails count) (given_step count) old new (given_looks table count v k)
+      listens = λ port is. acts_look table (listening_step port) old new course (listening_looks table port v k) is;
+      no_port = λ is. acts_look table no_port_step old new course (no_port_looks table v k) is;
+      opened = λ host is. acts_look table (opened_step host) old new course (opened_looks table host v k) is;
+      refused = λ is. acts_look table refused_step old new course (refused_looks table v k) is;
+      received = λ octets is. receive_looks table octets old new course is k;
+      ended = λ is. steps_look table EndFails end_step old new course (end_step_looks table v k) (λ lost. absurd (none.install lost)) is;
+      broke = λ is. steps_look table EndFails break_step old new course (break_step_looks table v k) (λ lost. absurd (none.install lost)) is;
+      gave = λ count is. steps_look table (GiveFails count) (given_step count) old new course (given_looks table count v k)
           (λ lost. give_fails table count v new.view lost k) is;
-      closed = λ is. acts_look table close_step old new (close_looks table v k) is;
+      closed = λ is. acts_look table close_step old new course (close_looks table v k) is;
     }

@@ -2,7 +2,6 @@
 use Rattle.std.proofs.Common.{◌≡◌, ℕ, ◌+◌, Bool, true, false, not, List, [], ◌∷◌, ◌++◌, Option, Some, None, refl, sym, ap, subst, ◌∙◌, length, true≢false}
 use Rattle.std.specs.Prelude.{if◌then◌else◌}
 use Rattle.std.specs.Option.{is_some}
-use Rattle.std.specs.FinMap as fin
 use Rattle.std.proofs.lemmas.Bool.{and_parts, cond_both, not-true}
 use Rattle.ftp_endpoint.specs.declared.host.Host.{Host}
 use Rattle.ftp_wire.specs.Decoder.{Decoder, broken, ended, is_whole, with_sign, read_on, octet_says, fault_of}
@@ -17,7 +16,7 @@ use Rattle.ftp_server_model.specs.Calls.{connection_of, listening_turn, unheard,
 use Rattle.ftp_server_model.specs.Endpoint.{forgotten, disconnected}
 use Rattle.ftp_server_model.specs.Keep.{kept_count, kept_of}
 use Rattle.ftp_server_model.specs.Machine.{Ending, given_out, completed, obeyed, waited, later, is_idle, has_room, is_connection_busy, is_transferring, turned, replied, concluded, at_break, at_end, end_refusal, ends_by, installs, put_in, is_over, aborts, abort_said, with_session, owes}
-use Rattle.ftp_server_model.specs.Play.{at_root, IsAt}
+use Rattle.ftp_server_model.specs.Play.{at_root, IsAt, no_nodes}
 use Rattle.ftp_server_model.specs.Replies.{Turn}
 use Rattle.ftp_server_model.specs.View.{Session, Transfer, View, seen}
 use Rattle.ftp_server_model.specs.Walk.{refusal_text}
@@ -207,7 +206,7 @@ put_own moment path keep octets text s =
     }
 
 refusal_own : (path : Names) (keep : Keep) (octets : List ℕ) (s : Session) → end_refusal path keep octets (at s.root s) ≡ end_refusal path keep octets s
-refusal_own path keep octets s = rw (part-taken fin.empty s.root (under s.table s.root)) refl
+refusal_own path keep octets s = rw (part-taken no_nodes s.root (under s.table s.root)) refl
 
 installs_own : (moment : ℕ) (path : Names) (keep : Keep) (d : Decoder) (text : FixedReply) (s : Session) → EndAt s.root s (installs moment path keep d text s) (installs moment path keep d text (at s.root s))
 installs_own moment path keep d text s =

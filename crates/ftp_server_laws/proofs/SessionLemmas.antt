@@ -16,7 +16,7 @@ use Rattle.ftp_operation.specs.declared.op.Op.TheVariants as Ops
 use Rattle.ftp_operation.specs.Account.{Account, login_account}
 use Rattle.ftp_direct.specs.Direct.{refusal, barred_put, done, or_refused, is_directory}
 use Rattle.ftp_direct.specs.declared.refusal.Refusal.{Refusal}
-use Rattle.ftp_tree.specs.Tree.{moved, node_at, octets_or_none}
+use Rattle.ftp_tree.specs.Tree.{most_octets, moved, node_at, octets_or_none}
 use Rattle.ftp_server_model.specs.Act.{act, decided, forgets, is_allowed, is_transfer}
 use Rattle.ftp_server_model.specs.Ask.{size, has_size, or_empty}
 use Rattle.ftp_server_model.specs.Endpoint.{forgotten, disconnected, is_taken, takes, port, asks, pasv, epsv}
@@ -133,13 +133,13 @@ starts_short : (why : Option Refusal) (transfer : Transfer) (s : Session) → Is
 starts_short None transfer s short k = begin_short s.connection transfer s short k
 starts_short (Some why) transfer s short k = forgotten_short s k
 
-place_short : (pending : Pending Names) (path : Names) (s : Session) → IsShortSession s → unwrap_or (place_of pending path s) 0 ≤ 67108864
+place_short : (pending : Pending Names) (path : Names) (s : Session) → IsShortSession s → unwrap_or (place_of pending path s) 0 ≤ most_octets
 place_short (Pendings.Restart offset) path s k =
     omega (arith, skips_few s.settings.kind (octets_or_none (seen s) path) offset, seen_short s.table s.root path k.files)
 place_short Pendings.Nothing path s k = omega arith
 place_short (Pendings.Rename from) path s k = omega arith
 
-stor_short : (place : Option ℕ) (path : Names) (s : Session) → unwrap_or place 0 ≤ 67108864 → IsShortSession s → IsShortTurn (stor_at place path s)
+stor_short : (place : Option ℕ) (path : Names) (s : Session) → unwrap_or place 0 ≤ most_octets → IsShortSession s → IsShortTurn (stor_at place path s)
 stor_short place path s few k = starts_short _ (Transfers.Upload path (Keeps.First (unwrap_or place 0)) (no_octets s.settings)) s (omega (arith, few)) k
 
 appe_short : (path : Names) (s : Session) → IsShortSession s → IsShortTurn (appe_at path s)

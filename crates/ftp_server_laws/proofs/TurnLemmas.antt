@@ -1,7 +1,6 @@
 -- What each line makes of a session whose map is only the part at and below its root: the same turn, of that map.
 use Rattle.std.proofs.Common.{◌≡◌, ℕ, ◌⊎◌, inl, inr, Bool, true, false, ◌||◌, List, [], Option, Some, None, refl, sym, ap, subst, ◌∙◌, true≢false}
 use Rattle.std.specs.Prelude.{if◌then◌else◌}
-use Rattle.std.specs.FinMap as fin
 use Rattle.ftp_command.specs.declared.command.Command.{Command}
 use Rattle.ftp_command.specs.declared.command.Command.TheVariants as command
 use Rattle.ftp_command.specs.declared.command.Passive.{Passive}
@@ -22,7 +21,7 @@ use Rattle.ftp_server_model.specs.Endpoint.{forgotten, is_taken, takes, port, as
 use Rattle.ftp_server_model.specs.Entries.{option_facts}
 use Rattle.ftp_server_model.specs.Login.{logged_out, logs_in, admits, open_account, user_named, checked, pass}
 use Rattle.ftp_server_model.specs.Machine.{is_transferring}
-use Rattle.ftp_server_model.specs.Play.{only_at}
+use Rattle.ftp_server_model.specs.Play.{no_nodes, only_at}
 use Rattle.ftp_server_model.specs.Replies.{Turn, said_octets, tells}
 use Rattle.ftp_server_model.specs.Setting.{choose, is_utf8_on, opts}
 use Rattle.ftp_server_model.specs.Transfer.{rests, begin, transfer_starts, place_of, retr, retr_at, stor, stor_at, appe, appe_at, list, nlst, mlsd}
@@ -167,31 +166,31 @@ starts_own why its_why transfer its s same alike =
 
 -- a place, and what is sent and put from it on
 place_own : (pending : Pending Names) (path : Names) (s : Session) → place_of pending path (at s.root s) ≡ place_of pending path s
-place_own (Pendings.Restart offset) path s = rw (part-taken fin.empty s.root (under s.table s.root)) refl
+place_own (Pendings.Restart offset) path s = rw (part-taken no_nodes s.root (under s.table s.root)) refl
 place_own Pendings.Nothing path s = refl
 place_own (Pendings.Rename from) path s = refl
 
 retr_own : (place its : Option ℕ) (text : List ℕ) (s : Session) → its ≡ place → OwnTurn s (retr_at place text s) (retr_at its text (at s.root s))
 retr_own place its text s same =
     subst (λ p. OwnTurn s (retr_at place text s) (retr_at p text (at s.root s))) (sym same)
-    (starts_own _ _ _ _ s (rw (part-taken fin.empty s.root (under s.table s.root)) refl) (rw (part-taken fin.empty s.root (under s.table s.root)) refl))
+    (starts_own _ _ _ _ s (rw (part-taken no_nodes s.root (under s.table s.root)) refl) (rw (part-taken no_nodes s.root (under s.table s.root)) refl))
 
 stor_own : (place its : Option ℕ) (path : Names) (s : Session) → its ≡ place → OwnTurn s (stor_at place path s) (stor_at its path (at s.root s))
 stor_own place its path s same =
     subst (λ p. OwnTurn s (stor_at place path s) (stor_at p path (at s.root s))) (sym same)
-    (starts_own _ _ _ _ s (rw (part-taken fin.empty s.root (under s.table s.root)) refl) refl)
+    (starts_own _ _ _ _ s (rw (part-taken no_nodes s.root (under s.table s.root)) refl) refl)
 
 appe_own : (path : Names) (s : Session) → OwnTurn s (appe_at path s) (appe_at path (at s.root s))
-appe_own path s = starts_own _ _ _ _ s (rw (part-taken fin.empty s.root (under s.table s.root)) refl) (rw (part-taken fin.empty s.root (under s.table s.root)) refl)
+appe_own path s = starts_own _ _ _ _ s (rw (part-taken no_nodes s.root (under s.table s.root)) refl) (rw (part-taken no_nodes s.root (under s.table s.root)) refl)
 
 list_own : (text : Option (List ℕ)) (s : Session) → OwnTurn s (list text s) (list text (at s.root s))
-list_own text s = starts_own _ _ _ _ s (refused_at s (Ops.Names (or_empty text) (how_in_force s.settings))) (rw (part-taken fin.empty s.root (under s.table s.root)) refl)
+list_own text s = starts_own _ _ _ _ s (refused_at s (Ops.Names (or_empty text) (how_in_force s.settings))) (rw (part-taken no_nodes s.root (under s.table s.root)) refl)
 
 nlst_own : (text : Option (List ℕ)) (s : Session) → OwnTurn s (nlst text s) (nlst text (at s.root s))
-nlst_own text s = starts_own _ _ _ _ s (refused_at s (Ops.Names (or_empty text) (how_in_force s.settings))) (rw (part-taken fin.empty s.root (under s.table s.root)) refl)
+nlst_own text s = starts_own _ _ _ _ s (refused_at s (Ops.Names (or_empty text) (how_in_force s.settings))) (rw (part-taken no_nodes s.root (under s.table s.root)) refl)
 
 mlsd_own : (text : Option (List ℕ)) (s : Session) → OwnTurn s (mlsd text s) (mlsd text (at s.root s))
-mlsd_own text s = starts_own _ _ _ _ s (refused_at s (Ops.List (or_empty text) (how_in_force s.settings))) (rw (part-taken fin.empty s.root (under s.table s.root)) refl)
+mlsd_own text s = starts_own _ _ _ _ s (refused_at s (Ops.List (or_empty text) (how_in_force s.settings))) (rw (part-taken no_nodes s.root (under s.table s.root)) refl)
 
 rests_own : (why : Option Refusal) (place : ℕ) (s : Session) → OwnTurn s (rests why place s) (rests why place (at s.root s))
 rests_own None place s = own s (record s { pending = Pendings.Restart place }) _ refl refl tt
@@ -199,13 +198,13 @@ rests_own (Some why) place s = tells_own _ s
 
 rnfr_own : (text : List ℕ) (s : Session) → OwnTurn s (rnfr text s) (rnfr text (at s.root s))
 rnfr_own text s =
-    unless_own (refused_source s (path_of s text)) (refused_source (at s.root s) (path_of s text)) s _ _ (rw (part-taken fin.empty s.root (under s.table s.root)) refl)
+    unless_own (refused_source s (path_of s text)) (refused_source (at s.root s) (path_of s text)) s _ _ (rw (part-taken no_nodes s.root (under s.table s.root)) refl)
     (own s (record s { pending = Pendings.Rename (path_of s text) }) _ refl refl tt)
 
 renames_own : (from to : Names) (s : Session) → OwnTurn s (renames from to s) (renames from to (at s.root s))
 renames_own from to s =
     unless_own (refused_target s from to) (refused_target (at s.root s) from to) s _ _
-    (rw (part-taken fin.empty s.root (under s.table s.root)) refl)
+    (rw (part-taken no_nodes s.root (under s.table s.root)) refl)
     (changes s (moved (target_seen s from to) from to) (moved (target_seen (at s.root s) from to) from to) _ (ap (λ part. moved (freed s.rights.onto part from to) from to) (seen_at s)) tt)
 
 rnto_own : (pending : Pending Names) (text : List ℕ) (s : Session) → OwnTurn s (rnto pending text s) (rnto pending text (at s.root s))
@@ -222,17 +221,17 @@ size_own text s =
     if_at (has_size s.settings) s.root s _ _ _ _
     (unless_own (refusal (direct_of s) (Ops.Size text (how_in_force s.settings))) (refusal (direct_of (at s.root s)) (Ops.Size text (how_in_force s.settings))) s _ _
     (refused_at s (Ops.Size text (how_in_force s.settings)))
-    (asked_own s (Replies.Size (size_of s text)) (Replies.Size (size_of (at s.root s) text)) (rw (part-taken fin.empty s.root (under s.table s.root)) refl) tt))
+    (asked_own s (Replies.Size (size_of s text)) (Replies.Size (size_of (at s.root s) text)) (rw (part-taken no_nodes s.root (under s.table s.root)) refl) tt))
     (tells_own Texts.Refused s)
 
 mdtm_own : (text : List ℕ) (s : Session) → OwnTurn s (mdtm text s) (mdtm text (at s.root s))
 mdtm_own text s =
     unless_own (refusal (direct_of s) (Ops.Modified text)) (refusal (direct_of (at s.root s)) (Ops.Modified text)) s _ _ (refused_at s (Ops.Modified text))
-    (asked_own s (Replies.Stamp _) (Replies.Stamp _) (rw (part-taken fin.empty s.root (under s.table s.root)) refl) tt)
+    (asked_own s (Replies.Stamp _) (Replies.Stamp _) (rw (part-taken no_nodes s.root (under s.table s.root)) refl) tt)
 
 entry_own : (path : Names) (s : Session) → OwnTurn s (s, Replies.Entry path) (at s.root s, Replies.Entry path)
 entry_own path s =
-    record { same = refl; said = rw (part-taken fin.empty s.root (under s.table s.root)) refl; apart = λ path out. refl; held = λ is. refl }
+    record { same = refl; said = rw (part-taken no_nodes s.root (under s.table s.root)) refl; apart = λ path out. refl; held = λ is. refl }
 
 mlst_own : (text : Option (List ℕ)) (s : Session) → OwnTurn s (mlst text s) (mlst text (at s.root s))
 mlst_own text s =

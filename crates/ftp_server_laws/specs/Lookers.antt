@@ -1,12 +1,12 @@
 -- Where no account has a right to change, no call changes the map, hostile octets too, also where memory is refused or the device fails (own
--- choice of rights).
+-- choice of rights); where others may change it too, where its device doesn't stray.
 use Rattle.std.specs.Prelude.{◌≡◌, ℕ, List}
 use Rattle.std.specs.List.{AllByRecursion}
 use Rattle.ftp_endpoint.specs.declared.host.Host.{Host}
 use Rattle.ftp_operation.specs.Rights.{no_rights}
 use Rattle.ftp_tree.specs.Tree.{Table}
 use Rattle.ftp_server_model.specs.Calls.{break_step, clock_step, close_step, control_end, control_step, end_step, given_step, listening_step, no_port_step, opened_step, refused_step, start}
-use Rattle.ftp_server_model.specs.Failing.{EndFails, GiveFails}
+use Rattle.ftp_server_model.specs.Failing.{EndFails, GiveFails, KeepsCourse}
 use Rattle.ftp_server_model.specs.Far.{Acts, Hears, Receives, Server, Steps}
 use Rattle.ftp_server_model.specs.Machine.{Reading}
 use Rattle.ftp_server_model.specs.Play.{Cue, call, left_by}
@@ -75,9 +75,9 @@ pub record FarOnlyLooks (table : Table) (old new : Server) : Type 0 where
   pub gave : (count : ℕ) → Steps (GiveFails count) (given_step count) old new → OnlyLooks table new.view
   pub closed : Acts close_step old new → OnlyLooks table new.view
 
--- of a server on which nobody may change anything
+-- of a server on which nobody may change anything, where the device doesn't stray
 abbrev pub FarLeavesTheMap : Type 0
-FarLeavesTheMap = (table : Table) (old new : Server) → OnlyLooks table old.view → FarOnlyLooks table old new
+FarLeavesTheMap = (table : Table) (old new : Server) → KeepsCourse old.counts new.counts → OnlyLooks table old.view → FarOnlyLooks table old new
 
 -- and a server is one at its start, where no account has a right to change
 abbrev pub StartsLook : Type 0

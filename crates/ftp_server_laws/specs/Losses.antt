@@ -1,9 +1,9 @@
--- A server stays small with each call of the trait `Far`, where memory is refused and where the device fails too. So whoever keeps the clauses
--- of `Far` holds no more than it may at the exit of each call.
+-- A server stays small with each call of the trait `Far` in which its tree's device doesn't stray, where memory is refused and where the device
+-- fails too. So whoever keeps the clauses of `Far` holds no more than it may at the exit of each such call.
 use Rattle.std.specs.Prelude.{◌≡◌, ℕ, ◌<◌, List}
 use Rattle.ftp_endpoint.specs.declared.host.Host.{Host}
 use Rattle.ftp_server_model.specs.Calls.{break_step, clock_step, close_step, control_end, control_step, end_step, given_step, listening_step, no_port_step, opened_step, refused_step}
-use Rattle.ftp_server_model.specs.Failing.{EndFails, GiveFails}
+use Rattle.ftp_server_model.specs.Failing.{EndFails, GiveFails, KeepsCourse}
 use Rattle.ftp_server_model.specs.Far.{Acts, Hears, Receives, Server, Steps}
 use Rattle.ftp_server_laws.specs.Small.{IsSmall}
 
@@ -23,6 +23,6 @@ pub record FarIsSmall (old new : Server) : Type 0 where
   pub gave : (count : ℕ) → Steps (GiveFails count) (given_step count) old new → IsSmall new.view
   pub closed : Acts close_step old new → IsSmall new.view
 
--- whatever fails
+-- whatever fails, where the device doesn't stray
 abbrev pub FarStaysSmall : Type 0
-FarStaysSmall = (old new : Server) → IsSmall old.view → FarIsSmall old new
+FarStaysSmall = (old new : Server) → KeepsCourse old.counts new.counts → IsSmall old.view → FarIsSmall old new

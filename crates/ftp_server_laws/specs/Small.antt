@@ -2,7 +2,7 @@
 -- waits, the files of its map, and an upload with the octets before it (own choices of the limits).
 use Rattle.std.specs.Prelude.{◌+◌, ◌≤◌, length}
 use Rattle.ftp_ends.specs.Limits.{IsShortLine}
-use Rattle.ftp_tree.specs.Tree.{file_limit}
+use Rattle.ftp_tree.specs.Tree.{most_octets}
 use Rattle.ftp_server_model.specs.Held.{HasShortFiles, waiting_len}
 use Rattle.ftp_server_model.specs.Keep.{kept_count}
 use Rattle.ftp_server_model.specs.Kept.{ServerKeeps}
@@ -11,9 +11,9 @@ use Rattle.ftp_server_model.specs.declared.session.ServerLink.{ServerLink}
 use Rattle.ftp_server_model.specs.declared.session.ServerLink.TheVariants as Data
 use Rattle.ftp_server_model.specs.declared.session.Transfer.TheVariants as Transfers
 
--- an upload: the octets before it and those that came are within the limit of a file
+-- an upload: the octets before it and those that came are no more than a limit may let a file have
 abbrev pub IsShortTransfer : Transfer → Type 0
-IsShortTransfer (Transfers.Upload path keep d) = kept_count keep + length d.content ≤ file_limit
+IsShortTransfer (Transfers.Upload path keep d) = kept_count keep + length d.content ≤ most_octets
 IsShortTransfer Transfers.OverLimit = Unit {0}
 IsShortTransfer (Transfers.Download rest) = Unit {0}
 IsShortTransfer (Transfers.Listing rest) = Unit {0}
@@ -28,7 +28,7 @@ IsShortConnection Data.Ready = Unit {0}
 IsShortConnection (Data.Opening transfer way) = IsShortTransfer transfer
 IsShortConnection (Data.Transferring transfer) = IsShortTransfer transfer
 
--- a session: every file of its map is within the limit of a file, and so is what it uploads
+-- a session: no file of its map has more octets than a limit may let it have, nor has what it uploads
 pub record IsShortSession (s : Session) : Type 0 where
   pub files : HasShortFiles s.table
   pub connection : IsShortConnection s.connection

@@ -12,7 +12,8 @@ pub fn servers_hold_little()
     ensures always { HoldsLittle }
 {}
 
-/// Whoever keeps the clauses of `Far` stays small with each call, where memory is refused and where the device fails too.
+/// Whoever keeps the clauses of `Far` stays small with each call in which its tree's device doesn't stray, where memory is refused and where the
+/// device fails too.
 pub fn servers_stay_small()
     ensures { FarStaysSmall }
 {}

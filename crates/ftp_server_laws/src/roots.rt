@@ -10,7 +10,7 @@ pub fn roots_are_apart()
 {}
 
 /// Of two that keep the clauses of `Far`, one of which has only what stands at and below the root, each call leaves two such, whichever octets
-/// are taken and given, where neither is refused memory and no device fails; they look alike to others, and nothing outside of the root changes.
+/// are taken and given, where neither is refused memory and no device fails or strays; they look alike to others, and nothing outside of the root changes.
 pub fn calls_stay_apart()
     ensures start { StartsAreCopies }
     ensures calls { CallsStayApart }
@@ -18,7 +18,7 @@ pub fn calls_stay_apart()
 {}
 
 /// Where no account has a right to change, the map stays as it is, whatever is called, hostile octets too; and so it is with each call of whoever
-/// keeps the clauses of `Far`, where memory is refused and where the device fails too.
+/// keeps the clauses of `Far` in which its tree's device doesn't stray, where memory is refused and where the device fails too.
 pub fn lookers_leave_the_map()
     ensures start { StartsLook }
     ensures calls { CallsOnlyLook }

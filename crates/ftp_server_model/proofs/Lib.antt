@@ -1,5 +1,6 @@
 pub mod CallLemmas
 pub mod CommandsInFlight
+pub mod CountLemmas
 pub mod Deciding
 pub mod EndpointsDecided
 pub mod LinesDecided

@@ -19,7 +19,8 @@ use Rattle.ftp_path.specs.Path.{IsPathText, text_of as path_text, Names}
 use Rattle.ftp_command.proofs.CarriedLemmas.{Fits, is_plain, fits_both, fits_with, digit_plain, decimal_fits, six_fits, path_fits, all_plain}
 use Rattle.ftp_ends.specs.Reply.{Reply, IsCarried, IsWritten}
 use Rattle.ftp_server_model.specs.Texts.{code_of, text_of}
-use Rattle.ftp_tree.specs.Tree.{Node, Dir, File, node_at}
+use Rattle.ftp_tree.specs.Map.{Node, Dir, File}
+use Rattle.ftp_tree.specs.Tree.{node_at}
 use Rattle.ftp_operation.specs.Operation.{is_number}
 use Rattle.ftp_direct.specs.Direct.{entry_at, listed, perm_of, size_fact}
 use Rattle.ftp_server_model.specs.View.{Session, seen}

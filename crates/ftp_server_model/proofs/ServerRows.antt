@@ -13,7 +13,8 @@ use Rattle.ftp_direct.specs.declared.refusal.Refusal.{Refusal}
 use Rattle.ftp_direct.specs.Direct.{entries_in, entry_at, listed as listed_entry, is_directory, names_for, refusal, refused_file, file_of, place_in, or_refused, refused_there}
 use Rattle.ftp_operation.specs.declared.op.Op.TheVariants as Ops
 use Rattle.ftp_path.specs.Path.{resolved, fits, parent, text_of, is_within, Names}
-use Rattle.ftp_tree.specs.Tree.{Node, source_refusal, target_refusal, rename_refusal, takes_place, freed, moved, octets_at, node_at, children, under, with_part, Table, Dir, File}
+use Rattle.ftp_tree.specs.Map.{Node, Dir, File}
+use Rattle.ftp_tree.specs.Tree.{source_refusal, target_refusal, rename_refusal, takes_place, freed, moved, octets_at, node_at, children, under, with_part, Table}
 use Rattle.ftp_tree.proofs.KeepLaws.{takes-freed}
 use Rattle.ftp_tree.proofs.OntoLemmas.{free-freed}
 use Rattle.ftp_server_model.specs.View.{Transfer, Session, View, all_facts, direct_of, how_in_force, seen}

@@ -8,7 +8,11 @@ use Rattle.ftp_direct.specs.declared.refusal.Refusal.{Refusal}
 use Rattle.ftp_operation.specs.Rights.{all_rights}
 use Rattle.ftp_direct.specs.Direct.{or_refused, place_in, refused_name}
 use Rattle.ftp_path.specs.Path.{resolved, fits, text_of, Names}
-use Rattle.ftp_tree.specs.Tree.{Table, File, node_at, octets_at, octets_or_none, room_refusal, room_at, installed, under}
+use Rattle.ftp_tree.specs.Tree.{Table, node_at, octets_at, octets_or_none, or_else, room_refusal, room_at, whenever, file_limit, installed, under}
+use Rattle.ftp_tree.specs.Map.{File}
+use Rattle.ftp_tree.specs.declared.fault.TreeFault.TheVariants.{TooBig, Full}
+use Rattle.std.proofs.Common.{arith, not, is_some}
+use Rattle.std.proofs.lemmas.Bool.{leb-true, le-leb}
 use Rattle.ftp_settings.specs.declared.representation.Structure.TheVariants as Structures
 use Rattle.ftp_settings.specs.Representation.{defaults}
 use Rattle.ftp_wire.specs.Decoder.{Decoder, no_octets, decoder_of}
@@ -106,12 +110,17 @@ after place settings closing = uploads place settings Data.Free closing
 abbrev ending : Footing → Session → Keep → List ℕ → FixedReply → Option Refusal → Ending
 ending footing s keep content text why = ends_by why footing.moment f_path keep content text s
 
+-- what there is room for is within the limit of a file
+within_limit : (table : Table) (path : Names) (count room : ℕ) → room_at table path ≡ room → nat_le count room ≡ true → nat_le count (file_limit table) ≡ true
+unfolding room_at
+within_limit table path count room is fit = le-leb count (file_limit table) (omega (arith, is, leb-true count room fit))
+
 -- what came can be put there: a file stands there, and there is room
 ends_well : (place : Place) (settings : Representation) (keep : Keep) (old content : List ℕ) → node_at (part_at place) f_path ≡ Some (File old 0)
-    → room_at (part_at place) f_path ≡ 1000 → lacks keep old ≡ false → nat_le (length (kept_of keep old ++ content)) 67108864 ≡ true
-    → nat_le (length (kept_of keep old ++ content)) 1000 ≡ true → end_refusal f_path keep content (after place settings false) ≡ None
+    → room_at (part_at place) f_path ≡ 1000 → lacks keep old ≡ false → nat_le (length (kept_of keep old ++ content)) 1000 ≡ true → end_refusal f_path keep content (after place settings false) ≡ None
 unfolding fits text_of room_refusal octets_at
-ends_well place settings keep old content f room none small fit = rw f (rw none (rw small (rw room (rw fit refl))))
+ends_well place settings keep old content f room none fit =
+    rw f (rw none (rw (within_limit (part_at place) f_path (length (kept_of keep old ++ content)) 1000 room fit) (rw room (rw fit refl))))
 
 -- decoders of a file in type I and of one in type A
 abbrev image_settings : Representation
@@ -124,9 +133,9 @@ abbrev ascii : List ℕ → Decoder
 ascii w = decoder_of defaults w
 
 -- so many octets pass no limit
-fits_room : (place : Place) (room : ℕ) (d : Decoder) → room_at (part_at place) f_path ≡ room → nat_le (0 + length d.content) 67108864 ≡ true
+fits_room : (place : Place) (room : ℕ) (d : Decoder) → room_at (part_at place) f_path ≡ room
     → nat_le (0 + length d.content) room ≡ true → is_over f_path (Keeps.First 0) d (after place defaults false) ≡ false
-fits_room place room d is small fit = rw small (rw is (rw fit refl))
+fits_room place room d is fit = rw (within_limit (part_at place) f_path (0 + length d.content) room is fit) (rw is (rw fit refl))
 
 -- ---- octets: what each of them settles, where that passes no limit or does
 
@@ -215,27 +224,31 @@ pub abort : AbortAnswered
 abort table root f room =
     let rest : List RowEvent = asks command.Abor ∷ [] in
     let is = ap (λ w. after_events (octets (codes "ab") ∷ rest) w) (begun table root f)
-    ∙ ap (λ w. after_events rest (receives_octet w 98)) (a_comes (standing root) (table, root) active_said false (fits_room (table, root) 1000 (ascii (97 ∷ [])) room refl refl))
-    ∙ ap (λ w. after_events rest w) (b_comes (standing root) (table, root) active_said false (fits_room (table, root) 1000 (ascii (97 ∷ 98 ∷ [])) room refl refl))
-    ∙ aborts (standing root) (table, root) active_said (ends_well (table, root) defaults (Keeps.First 0) [] (codes "ab") f room refl refl refl) in
+    ∙ ap (λ w. after_events rest (receives_octet w 98)) (a_comes (standing root) (table, root) active_said false (fits_room (table, root) 1000 (ascii (97 ∷ [])) room refl))
+    ∙ ap (λ w. after_events rest w) (b_comes (standing root) (table, root) active_said false (fits_room (table, root) 1000 (ascii (97 ∷ 98 ∷ [])) room refl))
+    ∙ aborts (standing root) (table, root) active_said (ends_well (table, root) defaults (Keeps.First 0) [] (codes "ab") f room refl refl) in
     (ap (λ w. w.owed) is, ap (λ w. w.session.table) is, ap wants is)
 
 pub broken_upload : BrokenUploadKept
 broken_upload table root f room =
     let is = ap (λ w. after_events (octets (120 ∷ 13 ∷ []) ∷ breaks ∷ []) w) (begun table root f)
-    ∙ ap (λ w. after_events (breaks ∷ []) (receives_octet w 13)) (x_comes (standing root) (table, root) active_said false (fits_room (table, root) 1000 (ascii (120 ∷ [])) room refl refl))
-    ∙ ap (λ w. after_events (breaks ∷ []) w) (return_comes (standing root) (table, root) active_said false (fits_room (table, root) 1000 (ascii (120 ∷ 13 ∷ [])) room refl refl))
-    ∙ breaks_off (standing root) (table, root) active_said (ends_well (table, root) defaults (Keeps.First 0) [] (codes "x") f room refl refl refl) in
+    ∙ ap (λ w. after_events (breaks ∷ []) (receives_octet w 13)) (x_comes (standing root) (table, root) active_said false (fits_room (table, root) 1000 (ascii (120 ∷ [])) room refl))
+    ∙ ap (λ w. after_events (breaks ∷ []) w) (return_comes (standing root) (table, root) active_said false (fits_room (table, root) 1000 (ascii (120 ∷ 13 ∷ [])) room refl))
+    ∙ breaks_off (standing root) (table, root) active_said (ends_well (table, root) defaults (Keeps.First 0) [] (codes "x") f room refl refl) in
     (ap (λ w. w.owed) is, ap (λ w. w.session.table) is)
 
 past_room : (place : Place) → room_at (part_at place) f_path ≡ 2 → is_over f_path (Keeps.First 0) (ascii (97 ∷ 98 ∷ 99 ∷ [])) (after place defaults false) ≡ true
-past_room place room = rw room refl
+past_room place room = rw room (either (nat_le 3 (file_limit (part_at place))))
+  where
+    either : (b : Bool) → is_some (or_else (whenever (not b) TooBig) (Some Full)) ≡ true
+    either true = refl
+    either false = refl
 
 pub too_much : TooMuchRefused
 too_much table root f room =
     let is = ap (λ w. after_events (octets (codes "abc") ∷ ends ∷ []) w) (begun table root f)
-    ∙ ap (λ w. after_events (ends ∷ []) (receives_octet (receives_octet w 98) 99)) (a_comes (standing root) (table, root) active_said false (fits_room (table, root) 2 (ascii (97 ∷ [])) room refl refl))
-    ∙ ap (λ w. after_events (ends ∷ []) (receives_octet w 99)) (b_comes (standing root) (table, root) active_said false (fits_room (table, root) 2 (ascii (97 ∷ 98 ∷ [])) room refl refl))
+    ∙ ap (λ w. after_events (ends ∷ []) (receives_octet (receives_octet w 98) 99)) (a_comes (standing root) (table, root) active_said false (fits_room (table, root) 2 (ascii (97 ∷ [])) room refl))
+    ∙ ap (λ w. after_events (ends ∷ []) (receives_octet w 99)) (b_comes (standing root) (table, root) active_said false (fits_room (table, root) 2 (ascii (97 ∷ 98 ∷ [])) room refl))
     ∙ ap (λ w. after_events (ends ∷ []) w) (c_comes (standing root) (table, root) active_said true (past_room (table, root) room))
     ∙ ends_past (standing root) (table, root) active_said in
     (ap (λ w. w.owed) is, ap (λ w. w.session.table) is)
@@ -263,10 +276,10 @@ pub passive_upload : UploadInstalled
 passive_upload table root f room =
     let rest : List RowEvent = octets (codes "c") ∷ ends ∷ [] in
     let is = ap (λ w. after_events (octets (codes "ab") ∷ rest) w) (begun_passive table root f)
-    ∙ ap (λ w. after_events rest (receives_octet w 98)) (image_a (standing root) (table, root) passive_said false (fits_room (table, root) 1000 (image (97 ∷ [])) room refl refl))
-    ∙ ap (λ w. after_events rest w) (image_b (standing root) (table, root) passive_said false (fits_room (table, root) 1000 (image (97 ∷ 98 ∷ [])) room refl refl))
-    ∙ ap (λ w. after_events (ends ∷ []) w) (image_c (standing root) (table, root) passive_said false (fits_room (table, root) 1000 (image (97 ∷ 98 ∷ 99 ∷ [])) room refl refl))
-    ∙ ends_whole (standing root) (table, root) passive_said (ends_well (table, root) image_settings (Keeps.First 0) [] (codes "abc") f room refl refl refl) in
+    ∙ ap (λ w. after_events rest (receives_octet w 98)) (image_a (standing root) (table, root) passive_said false (fits_room (table, root) 1000 (image (97 ∷ [])) room refl))
+    ∙ ap (λ w. after_events rest w) (image_b (standing root) (table, root) passive_said false (fits_room (table, root) 1000 (image (97 ∷ 98 ∷ [])) room refl))
+    ∙ ap (λ w. after_events (ends ∷ []) w) (image_c (standing root) (table, root) passive_said false (fits_room (table, root) 1000 (image (97 ∷ 98 ∷ 99 ∷ [])) room refl))
+    ∙ ends_whole (standing root) (table, root) passive_said (ends_well (table, root) image_settings (Keeps.First 0) [] (codes "abc") f room refl refl) in
     (ap (λ w. w.owed) is, ap (λ w. w.session.table) is, ap wants is)
 
 -- ---- APPE with a marker
@@ -316,7 +329,8 @@ marker_comes footing place said = refl
 
 pub marker : MarkerAnswered
 marker table root f room =
-    let over : is_over f_path (Keeps.All 3) (blocks (0 ∷ 0 ∷ 1 ∷ 100 ∷ [])) (after (table, root) block_settings false) ≡ false = rw room refl in
+    let over : is_over f_path (Keeps.All 3) (blocks (0 ∷ 0 ∷ 1 ∷ 100 ∷ [])) (after (table, root) block_settings false) ≡ false =
+    rw (within_limit (part_at (table, root)) f_path 4 1000 room refl) (rw room refl) in
     ap (λ w. (receives w (0 ∷ 0 ∷ 1 ∷ 100 ∷ 16 ∷ 0 ∷ 1 ∷ 77 ∷ [])).owed) (begun_append table root f)
     ∙ ap (λ w. (receives w (16 ∷ 0 ∷ 1 ∷ 77 ∷ [])).owed) (block_comes (standing root) (table, root) block_said false over)
     ∙ marker_comes (standing root) (table, root) block_said
@@ -333,8 +347,8 @@ pub abort_past_room : AbortPastRoom
 abort_past_room table root f room =
     let rest : List RowEvent = asks command.Abor ∷ [] in
     let is = ap (λ w. after_events (octets (codes "abc") ∷ rest) w) (begun table root f)
-    ∙ ap (λ w. after_events rest (receives_octet (receives_octet w 98) 99)) (a_comes (standing root) (table, root) active_said false (fits_room (table, root) 2 (ascii (97 ∷ [])) room refl refl))
-    ∙ ap (λ w. after_events rest (receives_octet w 99)) (b_comes (standing root) (table, root) active_said false (fits_room (table, root) 2 (ascii (97 ∷ 98 ∷ [])) room refl refl))
+    ∙ ap (λ w. after_events rest (receives_octet (receives_octet w 98) 99)) (a_comes (standing root) (table, root) active_said false (fits_room (table, root) 2 (ascii (97 ∷ [])) room refl))
+    ∙ ap (λ w. after_events rest (receives_octet w 99)) (b_comes (standing root) (table, root) active_said false (fits_room (table, root) 2 (ascii (97 ∷ 98 ∷ [])) room refl))
     ∙ ap (λ w. after_events rest w) (c_comes (standing root) (table, root) active_said true (past_room (table, root) room))
     ∙ aborts_past (standing root) (table, root) active_said in
     (ap (λ w. w.owed) is, ap (λ w. w.session.table) is)
@@ -357,10 +371,11 @@ abc_octets table f = rw f refl
 
 pub early_end : EarlyEnd
 early_end table root f room =
-    let over : is_over f_path (Keeps.All 3) (blocks (0 ∷ 0 ∷ 1 ∷ 100 ∷ [])) (after (table, root) block_settings false) ≡ false = rw room refl in
+    let over : is_over f_path (Keeps.All 3) (blocks (0 ∷ 0 ∷ 1 ∷ 100 ∷ [])) (after (table, root) block_settings false) ≡ false =
+    rw (within_limit (part_at (table, root)) f_path 4 1000 room refl) (rw room refl) in
     let is = ap (λ w. data_end (receives w (0 ∷ 0 ∷ 1 ∷ 100 ∷ []))) (begun_append table root f)
     ∙ ap (λ w. data_end w) (block_comes (standing root) (table, root) block_said false over)
-    ∙ ends_early (standing root) (table, root) block_said (ends_well (table, root) block_settings (Keeps.All 3) (codes "abc") (codes "d") f room refl refl refl)
+    ∙ ends_early (standing root) (table, root) block_said (ends_well (table, root) block_settings (Keeps.All 3) (codes "abc") (codes "d") f room refl refl)
     ∙ ap (λ o. left (standing root) block_said (ends_behind (standing root) (after (table, root) block_settings false) (Keeps.All 3) o (codes "d") Texts.Broken))
     (abc_octets (under table root) f) in
     (ap (λ w. w.owed) is, ap (λ w. w.session.table) is)
@@ -386,8 +401,8 @@ drops footing place said = refl
 pub dropped_upload : UploadDropped
 dropped_upload table root f room =
     let is = ap (λ w. control_end (after_events (octets (codes "ab") ∷ []) w)) (begun table root f)
-    ∙ ap (λ w. control_end (receives_octet w 98)) (a_comes (standing root) (table, root) active_said false (fits_room (table, root) 1000 (ascii (97 ∷ [])) room refl refl))
-    ∙ ap control_end (b_comes (standing root) (table, root) active_said false (fits_room (table, root) 1000 (ascii (97 ∷ 98 ∷ [])) room refl refl))
+    ∙ ap (λ w. control_end (receives_octet w 98)) (a_comes (standing root) (table, root) active_said false (fits_room (table, root) 1000 (ascii (97 ∷ [])) room refl))
+    ∙ ap control_end (b_comes (standing root) (table, root) active_said false (fits_room (table, root) 1000 (ascii (97 ∷ 98 ∷ [])) room refl))
     ∙ drops (standing root) (table, root) active_said in
     (ap (λ w. w.owed) is, ap (λ w. w.session.table) is, ap wants is, ap may_hear is)
 
@@ -439,10 +454,11 @@ ends_from footing place said is = ap (λ why. left footing said (ending footing 
 
 pub upload_from_place : UploadFromPlace
 upload_from_place table root f room =
-    let over : is_over f_path (Keeps.First 1) (image (122 ∷ [])) (after (table, root) image_settings false) ≡ false = rw room refl in
+    let over : is_over f_path (Keeps.First 1) (image (122 ∷ [])) (after (table, root) image_settings false) ≡ false =
+    rw (within_limit (part_at (table, root)) f_path 2 1000 room refl) (rw room refl) in
     let is = ap (λ w. data_end (receives w (codes "z"))) (begun_from table root f)
     ∙ ap (λ w. data_end w) (z_comes (standing root) (table, root) from_said false over)
-    ∙ ends_from (standing root) (table, root) from_said (ends_well (table, root) image_settings (Keeps.First 1) (codes "abc") (codes "z") f room refl refl refl)
+    ∙ ends_from (standing root) (table, root) from_said (ends_well (table, root) image_settings (Keeps.First 1) (codes "abc") (codes "z") f room refl refl)
     ∙ ap (λ o. left (standing root) from_said (ends_behind (standing root) (after (table, root) image_settings false) (Keeps.First 1) o (codes "z") Texts.Complete))
     (abc_octets (under table root) f) in
     (ap (λ w. w.owed) is, ap (λ w. w.session.table) is)

@@ -1,6 +1,6 @@
 -- What a call leaves that was refused memory or whose device failed. Beside its view a server has two counts, of refused growths
 -- and of its tree's device failures; both wrap. Where neither changed in a call, the call is the function of `Machine` or `Calls`;
--- else it leaves one of these. Every later call is a function again.
+-- else it leaves one of these. Every later call is a function again. Of a call in which the device strayed nothing of this is said.
 use Rattle.std.specs.Prelude.{◌++◌, ◌≡◌, ◌⊎◌, ◌<◌, ℕ, Bool, true, false, List, [], ◌∷◌, length, Option, Some, None, is_some}
 use Rattle.ftp_nvt.specs.Lines.{NvtEvent, line, too_long, owed}
 use Rattle.ftp_command.specs.declared.command.Command.{Command}
@@ -8,6 +8,7 @@ use Rattle.ftp_command.specs.declared.command.Command.TheVariants as command
 use Rattle.ftp_command.specs.declared.fault.CommandFault.TheVariants as Faults
 use Rattle.ftp_mode.specs.Said.{Said}
 use Rattle.ftp_wire.specs.Decoder.{read_on, octet_says}
+use Rattle.ftp_tree.specs.Change.{Failures, NoStray}
 use Rattle.ftp_ends.specs.Ear.{ear_step, ear_out}
 use Rattle.ftp_server_model.specs.View.{Transfer, Session, View, line_limit}
 use Rattle.ftp_server_model.specs.Endpoint.{forgotten, disconnected}
@@ -22,10 +23,14 @@ use Rattle.ftp_server_model.specs.declared.session.Transfer.TheVariants as Trans
 use Rattle.ftp_server_model.specs.declared.session.ServerLink.{ServerLink}
 use Rattle.ftp_server_model.specs.declared.session.ServerLink.TheVariants as Data
 
--- the two counts
+-- the two counts; with that of failures goes how often the device strayed
 pub record Counts : Type 0 where
   pub refusals : ℕ
-  pub failures : ℕ
+  pub failures : Failures
+
+-- in a call the tree's device did not stray
+abbrev pub KeepsCourse : (old new : Counts) → Type 0
+KeepsCourse old new = NoStray old.failures new.failures
 
 -- ---- a line
 

@@ -5,7 +5,7 @@ use Rattle.ftp_endpoint.specs.Written.{IsTypedHost}
 use Rattle.ftp_endpoint.specs.declared.host.Host.{Host}
 use Rattle.ftp_command.specs.Line.{line_of}
 use Rattle.ftp_path.specs.Path.{Names, text_limit, text_of}
-use Rattle.ftp_tree.specs.Tree.{Table, file_limit, octets_or_none}
+use Rattle.ftp_tree.specs.Tree.{Table, most_octets, octets_or_none}
 use Rattle.ftp_wire.specs.Stored.{encoder_limit}
 use Rattle.ftp_ends.specs.Limits.{held_limit}
 use Rattle.ftp_server_model.specs.View.{Accounts, Session, Transfer, View, line_limit}
@@ -88,9 +88,9 @@ KeepsLittle =
     (stored : ℕ) (v : View) → MayStore stored v.session.connection → ServerKeeps v
     → length v.ear.line.text ≤ line_limit → waiting_len v.waiting ≤ line_limit + line_limit → held stored v ≤ held_limit
 
--- each file is within the limit of files, so that the octets of an upload behind it can be told
+-- no file has more octets than a limit may let it have, so that the octets of an upload behind it can be told
 abbrev pub HasShortFiles : Table → Type 0
-HasShortFiles table = (path : Names) → length (octets_or_none table path) ≤ file_limit
+HasShortFiles table = (path : Names) → length (octets_or_none table path) ≤ most_octets
 
 -- a port has 16 bits
 abbrev pub IsTypedCue : Cue → Type 0

@@ -5,7 +5,8 @@ use Rattle.std.specs.List.{flat_map, filter_map}
 use Rattle.ftp_facts.specs.Calendar.{year_and_place, month_and_place}
 use Rattle.ftp_facts.specs.Moment.{four_digits}
 use Rattle.ftp_path.specs.Path.{fits, Names}
-use Rattle.ftp_tree.specs.Tree.{Node, Dir, File, Table, node_at, children}
+use Rattle.ftp_tree.specs.Map.{Node, Dir, File}
+use Rattle.ftp_tree.specs.Tree.{Table, node_at, children}
 use Rattle.ftp_direct.specs.Direct.{entries_in, names_for, child}
 use Rattle.ftp_settings.specs.Representation.{Form}
 use Rattle.ftp_settings.specs.declared.representation.Kind.TheVariants as Kinds

@@ -4,7 +4,7 @@ use Rattle.std.specs.Prelude.{◌≡◌, ℕ, suc, true, false, min, List, [], �
 use Rattle.std.specs.FinMap as fin
 use Rattle.ftp_endpoint.specs.declared.host.Host.{Host}
 use Rattle.ftp_path.specs.Path.{Names, is_within}
-use Rattle.ftp_tree.specs.Tree.{Table, node_at, under, with_part}
+use Rattle.ftp_tree.specs.Tree.{Table, default_limits, node_at, under, with_part}
 use Rattle.ftp_ends.specs.declared.link.Wants.{Wants}
 use Rattle.ftp_server_model.specs.View.{Accounts, View}
 use Rattle.ftp_server_model.specs.Act.{is_in}
@@ -74,9 +74,13 @@ left_by read (cue ∷ cues) v = left_by read cues (call read cue v).1
 
 -- ---- a view at a root
 
--- of a map what stands at and below a root, in its place; elsewhere nothing stands
+-- a map at whose paths nothing stands; nobody asks its limits
+abbrev pub no_nodes : Table
+no_nodes = record { limits = default_limits; map = fin.empty }
+
+-- of a map what stands at and below a root, in its place and within its limits; elsewhere nothing stands
 abbrev pub only_at : Names → Table → Table
-only_at root table = with_part fin.empty root (under table root)
+only_at root table = with_part no_nodes root (under table root)
 
 -- all that a server holds, but of the map only that: a login to a root elsewhere finds no directory, and is refused
 abbrev pub at_root : Names → View → View

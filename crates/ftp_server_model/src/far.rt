@@ -1,11 +1,11 @@
 // The server's end of a session, as a world of both sees it: each call is a step of the view that `specs` has for it.
 ghost use Rattle.std.specs.Prelude.{◌≡◌, ◌<◌, ◌≤◌, ℕ, IsTrue, None, Option, drop, length, min, option_map, take};
 ghost use Rattle.ftp_server_model.specs.Calls.{break_step, clock_step, close_step, control_end, control_step, end_step, given_step, listening_step, may_receive, no_port_step, opened_step, refused_step, to_give, wants};
-ghost use Rattle.ftp_server_model.specs.Failing.{EndFails, GiveFails};
+ghost use Rattle.ftp_server_model.specs.Failing.{EndFails, GiveFails, KeepsCourse};
 ghost use Rattle.ftp_server_model.specs.Heard.{Heard, Tells, TellsHeard, TellsReceived, code_in, lent, login_in};
 ghost use Rattle.ftp_server_model.specs.Machine.{is_transferring, may_hear};
 ghost use Rattle.ftp_server_model.specs.Most.{IsMostHeard, IsMostReceived};
-ghost use Rattle.ftp_server_model.specs.Far.{Acts, Hears, Receives, Server, Steps, counts_told};
+ghost use Rattle.ftp_server_model.specs.Far.{Acts, AreTold, Hears, Receives, Server, Steps};
 ghost use Rattle.ftp_ends.specs.Octets.{has_octets};
 
 use crate::counts::Counts;
@@ -20,6 +20,7 @@ use std::alloc::Allocator;
 
 /// The server's end. Its `view` is what it holds; where a count of refused growths or of device failures changed in a call
 /// (both wrap, and move by as many as `specs/Counting` says at most), the call left what `specs/Failing` says, and every later call is a step again.
+/// Where the tree's device strayed in a call, nothing is said of it but how the counts moved.
 pub trait Far<A: Allocator + Copy, T: Tree<A>>: Drop {
     ghost server: { Self → Server };
     /// The line that the last call acted on, where it acted on one; what it is where a count changed in that call is not said.
@@ -28,7 +29,10 @@ pub trait Far<A: Allocator + Copy, T: Tree<A>>: Drop {
     /// The moment in force from now on.
     fn clock(&mut self, moment: Moment)
         ensures acts { Acts (clock_step moment.seconds) (server self.old) (server self.new) }
-        ensures told { Tells (clock_step moment.seconds) (heard self.new) (server self.old) (server self.new) };
+        ensures told { Tells (clock_step moment.seconds) (heard self.new) (server self.old) (server self.new) }
+
+        // Where no line waits that is all, and its device is not asked.
+        ensures alone { (server self.old).view.waiting ≡ None → server self.new ≡ record (server self.old) { view = clock_step moment.seconds (server self.old).view } };
 
     /// Takes octets of the control connection, and says how many.
     fn hear(&mut self, piece: &[u8]) -> usize
@@ -98,8 +102,9 @@ pub trait Far<A: Allocator + Copy, T: Tree<A>>: Drop {
 
     /// Gives octets of the data connection, and says how many. Where what comes next of a download or a listing is not had, that ends with 451.
     fn data_out(&mut self, room: &mut [u8]) -> usize
-        ensures within { (result ≤ length room.old) × (result ≤ length (to_give (server self.old).view)) }
-        ensures gave { take result room.new ≡ take result (to_give (server self.old).view) }
+        ensures within { result ≤ length room.old }
+        ensures left { KeepsCourse (server self.old).counts (server self.new).counts → result ≤ length (to_give (server self.old).view) }
+        ensures gave { KeepsCourse (server self.old).counts (server self.new).counts → take result room.new ≡ take result (to_give (server self.old).view) }
         ensures now { Steps (GiveFails result) (given_step result) (server self.old) (server self.new) }
         ensures told { Tells (given_step result) (heard self.new) (server self.old) (server self.new) }
         ensures some { (server self.new).counts ≡ (server self.old).counts → 0 < length room.old → 0 < length (to_give (server self.old).view) → 0 < result }
@@ -122,7 +127,7 @@ pub trait Far<A: Allocator + Copy, T: Tree<A>>: Drop {
 
     /// What has failed so far.
     fn counts(&self) -> Counts
-        ensures { counts_told result ≡ (server self.now).counts };
+        ensures { AreTold result (server self.now).counts };
 
     /// Whether it owes octets of the control connection.
     fn owes(&self) -> bool
@@ -163,4 +168,11 @@ pub trait Far<A: Allocator + Copy, T: Tree<A>>: Drop {
     /// Its tree, whose map is that of the session.
     fn tree(&self) -> &T
         ensures { T.table result.now ≡ (server self.now).view.session.table };
+}
+
+/// The server's end over a tree whose device never strays.
+pub trait SureFar<A: Allocator + Copy, T: Tree<A>>: Far<A, T> {
+    ghost use Rattle.std.specs.Prelude.{◌≡◌};
+
+    ghost never: { (far : Self) → (Self.server far).counts.failures.strays ≡ 0 };
 }

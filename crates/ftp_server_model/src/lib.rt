@@ -12,7 +12,7 @@ pub mod rows;
 mod session;
 
 pub use counts::Counts;
-pub use far::Far;
+pub use far::{Far, SureFar};
 pub use heard::{Answered, HeardLine, TOLD_LIMIT};
 pub use reply::{FixedReply, ReplyKind};
 pub use room::{FREE_ROOM, OUTPUT_ROOM};

@@ -1,6 +1,7 @@
 -- What a transfer does, as the definitions' transfer: octets come or are given, and it ends.
 use Rattle.std.specs.Prelude.{◌≡◌, ℕ, Bool, true, false, List, [], ◌∷◌, drop, Result, Ok, Err}
 use Rattle.ftp_tree.specs.Tree.{Table}
+use Rattle.ftp_tree.specs.Change.{Failures, IsSteady, NoStray}
 use Rattle.ftp_server_model.specs.View.{Session, Transfer, View, seen}
 use Rattle.ftp_server_model.specs.Machine.{Ending, owes, later, faulted, has_room}
 use Rattle.ftp_server_model.specs.Replies.{reply_octets, mark_reply}
@@ -80,6 +81,6 @@ IsUpload (Transfers.Download rest) = ⊥
 IsUpload (Transfers.Listing rest) = ⊥
 
 -- how a transfer ends, with the map as it is then; where that failed the map is as it was
-abbrev pub Ends : Ending → Session → Table → Result FixedReply Fault → (before after : ℕ) → Type 0
-Ends ending s new (Ok text) before after = ((record s { table = new }, text) ≡ ending) × (after ≡ before)
-Ends ending s new (Err fault) before after = (new ≡ s.table) × Counted fault before after
+abbrev pub Ends : Ending → Session → Table → Result FixedReply Fault → (before after : Failures) → Type 0
+Ends ending s new (Ok text) before after = (NoStray before after → (record s { table = new }, text) ≡ ending) × IsSteady before after
+Ends ending s new (Err fault) before after = (NoStray before after → new ≡ s.table) × Counted fault before after

@@ -13,6 +13,7 @@ mod line;
 mod output;
 mod part;
 mod reply;
+mod room;
 mod text;
 mod transfer;
 
@@ -24,4 +25,5 @@ pub use fault::Fault;
 pub use line::line_len;
 pub use output::Output;
 pub use part::{access_len, path_len, pending_len, waiting_len};
+pub use room::room_text;
 pub use transfer::{Given, Marker, Received, ServerTransfer, Told};

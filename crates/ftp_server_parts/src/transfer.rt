@@ -7,9 +7,10 @@ ghost use Rattle.ftp_server_model.specs.Machine.{at_break, at_end};
 ghost use Rattle.ftp_server_model.specs.Transfer.{file_wire};
 ghost use Rattle.ftp_server_model.specs.View.{Session as Seen};
 ghost use Rattle.ftp_server_model.specs.declared.session.Transfer.TheVariants as Transfers;
-ghost use Rattle.ftp_server_model.specs.Counting.{MovesOn};
+ghost use Rattle.ftp_server_model.specs.Counting.{TellsSome};
 ghost use Rattle.ftp_server_parts.specs.Fault.{Counted};
 ghost use Rattle.ftp_server_parts.specs.ServerTransfer.{Comes, Ends, IsUpload, behind, given_of, is_out, takes_octets};
+ghost use Rattle.ftp_tree.specs.Change.{IsSteady, NoStray};
 ghost use Rattle.ftp_tree.specs.Tree.{octets_or_none, under};
 
 use crate::fault::Fault;
@@ -132,19 +133,21 @@ pub trait ServerTransfer<A: Allocator + Copy, T: Tree<A>>: Drop {
         ensures comes { Comes (under (T.table tree.now) root.now) (view self.old) (take result.count piece.now) result.told (view self.new) }
         ensures some { takes_octets (view self.old) ≡ true → 0 < length piece.now → 0 < result.count };
 
-    /// Gives octets to the data connection. The tree stays as it is.
+    /// Gives octets to the data connection. The tree stays as it is. Where its device strays, nothing is said of what is given but that there was
+    /// room for it.
     fn give(&mut self, tree: &mut T, room: &mut [u8]) -> Given
         ensures within { result.count ≤ length room.old }
-        ensures gave { take result.count room.new ≡ take result.count (given_of (view self.old)) }
-        ensures most { result.count ≤ length (given_of (view self.old)) }
-        ensures on { view self.new ≡ behind result.count (view self.old) }
+        ensures gave { NoStray (T.failures tree.old) (T.failures tree.new) → take result.count room.new ≡ take result.count (given_of (view self.old)) }
+        ensures most { NoStray (T.failures tree.old) (T.failures tree.new) → result.count ≤ length (given_of (view self.old)) }
+        ensures on { NoStray (T.failures tree.old) (T.failures tree.new) → view self.new ≡ behind result.count (view self.old) }
 
         // It fills the room or gives all that is left, or what comes next was not had.
-        ensures full { result.lost ≡ false → result.count ≡ min (length room.old) (length (given_of (view self.old))) }
-        ensures lost { result.lost ≡ true → result.count < length (given_of (view self.old)) }
+        ensures full { NoStray (T.failures tree.old) (T.failures tree.new) → result.lost ≡ false → result.count ≡ min (length room.old) (length (given_of (view self.old))) }
+        ensures lost { NoStray (T.failures tree.old) (T.failures tree.new) → result.lost ≡ true → result.count < length (given_of (view self.old)) }
+        ensures takes { takes_octets (view self.new) ≡ takes_octets (view self.old) }
         ensures table { T.table tree.new ≡ T.table tree.old }
-        ensures steady { result.lost ≡ false → T.failures tree.new ≡ T.failures tree.old }
-        ensures few { MovesOn 1 (T.failures tree.old) (T.failures tree.new) };
+        ensures steady { result.lost ≡ false → IsSteady (T.failures tree.old) (T.failures tree.new) }
+        ensures few { TellsSome 1 (T.failures tree.old) (T.failures tree.new) };
 
     /// Whether all is given.
     fn is_given_out(&self) -> bool

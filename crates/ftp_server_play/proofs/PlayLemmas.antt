@@ -5,6 +5,7 @@ use Rattle.std.proofs.lemmas.Bool.{eq-eqb}
 use Rattle.std.proofs.lemmas.Bool.Decides.{nat_tests}
 use Rattle.std.proofs.lemmas.List.{length-map, map-append, take-map, take_all, take_more}
 use Rattle.ftp_tree.specs.Tree.{Table, node_at}
+use Rattle.ftp_server_model.specs.Failing.{KeepsCourse}
 use Rattle.ftp_server_model.specs.Far.{Server, counts_told}
 use Rattle.ftp_server_model.specs.declared.counts.Counts.{Counts as Told}
 use Rattle.ftp_server_model.specs.Machine.{IsReading, Reading}
@@ -15,7 +16,7 @@ use Rattle.ftp_server_laws.proofs.LookLemmas.{starts_look}
 use Rattle.ftp_server_laws.proofs.LookLosses.{far_leaves_the_map}
 use Rattle.ftp_server_laws.proofs.RootTheorems.{roots_are_apart}
 use Rattle.ftp_server_play.proofs.CallLemmas.{makes_gives}
-use Rattle.ftp_server_play.proofs.CountLemmas.{calm_all}
+use Rattle.ftp_server_play.proofs.CountLemmas.{calm_all, first_course}
 use Rattle.ftp_server_play.specs.Cues.{cue_of, cues_of, gift_of, gifts_of}
 use Rattle.ftp_server_play.specs.declared.cue.Cue.{Cue as Held}
 use Rattle.ftp_server_play.specs.declared.cue.Gift.{Gift as Given}
@@ -146,7 +147,7 @@ some_made cues i calm gifts old mid new inside made back = record {
 
 -- what is told of counts tells them
 pub told_apart : (a b : Told) → counts_told a ≡ counts_told b → a ≡ b
-told_apart a b same = λ i. record { refusals = (same i).refusals; failures = (same i).failures }
+told_apart a b same = λ i. record { refusals = (same i).refusals; failures = (same i).failures.told }
 
 -- where the test of two counts fails they are not the same
 pub counts_apart : (a b : Told) (test : Bool) → test ≡ ((a.refusals == b.refusals) && (a.failures == b.failures)) → test ≡ false → a ≢ b
@@ -219,51 +220,51 @@ keeps_apart calm cues gifts old new plays = λ read table accounts here peer roo
 -- ---- where nobody may change anything
 
 -- each call
-call_looks : (table : Table) (cue : Cue) (gift : Gift) (old new : Server) → Makes cue gift old new → OnlyLooks table old.view → OnlyLooks table new.view
-call_looks table (Clock moment) gift old new makes k = (far_leaves_the_map table old new k).clock moment makes.1
-call_looks table (Hear octets) gift old new makes k = (far_leaves_the_map table old new k).hear (take makes.0 octets) makes.2.took
-call_looks table (ControlOut room) gift old new makes k = (far_leaves_the_map table old new k).control_out (most_given room old.view.owed) makes.1
-call_looks table ControlEnd gift old new makes k = (far_leaves_the_map table old new k).control_ended makes.1
-call_looks table (Listening port) gift old new makes k = (far_leaves_the_map table old new k).listens port makes.1
-call_looks table ListenRefused gift old new makes k = (far_leaves_the_map table old new k).no_port makes.1
-call_looks table (DataOpened host) gift old new makes k = (far_leaves_the_map table old new k).opened host makes.1
-call_looks table DataRefused gift old new makes k = (far_leaves_the_map table old new k).refused makes.1
-call_looks table (DataHear octets) gift old new makes k = (far_leaves_the_map table old new k).received (take makes.0 octets) makes.2.took
-call_looks table (DataOut room) gift old new makes k = (far_leaves_the_map table old new k).gave makes.0 makes.2.now
-call_looks table DataEnd gift old new makes k = (far_leaves_the_map table old new k).ended makes.1
-call_looks table DataFault gift old new makes k = (far_leaves_the_map table old new k).broke makes.1
-call_looks table DataClosed gift old new makes k = (far_leaves_the_map table old new k).closed makes.1
-call_looks table AsksWants gift old new makes k = subst (λ (s : Server). OnlyLooks table s.view) (sym makes.1) k
+call_looks : (table : Table) (cue : Cue) (gift : Gift) (old new : Server) → KeepsCourse old.counts new.counts → Makes cue gift old new → OnlyLooks table old.view → OnlyLooks table new.view
+call_looks table (Clock moment) gift old new course makes k = (far_leaves_the_map table old new course k).clock moment makes.1
+call_looks table (Hear octets) gift old new course makes k = (far_leaves_the_map table old new course k).hear (take makes.0 octets) makes.2.took
+call_looks table (ControlOut room) gift old new course makes k = (far_leaves_the_map table old new course k).control_out (most_given room old.view.owed) makes.1
+call_looks table ControlEnd gift old new course makes k = (far_leaves_the_map table old new course k).control_ended makes.1
+call_looks table (Listening port) gift old new course makes k = (far_leaves_the_map table old new course k).listens port makes.1
+call_looks table ListenRefused gift old new course makes k = (far_leaves_the_map table old new course k).no_port makes.1
+call_looks table (DataOpened host) gift old new course makes k = (far_leaves_the_map table old new course k).opened host makes.1
+call_looks table DataRefused gift old new course makes k = (far_leaves_the_map table old new course k).refused makes.1
+call_looks table (DataHear octets) gift old new course makes k = (far_leaves_the_map table old new course k).received (take makes.0 octets) makes.2.took
+call_looks table (DataOut room) gift old new course makes k = (far_leaves_the_map table old new course k).gave makes.0 makes.2.now
+call_looks table DataEnd gift old new course makes k = (far_leaves_the_map table old new course k).ended makes.1
+call_looks table DataFault gift old new course makes k = (far_leaves_the_map table old new course k).broke makes.1
+call_looks table DataClosed gift old new course makes k = (far_leaves_the_map table old new course k).closed makes.1
+call_looks table AsksWants gift old new course makes k = subst (λ (s : Server). OnlyLooks table s.view) (sym makes.1) k
 
--- calls in order
-made_looks : (table : Table) (cues : List Cue) (gifts : List Gift) (old new : Server) → AreMade cues gifts old new → OnlyLooks table old.view
+-- calls in order, where no device strayed up to their end
+made_looks : (table : Table) (cues : List Cue) (gifts : List Gift) (old new : Server) → new.counts.failures.strays ≡ 0 → AreMade cues gifts old new → OnlyLooks table old.view
     → OnlyLooks table new.view
-made_looks table [] [] old new made k = subst (λ (s : Server). OnlyLooks table s.view) (sym made) k
-made_looks table [] (gift ∷ gifts) old new made k = absurd made
-made_looks table (cue ∷ cues) [] old new made k = absurd made
-made_looks table (cue ∷ cues) (gift ∷ gifts) old new made k = made_looks table cues gifts made.0 new made.2 (call_looks table cue gift old made.0 made.1 k)
+made_looks table [] [] old new none made k = subst (λ (s : Server). OnlyLooks table s.view) (sym made) k
+made_looks table [] (gift ∷ gifts) old new none made k = absurd made
+made_looks table (cue ∷ cues) [] old new none made k = absurd made
+made_looks table (cue ∷ cues) (gift ∷ gifts) old new none made k =
+    made_looks table cues gifts made.0 new none made.2 (call_looks table cue gift old made.0 (first_course cue gift cues gifts old made.0 new made.1 made.2 none) made.1 k)
 
--- the same, as `play` tells of them
-played_looks : (table : Table) (calm : ℕ) (cues : List Cue) (gifts : List Gift) (old new : Server) → ArePlayed calm cues gifts old new
-    → OnlyLooks table old.view → OnlyLooks table new.view
-played_looks table zero [] [] old new made k = subst (λ (s : Server). OnlyLooks table s.view) (sym made) k
-played_looks table zero [] (gift ∷ gifts) old new made k = absurd made
-played_looks table zero (cue ∷ cues) [] old new made k = absurd made
-played_looks table zero (cue ∷ cues) (gift ∷ gifts) old new made k =
-    made_looks table cues gifts made.0 new made.3 (call_looks table cue gift old made.0 made.1 k)
-played_looks table (suc calm) [] gifts old new made k = absurd made
-played_looks table (suc calm) (cue ∷ cues) [] old new made k = absurd made
-played_looks table (suc calm) (cue ∷ cues) (gift ∷ gifts) old new made k =
-    played_looks table calm cues gifts made.0 new made.3 (call_looks table cue gift old made.0 made.1 k)
+-- those that `play` tells of were made
+are_made : (calm : ℕ) (cues : List Cue) (gifts : List Gift) (old new : Server) → ArePlayed calm cues gifts old new → AreMade cues gifts old new
+are_made zero [] [] old new made = made
+are_made zero [] (gift ∷ gifts) old new made = made
+are_made zero (cue ∷ cues) [] old new made = made
+are_made zero (cue ∷ cues) (gift ∷ gifts) old new made = (made.0, made.1, made.3)
+are_made (suc calm) [] gifts old new made = absurd made
+are_made (suc calm) (cue ∷ cues) [] old new made = made
+are_made (suc calm) (cue ∷ cues) (gift ∷ gifts) old new made = (made.0, made.1, are_made calm cues gifts made.0 new made.3)
 
 -- so the map stays
-pub keeps_the_map : (calm : ℕ) (cues : List Cue) (gifts : List Gift) (old new : Server) → ArePlayed calm cues gifts old new → KeepsTheMap old new
-keeps_the_map calm cues gifts old new made = record {
-  began = λ table accounts here peer starts none.
-      (played_looks table calm cues gifts old new made (subst (OnlyLooks table) (sym starts) (starts_look table accounts here peer none))).session.same;
-  stays = λ table. played_looks table calm cues gifts old new made;
-}
+pub keeps_the_map : (calm : ℕ) (cues : List Cue) (gifts : List Gift) (old new : Server) → new.counts.failures.strays ≡ 0 → ArePlayed calm cues gifts old new → KeepsTheMap old new
+keeps_the_map calm cues gifts old new none made =
+    let played = are_made calm cues gifts old new made in
+    record {
+      began = λ table accounts here peer starts lookers.
+          (made_looks table cues gifts old new none played (subst (OnlyLooks table) (sym starts) (starts_look table accounts here peer lookers))).session.same;
+      stays = λ table. made_looks table cues gifts old new none played;
+    }
 
 -- where memory was refused before one of them
-pub some_keep : (cues : List Cue) (old new : Server) → PlaysSome cues old new → KeepsTheMap old new
-some_keep cues old new some = keeps_the_map some.calm (take some.count cues) some.gifts old new some.made
+pub some_keep : (cues : List Cue) (old new : Server) → new.counts.failures.strays ≡ 0 → PlaysSome cues old new → KeepsTheMap old new
+some_keep cues old new none some = keeps_the_map some.calm (take some.count cues) some.gifts old new none some.made

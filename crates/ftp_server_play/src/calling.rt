@@ -5,12 +5,12 @@ ghost use Rattle.ftp_server_play.specs.Making.{Makes};
 ghost use Rattle.ftp_server_play.specs.Cues.{cue_of, gift_of};
 
 use crate::cue::{Cue, Gift};
-use ftp_server_model::Far;
+use ftp_server_model::{Far, SureFar};
 use ftp_tree::Tree;
 use std::alloc::{AllocError, Allocator};
 
 /// Makes a call, and gives what it gave. Where there is no memory for the octets that it may give, it is not made.
-pub(crate) fn call<A: Allocator + Copy, T: Tree<A>, S: Far<A, T>>(
+pub(crate) fn call<A: Allocator + Copy, T: Tree<A>, S: SureFar<A, T>>(
     alloc: A,
     server: &mut S,
     cue: &Cue<A>,
@@ -79,7 +79,7 @@ fn control_out<A: Allocator + Copy, T: Tree<A>, S: Far<A, T>>(
 }
 
 /// Data octets, into so much room.
-fn data_out<A: Allocator + Copy, T: Tree<A>, S: Far<A, T>>(
+fn data_out<A: Allocator + Copy, T: Tree<A>, S: SureFar<A, T>>(
     alloc: A,
     server: &mut S,
     room: usize,

@@ -6,12 +6,12 @@ ghost use Rattle.ftp_server_play.specs.Playing.{KeepsApart, KeepsTheMap, PlaysAs
 
 use crate::calling::call;
 use crate::cue::{Cue, Gift, Played};
-use ftp_server_model::{Counts, Far};
+use ftp_server_model::{Counts, SureFar};
 use ftp_tree::Tree;
 use std::alloc::{AllocError, Allocator};
 
-/// A server's end that makes calls by a list: whatever keeps `Far`.
-pub trait Plays<A: Allocator + Copy, T: Tree<A>>: Far<A, T> {
+/// A server's end that makes calls by a list: whatever keeps `Far` over a tree whose device never strays.
+pub trait Plays<A: Allocator + Copy, T: Tree<A>>: SureFar<A, T> {
     /// Makes all of these calls in order, and says what each gave and in how many of the first of them nothing failed.
     ///
     /// Refused memory for what the calls give, the calls before stand.
@@ -30,7 +30,7 @@ pub trait Plays<A: Allocator + Copy, T: Tree<A>>: Far<A, T> {
         ensures looks { KeepsTheMap (Self.server self.old) (Self.server self.new) };
 }
 
-impl<A: Allocator + Copy, T: Tree<A>, S: Far<A, T>> Plays<A, T> for S {
+impl<A: Allocator + Copy, T: Tree<A>, S: SureFar<A, T>> Plays<A, T> for S {
     fn play(&mut self, alloc: A, cues: &[Cue<A>]) -> Result<Played<A>, AllocError> {
         let played = play_all(alloc, self, cues)?;
         Ok(played)
@@ -38,7 +38,7 @@ impl<A: Allocator + Copy, T: Tree<A>, S: Far<A, T>> Plays<A, T> for S {
 }
 
 /// Makes all calls in order.
-fn play_all<A: Allocator + Copy, T: Tree<A>, S: Far<A, T>>(
+fn play_all<A: Allocator + Copy, T: Tree<A>, S: SureFar<A, T>>(
     alloc: A,
     server: &mut S,
     cues: &[Cue<A>],
@@ -60,7 +60,7 @@ fn play_all<A: Allocator + Copy, T: Tree<A>, S: Far<A, T>>(
 }
 
 /// Makes a call, and keeps what it gave; says whether nothing failed in it.
-fn play_one<A: Allocator + Copy, T: Tree<A>, S: Far<A, T>>(
+fn play_one<A: Allocator + Copy, T: Tree<A>, S: SureFar<A, T>>(
     alloc: A,
     server: &mut S,
     cue: &Cue<A>,

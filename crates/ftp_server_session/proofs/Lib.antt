@@ -1,3 +1,4 @@
+pub mod LookLemmas
 pub mod AskLemmas
 pub mod RefusedLemmas
 pub mod ActLemmas

@@ -1,15 +1,16 @@
 -- A call that the tree refused: what it makes of a command.
-use Rattle.std.proofs.Common.{◌≡◌, ◌∙◌, ℕ, Bool, true, false, if◌then◌else◌, inl, inr, List, Option, Some, None, is_some, Result, Ok, Err, ap, refl, sym}
+use Rattle.std.proofs.Common.{◌≡◌, ◌∙◌, ℕ, Bool, true, false, if◌then◌else◌, inl, inr, List, Option, Some, None, is_some, Result, Ok, Err, ap, arith, refl, sym}
 use Rattle.std.specs.Option.{option_map}
 use Rattle.ftp_path.specs.Path.{Names, fits, resolved}
-use Rattle.ftp_tree.specs.Change.{IsRefused}
+use Rattle.ftp_tree.specs.Change.{Failures, IsRefused, TellsOne, one_more}
 use Rattle.ftp_tree.specs.Tree.{Table, moved, rename_refusal}
 use Rattle.ftp_tree.specs.declared.fault.TreeFault.{TreeFault}
 use Rattle.ftp_tree.specs.declared.fault.TreeFault.TheVariants as Faults
 use Rattle.ftp_direct.specs.Direct.{barred, limited, or_refused, refused_name, refused_there}
 use Rattle.ftp_direct.specs.declared.refusal.Refusal.{Refusal}
 use Rattle.ftp_direct.specs.declared.refusal.Refusal.TheVariants as Refusals
-use Rattle.ftp_direct.proofs.RefusalLemmas.{NoDevice, there_some}
+use Rattle.ftp_direct.proofs.RefusalLemmas.{there_some}
+use Rattle.ftp_tree.proofs.DeviceLemmas.{NoDevice, same-steady}
 use Rattle.ftp_server_model.specs.Replies.{Turn, tells}
 use Rattle.ftp_server_model.specs.View.{Session, Transfer, with_seen}
 use Rattle.ftp_server_model.specs.Walk.{path_of, refusal_text, refused_source, renames, target_seen, unless}
@@ -17,6 +18,7 @@ use Rattle.ftp_server_model.specs.declared.reply.ReplyKind.{ReplyKind}
 use Rattle.ftp_server_model.specs.declared.reply.ReplyKind.TheVariants as Replies
 use Rattle.ftp_server_model.specs.declared.reply.FixedReply.{FixedReply}
 use Rattle.ftp_server_model.specs.declared.reply.FixedReply.TheVariants as Texts
+use Rattle.ftp_server_session.proofs.LookLemmas.{Moves}
 use Rattle.ftp_server_session.specs.Session.{RefusedAs, Turns, session_of}
 use Rattle.ftp_server_parts.specs.declared.fault.Fault.{Fault}
 use Rattle.ftp_server_parts.specs.declared.fault.Fault.TheVariants.{Memory, Device}
@@ -28,22 +30,37 @@ same_session : {A T J : Type 0} (table : T → Table) (view : J → Transfer) (o
 same_session table view old tree same =
     ap (λ t. record (session_of table view old) { table = t }) same
 
+-- counts with one failure more tell one
+one_told : (before after : Failures) → after ≡ one_more before → TellsOne before after
+one_told before after moved = (ap (λ f. f.told) moved, omega (arith, ap (λ f. f.strays) moved))
+
+-- what a refused call makes of the counts
+pub refused_moves : (refusal : Option TreeFault) (fault : TreeFault) (text : FixedReply) (result : Result (ReplyKind Names) Fault) (old new : Table) (before after : Failures)
+    → IsRefused refusal fault old new before after → NoDevice refusal → RefusedAs fault text result → Moves result before after
+refused_moves None fault text (Ok kind) old new before after (same, inl (memory, kept)) never told = absurd (told.1 memory)
+refused_moves None fault text (Ok kind) old new before after (same, inr (device, moved)) never told = absurd (told.2 device)
+refused_moves (Some why) fault text (Ok kind) old new before after (same, (reason, kept)) never told = same-steady before after kept
+refused_moves None fault text (Err Memory) old new before after (same, inl (memory, kept)) never told = same-steady before after kept
+refused_moves None fault text (Err Memory) old new before after (same, inr (device, moved)) never told = absurd (cc)
+refused_moves (Some why) fault text (Err Memory) old new before after (same, (reason, kept)) never told = same-steady before after kept
+refused_moves None fault text (Err Device) old new before after (same, inl (memory, kept)) never told = absurd (cc)
+refused_moves None fault text (Err Device) old new before after (same, inr (device, moved)) never told = one_told before after moved
+refused_moves (Some why) fault text (Err Device) old new before after (same, (reason, kept)) never told = absurd (never (ap Some (sym reason ∙ told)))
+
 -- what a refused call leaves and answers is the row: where the map gave a reason, this reply is due
-pub tree_refused : {A T J : Type 0} (table : T → Table) (failures : T → ℕ) (view : J → Transfer) (row : Session → Turn) (old : Held A T J) (tree : T)
+pub tree_refused : {A T J : Type 0} (table : T → Table) (failures : T → Failures) (view : J → Transfer) (row : Session → Turn) (old : Held A T J) (tree : T)
     (refusal : Option TreeFault) (fault : TreeFault) (text : FixedReply) (result : Result (ReplyKind Names) Fault)
     → IsRefused refusal fault (table old.tree) (table tree) (failures old.tree) (failures tree) → NoDevice refusal → RefusedAs fault text result
     → ((why : TreeFault) → refusal ≡ Some why → row (session_of table view old) ≡ (session_of table view old, Replies.Fixed text))
     → Turns table failures view row old (record old { tree = tree }) result
 tree_refused table failures view row old tree None fault text (Ok kind) (same, inl (memory, kept)) never told due = absurd (told.1 memory)
 tree_refused table failures view row old tree None fault text (Ok kind) (same, inr (device, moved)) never told due = absurd (told.2 device)
-tree_refused table failures view row old tree (Some why) fault text (Ok kind) (same, (reason, kept)) never told due =
-    (ap (λ s. (s, kind)) (same_session table view old tree same) ∙ ap (λ k. (session_of table view old, k)) told.0 ∙ sym (due why refl), kept)
-tree_refused table failures view row old tree None fault text (Err Memory) (same, inl (memory, kept)) never told due = (same_session table view old tree same, kept)
-tree_refused table failures view row old tree None fault text (Err Memory) (same, inr (device, moved)) never told due = absurd (cc)
-tree_refused table failures view row old tree (Some why) fault text (Err Memory) (same, (reason, kept)) never told due = (same_session table view old tree same, kept)
-tree_refused table failures view row old tree None fault text (Err Device) (same, inl (memory, kept)) never told due = absurd (cc)
-tree_refused table failures view row old tree None fault text (Err Device) (same, inr (device, moved)) never told due = (same_session table view old tree same, moved)
-tree_refused table failures view row old tree (Some why) fault text (Err Device) (same, (reason, kept)) never told due = absurd (never (ap Some (sym reason ∙ told)))
+tree_refused table failures view row old tree (Some why) fault text (Ok kind) (same, (reason, kept)) never told due = (
+  λ none. ap (λ s. (s, kind)) (same_session table view old tree same) ∙ ap (λ k. (session_of table view old, k)) told.0 ∙ sym (due why refl),
+  same-steady (failures old.tree) (failures tree) kept,
+)
+tree_refused table failures view row old tree refusal fault text (Err lost) refused never told due =
+    (λ none. same_session table view old tree refused.0, refused_moves refusal fault text (Err lost) (table old.tree) (table tree) (failures old.tree) (failures tree) refused never told)
 
 -- ---- the reply that is due
 

@@ -4,6 +4,7 @@ use Rattle.ftp_command.specs.Line.{IfGiven}
 use Rattle.ftp_command.specs.declared.command.Command.{Command}
 use Rattle.ftp_command.specs.declared.command.Command.TheVariants as command
 use Rattle.ftp_path.specs.Path.{IsPathText, Names}
+use Rattle.ftp_tree.specs.Change.{Failures, IsSteady, NoStray}
 use Rattle.ftp_tree.specs.Tree.{Table}
 use Rattle.ftp_server_model.specs.Act.{decided, forgets, is_allowed}
 use Rattle.ftp_server_model.specs.Failing.{may_fail}
@@ -58,17 +59,22 @@ LineLost (Asks command) old new =
 
 -- what a command leaves once its turn has come: its row and the login it needs; or it could not be done, and a transfer command has
 -- forgotten the endpoint
-abbrev pub Asked : {A T J : Type 0} → (T → Table) → (T → ℕ) → (J → Transfer) → Footing → Command (List ℕ) → Pending Names → Held A T J → Held A T J → Result (ReplyKind Names) Fault → Type 0
+abbrev pub Asked : {A T J : Type 0} → (T → Table) → (T → Failures) → (J → Transfer) → Footing → Command (List ℕ) → Pending Names → Held A T J → Held A T J → Result (ReplyKind Names) Fault → Type 0
 Asked table failures view footing command pending old new (Ok kind) =
-    ((session_of table view new, kind) ≡ decided footing (Asks command) pending (session_of table view old)) × (failures new.tree ≡ failures old.tree)
+    (NoStray (failures old.tree) (failures new.tree) → (session_of table view new, kind) ≡ decided footing (Asks command) pending (session_of table view old))
+    × IsSteady (failures old.tree) (failures new.tree)
 Asked table failures view footing command pending old new (Err fault) =
     (is_allowed command (session_of table view old) ≡ true) × (may_fail command ≡ true)
-    × (session_of table view new ≡ forgets command (session_of table view old)) × Counted fault (failures old.tree) (failures new.tree)
+    × (NoStray (failures old.tree) (failures new.tree) → session_of table view new ≡ forgets command (session_of table view old))
+    × Counted fault (failures old.tree) (failures new.tree)
 
 -- what a line leaves: what was pending is taken, then session and reply are those of the order of decisions; or it could not be done
-abbrev pub Decides : {A T J : Type 0} → (T → Table) → (T → ℕ) → (J → Transfer) → Footing → HeardLine (List ℕ) → Held A T J → Held A T J → Result (ReplyKind Names) Fault → Type 0
+abbrev pub Decides : {A T J : Type 0} → (T → Table) → (T → Failures) → (J → Transfer) → Footing → HeardLine (List ℕ) → Held A T J → Held A T J → Result (ReplyKind Names) Fault → Type 0
 Decides table failures view footing heard old new (Ok kind) =
     let s = session_of table view old in
-    ((session_of table view new, kind) ≡ decided footing heard s.pending (record s { pending = Pendings.Nothing })) × (failures new.tree ≡ failures old.tree)
+    (NoStray (failures old.tree) (failures new.tree)
+    → (session_of table view new, kind) ≡ decided footing heard s.pending (record s { pending = Pendings.Nothing }))
+    × IsSteady (failures old.tree) (failures new.tree)
 Decides table failures view footing heard old new (Err fault) =
-    LineLost heard (session_of table view old) (session_of table view new) × Counted fault (failures old.tree) (failures new.tree)
+    (NoStray (failures old.tree) (failures new.tree) → LineLost heard (session_of table view old) (session_of table view new))
+    × Counted fault (failures old.tree) (failures new.tree)

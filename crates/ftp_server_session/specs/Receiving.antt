@@ -1,5 +1,6 @@
 -- What octets of the data connection, and its end, make of a session, whatever view it stands in.
 use Rattle.std.specs.Prelude.{◌≡◌, ℕ, Bool, true, false, List, Result, Ok, Err}
+use Rattle.ftp_tree.specs.Change.{Failures, IsSteady, NoStray}
 use Rattle.ftp_server_model.specs.View.{Session, View}
 use Rattle.ftp_server_model.specs.Machine.{Ending, with_session, owes, replied, later, completed}
 use Rattle.ftp_server_model.specs.Replies.{reply_octets, mark_reply}
@@ -32,7 +33,7 @@ abbrev pub GivesOut : View → Bool → Session → Type 0
 GivesOut v true s = completed v ≡ replied Texts.Complete s v
 GivesOut v false s = completed v ≡ with_session s v
 
--- how a transfer ended: session and reply are these, or nothing has changed
-abbrev pub Concludes : Ending → (old new : Session) → Result FixedReply Fault → (before after : ℕ) → Type 0
-Concludes ending old new (Ok text) before after = ((new, text) ≡ ending) × (after ≡ before)
-Concludes ending old new (Err fault) before after = (new ≡ old) × Counted fault before after
+-- how a transfer ended: session and reply are these, or nothing has changed. Where the device strayed only the counts are told of
+abbrev pub Concludes : Ending → (old new : Session) → Result FixedReply Fault → (before after : Failures) → Type 0
+Concludes ending old new (Ok text) before after = (NoStray before after → (new, text) ≡ ending) × IsSteady before after
+Concludes ending old new (Err fault) before after = (NoStray before after → new ≡ old) × Counted fault before after

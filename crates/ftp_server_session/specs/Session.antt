@@ -1,6 +1,7 @@
 -- How a session that is held is seen by the definitions of the server.
 use Rattle.std.specs.Prelude.{◌≡◌, ◌≢◌, ℕ, Bool, true, false, Result, Ok, Err}
 use Rattle.ftp_path.specs.Path.{Names}
+use Rattle.ftp_tree.specs.Change.{Failures, IsSteady, NoStray}
 use Rattle.ftp_tree.specs.Tree.{Table}
 use Rattle.ftp_tree.specs.declared.fault.TreeFault.{TreeFault}
 use Rattle.ftp_tree.specs.declared.fault.TreeFault.TheVariants as Faults
@@ -59,10 +60,23 @@ abbrev pub footing_of : {A : Type 0} → Stands A → Footing
 footing_of f = record { accounts = f.accounts; here = f.here; peer = f.peer; moment = f.moment.seconds }
 
 -- what a command leaves: session and reply are its row of the definitions; or nothing has changed, for want of memory or as the
--- device failed
-abbrev pub Turns : {A T J : Type 0} → (T → Table) → (T → ℕ) → (J → Transfer) → (Session → Turn) → Held A T J → Held A T J → Result (ReplyKind Names) Fault → Type 0
-Turns table failures view row old new (Ok kind) = ((session_of table view new, kind) ≡ row (session_of table view old)) × (failures new.tree ≡ failures old.tree)
-Turns table failures view row old new (Err fault) = (session_of table view new ≡ session_of table view old) × Counted fault (failures old.tree) (failures new.tree)
+-- device failed. Where the device strayed only the counts are told of
+abbrev pub Turns : {A T J : Type 0} → (T → Table) → (T → Failures) → (J → Transfer) → (Session → Turn) → Held A T J → Held A T J → Result (ReplyKind Names) Fault → Type 0
+Turns table failures view row old new (Ok kind) =
+    (NoStray (failures old.tree) (failures new.tree) → (session_of table view new, kind) ≡ row (session_of table view old))
+    × IsSteady (failures old.tree) (failures new.tree)
+Turns table failures view row old new (Err fault) =
+    (NoStray (failures old.tree) (failures new.tree) → session_of table view new ≡ session_of table view old)
+    × Counted fault (failures old.tree) (failures new.tree)
+
+-- the tree looked somewhere, and all else is as it was: so is the map where the device did not stray
+abbrev pub Looks : {A T J X : Type 0} → (T → Table) → (T → Failures) → Held A T J → Held A T J → Result X Fault → Type 0
+Looks table failures old new (Ok done) =
+    (new ≡ record old { tree = new.tree }) × (NoStray (failures old.tree) (failures new.tree) → table new.tree ≡ table old.tree)
+    × IsSteady (failures old.tree) (failures new.tree)
+Looks table failures old new (Err fault) =
+    (new ≡ record old { tree = new.tree }) × (NoStray (failures old.tree) (failures new.tree) → table new.tree ≡ table old.tree)
+    × Counted fault (failures old.tree) (failures new.tree)
 
 -- what a refused call of the tree makes of a command: want of memory, a failed device, or a reply
 abbrev pub RefusedAs : TreeFault → FixedReply → Result (ReplyKind Names) Fault → Type 0

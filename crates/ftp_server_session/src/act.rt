@@ -14,6 +14,7 @@ use ftp_tree::Tree;
 use std::alloc::Allocator;
 
 impl<A: Allocator + Copy, T: Tree<A>, J: ServerTransfer<A, T>> Session<A, T, J> {
+    ghost use Rattle.ftp_server_session.specs.Little.{LeavesLittle, name_len};
     ghost use Rattle.ftp_server_session.specs.Session.{Turns, footing_of};
 
     /// Does a command, after what the line before left pending for it. An ABOR during a transfer is not done here. The name of USER is
@@ -26,6 +27,7 @@ impl<A: Allocator + Copy, T: Tree<A>, J: ServerTransfer<A, T>> Session<A, T, J> 
     ) -> Result<ReplyKind<Path<A>>, Fault>
         requires paths { HasPathTexts command }
         ensures turn { Turns T.table T.failures J.view (act (footing_of footing.now) command pending.now) self.old self.new result }
+        ensures little { LeavesLittle (name_len command) self.old self.new result }
         ensures may_fail { OnErr result (may_fail command ≡ true) }
     {
         match command {
@@ -48,6 +50,7 @@ impl<A: Allocator + Copy, T: Tree<A>, J: ServerTransfer<A, T>> Session<A, T, J> 
         requires paths { HasPathTexts command.now }
         requires other { is_user command.now ≡ false }
         ensures turn { Turns T.table T.failures J.view (act (footing_of footing.now) command.now pending.now) self.old self.new result }
+        ensures little { LeavesLittle 0 self.old self.new result }
         ensures may_fail { OnErr result (may_fail command.now ≡ true) }
     {
         match command {

@@ -1,17 +1,15 @@
 // REST, SIZE, MDTM and MLST (RFC 3659, sections 3, 4, 5 and 7).
-ghost use Rattle.std.specs.Prelude.{◌≡◌, IfOk, MatchOption, None, Some, false, true};
+ghost use Rattle.std.specs.Prelude.{◌≡◌, Ok};
 ghost use Rattle.ftp_command.specs.Line.{IfGiven};
-ghost use Rattle.ftp_direct.specs.Direct.{named_or_here, refused_file};
-ghost use Rattle.ftp_direct.specs.declared.refusal.Refusal.{Refusal};
-ghost use Rattle.ftp_path.specs.Path.{IsPathText, fits, resolved};
-ghost use Rattle.ftp_server_model.specs.Ask.{has_size, mdtm, mlst, or_empty, size};
+ghost use Rattle.ftp_path.specs.Path.{IsPathText};
+ghost use Rattle.ftp_server_model.specs.Ask.{has_size, mdtm, mlst, size};
 ghost use Rattle.ftp_server_model.specs.Transfer.{rest};
-ghost use Rattle.ftp_server_model.specs.View.{direct_of, how_in_force};
+ghost use Rattle.ftp_server_model.specs.View.{how_in_force};
 
 use crate::session::Session;
 use crate::walk::lost;
 use ftp_command::Argument;
-use ftp_direct::{absent_fault, file_fault, takes_offset, wire_len};
+use ftp_direct::{absent_fault, takes_offset, wire_len};
 use ftp_facts::moment_text;
 use ftp_operation::{How, is_number};
 use ftp_path::Path;
@@ -19,15 +17,17 @@ use ftp_server_model::{FixedReply, Pending, ReplyKind};
 use ftp_server_parts::{Fault, ServerTransfer};
 use ftp_settings::{Mode, Representation, Structure};
 use ftp_tree::Tree;
-use std::alloc::{AllocError, Allocator};
+use std::alloc::Allocator;
 
 impl<A: Allocator + Copy, T: Tree<A>, J: ServerTransfer<A, T>> Session<A, T, J> {
+    ghost use Rattle.ftp_server_session.specs.Little.{LeavesLittle};
     ghost use Rattle.ftp_server_session.specs.Session.{Turns, session_of};
 
     /// REST.
     pub(crate) fn rest(&mut self, offset: u64) -> ReplyKind<Path<A>>
         ensures turn { (session_of T.table J.view self.new, result) ≡ rest offset (session_of T.table J.view self.old) }
         ensures tree { self.new.tree ≡ self.old.tree }
+        ensures little { LeavesLittle 0 self.old self.new (Ok result) }
     {
         if !takes_offset(offset, how_in_force(self.settings)) {
             return ReplyKind::Fixed(FixedReply::BadParameter);
@@ -36,33 +36,16 @@ impl<A: Allocator + Copy, T: Tree<A>, J: ServerTransfer<A, T>> Session<A, T, J> 
         ReplyKind::Restarting(offset)
     }
 
-    /// The path of the file that a text names, or `None` where no file stands there.
-    pub(crate) fn find_file(&self, text: &[u8]) -> Result<Option<Path<A>>, AllocError>
-        requires { IsPathText text.now }
-        ensures { IfOk result (λ found. let refused = refused_file (direct_of (session_of T.table J.view self.now)) text.now in
-            MatchOption found (refused ≡ Some Refusal.Unavailable) (λ path. (path ≡ resolved self.now.cwd text.now) × (refused ≡ None))) }
-    {
-        let Some(path) = self.find(text)? else {
-            return Ok(None);
-        };
-        if file_fault(&self.tree, &self.root, &path).is_some() {
-            return Ok(None);
-        }
-        Ok(Some(path))
-    }
-
     /// SIZE.
     pub(crate) fn size(&mut self, text: &[u8]) -> Result<ReplyKind<Path<A>>, Fault>
         requires { IsPathText text.now }
-        ensures { Turns T.table T.failures J.view (size text.now) self.old self.new result }
+        ensures turn { Turns T.table T.failures J.view (size text.now) self.old self.new result }
+        ensures little { LeavesLittle 0 self.old self.new result }
     {
         if !has_size(self.settings) {
             return Ok(ReplyKind::Fixed(FixedReply::Refused));
         }
-        let Ok(found) = self.find_file(text) else {
-            return Err(Fault::Memory);
-        };
-        let Some(path) = found else {
+        let Some(path) = self.see_file(text)? else {
             return Ok(ReplyKind::Fixed(FixedReply::Refused));
         };
         let kind = self.settings.kind;
@@ -80,12 +63,10 @@ impl<A: Allocator + Copy, T: Tree<A>, J: ServerTransfer<A, T>> Session<A, T, J> 
     /// MDTM.
     pub(crate) fn modified(&mut self, text: &[u8]) -> Result<ReplyKind<Path<A>>, Fault>
         requires { IsPathText text.now }
-        ensures { Turns T.table T.failures J.view (mdtm text.now) self.old self.new result }
+        ensures turn { Turns T.table T.failures J.view (mdtm text.now) self.old self.new result }
+        ensures little { LeavesLittle 0 self.old self.new result }
     {
-        let Ok(found) = self.find(text) else {
-            return Err(Fault::Memory);
-        };
-        let Some(path) = found else {
+        let Some(path) = self.see(text)? else {
             return Ok(ReplyKind::Fixed(FixedReply::Refused));
         };
         match self.tree.stamp(&self.root, &path) {
@@ -94,30 +75,13 @@ impl<A: Allocator + Copy, T: Tree<A>, J: ServerTransfer<A, T>> Session<A, T, J> 
         }
     }
 
-    /// The path that a text names, or the current directory's where there is none; `None` past the limits of paths.
-    pub(crate) fn find_here(
-        &self,
-        text: &Option<Argument<A>>,
-    ) -> Result<Option<Path<A>>, AllocError>
-        requires { IfGiven IsPathText text.now }
-        ensures { IfOk result (λ found. let path = named_or_here (direct_of (session_of T.table J.view self.now)) (or_empty text.now) in
-            MatchOption found (fits path ≡ false) (λ is. (is ≡ path) × (fits is ≡ true))) }
-    {
-        match text {
-            Some(text) => self.find(text.octets()),
-            None => self.find(b"."),
-        }
-    }
-
     /// MLST.
     pub(crate) fn entry(&mut self, text: &Option<Argument<A>>) -> Result<ReplyKind<Path<A>>, Fault>
         requires { IfGiven IsPathText text.now }
-        ensures { Turns T.table T.failures J.view (mlst text.now) self.old self.new result }
+        ensures turn { Turns T.table T.failures J.view (mlst text.now) self.old self.new result }
+        ensures little { LeavesLittle 0 self.old self.new result }
     {
-        let Ok(found) = self.find_here(text) else {
-            return Err(Fault::Memory);
-        };
-        let Some(path) = found else {
+        let Some(path) = self.see_here(text)? else {
             return Ok(ReplyKind::Fixed(FixedReply::Refused));
         };
         if absent_fault(&self.tree, &self.root, &path).is_some() {

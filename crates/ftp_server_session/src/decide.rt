@@ -2,6 +2,7 @@
 ghost use Rattle.std.specs.Prelude.{◌≡◌, false, true, if◌then◌else◌};
 ghost use Rattle.ftp_server_model.specs.Endpoint.{forgotten};
 ghost use Rattle.ftp_server_session.specs.Line.{HasPathTexts, HeardPaths};
+ghost use Rattle.ftp_server_session.specs.Little.{KeepsName, LeavesLittle, SaysLittle, heard_name_len, is_busy, name_len};
 ghost use Rattle.ftp_server_session.specs.Session.{has_transfer};
 
 use crate::footing::Footing;
@@ -29,6 +30,10 @@ impl<A: Allocator + Copy, T: Tree<A>, J: ServerTransfer<A, T>> Session<A, T, J> 
         requires { HeardPaths heard }
         ensures idle { has_transfer self.old.connection ≡ false → Decides T.table T.failures J.view (footing_of footing.now) heard self.old self.new result }
         ensures busy { has_transfer self.old.connection ≡ true → (result ≡ Ok (ReplyKind.Fixed FixedReply.BadSequence)) × (self.new ≡ self.old) }
+
+        // Whatever the tree's device gives.
+        ensures little { is_busy self.old.connection ≡ false → SaysLittle self.new.connection result }
+        ensures named { KeepsName (heard_name_len heard) self.old.access self.new.access }
     {
         if has_transfer(&self.connection) {
             return Ok(ReplyKind::Fixed(FixedReply::BadSequence));
@@ -43,7 +48,8 @@ impl<A: Allocator + Copy, T: Tree<A>, J: ServerTransfer<A, T>> Session<A, T, J> 
         heard: HeardLine<Argument<A>>,
     ) -> Result<ReplyKind<Path<A>>, Fault>
         requires paths { HeardPaths heard }
-        ensures { Decides T.table T.failures J.view (footing_of footing.now) heard self.old self.new result }
+        ensures decides { Decides T.table T.failures J.view (footing_of footing.now) heard self.old self.new result }
+        ensures little { LeavesLittle (heard_name_len heard) self.old self.new result }
     {
         let pending = pending_for(&mut self.pending);
         match heard {
@@ -62,7 +68,8 @@ impl<A: Allocator + Copy, T: Tree<A>, J: ServerTransfer<A, T>> Session<A, T, J> 
         pending: &Pending<Path<A>>,
     ) -> Result<ReplyKind<Path<A>>, Fault>
         requires paths { HasPathTexts command }
-        ensures { Asked T.table T.failures J.view (footing_of footing.now) command pending.now self.old self.new result }
+        ensures asked { Asked T.table T.failures J.view (footing_of footing.now) command pending.now self.old self.new result }
+        ensures little { LeavesLittle (name_len command) self.old self.new result }
     {
         let is_transfer = is_transfer(&command);
         if !is_in(&self.access) && !is_free(&command) {
@@ -83,6 +90,8 @@ impl<A: Allocator + Copy, T: Tree<A>, J: ServerTransfer<A, T>> Session<A, T, J> 
     fn forget_if(&mut self, is_transfer: bool)
         ensures view { session_of T.table J.view self.new ≡ (if is_transfer then forgotten (session_of T.table J.view self.old) else session_of T.table J.view self.old) }
         ensures tree { self.new.tree ≡ self.old.tree }
+        ensures access { self.new.access ≡ self.old.access }
+        ensures calm { is_busy self.old.connection ≡ false → is_busy self.new.connection ≡ false }
     {
         if !is_transfer {
             return;

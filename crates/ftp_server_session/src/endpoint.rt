@@ -1,5 +1,5 @@
 // PORT, EPRT, PASV and EPSV (RFC 959, section 4.1.2; RFC 2428).
-ghost use Rattle.std.specs.Prelude.{◌≡◌};
+ghost use Rattle.std.specs.Prelude.{◌≡◌, Ok};
 ghost use Rattle.ftp_server_model.specs.Endpoint.{asks, disconnected, epsv, forgotten, is_standing, pasv, port};
 
 use crate::footing::Footing;
@@ -14,6 +14,7 @@ use ftp_tree::Tree;
 use std::alloc::Allocator;
 
 impl<A: Allocator + Copy, T: Tree<A>, J: ServerTransfer<A, T>> Session<A, T, J> {
+    ghost use Rattle.ftp_server_session.specs.Little.{LeavesLittle};
     ghost use Rattle.ftp_server_session.specs.Session.{connection_of, footing_of, session_of};
 
     /// Whether the data connection is open, or a port is listened at.
@@ -52,6 +53,7 @@ impl<A: Allocator + Copy, T: Tree<A>, J: ServerTransfer<A, T>> Session<A, T, J> 
     pub(crate) fn port(&mut self, footing: &Footing<A>, endpoint: Endpoint) -> ReplyKind<Path<A>>
         ensures turn { (session_of T.table J.view self.new, result) ≡ port (footing_of footing.now) endpoint (session_of T.table J.view self.old) }
         ensures tree { self.new.tree ≡ self.old.tree }
+        ensures little { LeavesLittle 0 self.old self.new (Ok result) }
     {
         if self.only_extended {
             return ReplyKind::Fixed(FixedReply::BadSequence);
@@ -68,6 +70,7 @@ impl<A: Allocator + Copy, T: Tree<A>, J: ServerTransfer<A, T>> Session<A, T, J> 
     fn ask(&mut self, asked: PassiveVerb) -> ReplyKind<Path<A>>
         ensures turn { (session_of T.table J.view self.new, result) ≡ asks asked (session_of T.table J.view self.old) }
         ensures tree { self.new.tree ≡ self.old.tree }
+        ensures little { LeavesLittle 0 self.old self.new (Ok result) }
     {
         self.forget();
         self.connection = ServerLink::Asked(asked);
@@ -78,6 +81,7 @@ impl<A: Allocator + Copy, T: Tree<A>, J: ServerTransfer<A, T>> Session<A, T, J> 
     pub(crate) fn pasv(&mut self, footing: &Footing<A>) -> ReplyKind<Path<A>>
         ensures turn { (session_of T.table J.view self.new, result) ≡ pasv (footing_of footing.now) (session_of T.table J.view self.old) }
         ensures tree { self.new.tree ≡ self.old.tree }
+        ensures little { LeavesLittle 0 self.old self.new (Ok result) }
     {
         if self.only_extended {
             return ReplyKind::Fixed(FixedReply::BadSequence);
@@ -92,6 +96,7 @@ impl<A: Allocator + Copy, T: Tree<A>, J: ServerTransfer<A, T>> Session<A, T, J> 
     pub(crate) fn epsv(&mut self, footing: &Footing<A>, family: Passive) -> ReplyKind<Path<A>>
         ensures turn { (session_of T.table J.view self.new, result) ≡ epsv (footing_of footing.now) family (session_of T.table J.view self.old) }
         ensures tree { self.new.tree ≡ self.old.tree }
+        ensures little { LeavesLittle 0 self.old self.new (Ok result) }
     {
         match family {
             Passive::Any => self.ask(PassiveVerb::Epsv),

@@ -8,6 +8,7 @@ mod decide;
 mod endpoint;
 mod footing;
 mod login;
+mod look;
 mod options;
 mod receive;
 mod session;

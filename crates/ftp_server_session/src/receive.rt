@@ -1,11 +1,12 @@
 // Octets of the data connection (RFC 959, section 3).
 ghost use Rattle.std.specs.Prelude.{◌≡◌, ◌≤◌, ◌<◌, false, length, min, take, true};
 ghost use Rattle.ftp_server_model.specs.Calls.{connection_of as connection_in, given_by, is_upload};
-ghost use Rattle.ftp_server_model.specs.Counting.{MovesOn};
+ghost use Rattle.ftp_server_model.specs.Counting.{TellsSome};
 ghost use Rattle.ftp_server_model.specs.Endpoint.{forgotten};
 ghost use Rattle.ftp_server_model.specs.Machine.{has_room};
 ghost use Rattle.ftp_ends.specs.Octets.{has_octets};
 ghost use Rattle.ftp_server_model.specs.View.{View};
+ghost use Rattle.ftp_tree.specs.Change.{IsSteady, NoStray};
 ghost use Rattle.ftp_server_session.specs.Receiving.{ComesIn, Gives, GivesOut};
 
 use crate::session::Session;
@@ -68,16 +69,16 @@ impl<A: Allocator + Copy, T: Tree<A>, J: ServerTransfer<A, T>> Session<A, T, J> 
         }
     }
 
-    /// Gives octets to the data connection.
+    /// Gives octets to the data connection. Where the tree's device strays, nothing is said of what is given but that there was room for it.
     pub fn give(&mut self, room: &mut [u8]) -> Given
         ensures within { result.count ≤ length room.old }
-        ensures gave { take result.count room.new ≡ take result.count (given_by (connection_in (session_of T.table J.view self.old))) }
-        ensures most { result.count ≤ length (given_by (connection_in (session_of T.table J.view self.old))) }
-        ensures on { (v : View) → v.session ≡ session_of T.table J.view self.old → Gives v result.count result.lost (session_of T.table J.view self.new) }
-        ensures full { result.lost ≡ false → result.count ≡ min (length room.old) (length (given_by (connection_in (session_of T.table J.view self.old)))) }
+        ensures gave { NoStray (T.failures self.old.tree) (T.failures self.new.tree) → take result.count room.new ≡ take result.count (given_by (connection_in (session_of T.table J.view self.old))) }
+        ensures most { NoStray (T.failures self.old.tree) (T.failures self.new.tree) → result.count ≤ length (given_by (connection_in (session_of T.table J.view self.old))) }
+        ensures on { NoStray (T.failures self.old.tree) (T.failures self.new.tree) → (v : View) → v.session ≡ session_of T.table J.view self.old → Gives v result.count result.lost (session_of T.table J.view self.new) }
+        ensures full { NoStray (T.failures self.old.tree) (T.failures self.new.tree) → result.lost ≡ false → result.count ≡ min (length room.old) (length (given_by (connection_in (session_of T.table J.view self.old)))) }
         ensures table { T.table self.new.tree ≡ T.table self.old.tree }
-        ensures steady { result.lost ≡ false → T.failures self.new.tree ≡ T.failures self.old.tree }
-        ensures few { MovesOn 1 (T.failures self.old.tree) (T.failures self.new.tree) }
+        ensures steady { result.lost ≡ false → IsSteady (T.failures self.old.tree) (T.failures self.new.tree) }
+        ensures few { TellsSome 1 (T.failures self.old.tree) (T.failures self.new.tree) }
         ensures free { result.lost ≡ true → self.new.connection ≡ ServerLink.Free }
         ensures busy { has_transfer self.new.connection ≡ true → has_transfer self.old.connection ≡ true }
         ensures access { self.new.access ≡ self.old.access }

@@ -1,17 +1,16 @@
 // What commands and the data connection change (RFC 959, sections 3.2 and 4.1).
-ghost use Rattle.std.specs.Prelude.{◌≡◌, IfOk, MatchOption, false, true};
-ghost use Rattle.ftp_path.specs.Path.{IsPathText, fits, resolved};
+ghost use Rattle.std.specs.Prelude.{◌≡◌, false};
 ghost use Rattle.ftp_server_model.specs.Machine.{is_connection_busy};
 ghost use Rattle.ftp_server_model.specs.View.{first_session};
 
 use ftp_command::Argument;
 use ftp_operation::Rights;
-use ftp_path::{Path, PathFault};
+use ftp_path::Path;
 use ftp_server_model::{Access, Facts, Life, Pending, ServerLink};
 use ftp_server_parts::ServerTransfer;
 use ftp_settings::{Kind, Mode, Representation, Structure};
 use ftp_tree::Tree;
-use std::alloc::{AllocError, Allocator};
+use std::alloc::Allocator;
 
 /// A session over a tree `T`, with transfers `J`.
 #[derive(Drop)]
@@ -86,19 +85,6 @@ impl<A: Allocator + Copy, T: Tree<A>, J: ServerTransfer<A, T>> Session<A, T, J> 
             ServerLink::Asked(_) | ServerLink::Opening(_, _) | ServerLink::Transferring(_) => true,
             ServerLink::Free | ServerLink::Active(_) | ServerLink::Passive | ServerLink::Ready =>
                 false,
-        }
-    }
-
-    /// The path that a text names from the current directory, or `None` where it is past the limits of paths.
-    pub(crate) fn find(&self, text: &[u8]) -> Result<Option<Path<A>>, AllocError>
-        requires { IsPathText text.now }
-        ensures { IfOk result (λ found. MatchOption found (fits (resolved self.now.cwd text.now) ≡ false)
-            (λ path. (path ≡ resolved self.now.cwd text.now) × (fits path ≡ true))) }
-    {
-        match self.cwd.resolve(self.alloc, text) {
-            Ok(path) => Ok(Some(path)),
-            Err(PathFault::TooBig) => Ok(None),
-            Err(_) => Err(AllocError),
         }
     }
 }

@@ -1,16 +1,18 @@
 // RETR, STOR, APPE, LIST, NLST and MLSD (RFC 959, section 4.1.3; RFC 3659, section 7).
-ghost use Rattle.std.specs.Prelude.{◌≡◌, IfErr, IfOk, OnOk, false, if◌then◌else◌, true};
+ghost use Rattle.std.specs.Prelude.{◌≡◌, IfOk, false, if◌then◌else◌, true};
+ghost use Rattle.std.specs.Option.{unwrap_or};
 ghost use Rattle.ftp_operation.specs.Rights.{may_put};
 ghost use Rattle.ftp_command.specs.Line.{IfGiven};
-ghost use Rattle.ftp_direct.specs.Refusal.{listing_refusal, name_refusal};
+ghost use Rattle.ftp_direct.specs.Direct.{or_refused, refused_name};
+ghost use Rattle.ftp_direct.specs.Refusal.{listing_refusal};
 ghost use Rattle.ftp_wire.specs.Decoder.{no_octets};
 ghost use Rattle.ftp_path.specs.Path.{IsPathText, fits};
-ghost use Rattle.ftp_server_parts.specs.Fault.{Counted};
 ghost use Rattle.ftp_server_model.specs.Endpoint.{forgotten};
 ghost use Rattle.ftp_server_model.specs.Replies.{tells};
-ghost use Rattle.ftp_server_model.specs.Transfer.{appe, begin, list, mlsd, nlst, place_of, refused_to_hold, retr, stor, transfer_starts};
+ghost use Rattle.ftp_server_model.specs.Transfer.{appe, begin, list, misplaced, mlsd, nlst, place_of, refused_to_hold, retr, stor, transfer_starts};
 ghost use Rattle.ftp_server_model.specs.Walk.{refusal_text};
 ghost use Rattle.ftp_server_model.specs.declared.session.Transfer.TheVariants as Transfers;
+ghost use Rattle.ftp_tree.specs.Change.{NoStray};
 ghost use Rattle.ftp_tree.specs.Tree.{room_refusal, under};
 
 use crate::session::Session;
@@ -19,12 +21,13 @@ use ftp_command::Argument;
 use ftp_direct::{absent_fault, directory_fault, len_at, may_put_at, place_at};
 use ftp_path::Path;
 use ftp_server_model::{FixedReply, Keep, Pending, ReplyKind, ServerLink, Way};
-use ftp_server_parts::{Fault, ServerTransfer};
+use ftp_server_parts::{Fault, ServerTransfer, room_text};
 use ftp_tree::{Tree, TreeFault};
 use std::alloc::Allocator;
 
 impl<A: Allocator + Copy, T: Tree<A>, J: ServerTransfer<A, T>> Session<A, T, J> {
-    ghost use Rattle.ftp_server_session.specs.Session.{Turns, session_of};
+    ghost use Rattle.ftp_server_session.specs.Little.{LeavesLittle, is_short};
+    ghost use Rattle.ftp_server_session.specs.Session.{Looks, Turns, session_of};
 
     /// RETR, where the REST before it put it.
     pub(crate) fn retr(
@@ -33,12 +36,10 @@ impl<A: Allocator + Copy, T: Tree<A>, J: ServerTransfer<A, T>> Session<A, T, J> 
         text: &[u8],
     ) -> Result<ReplyKind<Path<A>>, Fault>
         requires { IsPathText text.now }
-        ensures { Turns T.table T.failures J.view (retr pending.now text.now) self.old self.new result }
+        ensures turn { Turns T.table T.failures J.view (retr pending.now text.now) self.old self.new result }
+        ensures little { LeavesLittle 0 self.old self.new result }
     {
-        let Ok(found) = self.find_file(text) else {
-            return Err(Fault::Memory);
-        };
-        let Some(path) = found else {
+        let Some(path) = self.see_file(text)? else {
             return Ok(self.not_begun(FixedReply::Refused));
         };
         let Some(place) = self.place_of(pending, &path)? else {
@@ -55,33 +56,26 @@ impl<A: Allocator + Copy, T: Tree<A>, J: ServerTransfer<A, T>> Session<A, T, J> 
         text: &[u8],
     ) -> Result<ReplyKind<Path<A>>, Fault>
         requires { IsPathText text.now }
-        ensures { Turns T.table T.failures J.view (stor pending.now text.now) self.old self.new result }
+        ensures turn { Turns T.table T.failures J.view (stor pending.now text.now) self.old self.new result }
+        ensures little { LeavesLittle 0 self.old self.new result }
     {
-        let Ok(found) = self.find(text) else {
-            return Err(Fault::Memory);
-        };
-        let Some(mut path) = found else {
+        let Some(mut path) = self.see(text)? else {
             let text = self.unfit_text();
             return Ok(self.not_begun(text));
         };
         if !may_put_at(&self.tree, &self.root, &path, self.rights) {
             return Ok(self.not_begun(FixedReply::NotAllowed));
         }
-        let Some(place) = self.place_of(pending, &path)? else {
-            return Ok(self.not_begun(FixedReply::NameRefused));
-        };
-        self.hold(&mut path, Keep::First(place))
+        self.hold_at_rest(pending, &mut path)
     }
 
     /// APPE: a REST before it is of no matter.
     pub(crate) fn appe(&mut self, text: &[u8]) -> Result<ReplyKind<Path<A>>, Fault>
         requires { IsPathText text.now }
-        ensures { Turns T.table T.failures J.view (appe text.now) self.old self.new result }
+        ensures turn { Turns T.table T.failures J.view (appe text.now) self.old self.new result }
+        ensures little { LeavesLittle 0 self.old self.new result }
     {
-        let Ok(found) = self.find(text) else {
-            return Err(Fault::Memory);
-        };
-        let Some(mut path) = found else {
+        let Some(mut path) = self.see(text)? else {
             let text = self.unfit_text();
             return Ok(self.not_begun(text));
         };
@@ -95,12 +89,10 @@ impl<A: Allocator + Copy, T: Tree<A>, J: ServerTransfer<A, T>> Session<A, T, J> 
     /// LIST.
     pub(crate) fn list(&mut self, text: &Option<Argument<A>>) -> Result<ReplyKind<Path<A>>, Fault>
         requires { IfGiven IsPathText text.now }
-        ensures { Turns T.table T.failures J.view (list text.now) self.old self.new result }
+        ensures turn { Turns T.table T.failures J.view (list text.now) self.old self.new result }
+        ensures little { LeavesLittle 0 self.old self.new result }
     {
-        let Ok(found) = self.find_here(text) else {
-            return Err(Fault::Memory);
-        };
-        let Some(mut path) = found else {
+        let Some(mut path) = self.see_here(text)? else {
             return Ok(self.not_begun(FixedReply::Refused));
         };
         if absent_fault(&self.tree, &self.root, &path).is_some() {
@@ -121,12 +113,10 @@ impl<A: Allocator + Copy, T: Tree<A>, J: ServerTransfer<A, T>> Session<A, T, J> 
     /// NLST.
     pub(crate) fn nlst(&mut self, text: &Option<Argument<A>>) -> Result<ReplyKind<Path<A>>, Fault>
         requires { IfGiven IsPathText text.now }
-        ensures { Turns T.table T.failures J.view (nlst text.now) self.old self.new result }
+        ensures turn { Turns T.table T.failures J.view (nlst text.now) self.old self.new result }
+        ensures little { LeavesLittle 0 self.old self.new result }
     {
-        let Ok(found) = self.find_here(text) else {
-            return Err(Fault::Memory);
-        };
-        let Some(mut path) = found else {
+        let Some(mut path) = self.see_here(text)? else {
             return Ok(self.not_begun(FixedReply::Refused));
         };
         if absent_fault(&self.tree, &self.root, &path).is_some() {
@@ -148,12 +138,10 @@ impl<A: Allocator + Copy, T: Tree<A>, J: ServerTransfer<A, T>> Session<A, T, J> 
     /// MLSD.
     pub(crate) fn mlsd(&mut self, text: &Option<Argument<A>>) -> Result<ReplyKind<Path<A>>, Fault>
         requires { IfGiven IsPathText text.now }
-        ensures { Turns T.table T.failures J.view (mlsd text.now) self.old self.new result }
+        ensures turn { Turns T.table T.failures J.view (mlsd text.now) self.old self.new result }
+        ensures little { LeavesLittle 0 self.old self.new result }
     {
-        let Ok(found) = self.find_here(text) else {
-            return Err(Fault::Memory);
-        };
-        let Some(mut path) = found else {
+        let Some(mut path) = self.see_here(text)? else {
             return Ok(self.not_begun(FixedReply::Refused));
         };
         if let Some(fault) = directory_fault(&self.tree, &self.root, &path) {
@@ -174,10 +162,8 @@ impl<A: Allocator + Copy, T: Tree<A>, J: ServerTransfer<A, T>> Session<A, T, J> 
 
     /// The place in the file at a path where a transfer begins, or `None` where the offset of the REST before it leads to none.
     fn place_of(&mut self, pending: &Pending<Path<A>>, path: &Path<A>) -> Result<Option<u64>, Fault>
-        ensures place { IfOk result (λ place. place ≡ place_of pending.now path.now (session_of T.table J.view self.old)) }
-        ensures same { session_of T.table J.view self.new ≡ session_of T.table J.view self.old }
-        ensures steady { OnOk result (T.failures self.new.tree ≡ T.failures self.old.tree) }
-        ensures failed { IfErr result (λ fault. Counted fault (T.failures self.old.tree) (T.failures self.new.tree)) }
+        ensures place { NoStray (T.failures self.old.tree) (T.failures self.new.tree) → IfOk result (λ place. place ≡ place_of pending.now path.now (session_of T.table J.view self.old)) }
+        ensures looked { Looks T.table T.failures self.old self.new result }
     {
         let Pending::Restart(offset) = pending else {
             return Ok(Some(0));
@@ -210,10 +196,29 @@ impl<A: Allocator + Copy, T: Tree<A>, J: ServerTransfer<A, T>> Session<A, T, J> 
         }
     }
 
+    /// An upload begins after the octets before the place where the REST before it leads, if it leads to one and the tree takes a file there.
+    fn hold_at_rest(
+        &mut self,
+        pending: &Pending<Path<A>>,
+        path: &mut Path<A>,
+    ) -> Result<ReplyKind<Path<A>>, Fault>
+        requires { fits path.old ≡ true }
+        ensures turn { Turns T.table T.failures J.view (λ s. let place = place_of pending.now path.old s in
+            transfer_starts (or_refused (refused_name (misplaced place)) (refused_to_hold s path.old))
+            (Transfers.Upload path.old (Keep.First (unwrap_or place 0)) (no_octets s.settings)) s) self.old self.new result }
+        ensures little { LeavesLittle 0 self.old self.new result }
+    {
+        let Some(place) = self.place_of(pending, path)? else {
+            return Ok(self.not_begun(FixedReply::NameRefused));
+        };
+        self.hold(path, Keep::First(place))
+    }
+
     /// An upload begins, after so many octets of the file at a path, if the tree takes a file there.
     fn hold(&mut self, path: &mut Path<A>, keep: Keep) -> Result<ReplyKind<Path<A>>, Fault>
         requires { fits path.old ≡ true }
-        ensures { Turns T.table T.failures J.view (λ s. transfer_starts (refused_to_hold s path.old) (Transfers.Upload path.old keep (no_octets s.settings)) s) self.old self.new result }
+        ensures turn { Turns T.table T.failures J.view (λ s. transfer_starts (refused_to_hold s path.old) (Transfers.Upload path.old keep (no_octets s.settings)) s) self.old self.new result }
+        ensures little { LeavesLittle 0 self.old self.new result }
     {
         if let Some(fault) = self.room_fault(path) {
             return Ok(self.not_begun(room_text(fault)));
@@ -234,6 +239,8 @@ impl<A: Allocator + Copy, T: Tree<A>, J: ServerTransfer<A, T>> Session<A, T, J> 
         ensures turn { let s = session_of T.table J.view self.old in
             (session_of T.table J.view self.new, result) ≡ begin s.connection (J.view transfer) s }
         ensures tree { self.new.tree ≡ self.old.tree }
+        ensures access { self.new.access ≡ self.old.access }
+        ensures short { is_short result ≡ true }
     {
         self.connection = match self.connection {
             ServerLink::Active(endpoint) => ServerLink::Opening(transfer, Way::Connect(endpoint)),
@@ -251,19 +258,11 @@ impl<A: Allocator + Copy, T: Tree<A>, J: ServerTransfer<A, T>> Session<A, T, J> 
     fn not_begun(&mut self, text: FixedReply) -> ReplyKind<Path<A>>
         ensures turn { (session_of T.table J.view self.new, result) ≡ tells text (forgotten (session_of T.table J.view self.old)) }
         ensures tree { self.new.tree ≡ self.old.tree }
+        ensures access { self.new.access ≡ self.old.access }
+        ensures short { is_short result ≡ true }
     {
         self.forget();
         ReplyKind::Fixed(text)
-    }
-}
-
-/// The reply where the tree takes no file.
-fn room_text(fault: TreeFault) -> FixedReply
-    ensures { result ≡ refusal_text (name_refusal fault) }
-{
-    match fault {
-        TreeFault::Full => FixedReply::NoRoom,
-        _ => FixedReply::NameRefused,
     }
 }
 

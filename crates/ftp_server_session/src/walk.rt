@@ -1,10 +1,11 @@
 // CWD, CDUP, MKD, RMD, DELE, RNFR and RNTO (RFC 959, section 4.1.3).
-ghost use Rattle.std.specs.Prelude.{◌≡◌, true};
+ghost use Rattle.std.specs.Prelude.{◌≡◌, IfOk, Ok, true};
 ghost use Rattle.std.specs.Option.{option_map};
 ghost use Rattle.ftp_path.specs.Path.{IsPathText, fits};
 ghost use Rattle.ftp_server_model.specs.Walk.{cdup, cwd, dele, mkd, refusal_text, refused_source, rmd, rnfr, rnto};
 ghost use Rattle.ftp_server_session.specs.Session.{RefusedAs, lost_as};
 
+use crate::look::look;
 use crate::session::Session;
 use ftp_direct::{directory_fault, is_busy, is_held, move_to};
 use ftp_path::Path;
@@ -14,17 +15,16 @@ use ftp_tree::{Tree, TreeFault};
 use std::alloc::Allocator;
 
 impl<A: Allocator + Copy, T: Tree<A>, J: ServerTransfer<A, T>> Session<A, T, J> {
-    ghost use Rattle.ftp_server_session.specs.Session.{Turns, session_of};
+    ghost use Rattle.ftp_server_session.specs.Little.{LeavesLittle};
+    ghost use Rattle.ftp_server_session.specs.Session.{Looks, Turns, session_of};
 
     /// CWD.
     pub(crate) fn change_dir(&mut self, text: &[u8]) -> Result<ReplyKind<Path<A>>, Fault>
         requires { IsPathText text.now }
-        ensures { Turns T.table T.failures J.view (cwd text.now) self.old self.new result }
+        ensures turn { Turns T.table T.failures J.view (cwd text.now) self.old self.new result }
+        ensures little { LeavesLittle 0 self.old self.new result }
     {
-        let Ok(found) = self.find(text) else {
-            return Err(Fault::Memory);
-        };
-        let Some(path) = found else {
+        let Some(path) = self.see(text)? else {
             return Ok(ReplyKind::Fixed(FixedReply::Refused));
         };
         if directory_fault(&self.tree, &self.root, &path).is_some() {
@@ -38,6 +38,7 @@ impl<A: Allocator + Copy, T: Tree<A>, J: ServerTransfer<A, T>> Session<A, T, J> 
     pub(crate) fn go_up(&mut self) -> ReplyKind<Path<A>>
         ensures turn { (session_of T.table J.view self.new, result) ≡ cdup (session_of T.table J.view self.old) }
         ensures tree { self.new.tree ≡ self.old.tree }
+        ensures little { LeavesLittle 0 self.old self.new (Ok result) }
     {
         self.cwd.up();
         ReplyKind::Fixed(FixedReply::Done)
@@ -46,15 +47,13 @@ impl<A: Allocator + Copy, T: Tree<A>, J: ServerTransfer<A, T>> Session<A, T, J> 
     /// MKD.
     pub(crate) fn make_dir(&mut self, text: &[u8]) -> Result<ReplyKind<Path<A>>, Fault>
         requires { IsPathText text.now }
-        ensures { Turns T.table T.failures J.view (mkd text.now) self.old self.new result }
+        ensures turn { Turns T.table T.failures J.view (mkd text.now) self.old self.new result }
+        ensures little { LeavesLittle 0 self.old self.new result }
     {
         if !self.rights.make_dir {
             return Ok(ReplyKind::Fixed(FixedReply::NotAllowed));
         }
-        let Ok(found) = self.find(text) else {
-            return Err(Fault::Memory);
-        };
-        let Some(path) = found else {
+        let Some(path) = self.see(text)? else {
             return Ok(ReplyKind::Fixed(FixedReply::Refused));
         };
         match self.tree.make_dir(&self.root, &path) {
@@ -66,15 +65,13 @@ impl<A: Allocator + Copy, T: Tree<A>, J: ServerTransfer<A, T>> Session<A, T, J> 
     /// RMD.
     pub(crate) fn remove_dir(&mut self, text: &[u8]) -> Result<ReplyKind<Path<A>>, Fault>
         requires { IsPathText text.now }
-        ensures { Turns T.table T.failures J.view (rmd text.now) self.old self.new result }
+        ensures turn { Turns T.table T.failures J.view (rmd text.now) self.old self.new result }
+        ensures little { LeavesLittle 0 self.old self.new result }
     {
         if !self.rights.remove_dir {
             return Ok(ReplyKind::Fixed(FixedReply::NotAllowed));
         }
-        let Ok(found) = self.find(text) else {
-            return Err(Fault::Memory);
-        };
-        let Some(path) = found else {
+        let Some(path) = self.see(text)? else {
             return Ok(ReplyKind::Fixed(FixedReply::Refused));
         };
         if is_busy(&path, &self.cwd) {
@@ -89,15 +86,13 @@ impl<A: Allocator + Copy, T: Tree<A>, J: ServerTransfer<A, T>> Session<A, T, J> 
     /// DELE.
     pub(crate) fn delete(&mut self, text: &[u8]) -> Result<ReplyKind<Path<A>>, Fault>
         requires { IsPathText text.now }
-        ensures { Turns T.table T.failures J.view (dele text.now) self.old self.new result }
+        ensures turn { Turns T.table T.failures J.view (dele text.now) self.old self.new result }
+        ensures little { LeavesLittle 0 self.old self.new result }
     {
         if !self.rights.delete {
             return Ok(ReplyKind::Fixed(FixedReply::NotAllowed));
         }
-        let Ok(found) = self.find(text) else {
-            return Err(Fault::Memory);
-        };
-        let Some(path) = found else {
+        let Some(path) = self.see(text)? else {
             return Ok(ReplyKind::Fixed(FixedReply::Refused));
         };
         match self.tree.delete(&self.root, &path) {
@@ -109,15 +104,13 @@ impl<A: Allocator + Copy, T: Tree<A>, J: ServerTransfer<A, T>> Session<A, T, J> 
     /// RNFR.
     pub(crate) fn rename_from(&mut self, text: &[u8]) -> Result<ReplyKind<Path<A>>, Fault>
         requires { IsPathText text.now }
-        ensures { Turns T.table T.failures J.view (rnfr text.now) self.old self.new result }
+        ensures turn { Turns T.table T.failures J.view (rnfr text.now) self.old self.new result }
+        ensures little { LeavesLittle 0 self.old self.new result }
     {
         if !self.rights.rename {
             return Ok(ReplyKind::Fixed(FixedReply::NotAllowed));
         }
-        let Ok(found) = self.find(text) else {
-            return Err(Fault::Memory);
-        };
-        let Some(path) = found else {
+        let Some(path) = self.see(text)? else {
             return Ok(ReplyKind::Fixed(FixedReply::Refused));
         };
         if is_held(&self.tree, &self.root, &path, &self.cwd) {
@@ -134,18 +127,16 @@ impl<A: Allocator + Copy, T: Tree<A>, J: ServerTransfer<A, T>> Session<A, T, J> 
         text: &[u8],
     ) -> Result<ReplyKind<Path<A>>, Fault>
         requires { IsPathText text.now }
-        ensures { Turns T.table T.failures J.view (rnto pending.now text.now) self.old self.new result }
+        ensures turn { Turns T.table T.failures J.view (rnto pending.now text.now) self.old self.new result }
+        ensures little { LeavesLittle 0 self.old self.new result }
     {
         let Pending::Rename(from) = pending else {
             return Ok(ReplyKind::Fixed(FixedReply::BadSequence));
         };
-        if let Some(refusal) = self.source_text(from) {
+        if let Some(refusal) = self.source_text(from)? {
             return Ok(ReplyKind::Fixed(refusal));
         }
-        let Ok(found) = self.find(text) else {
-            return Err(Fault::Memory);
-        };
-        let Some(to) = found else {
+        let Some(to) = self.see(text)? else {
             return Ok(ReplyKind::Fixed(FixedReply::NameRefused));
         };
         match move_to(&mut self.tree, self.rights.onto, &self.root, from, &to) {
@@ -154,18 +145,20 @@ impl<A: Allocator + Copy, T: Tree<A>, J: ServerTransfer<A, T>> Session<A, T, J> 
         }
     }
 
-    /// Why what RNFR named can't be renamed any more: the account may not, or it went since, or it is in use.
-    fn source_text(&self, from: &Path<A>) -> Option<FixedReply>
-        ensures { result ≡ option_map refusal_text (refused_source (session_of T.table J.view self.now) from.now) }
+    /// Why what RNFR named can't be renamed any more: the account may not, or it went since, or it is in use. It is looked at where the account may.
+    fn source_text(&mut self, from: &Path<A>) -> Result<Option<FixedReply>, Fault>
+        ensures why { IfOk result (λ why. why ≡ option_map refusal_text (refused_source (session_of T.table J.view self.new) from.now)) }
+        ensures looked { Looks T.table T.failures self.old self.new result }
     {
         if !self.rights.rename {
-            return Some(FixedReply::NotAllowed);
+            return Ok(Some(FixedReply::NotAllowed));
         }
+        look(&mut self.tree, &self.root, from)?;
         known_to_fit(from);
         if is_held(&self.tree, &self.root, from, &self.cwd) {
-            return Some(FixedReply::Refused);
+            return Ok(Some(FixedReply::Refused));
         }
-        None
+        Ok(None)
     }
 }
 

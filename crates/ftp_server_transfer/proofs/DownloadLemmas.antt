@@ -3,7 +3,7 @@ use Rattle.std.proofs.Common.{ℕ, ◌+◌, ◌-◌, ◌^◌, ◌≤◌, ◌<◌
 use Rattle.std.specs.Prelude.{◌&&◌}
 use Rattle.std.proofs.Math.Seq.{take-append-add, take-append_seam, drop-append_seam}
 use Rattle.std.proofs.lemmas.Bool.{leb-true, leb-false, le-leb, false≢true}
-use Rattle.std.proofs.lemmas.List.{take-append-drop, drop-drop, drop-append-le, drop_all, take_all, length-drop, length-take-le}
+use Rattle.std.proofs.lemmas.List.{take-append-drop, drop-drop, drop-append-le, drop_all, length-drop, length-take-le}
 use Rattle.ftp_repr.specs.Signs.{signs_of}
 use Rattle.ftp_repr.proofs.SignLemmas.{signs_of-cons}
 use Rattle.ftp_settings.specs.Representation.{same_kind, same_structure, same_mode}
@@ -16,10 +16,10 @@ use Rattle.ftp_settings.specs.declared.representation.Mode.TheVariants.{Stream, 
 use Rattle.ftp_settings.specs.declared.representation.Representation.{Representation}
 use Rattle.ftp_mode.specs.Stream.{plain_text}
 use Rattle.ftp_mode.specs.Wire.{image_file}
-use Rattle.ftp_server_model.specs.Counting.{MovesOn}
+use Rattle.ftp_server_model.specs.Counting.{TellsSome}
 use Rattle.ftp_server_model.specs.Transfer.{file_wire}
 use Rattle.ftp_server_transfer.specs.Download.{is_plain}
-use Rattle.ftp_tree.specs.Change.{next_count}
+use Rattle.ftp_tree.specs.Change.{Failures, IsSteady, TellsOne}
 
 -- ---- octets that go as they are
 
@@ -61,33 +61,31 @@ pub read_as_is : (file room : List ℕ) (at count : ℕ) → take count room ≡
 read_as_is file room at count is =
     sym (take-append-drop count (drop at file)) ∙ ap (λ l. l ++ drop count (drop at file)) (sym is) ∙ ap (λ l. take count room ++ l) (drop-drop count at file)
 
--- a piece that was read
-pub piece_of : (window octets piece : List ℕ) (count : ℕ) → piece ≡ take count window → count ≤ length window → take count window ≡ take count octets
-    → (length piece ≡ count) × (piece ≡ take (length piece) octets)
-piece_of window octets piece count cut few is =
-    let long : length piece ≡ count = ap length cut ∙ length-take-le count window few in
-    (long, cut ∙ is ∙ ap (λ n. take n octets) (sym long))
+-- a piece that was read: how long it is, and whose octets it has
+pub piece_len : (window piece : List ℕ) (count : ℕ) → piece ≡ take count window → count ≤ length window → length piece ≡ count
+piece_len window piece count cut few = ap length cut ∙ length-take-le count window few
 
--- something was made or taken of a piece: of the last one while something is left, of one before it as there are octets in it
+pub piece_of : (window octets piece : List ℕ) (count : ℕ) → piece ≡ take count window → count ≤ length window → take count window ≡ take count octets
+    → piece ≡ take (length piece) octets
+piece_of window octets piece count cut few is = cut ∙ is ∙ ap (λ n. take n octets) (sym (piece_len window piece count cut few))
+
+-- something was made or taken of a piece: of one with octets, and of none at the end of the file while something is left
 pub some_moves : {Done : Type 0} (old : List ℕ → List ℕ) (file piece : List ℕ) (at room made taken left : ℕ) → left ≡ length file - at
-    → piece ≡ take (length piece) (drop at file) → (at < length file → 0 < length piece) → 0 < room → 0 < length (old (drop at file))
+    → (at < length file → 0 < length piece) → 0 < room → 0 < length (old (drop at file))
     → (made ≡ room) ⊎ ((taken ≡ length piece) × (IsTrue (nat_le left (length piece)) → Done))
     → (IsTrue (nat_le left (length piece)) → 0 < room → 0 < length (old piece) → 0 < made) → 0 < taken + made
-some_moves {Done} old file piece at room made taken left is cut some space more all ends = of (nat_le left (length piece)) refl
+some_moves old file (octet ∷ piece) at room made taken left is some space more (inl full) ends = omega (arith, full, space)
+some_moves old file (octet ∷ piece) at room made taken left is some space more (inr whole) ends = let same = whole.0 in omega (arith, same)
+some_moves old file [] at room made taken left is some space more all ends = of (nat_le (length file) at) refl
   where
-    goes : (made ≡ room) ⊎ ((taken ≡ length piece) × (IsTrue (nat_le left (length piece)) → Done)) → 0 < length piece → 0 < taken + made
-    goes (inl full) here = omega (arith, full, space)
-    goes (inr whole) here = let same = whole.0 in omega (arith, same, here)
-
-    of : (last : Bool) → nat_le left (length piece) ≡ last → 0 < taken + made
-    of true last =
-        let few : length (drop at file) ≤ length piece = omega (arith, leb-true left (length piece) last, is, length-drop at file) in
-        let whole : piece ≡ drop at file = cut ∙ take_all (length piece) (drop at file) few in
-        let given : 0 < made = ends last space (subst (λ l. 0 < length (old l)) (sym whole) more) in
+    of : (past : Bool) → nat_le (length file) at ≡ past → 0 < taken + made
+    of true past =
+        let end : length file ≤ at = leb-true (length file) at past in
+        let none : drop at file ≡ [] = drop_all at file end in
+        let last : IsTrue (nat_le left 0) = le-leb left 0 (omega (arith, is, end)) in
+        let given : 0 < made = ends last space (subst (λ l. 0 < length (old l)) none more) in
         omega (arith, given)
-    of false goes_on =
-        let beyond : length piece < left = leb-false left (length piece) goes_on in
-        goes all (some (omega (arith, beyond, is)))
+    of false before = let here : 0 < 0 = some (leb-false (length file) at before) in omega (arith, here)
 
 -- where the last piece ends
 pub last_ends : (file : List ℕ) (at left len : ℕ) (size : ℕ) → left ≡ len - at → len ≡ length file → IsTrue (nat_le left size) → length file ≤ at + size
@@ -123,10 +121,11 @@ at_end file count at is = (
   (λ none. le-leb count at (omega (arith, is, sym (length-drop at file) ∙ ap length none))),
 )
 
--- the count of device failures moves on at most once
-pub moves_few : (lost : Bool) (before after : ℕ) → (lost ≡ false → after ≡ before) → (lost ≡ true → after ≡ next_count before) → MovesOn 1 before after
-moves_few true before after steady failed = (1, omega arith, failed refl)
-moves_few false before after steady failed = (0, omega arith, steady refl)
+-- the device did not fail
+pub tells_none : (before after : Failures) → IsSteady before after → TellsSome 1 before after
+tells_none before after is = ((0, omega arith, is.0), is.1)
 
-pub moves_none : (before after : ℕ) → after ≡ before → MovesOn 1 before after
-moves_none before after is = (0, omega arith, is)
+-- the device failed once at most
+pub tells_few : (lost : Bool) (before after : Failures) → (lost ≡ false → IsSteady before after) → (lost ≡ true → TellsOne before after) → TellsSome 1 before after
+tells_few true before after steady failed = ((1, omega arith, (failed refl).0), (failed refl).1)
+tells_few false before after steady failed = tells_none before after (steady refl)

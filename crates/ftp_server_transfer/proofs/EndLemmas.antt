@@ -2,6 +2,7 @@
 use Rattle.std.proofs.Common.{◌≡◌, ℕ, Bool, true, false, sym, subst}
 use Rattle.std.specs.Prelude.{if◌then◌else◌, Result}
 use Rattle.ftp_path.specs.Path.{Names}
+use Rattle.ftp_tree.specs.Change.{Failures}
 use Rattle.ftp_tree.specs.Tree.{Table}
 use Rattle.ftp_wire.specs.Decoder.{Decoder, is_whole, ended}
 use Rattle.ftp_server_model.specs.View.{Session}
@@ -14,7 +15,7 @@ use Rattle.ftp_server_parts.specs.ServerTransfer.{Ends}
 use Rattle.ftp_server_parts.specs.declared.fault.Fault.{Fault}
 
 -- a whole file and one that is not
-pub at_whole : (moment : ℕ) (path : Names) (keep : Keep) (d e : Decoder) (s : Session) (new : Table) (result : Result FixedReply Fault) (before after : ℕ) → is_whole d ≡ true
+pub at_whole : (moment : ℕ) (path : Names) (keep : Keep) (d e : Decoder) (s : Session) (new : Table) (result : Result FixedReply Fault) (before after : Failures) → is_whole d ≡ true
     → e ≡ ended d → Ends (installs moment path keep e Texts.Complete s) s new result before after
     → Ends (at_end moment (Transfers.Upload path keep d) s) s new result before after
 at_whole moment path keep d e s new result before after whole end ends =
@@ -22,7 +23,7 @@ at_whole moment path keep d e s new result before after whole end ends =
     let P : Bool → Type 0 = λ x. Ends (if x then installs moment path keep (ended d) Texts.Complete s else at_break moment (Transfers.Upload path keep d) s) s new result before after in
     subst P (sym whole) (subst Q end ends)
 
-pub at_part : (moment : ℕ) (path : Names) (keep : Keep) (d : Decoder) (s : Session) (new : Table) (result : Result FixedReply Fault) (before after : ℕ) → is_whole d ≡ false
+pub at_part : (moment : ℕ) (path : Names) (keep : Keep) (d : Decoder) (s : Session) (new : Table) (result : Result FixedReply Fault) (before after : Failures) → is_whole d ≡ false
     → Ends (at_break moment (Transfers.Upload path keep d) s) s new result before after
     → Ends (at_end moment (Transfers.Upload path keep d) s) s new result before after
 at_part moment path keep d s new result before after part ends =

@@ -1,7 +1,7 @@
 pub mod DownloadLemmas
 pub mod EndLemmas
-pub mod InstallLemmas
 pub mod LengthLemmas
+pub mod LimitLemmas
 pub mod StoredLemmas
 pub mod ListLemmas
 pub mod ListingLemmas

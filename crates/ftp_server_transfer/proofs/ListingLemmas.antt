@@ -10,9 +10,10 @@ use Rattle.std.proofs.lemmas.Option.{get_or_from_slice_get, slice_get_within}
 use Rattle.ftp_path.specs.Kept.{IsKept, names_of}
 use Rattle.ftp_path.specs.Path.{Names, fits, is_component, is_name, joined, parent}
 use Rattle.ftp_path.proofs.PathLemmas.{kept-le}
-use Rattle.ftp_tree.specs.Tree.{Node, Dir, File, Table, node_at, children, entries_at, octets_of, moment_of, of_node, kind_of, kind_at, shown_of}
-use Rattle.ftp_tree.proofs.LeafLemmas.{fits-room}
-use Rattle.ftp_tree.proofs.PlaceLemmas.{kept-place}
+use Rattle.ftp_tree.specs.Map as maps
+use Rattle.ftp_tree.specs.Map.{Node, Dir, File, octets_of, moment_of, of_node, shown_of}
+use Rattle.ftp_tree.specs.Tree.{Table, node_at, children, entries_at, kind_of, kind_at}
+use Rattle.ftp_tree.proofs.TextLemmas.{fits-room, kept-place}
 use Rattle.ftp_tree.specs.declared.tree.NodeKind.TheVariants as Kinds
 use Rattle.ftp_wire.specs.Encoding.{still_to_give}
 use Rattle.ftp_wire.specs.declared.encoder.Encoder.{Encoder}
@@ -178,7 +179,7 @@ lines_shown f g h (x ∷ xs) same = ap (λ o. cons_option o (filter_map f xs)) (
 of_directory : {A : Type 0} (what : What A) (f : List ℕ → Option (List ℕ)) (table : Table) (path : Names)
     → ((name : List ℕ) → f name ≡ entry_line what path (name, of_node shown_of (node_at table (child path name))))
     → filter_map f (children table path) ≡ lines_from what path (entries_at table path) (Some 0)
-unfolding entries_at
+unfolding entries_at children node_at maps.entries_at
 of_directory what f table path same =
     lines_shown f (entry_line what path) (λ name. (name, of_node shown_of (node_at table (child path name)))) (children table path) same
 

@@ -1,11 +1,12 @@
 -- Why what came of an upload can't be put where it is to be, and what is in the map where it can.
-use Rattle.std.proofs.Common.{◌≡◌, ℕ, ◌+◌, ◌≤◌, ◌<◌, ◌++◌, Bool, true, false, not, nat_le, List, length, take, Option, Some, None, is_some, refl, sym, ap, subst, ◌∙◌, arith, length-append}
+use Rattle.std.proofs.Common.{◌≡◌, ℕ, ◌+◌, ◌≤◌, ◌<◌, ◌++◌, Bool, true, false, not, nat_le, List, length, take, Option, Some, None, is_some, refl, sym, ap, ◌∙◌, arith, length-append}
 use Rattle.std.proofs.lemmas.Bool.{le-leb, lt-leb}
 use Rattle.std.proofs.lemmas.List.{length-take-le}
 use Rattle.std.specs.Prelude.{◌&&◌, Ok, if◌then◌else◌}
 use Rattle.std.specs.Option.{option_map, unwrap_or}
 use Rattle.ftp_path.specs.Path.{Names, fits}
-use Rattle.ftp_tree.specs.Tree.{Table, node_at, octets_or_none, octets_refusal, room_at, room_refusal, installed, under, with_part, whenever}
+use Rattle.ftp_tree.specs.Change.{Failures, IsSteady, NoStray}
+use Rattle.ftp_tree.specs.Tree.{Table, node_at, octets_or_none, octets_refusal, room_at, room_refusal, under, whenever}
 use Rattle.ftp_tree.specs.declared.fault.TreeFault.{TreeFault}
 use Rattle.ftp_tree.specs.declared.fault.TreeFault.TheVariants.{BadOffset}
 use Rattle.ftp_operation.specs.Rights.{may_put}
@@ -13,7 +14,6 @@ use Rattle.ftp_operation.specs.declared.rights.Rights.{Rights}
 use Rattle.ftp_direct.specs.Direct.{barred, is_file, limited, or_refused, refused_name, refused_octets, refused_room}
 use Rattle.ftp_direct.specs.Refusal.{name_refusal}
 use Rattle.ftp_direct.specs.declared.refusal.Refusal.{Refusal}
-use Rattle.ftp_direct.specs.declared.refusal.Refusal.TheVariants as Refusals
 use Rattle.ftp_wire.specs.Decoder.{Decoder}
 use Rattle.ftp_server_model.specs.View.{Session}
 use Rattle.ftp_server_model.specs.Keep.{kept_of, lacks}
@@ -23,7 +23,7 @@ use Rattle.ftp_server_model.specs.declared.session.Keep.{Keep}
 use Rattle.ftp_server_model.specs.declared.reply.FixedReply.{FixedReply}
 use Rattle.ftp_server_model.specs.declared.reply.FixedReply.TheVariants as Texts
 use Rattle.ftp_server_parts.specs.ServerTransfer.{Ends}
-use Rattle.ftp_server_transfer.proofs.InstallLemmas.{limits_tell}
+use Rattle.ftp_server_transfer.proofs.LimitLemmas.{limits_tell}
 
 -- ---- why it is refused
 
@@ -139,11 +139,14 @@ some_is : (x y : FixedReply) → Some x ≡ Some y → x ≡ y
 some_is x y is = ap (λ o. unwrap_or o x) is
 
 -- where it is refused nothing changes
-pub refused_ends : (moment : ℕ) (path : Names) (keep : Keep) (d : Decoder) (text : FixedReply) (s : Session) (new : Table) (reply : FixedReply) (before after : ℕ)
-    → Some reply ≡ option_map refusal_text (end_refusal path keep d.content s) → new ≡ s.table → after ≡ before
-    → Ends (installs moment path keep d text s) s new (Ok reply) before after
-refused_ends moment path keep d text s new reply before after is same steady = of (end_refusal path keep d.content s) is
-  where
-    of : (why : Option Refusal) → Some reply ≡ option_map refusal_text why → Ends (ends_by why moment path keep d.content text s) s new (Ok reply) before after
-    of None is = absurd (cc)
-    of (Some why) is = (ap (λ t. (record s { table = t }, reply)) same ∙ ap (λ r. (s, r)) (some_is reply (refusal_text why) is), steady)
+refused_here : (moment : ℕ) (path : Names) (keep : Keep) (octets : List ℕ) (text : FixedReply) (s : Session) (new : Table) (reply : FixedReply) (why : Option Refusal)
+    → Some reply ≡ option_map refusal_text why → new ≡ s.table → (record s { table = new }, reply) ≡ ends_by why moment path keep octets text s
+refused_here moment path keep octets text s new reply None is same = absurd (cc)
+refused_here moment path keep octets text s new reply (Some why) is same =
+    ap (λ t. (record s { table = t }, reply)) same ∙ ap (λ r. (s, r)) (some_is reply (refusal_text why) is)
+
+pub refused_ends : (moment : ℕ) (path : Names) (keep : Keep) (d : Decoder) (text : FixedReply) (s : Session) (new : Table) (reply : FixedReply) (before after : Failures)
+    → (NoStray before after → Some reply ≡ option_map refusal_text (end_refusal path keep d.content s)) → (NoStray before after → new ≡ s.table)
+    → IsSteady before after → Ends (installs moment path keep d text s) s new (Ok reply) before after
+refused_ends moment path keep d text s new reply before after is same steady =
+    (λ stays. refused_here moment path keep d.content text s new reply (end_refusal path keep d.content s) (is stays) (same stays), steady)

@@ -3,7 +3,7 @@ ghost use Rattle.std.specs.Prelude.{◌≡◌, ◌≤◌, ◌<◌, ◌+◌, ◌�
 ghost use Rattle.ftp_wire.specs.Encoding.{still_to_give};
 ghost use Rattle.ftp_server_model.specs.Transfer.{file_wire};
 ghost use Rattle.ftp_server_transfer.specs.Download.{given_by, is_plain};
-ghost use Rattle.ftp_tree.specs.Change.{next_count};
+ghost use Rattle.ftp_tree.specs.Change.{IsSteady, NoStray, TellsOne};
 
 use ftp_server_parts::Given;
 use ftp_settings::{Kind, Mode, Representation, Structure};
@@ -40,17 +40,18 @@ impl<A: Allocator + Copy, T: Tree<A>> Download<A, T> {
         }
     }
 
-    /// Gives octets, as many as there is room for and as are left, and says how many; fewer only where the device failed.
+    /// Gives octets, as many as there is room for and as are left, and says how many; fewer only where the device failed. Where it strayed, nothing is
+    /// said of what is given but that there was room for it.
     pub fn give(&mut self, tree: &mut T, room: &mut [u8]) -> Given
         ensures within { result.count ≤ length room.old }
-        ensures gave { take result.count room.new ≡ take result.count (rest_of T.opened self.old) }
-        ensures most { result.count ≤ length (rest_of T.opened self.old) }
-        ensures rest { rest_of T.opened self.new ≡ drop result.count (rest_of T.opened self.old) }
-        ensures full { result.lost ≡ false → result.count ≡ min (length room.old) (length (rest_of T.opened self.old)) }
-        ensures lost { result.lost ≡ true → result.count < length (rest_of T.opened self.old) }
+        ensures gave { NoStray (T.failures tree.old) (T.failures tree.new) → take result.count room.new ≡ take result.count (rest_of T.opened self.old) }
+        ensures most { NoStray (T.failures tree.old) (T.failures tree.new) → result.count ≤ length (rest_of T.opened self.old) }
+        ensures rest { NoStray (T.failures tree.old) (T.failures tree.new) → rest_of T.opened self.new ≡ drop result.count (rest_of T.opened self.old) }
+        ensures full { NoStray (T.failures tree.old) (T.failures tree.new) → result.lost ≡ false → result.count ≡ min (length room.old) (length (rest_of T.opened self.old)) }
+        ensures lost { NoStray (T.failures tree.old) (T.failures tree.new) → result.lost ≡ true → result.count < length (rest_of T.opened self.old) }
         ensures table { T.table tree.new ≡ T.table tree.old }
-        ensures steady { result.lost ≡ false → T.failures tree.new ≡ T.failures tree.old }
-        ensures failed { result.lost ≡ true → T.failures tree.new ≡ next_count (T.failures tree.old) }
+        ensures steady { result.lost ≡ false → IsSteady (T.failures tree.old) (T.failures tree.new) }
+        ensures failed { result.lost ≡ true → TellsOne (T.failures tree.old) (T.failures tree.new) }
     {
         let len = T::open_len(&self.file);
         let mut made = 0;
@@ -88,7 +89,7 @@ impl<A: Allocator + Copy, T: Tree<A>> Download<A, T> {
         requires left { 0 < length (rest_of T.opened self.old) }
         requires len { len ≡ length (T.opened self.old.file) }
         ensures within { result.count ≤ length room.old }
-        ensures text { rest_of T.opened self.old ≡ take result.count room.new ++ rest_of T.opened self.new }
+        ensures text { NoStray (T.failures tree.old) (T.failures tree.new) → rest_of T.opened self.old ≡ take result.count room.new ++ rest_of T.opened self.new }
 
         // Something is given, or it has come further in the file, or the device failed.
         ensures goes { result.lost ≡ false → (0 < result.count) ⊎ ((self.old.at < self.new.at) × (self.new.at ≤ length (T.opened self.old.file))) }
@@ -96,8 +97,8 @@ impl<A: Allocator + Copy, T: Tree<A>> Download<A, T> {
         ensures left { result.lost ≡ true → 0 < length (rest_of T.opened self.new) }
         ensures file { T.opened self.new.file ≡ T.opened self.old.file }
         ensures table { T.table tree.new ≡ T.table tree.old }
-        ensures steady { result.lost ≡ false → T.failures tree.new ≡ T.failures tree.old }
-        ensures failed { result.lost ≡ true → T.failures tree.new ≡ next_count (T.failures tree.old) }
+        ensures steady { result.lost ≡ false → IsSteady (T.failures tree.old) (T.failures tree.new) }
+        ensures failed { result.lost ≡ true → TellsOne (T.failures tree.old) (T.failures tree.new) }
     {
         match self.read_on(tree, len, room) {
             Ok(moved) => {
@@ -120,14 +121,14 @@ impl<A: Allocator + Copy, T: Tree<A>> Download<A, T> {
         requires left { 0 < length (rest_of T.opened self.old) }
         requires len { len ≡ length (T.opened self.old.file) }
         ensures within { IfOk result (λ moved. (moved.made ≤ length room.old) × (moved.taken ≤ length (drop self.old.at (T.opened self.old.file)))) }
-        ensures text { IfOk result (λ moved. rest_of T.opened self.old
+        ensures text { NoStray (T.failures tree.old) (T.failures tree.new) → IfOk result (λ moved. rest_of T.opened self.old
             ≡ take moved.made room.new ++ given_by self.new.encoder (drop (self.old.at + moved.taken) (T.opened self.old.file))) }
         ensures some { IfOk result (λ moved. 0 < moved.taken + moved.made) }
         ensures back { OnErr result (self.new.encoder ≡ self.old.encoder) }
         ensures file { (T.opened self.new.file ≡ T.opened self.old.file) × (self.new.at ≡ self.old.at) }
         ensures table { T.table tree.new ≡ T.table tree.old }
-        ensures steady { OnOk result (T.failures tree.new ≡ T.failures tree.old) }
-        ensures failed { OnErr result (T.failures tree.new ≡ next_count (T.failures tree.old)) }
+        ensures steady { OnOk result (IsSteady (T.failures tree.old) (T.failures tree.new)) }
+        ensures failed { OnErr result (TellsOne (T.failures tree.old) (T.failures tree.new)) }
     {
         match &mut self.encoder {
             Some(encoder) => Self::encode(encoder, tree, &mut self.file, self.at, len, room),
@@ -148,14 +149,14 @@ impl<A: Allocator + Copy, T: Tree<A>> Download<A, T> {
         requires left { 0 < length (still_to_give encoder.old (drop at (T.opened file.old))) }
         requires len { len ≡ length (T.opened file.old) }
         ensures within { IfOk result (λ moved. (moved.made ≤ length room.old) × (moved.taken ≤ length (drop at (T.opened file.old)))) }
-        ensures text { IfOk result (λ moved. still_to_give encoder.old (drop at (T.opened file.old))
+        ensures text { NoStray (T.failures tree.old) (T.failures tree.new) → IfOk result (λ moved. still_to_give encoder.old (drop at (T.opened file.old))
             ≡ take moved.made room.new ++ still_to_give encoder.new (drop (at + moved.taken) (T.opened file.old))) }
         ensures some { IfOk result (λ moved. 0 < moved.taken + moved.made) }
         ensures back { OnErr result (encoder.new ≡ encoder.old) }
         ensures file { T.opened file.new ≡ T.opened file.old }
         ensures table { T.table tree.new ≡ T.table tree.old }
-        ensures steady { OnOk result (T.failures tree.new ≡ T.failures tree.old) }
-        ensures failed { OnErr result (T.failures tree.new ≡ next_count (T.failures tree.old)) }
+        ensures steady { OnOk result (IsSteady (T.failures tree.old) (T.failures tree.new)) }
+        ensures failed { OnErr result (TellsOne (T.failures tree.old) (T.failures tree.new)) }
     {
         let mut buffer = [0u8; WINDOW];
         let (window, _) = buffer.split_at_mut(room.len().min(WINDOW));
@@ -176,12 +177,12 @@ impl<A: Allocator + Copy, T: Tree<A>> Download<A, T> {
         requires some { 0 < length room.old }
         requires left { 0 < length (drop at (T.opened file.old)) }
         ensures within { IfOk result (λ moved. (moved.made ≤ length room.old) × (moved.taken ≤ length (drop at (T.opened file.old)))) }
-        ensures text { IfOk result (λ moved. drop at (T.opened file.old) ≡ take moved.made room.new ++ drop (at + moved.taken) (T.opened file.old)) }
+        ensures text { NoStray (T.failures tree.old) (T.failures tree.new) → IfOk result (λ moved. drop at (T.opened file.old) ≡ take moved.made room.new ++ drop (at + moved.taken) (T.opened file.old)) }
         ensures some { IfOk result (λ moved. 0 < moved.taken + moved.made) }
         ensures file { T.opened file.new ≡ T.opened file.old }
         ensures table { T.table tree.new ≡ T.table tree.old }
-        ensures steady { OnOk result (T.failures tree.new ≡ T.failures tree.old) }
-        ensures failed { OnErr result (T.failures tree.new ≡ next_count (T.failures tree.old)) }
+        ensures steady { OnOk result (IsSteady (T.failures tree.old) (T.failures tree.new)) }
+        ensures failed { OnErr result (TellsOne (T.failures tree.old) (T.failures tree.new)) }
     {
         let count = tree.read(file, at, room)?;
         Ok(Encoded {

@@ -5,7 +5,7 @@
 mod came;
 mod counted;
 mod download;
-mod install;
+mod ending;
 mod line;
 mod list_line;
 mod listing;

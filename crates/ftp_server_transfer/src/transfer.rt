@@ -3,7 +3,7 @@ ghost use Rattle.std.specs.Prelude.{◌≡◌, IfOk};
 ghost use Rattle.ftp_server_model.specs.Ask.{or_empty};
 ghost use Rattle.ftp_server_transfer.specs.TreeTransfer.{transfer_of};
 
-use crate::install::fault_by;
+use crate::ending::fault_by;
 use crate::line::What;
 use crate::listing::Listing;
 use crate::named::Named;

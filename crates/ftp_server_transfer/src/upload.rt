@@ -11,7 +11,7 @@ ghost use Rattle.ftp_server_transfer.specs.Receiving.{is_over};
 ghost use Rattle.ftp_tree.specs.Tree.{octets_refusal, under};
 
 use crate::came::Came;
-use crate::install::{end_refusal, fault_by, kept_at, kept_count, room_behind};
+use crate::ending::{end_refusal, fault_by, kept_at, kept_count, room_behind};
 use arrayvec::ArrayVec;
 use ftp_facts::Moment;
 use ftp_operation::Rights;
@@ -151,7 +151,7 @@ impl<A: Allocator + Copy, T: Tree<A>> Upload<A, T> {
     }
 
     /// What was settled is put into the tree and answered so; or it is refused as the direct run would refuse it there now, and
-    /// nothing is.
+    /// nothing is. The tree looks at the path before it is asked of it.
     fn install(
         self,
         tree: &mut T,
@@ -168,6 +168,9 @@ impl<A: Allocator + Copy, T: Tree<A>> Upload<A, T> {
             keep,
             decoder,
         } = self;
+        let Ok(()) = tree.look(root, &path) else {
+            return Err(Fault::Device);
+        };
         if let Some(why) = end_refusal(tree, root, &path, keep, decoder.len(), rights) {
             return Ok(why);
         }

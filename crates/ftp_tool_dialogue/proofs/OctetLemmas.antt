@@ -1,38 +1,31 @@
 -- What a call makes of a server in which no line waits.
 use Rattle.std.proofs.Common.{◌≡◌, ◌≢◌, ◌⊎◌, inl, inr, ℕ, ◌≤◌, ◌<◌, true, false, [], ◌∷◌, length, None, take, refl, sym, ap, subst, ◌∙◌, arith}
-use Rattle.std.specs.Prelude.{◌==◌, if◌then◌else◌}
-use Rattle.std.proofs.lemmas.Bool.{eqb-true, eqb-false}
-use Rattle.ftp_nvt.proofs.CutLemmas.{decided}
+use Rattle.std.specs.Prelude.{if◌then◌else◌}
+use Rattle.ftp_tree.specs.Change.{Failures}
 use Rattle.ftp_ends.specs.declared.link.Wants.{Wants}
 use Rattle.ftp_ends.specs.declared.link.Wants.TheVariants as Want
 use Rattle.ftp_server.specs.Busy.{is_opening}
+use Rattle.ftp_server.specs.Server.{counts_of}
+use Rattle.ftp_server.specs.declared.server.Server.{Server as Held}
+use Rattle.ftp_server_model.proofs.CountLemmas.{same_counts, sure_course}
 use Rattle.ftp_server_model.specs.Calls.{close_step, connection_of, control_step, data_closed, data_refused, gives_control, listening, listening_step, refused_step, wants}
-use Rattle.ftp_server_model.specs.Failing.{Counts, Late, WaitingFails}
+use Rattle.ftp_server_model.specs.Failing.{KeepsCourse, Late, WaitingFails}
 use Rattle.ftp_server_model.specs.Far.{Acts, Hears, Server}
 use Rattle.ftp_server_model.specs.Machine.{IsReading, Reading, hears_octet}
 use Rattle.ftp_server_model.specs.View.{View}
 use Rattle.ftp_tool_dialogue.proofs.FreeLemmas.{listens_stays, none_later, refuses_stays}
 use Rattle.ftp_tool_dialogue.specs.Dialogue.{does, said, serves}
 
--- ---- counts
-
-pub counts_same : (a b : Counts) → a.refusals ≡ b.refusals → a.failures ≡ b.failures → a ≡ b
-counts_same a b p q = ap (λ n. record { refusals = n; failures = a.failures }) p ∙ ap (λ n. record { refusals = b.refusals; failures = n }) q
-
-same_or_not : (a b : Counts) → (a ≡ b) ⊎ (a ≢ b)
-same_or_not a b = by (decided (a.refusals == b.refusals)) (decided (a.failures == b.failures))
-  where
-    by : ((a.refusals == b.refusals) ≡ true) ⊎ ((a.refusals == b.refusals) ≡ false) → ((a.failures == b.failures) ≡ true) ⊎ ((a.failures == b.failures) ≡ false)
-        → (a ≡ b) ⊎ (a ≢ b)
-    by (inl p) (inl q) = inl (counts_same a b (eqb-true _ _ p) (eqb-true _ _ q))
-    by (inr p) q = inr (λ same. eqb-false _ _ p (ap (λ c. c.refusals) same))
-    by p (inr q) = inr (λ same. eqb-false _ _ q (ap (λ c. c.failures) same))
+-- over a tree whose device never strays
+pub sure : {A T J : Type 0} → (failures : T → Failures) → ((tree : T) → (failures tree).strays ≡ 0) → (old new : Held A T J)
+    → KeepsCourse (counts_of failures old) (counts_of failures new)
+sure failures never old new = sure_course (counts_of failures old) (counts_of failures new) (never old.session.tree) (never new.session.tree)
 
 -- ---- a call of the data connection, or of the octets that are owed
 
 -- where no line waits, it is its step
-pub acts_as : (step : View → View) (old new : Server) → Acts step old new → (step old.view).waiting ≡ None → new.view ≡ step old.view
-acts_as step old new acts none = by (same_or_not new.counts old.counts)
+pub acts_as : (step : View → View) (old new : Server) → KeepsCourse old.counts new.counts → Acts step old new → (step old.view).waiting ≡ None → new.view ≡ step old.view
+acts_as step old new course acts none = by (same_counts new.counts old.counts)
   where
     late : ⊥ ⊎ Late (step old.view) new.view → new.view ≡ step old.view
     late (inl wrong) = absurd wrong
@@ -41,7 +34,7 @@ acts_as step old new acts none = by (same_or_not new.counts old.counts)
 
     by : (new.counts ≡ old.counts) ⊎ (new.counts ≢ old.counts) → new.view ≡ step old.view
     by (inl same) = acts.done same ∙ none_later (step old.view) none
-    by (inr differ) = late (acts.failed differ)
+    by (inr differ) = late (acts.failed course differ)
 
 -- ---- an octet
 
@@ -60,23 +53,23 @@ unfolding serves
 served_as v w want is done = done ∙ ap (λ x. does x v) (sym is)
 
 -- a port is told
-pub listens : (old new : Server) → Acts (listening_step 1930) old new → old.view.waiting ≡ None → new.view ≡ listening 1930 old.view
+pub listens : (old new : Server) → KeepsCourse old.counts new.counts → Acts (listening_step 1930) old new → old.view.waiting ≡ None → new.view ≡ listening 1930 old.view
 unfolding listening
-listens old new acts none =
+listens old new course acts none =
     let silent = (listens_stays (connection_of old.view.session) 1930 old.view none).waiting in
-    acts_as (listening_step 1930) old new acts silent ∙ sym (none_later (listening_step 1930 old.view) silent)
+    acts_as (listening_step 1930) old new course acts silent ∙ sym (none_later (listening_step 1930 old.view) silent)
 
 -- an opening is refused
-pub connects : (old new : Server) → Acts refused_step old new → old.view.waiting ≡ None → new.view ≡ data_refused old.view
+pub connects : (old new : Server) → KeepsCourse old.counts new.counts → Acts refused_step old new → old.view.waiting ≡ None → new.view ≡ data_refused old.view
 unfolding data_refused
-connects old new acts none =
+connects old new course acts none =
     let silent = (refuses_stays (connection_of old.view.session) old.view none).waiting in
-    acts_as refused_step old new acts silent ∙ sym (none_later (refused_step old.view) silent)
+    acts_as refused_step old new course acts silent ∙ sym (none_later (refused_step old.view) silent)
 
 -- a close is done
-pub closes : (old new : Server) → Acts close_step old new → old.view.waiting ≡ None → new.view ≡ data_closed old.view
+pub closes : (old new : Server) → KeepsCourse old.counts new.counts → Acts close_step old new → old.view.waiting ≡ None → new.view ≡ data_closed old.view
 unfolding data_closed
-closes old new acts none = acts_as close_step old new acts none ∙ sym (none_later (close_step old.view) none)
+closes old new course acts none = acts_as close_step old new course acts none ∙ sym (none_later (close_step old.view) none)
 
 -- an opening of a port that a transfer waits for is refused
 pub accepts : (v w : View) → is_opening v.session.connection ≡ true → w ≡ data_refused v → w ≡ does Want.Accept v
@@ -89,10 +82,10 @@ waits v free = ap (λ b. if b then data_refused v else v) (sym free)
 -- ---- what is owed
 
 -- all that is owed was given
-pub gives : (count : ℕ) (old new : Server) → Acts (control_step count) old new → old.view.waiting ≡ None → count ≡ length old.view.owed → new.view ≡ said old.view
+pub gives : (count : ℕ) (old new : Server) → KeepsCourse old.counts new.counts → Acts (control_step count) old new → old.view.waiting ≡ None → count ≡ length old.view.owed → new.view ≡ said old.view
 unfolding gives_control
-gives count old new acts none all =
-    acts_as (control_step count) old new acts none ∙ ap (λ n. control_step n old.view) all
+gives count old new course acts none all =
+    acts_as (control_step count) old new course acts none ∙ ap (λ n. control_step n old.view) all
     ∙ sym (none_later (control_step (length old.view.owed) old.view) none)
 
 -- where nothing is to be done that this server does, it is left

@@ -12,7 +12,7 @@ use crate::serving::{give, serve, take};
 use ftp_control::Failed;
 use ftp_server::Server;
 use ftp_server_session::ServerTransfer;
-use ftp_tree::Tree;
+use ftp_tree::SureTree;
 use std::alloc::Allocator;
 use std::io::Write;
 
@@ -38,7 +38,7 @@ impl<A: Allocator + Copy> Answers<A> {
     }
 
     /// Hears a piece, and writes the answers to it.
-    pub fn exchange<T: Tree<A>, J: ServerTransfer<A, T>, W: Write>(
+    pub fn exchange<T: SureTree<A>, J: ServerTransfer<A, T>, W: Write>(
         &mut self,
         server: &mut Server<A, T, J>,
         piece: &[u8],
@@ -57,7 +57,7 @@ impl<A: Allocator + Copy> Answers<A> {
     }
 
     /// Hears a piece, and puts the answers to it behind those before.
-    fn hear<T: Tree<A>, J: ServerTransfer<A, T>>(
+    fn hear<T: SureTree<A>, J: ServerTransfer<A, T>>(
         &mut self,
         server: &mut Server<A, T, J>,
         piece: &[u8],
@@ -75,7 +75,7 @@ impl<A: Allocator + Copy> Answers<A> {
     }
 
     /// Hears an octet, does what is then wanted, and puts what is owed behind the answers; after QUIT it hears none.
-    fn answer<T: Tree<A>, J: ServerTransfer<A, T>>(
+    fn answer<T: SureTree<A>, J: ServerTransfer<A, T>>(
         &mut self,
         server: &mut Server<A, T, J>,
         octet: u8,
@@ -96,7 +96,7 @@ impl<A: Allocator + Copy> Answers<A> {
     }
 
     /// Puts what is owed behind the answers, and sees whether it refuses something.
-    pub fn tell<T: Tree<A>, J: ServerTransfer<A, T>>(
+    pub fn tell<T: SureTree<A>, J: ServerTransfer<A, T>>(
         &mut self,
         server: &mut Server<A, T, J>,
     ) -> Result<(), Failed>

@@ -13,7 +13,8 @@ use ftp_server::Server;
 use ftp_server_session::ServerTransfer;
 use ftp_server_transfer::TreeTransfer;
 use ftp_tool_accounts::two_accounts;
-use ftp_tree::{MemTree, Tree};
+use ftp_tree::SureTree;
+use ftp_tree_memory::MemTree;
 use std::alloc::Allocator;
 use std::io::{Read, Write};
 
@@ -60,7 +61,7 @@ fn answer_all<A, T, J, R, W>(
 ) -> Result<bool, Failed>
 where
     A: Allocator + Copy,
-    T: Tree<A>,
+    T: SureTree<A>,
     J: ServerTransfer<A, T>,
     R: Read,
     W: Write,
@@ -89,7 +90,7 @@ fn converse<A, T, J, R, W>(
 ) -> Result<bool, Failed>
 where
     A: Allocator + Copy,
-    T: Tree<A>,
+    T: SureTree<A>,
     J: ServerTransfer<A, T>,
     R: Read,
     W: Write,

@@ -1,4 +1,5 @@
-// A server between two octets of its control connection, which has no data connection (RFC 959, section 3.2).
+// A server between two octets of its control connection, which has no data connection (RFC 959, section 3.2). Its tree's device never strays, so
+// counts tell whether a call was done.
 ghost use Rattle.std.specs.Prelude.{◌≡◌, None, OnOk, length, true};
 ghost use Rattle.ftp_server_model.specs.Machine.{IsReading, Reading, hears_octet, may_hear};
 ghost use Rattle.ftp_server.specs.Server.{view_of};
@@ -8,7 +9,7 @@ use ftp_control::Failed;
 use ftp_ends::Wants;
 use ftp_server::Server;
 use ftp_server_session::ServerTransfer;
-use ftp_tree::Tree;
+use ftp_tree::SureTree;
 use std::alloc::Allocator;
 
 /// The port that is told to whoever asks for one.
@@ -18,7 +19,7 @@ const PORT: u16 = 1930;
 pub fn take<A, T, J>(server: &mut Server<A, T, J>, octet: u8) -> Result<(), Failed>
 where
     A: Allocator + Copy,
-    T: Tree<A>,
+    T: SureTree<A>,
     J: ServerTransfer<A, T>,
     requires { may_hear (view_of T.table J.view server.old) ≡ true }
     ensures { OnOk result ((read : Reading) → IsReading read
@@ -37,7 +38,7 @@ where
 pub fn serve<A, T, J>(server: &mut Server<A, T, J>)
 where
     A: Allocator + Copy,
-    T: Tree<A>,
+    T: SureTree<A>,
     J: ServerTransfer<A, T>,
     requires none { (view_of T.table J.view server.old).waiting ≡ None }
     ensures served { view_of T.table J.view server.new ≡ served (view_of T.table J.view server.old) }
@@ -51,7 +52,7 @@ where
 fn serve_one<A, T, J>(server: &mut Server<A, T, J>)
 where
     A: Allocator + Copy,
-    T: Tree<A>,
+    T: SureTree<A>,
     J: ServerTransfer<A, T>,
     requires none { (view_of T.table J.view server.old).waiting ≡ None }
     ensures serves { view_of T.table J.view server.new ≡ serves (view_of T.table J.view server.old) }
@@ -74,7 +75,7 @@ where
 pub fn give<A, T, J>(server: &mut Server<A, T, J>, room: &mut [u8])
 where
     A: Allocator + Copy,
-    T: Tree<A>,
+    T: SureTree<A>,
     J: ServerTransfer<A, T>,
     requires none { (view_of T.table J.view server.old).waiting ≡ None }
     requires fits { length room.old ≡ length (view_of T.table J.view server.old).owed }

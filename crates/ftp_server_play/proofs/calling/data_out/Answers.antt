@@ -1,12 +1,15 @@
 use Rattle.std.proofs.Common.{◌≡◌, ◌∙◌, arith, length, rules}
+use Rattle.ftp_server_model.proofs.CountLemmas.{sure_course}
 use Rattle.ftp_server_play.proofs.CallLemmas.{cut_back, data_makes}
 use Rattle.ftp_server_play.proofs.calling.data_out.Goals as goal
 
 pub returns-clause-makes : goal.returns-clause-makes
 returns-clause-makes g c =
     let server = g.S.Far.server in
+    let course = sure_course (server c.args.server.now).counts (server c.data_out-count.new.self).counts (g.met.S.SureFar.never c.args.server.now) (g.met.S.SureFar.never c.data_out-count.new.self) in
+    let few = c.data_out-count.ensures.left course in
     let long : length c.data_out-count.new.room ≡ c.in_ok-octets.octets.len = search rules in
     data_makes c.args.room c.data_out-count.result c.truncate.new.self.items (server c.args.server.now) (server c.data_out-count.new.self)
-    (omega (arith, c.data_out-count.ensures.within, c.as_mut_slice.ensures.len, c.in_ok-octets.ensures))
+    (omega (arith, c.data_out-count.ensures.within, few, c.as_mut_slice.ensures.len, c.in_ok-octets.ensures))
     (λ same. omega (arith, c.data_out-count.ensures.most same, c.as_mut_slice.ensures.len, c.in_ok-octets.ensures))
-    (cut_back c.data_out-count.result c.in_ok-octets.octets.len c.data_out-count.new.room c.truncate.new.self.items c.in_ok-octets.octets.items long c.truncate.ensures.items ∙ c.data_out-count.ensures.gave) c.data_out-count.ensures.now
+    (cut_back c.data_out-count.result c.in_ok-octets.octets.len c.data_out-count.new.room c.truncate.new.self.items c.in_ok-octets.octets.items long c.truncate.ensures.items ∙ c.data_out-count.ensures.gave course) c.data_out-count.ensures.now

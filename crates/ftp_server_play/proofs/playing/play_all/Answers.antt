@@ -31,7 +31,7 @@ returns-in_default-clause-begun g c =
 pub returns-in_default-clause-looks : goal.returns-in_default-clause-looks
 returns-in_default-clause-looks g c =
     let server = g.S.Far.server in
-    some_keep (cues_of c.args.cues.now) (server c.args.server.now) (server c.play_one.new.server)
+    some_keep (cues_of c.args.cues.now) (server c.args.server.now) (server c.play_one.new.server) (g.met.S.SureFar.never c.play_one.new.server)
     (some_made c.args.cues.now c.loop-cue.cue-index c.loop-cue.calm (gifts_of c.loop-cue.gifts.items) (server c.args.server.now) (server c.loop-cue.server)
     (server c.play_one.new.server) (omega (arith, c.loop-cue-test.true)) c.loop-cue.invariant.made c.in_default.ensures.back)
 
@@ -39,4 +39,4 @@ pub returns-clause-looks : goal.returns-clause-looks
 returns-clause-looks g c =
     let server = g.S.Far.server in
     keeps_the_map c.loop-cue.calm (cues_of (take c.loop-cue.cue-index c.args.cues.now)) (gifts_of c.loop-cue.gifts.items) (server c.args.server.now)
-    (server c.loop-cue.server) c.loop-cue.invariant.made
+    (server c.loop-cue.server) (g.met.S.SureFar.never c.loop-cue.server) c.loop-cue.invariant.made

@@ -13,7 +13,7 @@ returns-clause-acts g c =
     let r = c.break_transfer-broken in let v = view_of table view c.args.self.now in let w = view_of table view r.new.self in
     steps EndFails break_step (server_of table failures view c.args.self.now) (server_of table failures view r.new.self) (server_of table failures view c.settle_behind.new.self)
     c.device_failures-failures.result r.result c.device_failures-failures.ensures r.ensures.refusals r.ensures.done r.ensures.steady
-    (on_err r.result (λ is x after. install_fails (connection_of v.session) v w x is after) r.ensures.lost) c.settle_behind.ensures.settled
+    (on_err r.result (λ is course x after. install_fails (connection_of v.session) v w x (is course) after) r.ensures.lost) r.ensures.few c.settle_behind.ensures.few c.settle_behind.ensures.settled
     (by_step (counts_of failures c.args.self.now) (counts_of failures r.new.self) (counts_of failures c.settle_behind.new.self) r.ensures.refusals r.ensures.few c.settle_behind.ensures.refusals c.settle_behind.ensures.few)
 
 pub returns-clause-told : goal.returns-clause-told
@@ -21,4 +21,5 @@ returns-clause-told g c =
     let table = g.T.Tree.table in let failures = g.T.Tree.failures in let view = g.J.ServerTransfer.view in
     let r = c.break_transfer-broken in
     tells_step break_step c.settle_behind.new.self.heard (server_of table failures view c.args.self.now) (server_of table failures view r.new.self) (server_of table failures view c.settle_behind.new.self)
-    c.device_failures-failures.result r.result c.device_failures-failures.ensures r.ensures.refusals r.ensures.done r.ensures.steady c.settle_behind.ensures.settled c.settle_behind.ensures.told
+    c.device_failures-failures.result r.result c.device_failures-failures.ensures r.ensures.refusals r.ensures.done r.ensures.steady
+    r.ensures.few c.settle_behind.ensures.few c.settle_behind.ensures.settled c.settle_behind.ensures.told

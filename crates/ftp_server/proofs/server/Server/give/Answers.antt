@@ -14,14 +14,16 @@ pub returns-then-given-clause-lost : goal.returns-then-given-clause-lost
 returns-then-given-clause-lost g c =
     let table = g.T.Tree.table in let view = g.J.ServerTransfer.view in
     let r = c.give-given in let v = view_of table view c.args.self.now in let s = session_of table view r.new.self in
-    let fails = subst (λ b. Gives v r.result.count b s) c.if-given.true (r.ensures.on v refl) in
-    λ x late. fails x (subst (λ o. Late (owing o (with_session s v)) x) c.put_fixed.ensures.octets late)
+    λ course x late.
+    let fails = subst (λ b. Gives v r.result.count b s) c.if-given.true (r.ensures.on course v refl) in
+    fails x (subst (λ o. Late (owing o (with_session s v)) x) c.put_fixed.ensures.octets late)
 
 pub returns-clause-done : goal.returns-clause-done
 returns-clause-done g c =
     let table = g.T.Tree.table in let view = g.J.ServerTransfer.view in
     let r = c.give-given in let v = view_of table view c.args.self.now in let s = session_of table view r.new.self in
-    c.complete.ensures.done ∙ ap completed (sym (subst (λ b. Gives v r.result.count b s) c.if-given.false (r.ensures.on v refl)))
+    λ course. c.complete.ensures.done ∙ ap completed (sym (subst (λ b. Gives v r.result.count b s) c.if-given.false
+    (r.ensures.on (ap (λ n. n.failures.strays) (sym c.complete.ensures.steady) ∙ course) v refl)))
 
 pub returns-clause-full : goal.returns-clause-full
-returns-clause-full g c = c.give-given.ensures.full c.if-given.false
+returns-clause-full g c = λ course. c.give-given.ensures.full (ap (λ n. n.failures.strays) (sym c.complete.ensures.steady) ∙ course) c.if-given.false

@@ -1,40 +1,31 @@
-use Rattle.std.proofs.Common.{◌≡◌, ◌∙◌, subst, sym, take}
-use Rattle.ftp_server_model.specs.Failing.{Counts}
+use Rattle.std.proofs.Common.{◌∙◌, subst, sym, take}
 use Rattle.ftp_server_model.specs.Most.{IsMostHeard}
 use Rattle.ftp_server.proofs.CallLemmas.{took, unfailed}
-use Rattle.ftp_server.proofs.HearLemmas.{on_both, on_err}
-use Rattle.ftp_server.specs.Server.{counts_of, server_of, view_of}
+use Rattle.ftp_server.specs.Server.{counts_of, server_of}
 use Rattle.ftp_server.proofs.CountingLemmas.{by_octets}
 use Rattle.ftp_server.proofs.server.Server.hear.Goals as goal
 
 pub returns-clause-took : goal.returns-clause-took
 returns-clause-took g c =
-    let table = g.T.Tree.table in let failures = g.T.Tree.failures in let view = g.J.ServerTransfer.view in
-    let r = c.hear_octets-taken.result.outcome in let mid = c.hear_octets-taken.new.self in
-    let before : Counts = record { refusals = mid.refusals; failures = c.device_failures-failures.result } in
-    let same : before ≡ counts_of failures c.args.self.now = λ i. record { refusals = c.hear_octets-taken.ensures.refusals i; failures = c.device_failures-failures.ensures i } in
-    took (take c.hear_octets-taken.result.count c.args.piece.now) (server_of table failures view c.args.self.now) (server_of table failures view c.count.new.self) (view_of table view mid)
-    r c.hear_octets-taken.ensures.done c.hear_octets-taken.ensures.lost c.count.ensures.view
-    (on_both r (λ p q. p ∙ q) c.count.ensures.done c.hear_octets-taken.ensures.steady)
-    (on_err r (λ h e. h (e ∙ sym same)) c.count.ensures.failed)
-    (by_octets (counts_of failures c.args.self.now) (counts_of failures mid) (counts_of failures c.count.new.self) c.hear_octets-taken.ensures.refusals c.hear_octets-taken.ensures.few c.count.ensures.few c.count.ensures.device)
+    let failures = g.T.Tree.failures in
+    let server = server_of g.T.Tree.table failures g.J.ServerTransfer.view in
+    let r = c.hear_octets-taken in let n = c.count in
+    took (take r.result.count c.args.piece.now) (server c.args.self.now) (server r.new.self) (server n.new.self) c.device_failures-failures.result r.result.outcome
+    c.device_failures-failures.ensures r.ensures.refusals r.ensures.done r.ensures.lost r.ensures.steady n.ensures.view n.ensures.device n.ensures.done n.ensures.failed
+    (by_octets (counts_of failures c.args.self.now) (counts_of failures r.new.self) (counts_of failures n.new.self) r.ensures.refusals r.ensures.few n.ensures.few n.ensures.device)
 
 pub returns-clause-most : goal.returns-clause-most
 returns-clause-most g c = λ fine.
-    let failures = g.T.Tree.failures in
-    let r = c.hear_octets-taken.result in let mid = c.hear_octets-taken.new.self in
-    let before : Counts = record { refusals = mid.refusals; failures = c.device_failures-failures.result } in
-    let same : before ≡ counts_of failures c.args.self.now = λ i. record { refusals = c.hear_octets-taken.ensures.refusals i; failures = c.device_failures-failures.ensures i } in
-    subst (λ w. IsMostHeard r.count c.args.piece.now w) (sym c.count.ensures.view)
-    (unfailed (counts_of failures c.args.self.now) (counts_of failures c.count.new.self) r.outcome
-    (on_err r.outcome (λ h e. h (e ∙ sym same)) c.count.ensures.failed) c.hear_octets-taken.ensures.most fine)
+    let counts = counts_of g.T.Tree.failures in
+    let r = c.hear_octets-taken in let n = c.count in
+    subst (λ w. IsMostHeard r.result.count c.args.piece.now w) (sym n.ensures.view)
+    (unfailed (counts c.args.self.now) (counts r.new.self) (counts n.new.self) c.device_failures-failures.result r.result.outcome c.device_failures-failures.ensures r.ensures.refusals
+    n.ensures.device n.ensures.failed r.ensures.most fine)
 
 pub returns-clause-told : goal.returns-clause-told
 returns-clause-told g c = λ read is fine.
-    let failures = g.T.Tree.failures in
-    let r = c.hear_octets-taken.result in let mid = c.hear_octets-taken.new.self in
-    let before : Counts = record { refusals = mid.refusals; failures = c.device_failures-failures.result } in
-    let same : before ≡ counts_of failures c.args.self.now = λ i. record { refusals = c.hear_octets-taken.ensures.refusals i; failures = c.device_failures-failures.ensures i } in
-    c.count.ensures.told
-    ∙ unfailed (counts_of failures c.args.self.now) (counts_of failures c.count.new.self) r.outcome
-    (on_err r.outcome (λ h e. h (e ∙ sym same)) c.count.ensures.failed) c.hear_octets-taken.ensures.told fine read is
+    let counts = counts_of g.T.Tree.failures in
+    let r = c.hear_octets-taken in let n = c.count in
+    n.ensures.told
+    ∙ unfailed (counts c.args.self.now) (counts r.new.self) (counts n.new.self) c.device_failures-failures.result r.result.outcome c.device_failures-failures.ensures r.ensures.refusals
+    n.ensures.device n.ensures.failed r.ensures.told fine read is

@@ -11,25 +11,25 @@ use Rattle.ftp_server.proofs.server.Server.hear_text.Goals as goal
 pub returns-in-Some-clause-done : goal.returns-in-Some-clause-done
 returns-in-Some-clause-done g c =
     let v = view_of g.T.Tree.table g.J.ServerTransfer.view c.args.self.now in
-    on_ok c.hear_line.result (λ e read is. e ∙ ap (λ h. heard_line h v) (c.in-Some.ensures.read read is ∙ ap read c.line.ensures))
+    on_ok c.hear_line.result (λ e course read is. e course ∙ ap (λ h. heard_line h v) (c.in-Some.ensures.read read is ∙ ap read c.line.ensures))
     c.hear_line.ensures.done
 
 pub returns-in-Some-clause-lost : goal.returns-in-Some-clause-lost
 returns-in-Some-clause-lost g c =
     let v = view_of g.T.Tree.table g.J.ServerTransfer.view c.args.self.now in let w = view_of g.T.Tree.table g.J.ServerTransfer.view c.hear_line.new.self in
     on_err c.hear_line.result
-    (λ h read is. line_not_done c.in-Some.heard (read (line_of c.args.self.now.reader.ear)) v w (c.in-Some.ensures.read read is ∙ ap read c.line.ensures) h)
+    (λ h course read is. line_not_done c.in-Some.heard (read (line_of c.args.self.now.reader.ear)) v w (c.in-Some.ensures.read read is ∙ ap read c.line.ensures) (h course))
     c.hear_line.ensures.lost
 
 pub returns-in-None-clause-lost : goal.returns-in-None-clause-lost
-returns-in-None-clause-lost g c = λ read is.
+returns-in-None-clause-lost g c = λ course read is.
     let v = view_of g.T.Tree.table g.J.ServerTransfer.view c.args.self.now in let w = view_of g.T.Tree.table g.J.ServerTransfer.view c.hear_line-heard.new.self in
     let lost = subst (λ r. IsReadAs (read c.line.result.now) r) c.in-None.is (c.read_line.ensures.read read is) in
     line_not_read (read (line_of c.args.self.now.reader.ear)) v w (subst (λ t. HoldsText (read t)) c.line.ensures lost)
-    (bad_is_heard c.hear_line-heard.result Memory v w c.hear_line-heard.ensures.done c.hear_line-heard.ensures.lost)
+    (bad_is_heard c.hear_line-heard.result Memory v w c.hear_line-heard.ensures.done c.hear_line-heard.ensures.lost course)
 
 pub returns-in-Some-clause-told : goal.returns-in-Some-clause-told
 returns-in-Some-clause-told g c =
     let v = view_of g.T.Tree.table g.J.ServerTransfer.view c.args.self.now in
-    on_ok c.hear_line.result (λ e read is. e ∙ ap (λ h. heard_by_line h v) (c.in-Some.ensures.read read is ∙ ap read c.line.ensures))
+    on_ok c.hear_line.result (λ e course read is. e course ∙ ap (λ h. heard_by_line h v) (c.in-Some.ensures.read read is ∙ ap read c.line.ensures))
     c.hear_line.ensures.told

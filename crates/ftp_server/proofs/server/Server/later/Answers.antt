@@ -15,16 +15,16 @@ pub obey-requires-clause-named : goal.obey-requires-clause-named
 obey-requires-clause-named g c = name_if_waits c.in-Some.heard c.args.self.now.waiting (sym c.replace.ensures.value ∙ c.in-Some.is) c.args.self.now.paths
 
 pub returns-then-not-is_idle-clause-told : goal.returns-then-not-is_idle-clause-told
-returns-then-not-is_idle-clause-told g c =
+returns-then-not-is_idle-clause-told g c = λ course.
     let v = view_of g.T.Tree.table g.J.ServerTransfer.view c.args.self.now in
     sym (busy_later v (sym c.is_idle.ensures ∙ c.if-not-is_idle.true)).1
 
 pub returns-in-Some-clause-told : goal.returns-in-Some-clause-told
 returns-in-Some-clause-told g c =
     let v = view_of g.T.Tree.table g.J.ServerTransfer.view c.args.self.now in
-    obeyed_told c.obey.result c.in-Some.heard v c.obey.new.self.heard (sym c.replace.ensures.value ∙ c.in-Some.is) (sym c.is_idle.ensures ∙ c.if-not-is_idle.false) c.obey.ensures.told
+    obeyed_told _ c.obey.result c.in-Some.heard v c.obey.new.self.heard (sym c.replace.ensures.value ∙ c.in-Some.is) (sym c.is_idle.ensures ∙ c.if-not-is_idle.false) c.obey.ensures.told
 
 pub returns-in-None-clause-told : goal.returns-in-None-clause-told
-returns-in-None-clause-told g c =
+returns-in-None-clause-told g c = λ course.
     let v = view_of g.T.Tree.table g.J.ServerTransfer.view c.args.self.now in
     sym (none_later v (sym c.replace.ensures.value ∙ c.in-None.is)).1

@@ -1,18 +1,22 @@
-use Rattle.std.proofs.Common.{ap}
+use Rattle.std.proofs.Common.{◌≡◌, ◌∙◌, ap, true}
 use Rattle.ftp_tree.specs.Tree.{under, or_else, remove_refusal}
-use Rattle.ftp_direct.proofs.RefusalLemmas.{remove-no}
+use Rattle.ftp_tree.proofs.DeviceLemmas.{remove-no}
 use Rattle.ftp_server_model.specs.Walk.{rmd}
 use Rattle.ftp_server_model.specs.declared.reply.FixedReply.TheVariants as Texts
 use Rattle.ftp_direct.specs.Direct.{busy_refusal}
 use Rattle.ftp_server_model.specs.View.{direct_of}
+use Rattle.ftp_server_session.proofs.LookLemmas.{looked_turns}
 use Rattle.ftp_server_session.proofs.RefusedLemmas.{may_due, there_due, tree_refused}
 use Rattle.ftp_server_session.specs.Session.{session_of}
 use Rattle.ftp_server_session.proofs.session.Session.remove_dir.Goals as goal
 
-pub returns : goal.returns
-returns g c =
-    let old = c.args.self.now in
-    let s = session_of g.T.Tree.table g.J.ServerTransfer.view old in
-    let found = rw c.in-Some.is at c.in-Ok.ensures in
-    tree_refused g.T.Tree.table g.T.Tree.failures g.J.ServerTransfer.view (rmd c.args.text.now) old c.remove_dir.new.self _ _ Texts.Refused _ c.in-Err.ensures.refused (remove-no _ _)
-    c.refused.ensures (λ why e. may_due s _ _ s.rights.remove_dir _ c.if-not-self.false (there_due s _ _ _ (λ path. or_else (remove_refusal (under s.table s.root) path) (busy_refusal (direct_of s) path)) why found.0 found.1 (ap (λ r. or_else r (busy_refusal (direct_of s) c.in-Some.path)) e)))
+pub returns-clause-turn : goal.returns-clause-turn
+returns-clause-turn g c =
+    let table = g.T.Tree.table in let failures = g.T.Tree.failures in let view = g.J.ServerTransfer.view in
+    let row = rmd c.args.text.now in let seen = c.see.new.self in
+    let s = session_of table view seen in
+    let found = rw c.in-Some.is at c.in_ok-path.ensures.found in
+    let may : s.rights.remove_dir ≡ true = ap (λ held. held.rights.remove_dir) c.in_ok-path.ensures.looked.0 ∙ c.if-not-self.false in
+    looked_turns table failures view row c.args.self.now seen (record seen { tree = c.remove_dir.new.self }) c.in_ok-path.field-0 c.refused.result c.in_ok-path.ensures.looked
+    (tree_refused table failures view row seen c.remove_dir.new.self _ _ Texts.Refused _ c.in-Err.ensures.refused (remove-no _ _)
+    c.refused.ensures (λ why e. may_due s _ _ s.rights.remove_dir _ may (there_due s _ _ _ (λ path. or_else (remove_refusal (under s.table s.root) path) (busy_refusal (direct_of s) path)) why found.0 found.1 (ap (λ r. or_else r (busy_refusal (direct_of s) c.in-Some.path)) e))))

@@ -1,7 +1,6 @@
 use Rattle.std.proofs.Common.{◌≡◌, ◌+◌, ℕ, true, is_none, is_some, length, nat_le, not, sym, ap, subst, ◌∙◌}
 use Rattle.ftp_tree.specs.Tree.{octets_refusal, under}
-use Rattle.ftp_server_model.specs.Keep.{kept_count}
-use Rattle.ftp_server_transfer.proofs.InstallLemmas.{more_refused, none_below}
+use Rattle.ftp_server_transfer.proofs.LimitLemmas.{more_refused, none_below}
 use Rattle.ftp_server_transfer.proofs.upload.Upload.room_left.Goals as goal
 
 pub returns-in_default-clause-none : goal.returns-in_default-clause-none

@@ -1,11 +1,11 @@
-use Rattle.std.proofs.Common.{◌≡◌, ◌≤◌, true, false, Option, Some, length, sym, subst, arith}
+use Rattle.std.proofs.Common.{◌≡◌, ◌≤◌, true, false, Some, length, sym, subst, arith}
 use Rattle.std.specs.Option.{option_map}
 use Rattle.ftp_tree.specs.Tree.{under, octets_or_none}
 use Rattle.ftp_server_model.specs.Machine.{end_refusal}
 use Rattle.ftp_server_model.specs.Walk.{refusal_text}
 use Rattle.ftp_server_model.specs.declared.reply.FixedReply.{FixedReply}
 use Rattle.ftp_server_transfer.proofs.RefusalLemmas.{is_barred, is_short, has_no_place, has_place, fewer, no_fewer}
-use Rattle.ftp_server_transfer.proofs.install.end_refusal.Goals as goal
+use Rattle.ftp_server_transfer.proofs.ending.end_refusal.Goals as goal
 
 pub returns-then-not-may_put_at : goal.returns-then-not-may_put_at
 returns-then-not-may_put_at g c = λ s octets same at may long.

@@ -1,9 +1,8 @@
 // What an upload keeps of the file that stands at its path, how many octets may come behind that, why what came can't be put there at its end,
 // and what a call that a tree refuses is told as.
-ghost use Rattle.std.specs.Prelude.{◌≡◌, ◌⊎◌, ◌+◌, ℕ, List, is_none, is_some, length, nat_le, not, take};
+ghost use Rattle.std.specs.Prelude.{◌≡◌, ◌≤◌, ◌⊎◌, ◌+◌, ℕ, List, is_none, is_some, length, nat_le, not, take};
 ghost use Rattle.std.specs.Option.{IfSome, option_map};
-ghost use Rattle.ftp_direct.specs.Refusal.{name_refusal};
-ghost use Rattle.ftp_tree.specs.Change.{next_count};
+ghost use Rattle.ftp_tree.specs.Change.{Failures, next_count};
 ghost use Rattle.ftp_server_model.specs.Keep.{kept_count, kept_of, lacks};
 ghost use Rattle.ftp_server_model.specs.Machine.{end_refusal};
 ghost use Rattle.ftp_server_model.specs.View.{Session};
@@ -16,8 +15,8 @@ use ftp_direct::{len_at, may_put_at};
 use ftp_operation::Rights;
 use ftp_path::Path;
 use ftp_server_model::{FixedReply, Keep};
-use ftp_server_parts::Fault;
-use ftp_tree::{Tree, TreeFault};
+use ftp_server_parts::{Fault, room_text};
+use ftp_tree::Tree;
 use std::alloc::Allocator;
 
 /// How many octets the restart markers of an upload count before those that came.
@@ -108,20 +107,10 @@ fn passes(room: u64, kept: u64, count: u64) -> bool
     room - kept < count
 }
 
-/// The reply where the tree takes no file.
-fn room_text(fault: TreeFault) -> FixedReply
-    ensures { result ≡ refusal_text (name_refusal fault) }
-{
-    match fault {
-        TreeFault::Full => FixedReply::NoRoom,
-        _ => FixedReply::NameRefused,
-    }
-}
-
 /// What a refused call of a tree is told as, by the count of device failures before it and after it.
 pub(crate) fn fault_by(before: u64, after: u64) -> Fault
     requires { (after ≡ before) ⊎ (after ≡ next_count before) }
-    ensures { Counted result before after }
+    ensures { (old new : Failures) → old.told ≡ before → new.told ≡ after → old.strays ≤ new.strays → Counted result old new }
 {
     if after == before {
         Fault::Memory

@@ -1,7 +1,7 @@
 use Rattle.std.proofs.Common.{ℕ, sym, arith}
 use Rattle.ftp_tree.specs.Tree.{under}
-use Rattle.ftp_server_transfer.proofs.InstallLemmas.{kept_past, kept_within, within_room, room_is_short}
-use Rattle.ftp_server_transfer.proofs.install.room_behind.Goals as goal
+use Rattle.ftp_server_transfer.proofs.LimitLemmas.{kept_past, kept_within, within_room, room_is_short}
+use Rattle.ftp_server_transfer.proofs.ending.room_behind.Goals as goal
 
 pub returns-then-most-keep-clause-none : goal.returns-then-most-keep-clause-none
 returns-then-most-keep-clause-none g c =
