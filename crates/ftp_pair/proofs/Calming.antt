@@ -16,7 +16,7 @@ keeps_calm most old new few kept fits =
     kept.calm_is ∙ ap (λ b. old.calm && b) (sym (none_in_all kept.near kept.refusals kept.failures _ _ _
     (stayed kept.near old.tally.near new.tally.near fits.0 (omega (arith, few, kept.few)) kept.near_is)
     (stayed kept.refusals old.tally.far.refusals new.tally.far.refusals fits.1 (omega (arith, few, kept.few)) kept.refusals_is)
-    (stayed kept.failures old.tally.far.failures new.tally.far.failures fits.2 (omega (arith, few, kept.few)) kept.failures_is)))
+    (stayed kept.failures old.tally.far.failures.told new.tally.far.failures.told fits.2 (omega (arith, few, kept.few)) kept.failures_is)))
 
 -- where nothing changed
 pub same_on_err : {T E : Type 0} (result : Result T E) (old new : Seen) → OnErr result ((new.world ≡ old.world) × (new.calm ≡ old.calm)) → OnErr result (new.tally ≡ old.tally)

@@ -26,11 +26,11 @@ seen near far parts = record { world = shown near far parts; calm = parts.calm; 
 
 -- counts are of 64 bits
 abbrev pub AreCounts : Tally → Type 0
-AreCounts t = (t.near < 2 ^ 64) × (t.far.refusals < 2 ^ 64) × (t.far.failures < 2 ^ 64)
+AreCounts t = (t.near < 2 ^ 64) × (t.far.refusals < 2 ^ 64) × (t.far.failures.told < 2 ^ 64)
 
 -- no count has moved
 abbrev pub is_same : Tally → Tally → Bool
-is_same old new = nat_eq new.near old.near && (nat_eq new.far.refusals old.far.refusals && nat_eq new.far.failures old.far.failures)
+is_same old new = nat_eq new.near old.near && (nat_eq new.far.refusals old.far.refusals && nat_eq new.far.failures.told old.far.failures.told)
 
 -- a world is calm just where it was, and each count is what it was
 abbrev pub KeepsCalm : Seen → Seen → Type 0

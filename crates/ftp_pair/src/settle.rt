@@ -7,7 +7,7 @@ ghost use Rattle.ftp_pair.specs.Session.{Counted, KeepsCalm, LeadsSmall, Settles
 
 use crate::world::World;
 use ftp_client_model::Near;
-use ftp_server_model::Far;
+use ftp_server_model::SureFar;
 use ftp_tree::Tree;
 use std::alloc::Allocator;
 
@@ -22,7 +22,7 @@ fn left_after(left: u64, calm: bool) -> u64
     if calm { left } else { left - 1 }
 }
 
-impl<A: Allocator + Copy, T: Tree<A>, N: Near<A>, F: Far<A, T>> World<A, T, N, F> {
+impl<A: Allocator + Copy, T: Tree<A>, N: Near<A>, F: SureFar<A, T>> World<A, T, N, F> {
     /// Octets are delivered, at most 4,096 at once, wanted links open, and ends are told, until nothing of the kind is possible. It always returns:
     /// where nothing failed, since each turn leaves less to do; once an end was refused memory, or a device failed, after 2^40 turns more at most.
     /// Takes no memory of its own.

@@ -15,24 +15,24 @@ use ftp_client_model::Near;
 use ftp_operation::Answer;
 use ftp_pair_lanes::Mark;
 use ftp_pair_parts::{Event, Parts};
-use ftp_server_model::Far;
+use ftp_server_model::SureFar;
 use ftp_tree::Tree;
 use std::alloc::{AllocError, Allocator};
 use std::marker::Model;
 
 /// A client and a server, and what lies between them (RFC 959, section 2.3).
 #[derive(Drop)]
-pub struct World<A: Allocator + Copy, T: Tree<A>, N: Near<A>, F: Far<A, T>> {
+pub struct World<A: Allocator + Copy, T: Tree<A>, N: Near<A>, F: SureFar<A, T>> {
     pub(crate) parts: Parts<A, T, N, F>,
     alloc: A,
     ghost reached: { ∥ IsReached (seen N.client F.server parts) ∥₁ },
 }
 
-impl<A: Allocator + Copy, T: Tree<A>, N: Near<A>, F: Far<A, T>> Model for World<A, T, N, F> {
+impl<A: Allocator + Copy, T: Tree<A>, N: Near<A>, F: SureFar<A, T>> Model for World<A, T, N, F> {
     ghost use Rattle.ftp_pair_parts.specs.Shown.{HasRoom};
     ghost use Rattle.ftp_pair.specs.Session.{Seen, seen};
     ghost use Rattle.std.specs.Coded.{codes};
-    ghost use Rattle.ftp_tree.specs.Store.{table_code};
+    ghost use Rattle.ftp_tree.specs.Rows.{table_code};
 
     ghost Value = { Seen };
 
@@ -43,7 +43,7 @@ impl<A: Allocator + Copy, T: Tree<A>, N: Near<A>, F: Far<A, T>> Model for World<
     ghost invariant = { λ w. HasRoom N.client w.parts };
 }
 
-impl<A: Allocator + Copy, T: Tree<A>, N: Near<A>, F: Far<A, T>> World<A, T, N, F> {
+impl<A: Allocator + Copy, T: Tree<A>, N: Near<A>, F: SureFar<A, T>> World<A, T, N, F> {
     /// Two ends as they begin, each on the host of the other's peer. There is room for 4,096 octets in each queue, and for as many that are lent;
     /// refused that, it hands both ends back.
     pub fn new(alloc: A, near: N, far: F) -> Result<Self, (N, F)>

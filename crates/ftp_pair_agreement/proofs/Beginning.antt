@@ -21,8 +21,11 @@ use Rattle.ftp_operation.specs.declared.account.AccountsFault.TheVariants.{SameU
 use Rattle.ftp_operation_secret.specs.declared.secret.Secret.{Secret}
 use Rattle.ftp_path.specs.Path.{Names, fits, is_name, path_cmp, text_of}
 use Rattle.ftp_tree.specs.Sound.{is_sound_entry, is_sound_node, last_second}
-use Rattle.ftp_tree.specs.Tree.{Node, Dir, File, Table, IsTree, file_limit, node_at, octets_at, octets_in, octets_of, of_node, length_of, total_limit}
-use Rattle.ftp_tree.proofs.LawLemmas.{get-node, same, under-stands}
+use Rattle.ftp_tree.specs.Map.{Node, Dir, File, octets_of, of_node, length_of}
+use Rattle.ftp_tree.specs.Tree.{Table, IsTree, most_octets, node_at, octets_at, octets_in}
+use Rattle.ftp_tree.specs.Map as maps
+use Rattle.ftp_tree.proofs.LawLemmas.{get-node, under-stands}
+use Rattle.ftp_tree.proofs.MapLemmas.{same}
 use Rattle.ftp_tree.proofs.PartLemmas.{parts-trees}
 use Rattle.ftp_direct.specs.Direct.{start as direct_start, is_directory, part}
 use Rattle.ftp_server_model.specs.Held.{HasShortFiles}
@@ -149,22 +152,22 @@ short_entry path (row ∷ rows) octets moment is =
     by_node Dir e = absurd (cc)
     by_node (File other at) e = let same : other ≡ octets = cc in ap length same
 
--- in a table whose octets are together within the limit, each file is within that of a file
-pub few_are_short : (table : Table) → octets_in table ≤ total_limit → HasShortFiles table
-unfolding octets_in octets_at
+-- in a table that has no more octets together than a limit may let it have, no file has more
+pub few_are_short : (table : Table) → octets_in table ≤ most_octets → HasShortFiles table
+unfolding octets_in maps.octets_in octets_at
 few_are_short table few path = by_node (node_at table path) refl
   where
-    by_node : (node : Option Node) → node_at table path ≡ node → length (unwrap_or (of_node octets_of node) []) ≤ file_limit
+    by_node : (node : Option Node) → node_at table path ≡ node → length (unwrap_or (of_node octets_of node) []) ≤ most_octets
     by_node None is = omega arith
     by_node (Some Dir) is = omega arith
     by_node (Some (File octets moment)) is =
-        let short = short_entry path (fin.entries table) octets moment (get-node table path ∙ is) in
+        let short = short_entry path (fin.entries table.map) octets moment (get-node table path ∙ is) in
         omega (arith, short, few)
 
--- a file of a table of short files is within the limit of a file
-short_file : (table : Table) (path : Names) (octets : List ℕ) (moment : ℕ) → HasShortFiles table → node_at table path ≡ Some (File octets moment) → length octets ≤ total_limit
+-- nor has a file of a table of short files
+short_file : (table : Table) (path : Names) (octets : List ℕ) (moment : ℕ) → HasShortFiles table → node_at table path ≡ Some (File octets moment) → length octets ≤ most_octets
 unfolding octets_at
-short_file table path octets moment short is = subst (λ (node : Option Node). length (unwrap_or (of_node octets_of node) []) ≤ total_limit) is (short path)
+short_file table path octets moment short is = subst (λ (node : Option Node). length (unwrap_or (of_node octets_of node) []) ≤ most_octets) is (short path)
 
 -- a path that has an entry among sound entries is a path of names
 named_entry : (path : Names) (rows : List (Names × Node)) → list_all is_sound_entry rows ≡ true → IsSome (find_entry path_cmp path rows) → list_all is_name path ≡ true
@@ -181,15 +184,15 @@ unfolding fits text_of
 root_is_path = refl
 
 -- the direct run starts in a sound state from a tree of sound entries whose visible files are short
-sound_start : (table : Table) (found : Option Account) → IsTree table → list_all is_sound_entry (fin.entries table) ≡ true → HasShortFiles (part (direct_start table found))
+sound_start : (table : Table) (found : Option Account) → IsTree table → list_all is_sound_entry (fin.entries table.map) ≡ true → HasShortFiles (part (direct_start table found))
     → IsSound (direct_start table found)
 sound_start table None tree all short = record {
   cwd = root_is_path;
   tree = λ known. absurd (cc);
   here = λ known. absurd (cc);
-  names = λ path some. named_entry path (fin.entries table) all (ap is_some (get-node table path ∙ sym (under-stands table [] path)) ∙ some);
+  names = λ path some. named_entry path (fin.entries table.map) all (ap is_some (get-node table path ∙ sym (under-stands table [] path)) ∙ some);
   files = λ path octets moment is. (
-    early_entry path (fin.entries table) octets moment all (get-node table path ∙ sym (under-stands table [] path) ∙ is),
+    early_entry path (fin.entries table.map) octets moment all (get-node table path ∙ sym (under-stands table [] path) ∙ is),
     short_file (part (direct_start table None)) path octets moment short is,
   );
 }
@@ -198,10 +201,10 @@ sound_start table (Some account) tree all short = record {
   tree = λ known. parts-trees.taking table account.root tree (a_directory (node_at table account.root) known);
   here = λ known. (parts-trees.taking table account.root tree (a_directory (node_at table account.root) known)).root;
   names = λ path some.
-      let whole = named_entry (account.root ++ path) (fin.entries table) all (ap is_some (get-node table (account.root ++ path) ∙ sym (under-stands table account.root path)) ∙ some) in
+      let whole = named_entry (account.root ++ path) (fin.entries table.map) all (ap is_some (get-node table (account.root ++ path) ∙ sym (under-stands table account.root path)) ∙ some) in
       (and_parts (list_all is_name account.root) (list_all is_name path) (sym (list_all-append is_name account.root path) ∙ whole)).1;
   files = λ path octets moment is. (
-    early_entry (account.root ++ path) (fin.entries table) octets moment all (get-node table (account.root ++ path) ∙ sym (under-stands table account.root path) ∙ is),
+    early_entry (account.root ++ path) (fin.entries table.map) octets moment all (get-node table (account.root ++ path) ∙ sym (under-stands table account.root path) ∙ is),
     short_file (part (direct_start table (Some account))) path octets moment short is,
   );
 }

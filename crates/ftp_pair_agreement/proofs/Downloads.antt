@@ -22,7 +22,8 @@ use Rattle.ftp_settings.specs.declared.representation.Structure.TheVariants as S
 use Rattle.ftp_settings.specs.declared.representation.Mode.{Mode}
 use Rattle.ftp_settings.specs.declared.representation.Mode.TheVariants as Modes
 use Rattle.ftp_settings.specs.declared.representation.Representation.{Representation}
-use Rattle.ftp_tree.specs.Tree.{Node, Dir, File, node_at, octets_at, octets_of, octets_or_none, of_node, total_limit}
+use Rattle.ftp_tree.specs.Map.{Node, Dir, File, octets_of, of_node}
+use Rattle.ftp_tree.specs.Tree.{node_at, octets_at, octets_or_none, most_octets}
 use Rattle.ftp_direct.specs.declared.refusal.Refusal.{Refusal}
 use Rattle.ftp_direct.specs.declared.refusal.Refusal.TheVariants as Refusals
 use Rattle.ftp_direct.specs.Direct.{State, done, file_of, named, offset_refusal, or_refused, part, place_at, refusal, refused_file, refused_from, refused_there, size_in}
@@ -84,12 +85,12 @@ written_is false settings start octets = refl
 
 -- ---- files are short
 
--- a file of a sound state has no more octets than the limit of all
-short-file : (state : State) (path : Names) → IsSound state → length (octets_or_none (part state) path) ≤ total_limit
+-- a file of a sound state has no more octets than a map may have
+short-file : (state : State) (path : Names) → IsSound state → length (octets_or_none (part state) path) ≤ most_octets
 unfolding octets_at
 short-file state path sound = by_node (node_at (part state) path) refl
   where
-    by_node : (node : Option Node) → node_at (part state) path ≡ node → length (unwrap_or (of_node octets_of node) []) ≤ total_limit
+    by_node : (node : Option Node) → node_at (part state) path ≡ node → length (unwrap_or (of_node octets_of node) []) ≤ most_octets
     by_node None is = omega arith
     by_node (Some Dir) is = omega arith
     by_node (Some (File octets moment)) is = (sound.files path octets moment is).1

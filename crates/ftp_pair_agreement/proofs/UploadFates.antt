@@ -7,7 +7,8 @@ use Rattle.ftp_mode.specs.Laws.{settled_content}
 use Rattle.ftp_operation.specs.Answer.{Done, Refused, Broken as BrokenOff}
 use Rattle.ftp_operation.specs.declared.op.Op.{Op}
 use Rattle.ftp_settings.specs.Representation.{form_of}
-use Rattle.ftp_tree.specs.Tree.{Node, Dir, File, node_at, octets_at, octets_of, octets_or_none, octets_refusal, of_node, total_limit}
+use Rattle.ftp_tree.specs.Map.{Node, Dir, File, octets_of, of_node}
+use Rattle.ftp_tree.specs.Tree.{node_at, octets_at, octets_or_none, octets_refusal, most_octets}
 use Rattle.ftp_tree.specs.declared.fault.TreeFault.{TreeFault}
 use Rattle.ftp_wire.specs.Decoder.{decoder_of, no_octets}
 use Rattle.ftp_wire.proofs.DecoderLemmas.{what_is_settled}
@@ -137,7 +138,7 @@ module _ (state : State) (ask : Ask) (good : IsAsk ask) (rise : Rise) (upload : 
       found_in : Option Node → List ℕ
       found_in node = unwrap_or (of_node octets_of node) []
 
-      few_of : (found : List ℕ) → octets_or_none (part state) (rise.path state) ≡ found → length found ≤ total_limit → kept_count (rise.keep state) < 10 ^ 18
+      few_of : (found : List ℕ) → octets_or_none (part state) (rise.path state) ≡ found → length found ≤ most_octets → kept_count (rise.keep state) < 10 ^ 18
       few_of found is few = omega (arith, kept_within (rise.keep state) (octets_or_none (part state) (rise.path state)) (upload.within state), ap length is, few)
 
       by_node : (node : Option Node) → node_at (part state) (rise.path state) ≡ node → kept_count (rise.keep state) < 10 ^ 18

@@ -42,7 +42,7 @@ use Rattle.ftp_pair_agreement.proofs.FetchLink.{far_linked}
 -- ---- limits
 
 -- within both limits nothing is too many
-few_clear : (table : Table) (path : Names) (count : ℕ) → nat_le count file_limit ≡ true → nat_le count (room_at table path) ≡ true → octets_refusal table path count ≡ None
+few_clear : (table : Table) (path : Names) (count : ℕ) → nat_le count (file_limit table) ≡ true → nat_le count (room_at table path) ≡ true → octets_refusal table path count ≡ None
 few_clear table path count one other =
     ap (λ (b : Bool). or_else (whenever (not b) Faults.TooBig) (whenever (not (nat_le count (room_at table path))) Faults.Full)) one
     ∙ ap (λ (b : Bool). whenever (not b) Faults.Full) other
@@ -50,11 +50,11 @@ few_clear table path count one other =
 -- where so many are too many, more are
 pub too_many_more : (table : Table) (path : Names) (few many : ℕ) → few ≤ many → is_some (octets_refusal table path few) ≡ true → is_some (octets_refusal table path many) ≡ true
 too_many_more table path few many le some =
-    by_bool (nat_le many file_limit)
+    by_bool (nat_le many (file_limit table))
     (λ small.
     by_bool (nat_le many (room_at table path))
     (λ fits.
-    let one : nat_le few file_limit ≡ true = le-leb few file_limit (omega (arith, le, leb-true many file_limit small)) in
+    let one : nat_le few (file_limit table) ≡ true = le-leb few (file_limit table) (omega (arith, le, leb-true many (file_limit table) small)) in
     let other : nat_le few (room_at table path) ≡ true = le-leb few (room_at table path) (omega (arith, le, leb-true many (room_at table path) fits)) in
     absurd (let e : false ≡ true = sym (ap is_some (few_clear table path few one other)) ∙ some in cc))
     (λ full.
@@ -65,14 +65,14 @@ too_many_more table path few many le some =
 -- what is not too many can be said
 clear_few : (table : Table) (path : Names) (count : ℕ) → is_some (octets_refusal table path count) ≡ false → count < 10 ^ 18
 clear_few table path count none =
-    by_bool (nat_le count file_limit) (λ e. omega (arith, leb-true count file_limit e))
+    by_bool (nat_le count (file_limit table)) (λ e. omega (arith, leb-true count (file_limit table) e))
     (λ e. absurd (let f : true ≡ false =
     sym (ap (λ (b : Bool). is_some (or_else (whenever (not b) Faults.TooBig) (whenever (not (nat_le count (room_at table path))) Faults.Full))) e) ∙ none in cc))
 
 -- very many are too many
 pub many_over : (table : Table) (path : Names) (count : ℕ) → 10 ^ 18 ≤ count → is_some (octets_refusal table path count) ≡ true
 many_over table path count many =
-    by_bool (nat_le count file_limit) (λ e. absurd (omega (arith, many, leb-true count file_limit e)))
+    by_bool (nat_le count (file_limit table)) (λ e. absurd (omega (arith, many, leb-true count (file_limit table) e)))
     (λ e. ap (λ (b : Bool). is_some (or_else (whenever (not b) Faults.TooBig) (whenever (not (nat_le count (room_at table path))) Faults.Full))) e)
 
 -- ---- the server

@@ -24,7 +24,8 @@ use Rattle.ftp_facts.proofs.NumberLemmas.{digits_all, is_given}
 use Rattle.ftp_operation.specs.Operation.{is_number}
 use Rattle.ftp_path.specs.Path.{IsPathText, Names, fits, is_listed_text, is_name, is_path_octet, slash, text_limit}
 use Rattle.ftp_path.proofs.TextLemmas.{is_utf8-append, name-text, slash-utf8}
-use Rattle.ftp_tree.specs.Tree.{Node, Dir, File, Table, children, node_at}
+use Rattle.ftp_tree.specs.Map.{Node, Dir, File}
+use Rattle.ftp_tree.specs.Tree.{Table, children, node_at}
 use Rattle.ftp_tree.proofs.LawLemmas.{children-stand}
 use Rattle.ftp_direct.specs.Direct.{State, behind, child, entries_in, entry_at, entry_in, file_in, is_file, listed, names_for, part, perm_of, size_fact}
 use Rattle.ftp_server_model.specs.Entries.{listed_line}

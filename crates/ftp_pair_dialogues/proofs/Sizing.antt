@@ -30,7 +30,8 @@ use Rattle.ftp_settings.specs.declared.representation.Structure.TheVariants as S
 use Rattle.ftp_settings.specs.declared.representation.Mode.TheVariants as Modes
 use Rattle.ftp_settings.specs.declared.representation.Representation.{Representation}
 use Rattle.ftp_tree.specs.Sound.{last_second}
-use Rattle.ftp_tree.specs.Tree.{Node, Dir, File, node_at, stamp_at, of_node, moment_of}
+use Rattle.ftp_tree.specs.Map.{Node, Dir, File, of_node, moment_of}
+use Rattle.ftp_tree.specs.Tree.{node_at, stamp_at}
 use Rattle.ftp_client_model.specs.Dialogue.{placed, awaits_reply}
 use Rattle.ftp_client_model.specs.Plan.{own_command, first_step, from_structure, from_mode}
 use Rattle.ftp_client_model.specs.View.{View as Near, Job}

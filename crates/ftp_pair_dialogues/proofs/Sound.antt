@@ -13,11 +13,13 @@ use Rattle.ftp_operation.specs.declared.op.Op.TheVariants as Ops
 use Rattle.ftp_path.specs.Path.{Names, IsPathText, fits, is_name, is_within, parent, path_cmp}
 use Rattle.ftp_path.proofs.KeyLemmas.{within-append, within-parts}
 use Rattle.ftp_server_model.proofs.PathTexts.{is_path-led, is_path-parent}
-use Rattle.ftp_tree.specs.Tree.{Node, Dir, File, Table, IsTree, node_at, made, removed, moved, freed, or_else, file_refusal, make_refusal, remove_refusal, delete_refusal, rename_refusal, source_refusal}
+use Rattle.ftp_tree.specs.Map.{Node, Dir, File}
+use Rattle.ftp_tree.specs.Tree.{Table, IsTree, node_at, made, removed, moved, freed, or_else, file_refusal, make_refusal, remove_refusal, delete_refusal, rename_refusal, source_refusal}
 use Rattle.ftp_tree.specs.declared.fault.TreeFault.{TreeFault}
 use Rattle.ftp_tree.specs.declared.fault.TreeFault.TheVariants as Faults
 use Rattle.ftp_tree.proofs.KeepLaws.{at-insert, at-remove, by-freed, changes-keep, freed-tree, is-dir, takes-parts}
-use Rattle.ftp_tree.proofs.LawLemmas.{apart, free-to, rename-moves, same, target-parts}
+use Rattle.ftp_tree.proofs.MapLemmas.{apart, same}
+use Rattle.ftp_tree.proofs.LawLemmas.{free-to, rename-moves, target-parts}
 use Rattle.ftp_tree.proofs.PartLemmas.{parts-put}
 use Rattle.ftp_direct.specs.Direct.{State, answer, busy_refusal, changed, chosen, done, limited, named, part, refusal, refused_name, target_part}
 use Rattle.ftp_direct.specs.declared.refusal.Refusal.{Refusal}

@@ -17,7 +17,8 @@ use Rattle.ftp_operation.specs.declared.op.Op.TheVariants as Ops
 use Rattle.ftp_path.specs.Path.{Names, IsPathText, fits, text_of}
 use Rattle.ftp_direct.specs.Direct.{State, done, entry_at, listed, named, named_or_here, part, perm_of, refusal, size_fact}
 use Rattle.ftp_tree.specs.Sound.{last_second}
-use Rattle.ftp_tree.specs.Tree.{Node, Dir, File, node_at}
+use Rattle.ftp_tree.specs.Map.{Node, Dir, File}
+use Rattle.ftp_tree.specs.Tree.{node_at}
 use Rattle.ftp_client_model.specs.Plan.{own_command, optional}
 use Rattle.ftp_client_model.specs.View.{View as Near}
 use Rattle.ftp_server_model.specs.Ask.{or_empty}

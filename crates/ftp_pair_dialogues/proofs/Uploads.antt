@@ -12,12 +12,13 @@ use Rattle.ftp_operation.specs.declared.op.How.{How}
 use Rattle.ftp_operation.specs.declared.op.Op.{Op}
 use Rattle.ftp_path.specs.Path.{IsPathText, Names, fits, is_name, path_cmp}
 use Rattle.ftp_settings.specs.Representation.{has_markers}
-use Rattle.ftp_tree.specs.Tree.{Node, Dir, File, Table, file_limit, install_refusal, installed, node_at, octets_refusal, or_else, room_answer, room_at, room_refusal, total_limit, whenever}
+use Rattle.ftp_tree.specs.Map.{Node, Dir, File}
+use Rattle.ftp_tree.specs.Tree.{Table, file_limit, most_octets, install_refusal, installed, node_at, octets_refusal, or_else, room_answer, room_at, room_refusal, whenever}
 use Rattle.ftp_tree.specs.Sound.{last_second}
 use Rattle.ftp_tree.specs.declared.fault.TreeFault.{TreeFault}
 use Rattle.ftp_tree.specs.declared.fault.TreeFault.TheVariants as Faults
 use Rattle.ftp_tree.proofs.KeepLaws.{at-insert, changes-keep}
-use Rattle.ftp_tree.proofs.LawLemmas.{same}
+use Rattle.ftp_tree.proofs.MapLemmas.{same}
 use Rattle.ftp_direct.specs.declared.refusal.Refusal.{Refusal}
 use Rattle.ftp_direct.specs.Direct.{State, barred_put, done, file_of, limited, named, offset_refusal, or_refused, part, place_at, put_refusal, refusal, refused_name, refused_octets, refused_room}
 use Rattle.ftp_direct.proofs.PlaceLemmas.{led}
@@ -63,9 +64,9 @@ fits_limited path why none =
 -- ---- a file that is put
 
 -- nothing is too many that is within both limits
-few_octets : (table : Table) (path : Names) (count : ℕ) → octets_refusal table path count ≡ None → count ≤ total_limit
+few_octets : (table : Table) (path : Names) (count : ℕ) → octets_refusal table path count ≡ None → count ≤ most_octets
 few_octets table path count none =
-    by_bool (nat_le count file_limit) (λ e. leb-true count file_limit e)
+    by_bool (nat_le count (file_limit table)) (λ e. omega (arith, leb-true count (file_limit table) e))
     (λ e. absurd (let f : Some Faults.TooBig ≡ None = ap (λ (b : Bool). or_else (whenever (not b) Faults.TooBig) (whenever (not (nat_le count (room_at table path))) Faults.Full)) (sym e) ∙ none in cc))
 
 -- files that are fine are so when a fine one is put

@@ -9,7 +9,8 @@ use Rattle.ftp_operation.specs.declared.op.Op.{Op}
 use Rattle.ftp_path.specs.Path.{Names, is_name}
 use Rattle.ftp_direct.specs.Direct.{State, part}
 use Rattle.ftp_tree.specs.Sound.{last_second}
-use Rattle.ftp_tree.specs.Tree.{Table, Dir, File, IsTree, node_at, total_limit}
+use Rattle.ftp_tree.specs.Tree.{Table, IsTree, node_at, most_octets}
+use Rattle.ftp_tree.specs.Map.{Dir, File}
 use Rattle.ftp_client_model.specs.Calls.{is_sound, is_busy_job, report_of}
 use Rattle.ftp_client_model.specs.Plan.{how_of}
 use Rattle.ftp_client_model.specs.View.{View as Near, Idle, Doing, Told}
@@ -99,7 +100,7 @@ pub record Ends (result : Said × State) (n : Near) (f : Far) : Type 0 where
 
 -- a file has a moment, and no more octets than a map may have
 abbrev pub IsFine : List ℕ → ℕ → Type 0
-IsFine octets moment = (moment ≤ last_second) × (length octets ≤ total_limit)
+IsFine octets moment = (moment ≤ last_second) × (length octets ≤ most_octets)
 
 -- the current directory is a path at which a directory stands, and what the account sees is a tree of names and of such files
 pub record IsSound (state : State) : Type 0 where

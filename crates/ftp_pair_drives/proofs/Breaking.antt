@@ -89,8 +89,8 @@ server_says front count old written attends is wrote =
         gave = (
           record {
             done = λ calm. sym (ap (λ q. waited q (control_step count v)) attends.none_waits);
-            failed = λ moved. absurd (moved refl);
-            counted = ((0, omega arith, refl), (0, omega arith, refl));
+            failed = λ course moved. absurd (moved refl);
+            counted = ((0, omega arith, refl), ((0, omega arith, refl), omega arith));
           },
           refl,
         );

@@ -1,8 +1,9 @@
--- Where neither count moved in two calls together, neither moved in the first.
+-- Where neither count moved in two calls together, and the device did not stray, neither moved in the first, and it did not stray there.
 use Rattle.std.proofs.Common.{◌≡◌, ℕ, zero, suc, ◌+◌, ◌%◌, ◌^◌, ◌<◌, ◌≤◌, refl, sym, ap, subst, ◌∙◌, arith}
 use Rattle.ftp_direct.specs.Run.{moved_on}
 use Rattle.ftp_server_model.specs.Counting.{CountsOn, MovesOn}
 use Rattle.ftp_server_model.specs.Failing.{Counts}
+use Rattle.ftp_tree.proofs.CountLemmas.{stray-first}
 
 -- one that moved twice moved by both together
 twice : (more first count : ℕ) → moved_on more (moved_on first count) ≡ moved_on (first + more) count
@@ -45,6 +46,8 @@ pub first_is_calm : (old mid new : Counts) → CountsOn old mid → CountsOn mid
 first_is_calm old mid new first second same =
     let refusals : mid.refusals ≡ old.refusals =
     one_stays 1 old.refusals mid.refusals new.refusals (omega arith) first.0 second.0 (ap (λ (c : Counts). c.refusals) same) in
-    let failures : mid.failures ≡ old.failures =
-    one_stays 2 old.failures mid.failures new.failures (omega arith) first.1 second.1 (ap (λ (c : Counts). c.failures) same) in
-    λ i. record { refusals = refusals i; failures = failures i }
+    let told : mid.failures.told ≡ old.failures.told =
+    one_stays 2 old.failures.told mid.failures.told new.failures.told (omega arith) first.1.0 second.1.0 (ap (λ (c : Counts). c.failures.told) same) in
+    let strays : mid.failures.strays ≡ old.failures.strays =
+    stray-first old.failures mid.failures new.failures first.1.1 second.1.1 (ap (λ (c : Counts). c.failures.strays) same) in
+    λ i. record { refusals = refusals i; failures = record { told = told i; strays = strays i } }

@@ -26,7 +26,8 @@ use Rattle.ftp_server_model.specs.declared.session.Access.TheVariants as Accesse
 use Rattle.ftp_server_model.proofs.ReadingLemmas.{reads_stated}
 use Rattle.ftp_reply.specs.Reader.{line_heard}
 use Rattle.ftp_reply.specs.Values.{path_value, quoted_value}
-use Rattle.ftp_tree.specs.Tree.{Dir, Table, node_at}
+use Rattle.ftp_tree.specs.Map.{Dir}
+use Rattle.ftp_tree.specs.Tree.{Table, node_at}
 use Rattle.ftp_pair_drives.specs.Alone.{ClientAttends, ClientIsCalm, IsAsking, begun_in, reports_in}
 use Rattle.ftp_pair_drives.specs.Between.{Client, nothing_yet, server_deeds}
 use Rattle.ftp_pair_drives.specs.Claims.{Begins}

@@ -7,11 +7,12 @@ use Rattle.ftp_server_model.specs.Held.{HasShortFiles}
 use Rattle.ftp_tree.proofs.KeepLaws.{at-root_alone, root-tree}
 use Rattle.ftp_tree.proofs.LawLemmas.{under-stands}
 use Rattle.ftp_tree.proofs.SoundLemmas.{sound-alone}
-use Rattle.ftp_tree.specs.Tree.{Dir, file_limit, octets_at, octets_of, of_node, root_alone, under}
+use Rattle.ftp_tree.specs.Map.{Dir, octets_of, of_node}
+use Rattle.ftp_tree.specs.Tree.{most_octets, octets_at, root_alone, under}
 use Rattle.ftp_pair_drives.specs.Example.{ExampleIsFair}
 
 -- no file stands in it
-none_stands : (stands : Bool) → length (unwrap_or (of_node octets_of (cond stands (Some Dir) None)) []) ≤ file_limit
+none_stands : (stands : Bool) → length (unwrap_or (of_node octets_of (cond stands (Some Dir) None)) []) ≤ most_octets
 none_stands true = omega arith
 none_stands false = omega arith
 
@@ -19,7 +20,7 @@ none_stands false = omega arith
 short_files : HasShortFiles (under root_alone [])
 unfolding octets_at
 short_files path =
-    subst (λ node. length (unwrap_or (of_node octets_of node) []) ≤ file_limit) (sym (under-stands root_alone [] path ∙ at-root_alone path))
+    subst (λ node. length (unwrap_or (of_node octets_of node) []) ≤ most_octets) (sym (under-stands root_alone [] path ∙ at-root_alone path))
     (none_stands _)
 
 pub example_is_fair : ExampleIsFair

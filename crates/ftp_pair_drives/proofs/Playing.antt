@@ -17,6 +17,7 @@ use Rattle.ftp_server_drive.specs.Side.{HearsBy as HearsOctet, server_side}
 use Rattle.ftp_server_model.specs.Calls as far
 use Rattle.ftp_server_model.specs.Calls.{clock_step, control_step}
 use Rattle.ftp_server_model.specs.Far.{Hears}
+use Rattle.ftp_tree.specs.Change.{never_strayed}
 use Rattle.ftp_server_model.specs.Machine.{IsReading, Reading, heard_events, heard_line, hears_octet, may_hear, waited}
 use Rattle.ftp_server_model.specs.View.{View as Far, line_limit}
 use Rattle.ftp_server_model.specs.declared.heard.HeardLine.TheVariants.{Asks}
@@ -39,7 +40,7 @@ goes_on Is Keeps Stands deed before start old new is keeps stands done goes = ((
 -- a server
 abbrev pub far_at : Far → List ℕ → Stand server_side
 far_at v unheard = record {
-  owner = record { end = record { server = record { view = v; counts = record { refusals = 0; failures = 0 } }; told = None }; lane = no_lane None };
+  owner = record { end = record { server = record { view = v; counts = record { refusals = 0; failures = never_strayed 0 } }; told = None }; lane = no_lane None };
   left = record { octets = None; ended = false };
   unheard = unheard;
   written = None;
@@ -140,7 +141,7 @@ far_saying v u none =
         count = length v.owed;
         owed = take_length v.owed;
         gave = (
-          record { done = λ calm. is; failed = λ moved. absurd (moved refl); counted = ((0, omega arith, refl), (0, omega arith, refl)) },
+          record { done = λ calm. is; failed = λ course moved. absurd (moved refl); counted = ((0, omega arith, refl), ((0, omega arith, refl), omega arith)) },
           refl,
         );
         lane = refl;
@@ -179,8 +180,8 @@ far_hearing octet rest v at may ends none =
     let calls : Hears (octet ∷ []) (far_at v []).owner.end.server (far_at next []).owner.end.server = λ read reads. record {
       done = λ calm. silent_octet read octet v none;
       may = λ calm. (may, tt);
-      failed = λ moved. absurd (moved refl);
-      counted = ((0, omega arith, refl), (0, omega arith, refl));
+      failed = λ course moved. absurd (moved refl);
+      counted = ((0, omega arith, refl), ((0, omega arith, refl), omega arith));
     } in
     let hears : HearsNext (octet ∷ []) (far_at v (octet ∷ rest)) (far_at next rest) = record {
       hears = (
@@ -236,8 +237,8 @@ far_ending v new text asked at may said reads is =
     let calls : Hears (10 ∷ []) (far_at told []).owner.end.server (far_at new []).owner.end.server = λ read reading. record {
       done = λ calm. is ∙ line_octet read told text asked said (reads read reading);
       may = λ calm. (may, tt);
-      failed = λ moved. absurd (moved refl);
-      counted = ((0, omega arith, refl), (0, omega arith, refl));
+      failed = λ course moved. absurd (moved refl);
+      counted = ((0, omega arith, refl), ((0, omega arith, refl), omega arith));
     } in
     let hears : HearsNext (10 ∷ []) (far_at v (10 ∷ [])) (far_at new []) = record {
       hears = (
@@ -249,8 +250,8 @@ far_ending v new text asked at may said reads is =
             tt,
             record {
               done = λ calm. ap (λ q. waited q told) (sym at.none_waits);
-              failed = λ moved. absurd (moved refl);
-              counted = ((0, omega arith, refl), (0, omega arith, refl));
+              failed = λ course moved. absurd (moved refl);
+              counted = ((0, omega arith, refl), ((0, omega arith, refl), omega arith));
             },
             calls,
           ),

@@ -43,7 +43,7 @@ IsAsking (Other (Left Shut)) = ⊤
 IsAsking (Other Closed) = ⊤
 IsAsking other = ⊥
 
--- the server was not refused memory, and no device of it failed
+-- the server was not refused memory, and no device of it failed or strayed
 abbrev pub ServerIsCalm : (old new : Held Timed) → Type 0
 ServerIsCalm old new = new.end.server.counts ≡ old.end.server.counts
 

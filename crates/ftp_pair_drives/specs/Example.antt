@@ -9,7 +9,8 @@ use Rattle.ftp_operation.specs.Rights.{all_rights}
 use Rattle.ftp_operation.specs.declared.op.Op.{Op}
 use Rattle.ftp_operation.specs.declared.op.Op.TheVariants as Ops
 use Rattle.ftp_server_drive.specs.Side.{server_side}
-use Rattle.ftp_tree.specs.Tree.{Dir, Table, node_at, root_alone}
+use Rattle.ftp_tree.specs.Map.{Dir}
+use Rattle.ftp_tree.specs.Tree.{Table, node_at, root_alone}
 use Rattle.ftp_pair_drives.specs.Alone.{begun_in, reports_in}
 use Rattle.ftp_pair_drives.specs.Between.{Turn, client_deeds, nothing_yet}
 use Rattle.ftp_pair_drives.specs.Claims.{Did}

@@ -113,7 +113,7 @@ near_kept {was} {calm} {old} {new} before after fits before_is after_is (inl sam
   few = omega arith;
   near_is = same;
   refusals_is = ap (λ (c : Counts). c.refusals) far_is;
-  failures_is = ap (λ (c : Counts). c.failures) far_is;
+  failures_is = ap (λ (c : Counts). c.failures.told) far_is;
   calm_is = is ∙ ap (λ b. was && b) (stayed 0 before after fits (omega arith) (after_is ∙ same ∙ sym before_is));
 }
 near_kept {was} {calm} {old} {new} before after fits before_is after_is (inr next) far_is is = record {
@@ -123,7 +123,7 @@ near_kept {was} {calm} {old} {new} before after fits before_is after_is (inr nex
   few = omega arith;
   near_is = next;
   refusals_is = ap (λ (c : Counts). c.refusals) far_is;
-  failures_is = ap (λ (c : Counts). c.failures) far_is;
+  failures_is = ap (λ (c : Counts). c.failures.told) far_is;
   calm_is = is ∙ ap (λ b. was && b) (stayed 1 before after fits (omega arith) (after_is ∙ next ∙ ap (λ n. (n + 1) % 2 ^ 64) (sym before_is)));
 }
 
@@ -136,7 +136,7 @@ held {was} {old} {new} most near_is far_is = record {
   few = omega arith;
   near_is = near_is;
   refusals_is = ap (λ (c : Counts). c.refusals) far_is;
-  failures_is = ap (λ (c : Counts). c.failures) far_is;
+  failures_is = ap (λ (c : Counts). c.failures.told) far_is;
   calm_is = still was;
 }
 
@@ -148,21 +148,21 @@ both_none x y a b x_is y_is = ap (λ x. x && y) x_is ∙ ap (λ y. nat_eq a 0 &&
     sum a b = omega arith
 
 -- a call of the server's, between two looks at its counts
-pub far_kept : {was calm : Bool} {old new : Tally} (before after : Counts) → (before.refusals < 2 ^ 64) → (before.failures < 2 ^ 64) → before ≡ old.far → after ≡ new.far
-    → FarOn old.far new.far → new.near ≡ old.near → calm ≡ (was && (nat_eq after.refusals before.refusals && nat_eq after.failures before.failures)) → Keeps 3 was calm old new
+pub far_kept : {was calm : Bool} {old new : Tally} (before after : Counts) → (before.refusals < 2 ^ 64) → (before.failures.told < 2 ^ 64) → before ≡ old.far → after ≡ new.far
+    → FarOn old.far new.far → new.near ≡ old.near → calm ≡ (was && (nat_eq after.refusals before.refusals && nat_eq after.failures.told before.failures.told)) → Keeps 3 was calm old new
 far_kept {was} {calm} {old} {new} before after fits fits_too before_is after_is moved near_is is = record {
   near = 0;
   refusals = moved.0.0;
-  failures = moved.1.0;
-  few = omega (arith, moved.0.1, moved.1.1);
+  failures = moved.1.0.0;
+  few = omega (arith, moved.0.1, moved.1.0.1);
   near_is = near_is;
   refusals_is = moved.0.2;
-  failures_is = moved.1.2;
-  calm_is = is ∙ ap (λ b. was && b) (both_none _ _ moved.0.0 moved.1.0
+  failures_is = moved.1.0.2;
+  calm_is = is ∙ ap (λ b. was && b) (both_none _ _ moved.0.0 moved.1.0.0
       (stayed moved.0.0 before.refusals after.refusals fits (omega (arith, moved.0.1))
       (ap (λ (c : Counts). c.refusals) after_is ∙ moved.0.2 ∙ ap (λ (c : Counts). moved_on moved.0.0 c.refusals) (sym before_is)))
-      (stayed moved.1.0 before.failures after.failures fits_too (omega (arith, moved.1.1))
-      (ap (λ (c : Counts). c.failures) after_is ∙ moved.1.2 ∙ ap (λ (c : Counts). moved_on moved.1.0 c.failures) (sym before_is))));
+      (stayed moved.1.0.0 before.failures.told after.failures.told fits_too (omega (arith, moved.1.0.1))
+      (ap (λ (c : Counts). c.failures.told) after_is ∙ moved.1.0.2 ∙ ap (λ (c : Counts). moved_on moved.1.0.0 c.failures.told) (sym before_is))));
 }
 
 -- a bound is one

@@ -16,7 +16,7 @@ pub record Tally : Type 0 where
 abbrev pub tally_of : {A T N F : Type 0} → (N → Client) → (F → Server) → Parts A T N F → Tally
 tally_of near far w = record { near = (near w.near).refusals; far = (far w.far).counts }
 
--- so many failures at most were counted, and calm is what it was, and that there were none
+-- so many failures at most were counted, of the device those that it told, and calm is what it was, and that there were none
 pub record Keeps (most : ℕ) (was calm : Bool) (old new : Tally) : Type 0 where
   pub near : ℕ
   pub refusals : ℕ
@@ -24,7 +24,7 @@ pub record Keeps (most : ℕ) (was calm : Bool) (old new : Tally) : Type 0 where
   pub few : near + refusals + failures ≤ most
   pub near_is : new.near ≡ moved_on near old.near
   pub refusals_is : new.far.refusals ≡ moved_on refusals old.far.refusals
-  pub failures_is : new.far.failures ≡ moved_on failures old.far.failures
+  pub failures_is : new.far.failures.told ≡ moved_on failures old.far.failures.told
   pub calm_is : calm ≡ (was && nat_eq (near + refusals + failures) 0)
 
 -- the same of parts

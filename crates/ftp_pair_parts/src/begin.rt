@@ -14,11 +14,11 @@ use ftp_client_model::Near;
 use ftp_facts::{Moment, Text};
 use ftp_operation::{How, Op};
 use ftp_pair_lanes::{Link, Mark, keep};
-use ftp_server_model::Far;
+use ftp_server_model::SureFar;
 use ftp_tree::Tree;
 use std::alloc::{AllocError, Allocator};
 
-impl<A: Allocator + Copy, T: Tree<A>, N: Near<A>, F: Far<A, T>> Parts<A, T, N, F> {
+impl<A: Allocator + Copy, T: Tree<A>, N: Near<A>, F: SureFar<A, T>> Parts<A, T, N, F> {
     /// The operation that is given is begun, where none is open and no link stands or is wanted. Room for its report and a mark is made first.
     pub(crate) fn step_next(
         &mut self,
@@ -166,8 +166,8 @@ impl<A: Allocator + Copy, T: Tree<A>, N: Near<A>, F: Far<A, T>> Parts<A, T, N, F
         ensures reports { self.new.reports ≡ self.old.reports }
         ensures counted { Counted 3 N.client F.server self.old self.new }
     {
-        let counts = self.far.counts();
+        let counts = self.far_counts();
         self.far.clock(moment);
-        self.calm = both_stay(self.calm, counts, self.far.counts());
+        self.calm = both_stay(self.calm, counts, self.far_counts());
     }
 }

@@ -1,8 +1,22 @@
 // Counts that have not moved, and one that goes on.
 ghost use Rattle.std.specs.Prelude.{◌≡◌, ◌+◌, ◌&&◌, ◌<◌, ◌^◌, nat_eq, true};
+ghost use Rattle.ftp_server_model.specs.Far.{counts_told};
 ghost use Rattle.ftp_pair_world.specs.World.{counted};
 
-use ftp_server_model::Counts;
+use crate::parts::Parts;
+use ftp_client_model::Near;
+use ftp_server_model::{Counts, SureFar};
+use ftp_tree::Tree;
+use std::alloc::Allocator;
+
+impl<A: Allocator + Copy, T: Tree<A>, N: Near<A>, F: SureFar<A, T>> Parts<A, T, N, F> {
+    /// What the server has counted. That is all which may fail there, since its tree's device never strays.
+    pub(crate) fn far_counts(&self) -> Counts
+        ensures { counts_told result ≡ (F.server self.now.far).counts }
+    {
+        self.far.counts()
+    }
+}
 
 /// Whether all was calm, and a count has not moved.
 pub(crate) fn stays(calm: bool, old: u64, new: u64) -> bool

@@ -8,11 +8,11 @@ ghost use Rattle.ftp_pair_parts.specs.Shown.{shown, Calmly, FillsTo, HasRoom, Of
 use crate::parts::Parts;
 use ftp_client_model::Near;
 use ftp_pair_lanes::{Queue, ROOM};
-use ftp_server_model::Far;
+use ftp_server_model::SureFar;
 use ftp_tree::Tree;
 use std::alloc::{AllocError, Allocator};
 
-impl<A: Allocator + Copy, T: Tree<A>, N: Near<A>, F: Far<A, T>> Parts<A, T, N, F> {
+impl<A: Allocator + Copy, T: Tree<A>, N: Near<A>, F: SureFar<A, T>> Parts<A, T, N, F> {
     /// So many octets go over a queue; it answers whether any could. Room for them is made first.
     pub(crate) fn step_deliver(&mut self, queue: Queue, count: usize) -> Result<bool, AllocError>
         requires report { HasRoom N.client self.old }

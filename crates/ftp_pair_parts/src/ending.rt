@@ -8,11 +8,11 @@ use crate::counts::{both_stay, stays};
 use crate::parts::Parts;
 use ftp_client_model::Near;
 use ftp_pair_lanes::{Control, Link, Queue};
-use ftp_server_model::Far;
+use ftp_server_model::SureFar;
 use ftp_tree::Tree;
 use std::alloc::Allocator;
 
-impl<A: Allocator + Copy, T: Tree<A>, N: Near<A>, F: Far<A, T>> Parts<A, T, N, F> {
+impl<A: Allocator + Copy, T: Tree<A>, N: Near<A>, F: SureFar<A, T>> Parts<A, T, N, F> {
     /// The control connection ends; it answers whether an end was on it. Takes no memory.
     pub(crate) fn step_end_control(&mut self) -> bool
         requires report { HasRoom N.client self.old }
@@ -111,9 +111,9 @@ impl<A: Allocator + Copy, T: Tree<A>, N: Near<A>, F: Far<A, T>> Parts<A, T, N, F
         ensures report { HasRoom N.client self.old → HasRoom N.client self.new }
         ensures counted { Counted 3 N.client F.server self.old self.new }
     {
-        let counts = self.far.counts();
+        let counts = self.far_counts();
         self.far.data_end();
-        self.calm = both_stay(self.calm, counts, self.far.counts());
+        self.calm = both_stay(self.calm, counts, self.far_counts());
         self.lose_link();
     }
 

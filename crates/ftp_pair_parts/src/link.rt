@@ -13,7 +13,7 @@ use crate::parts::Parts;
 use ftp_client_model::Near;
 use ftp_ends::Wants;
 use ftp_pair_lanes::{Link, Mark, keep};
-use ftp_server_model::Far;
+use ftp_server_model::SureFar;
 use ftp_tree::Tree;
 use std::alloc::{AllocError, Allocator};
 
@@ -58,7 +58,7 @@ fn mark_last<A: Allocator + Copy>(
     added
 }
 
-impl<A: Allocator + Copy, T: Tree<A>, N: Near<A>, F: Far<A, T>> Parts<A, T, N, F> {
+impl<A: Allocator + Copy, T: Tree<A>, N: Near<A>, F: SureFar<A, T>> Parts<A, T, N, F> {
     /// Whether a link is wanted: there is none, one end connects and the other accepts.
     pub(crate) fn is_asked_for(&self) -> bool
         ensures { result ≡ is_asked_for (shown N.client F.server self.now) }
@@ -91,7 +91,7 @@ impl<A: Allocator + Copy, T: Tree<A>, N: Near<A>, F: Far<A, T>> Parts<A, T, N, F
         ensures counted { Counted 6 N.client F.server self.old self.new }
     {
         let near_refusals = self.near.refusals();
-        let counts = self.far.counts();
+        let counts = self.far_counts();
         let near_host = self.near.here();
         let far_host = self.far.here();
         self.link = Link::Opened;
@@ -99,7 +99,7 @@ impl<A: Allocator + Copy, T: Tree<A>, N: Near<A>, F: Far<A, T>> Parts<A, T, N, F
         self.near.data_opened(far_host);
         self.far.data_opened(near_host);
         let calm = stays(self.calm, near_refusals, self.near.refusals());
-        self.calm = both_stay(calm, counts, self.far.counts());
+        self.calm = both_stay(calm, counts, self.far_counts());
     }
 
     /// A wanted link is refused; it answers whether one was wanted. Room for the mark and for a report is made first.
@@ -167,9 +167,9 @@ impl<A: Allocator + Copy, T: Tree<A>, N: Near<A>, F: Far<A, T>> Parts<A, T, N, F
         ensures reports { self.new.reports ≡ self.old.reports }
         ensures counted { Counted 3 N.client F.server self.old self.new }
     {
-        let counts = self.far.counts();
+        let counts = self.far_counts();
         self.far.data_refused();
-        self.calm = both_stay(self.calm, counts, self.far.counts());
+        self.calm = both_stay(self.calm, counts, self.far_counts());
     }
 
     /// The link breaks; it answers whether there was one. Room for the mark and for a report is made first.
@@ -242,9 +242,9 @@ impl<A: Allocator + Copy, T: Tree<A>, N: Near<A>, F: Far<A, T>> Parts<A, T, N, F
         ensures report { HasRoom N.client self.old → HasRoom N.client self.new }
         ensures counted { Counted 3 N.client F.server self.old self.new }
     {
-        let counts = self.far.counts();
+        let counts = self.far_counts();
         self.far.data_fault();
-        self.calm = both_stay(self.calm, counts, self.far.counts());
+        self.calm = both_stay(self.calm, counts, self.far_counts());
     }
 
     /// The operation that was begun last has one mark more.

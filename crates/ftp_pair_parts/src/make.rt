@@ -7,12 +7,12 @@ ghost use Rattle.ftp_pair_parts.specs.Shown.{shown, HasRoom};
 use crate::parts::Parts;
 use ftp_client_model::Near;
 use ftp_pair_lanes::{Control, Link, Room};
-use ftp_server_model::Far;
+use ftp_server_model::SureFar;
 use ftp_tree::Tree;
 use std::alloc::Allocator;
 use std::marker::PhantomData;
 
-impl<A: Allocator + Copy, T: Tree<A>, N: Near<A>, F: Far<A, T>> Parts<A, T, N, F> {
+impl<A: Allocator + Copy, T: Tree<A>, N: Near<A>, F: SureFar<A, T>> Parts<A, T, N, F> {
     /// Two ends as they begin, with room for 4,096 octets in each queue and of those that are lent, and for a report. Refused that, it hands both back.
     pub fn new(alloc: A, near: N, far: F) -> Result<Self, (N, F)>
         ensures ok { IfOk result (λ parts. shown N.client F.server parts ≡ world (N.client near).view (F.server far).view) }

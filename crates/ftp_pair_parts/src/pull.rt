@@ -8,11 +8,11 @@ use crate::counts::{both_stay, stays};
 use crate::parts::Parts;
 use ftp_client_model::Near;
 use ftp_pair_lanes::{Queue, ROOM};
-use ftp_server_model::Far;
+use ftp_server_model::SureFar;
 use ftp_tree::Tree;
 use std::alloc::Allocator;
 
-impl<A: Allocator + Copy, T: Tree<A>, N: Near<A>, F: Far<A, T>> Parts<A, T, N, F> {
+impl<A: Allocator + Copy, T: Tree<A>, N: Near<A>, F: SureFar<A, T>> Parts<A, T, N, F> {
     #[tactic(auto, using(crate::proofs::Busy::control_out_busy))]
     pub(crate) fn pull_control_to_server(&mut self, most: usize) -> usize
         requires few { most ≤ 4096 }
@@ -48,10 +48,10 @@ impl<A: Allocator + Copy, T: Tree<A>, N: Near<A>, F: Far<A, T>> Parts<A, T, N, F
     {
         let mut octets = [0u8; ROOM];
         let room = &mut octets[..most];
-        let counts = self.far.counts();
+        let counts = self.far_counts();
         let given = self.far.control_out(room);
         self.control_to_client.append(&room[..given]);
-        self.calm = both_stay(self.calm, counts, self.far.counts());
+        self.calm = both_stay(self.calm, counts, self.far_counts());
         given
     }
 
@@ -92,10 +92,10 @@ impl<A: Allocator + Copy, T: Tree<A>, N: Near<A>, F: Far<A, T>> Parts<A, T, N, F
     {
         let mut octets = [0u8; ROOM];
         let room = &mut octets[..most];
-        let counts = self.far.counts();
+        let counts = self.far_counts();
         let given = self.far.data_out(room);
         self.data_to_client.append(&room[..given]);
-        self.calm = both_stay(self.calm, counts, self.far.counts());
+        self.calm = both_stay(self.calm, counts, self.far_counts());
         given
     }
 

@@ -9,11 +9,11 @@ use crate::counts::{both_stay, count_on, stays};
 use crate::parts::Parts;
 use ftp_client_model::Near;
 use ftp_pair_lanes::Queue;
-use ftp_server_model::Far;
+use ftp_server_model::SureFar;
 use ftp_tree::Tree;
 use std::alloc::Allocator;
 
-impl<A: Allocator + Copy, T: Tree<A>, N: Near<A>, F: Far<A, T>> Parts<A, T, N, F> {
+impl<A: Allocator + Copy, T: Tree<A>, N: Near<A>, F: SureFar<A, T>> Parts<A, T, N, F> {
     pub(crate) fn push_control_to_client(&mut self, most: usize) -> usize
         requires room { most ≤ vec_capacity self.old.taken.octets }
         ensures moved { Calmly self.old self.new ((read : Reading) → IsReading read → shown N.client F.server self.new ≡ pushed read ControlToClient result (taking ControlToClient result (shown N.client F.server self.old))) }
@@ -36,10 +36,10 @@ impl<A: Allocator + Copy, T: Tree<A>, N: Near<A>, F: Far<A, T>> Parts<A, T, N, F
         ensures takes { Calmly self.old self.new ((read : Reading) → IsReading read → Takes read ControlToServer most (shown N.client F.server self.old) result) }
         ensures counted { Counted 3 N.client F.server self.old self.new }
     {
-        let counts = self.far.counts();
+        let counts = self.far_counts();
         let taken = self.far.hear(self.control_to_server.front(most));
         self.taken.take_front(&mut self.control_to_server, taken);
-        self.calm = both_stay(self.calm, counts, self.far.counts());
+        self.calm = both_stay(self.calm, counts, self.far_counts());
         taken
     }
 
@@ -66,11 +66,11 @@ impl<A: Allocator + Copy, T: Tree<A>, N: Near<A>, F: Far<A, T>> Parts<A, T, N, F
         ensures takes { Calmly self.old self.new ((read : Reading) → IsReading read → Takes read DataToServer most (shown N.client F.server self.old) result) }
         ensures counted { Counted 3 N.client F.server self.old self.new }
     {
-        let counts = self.far.counts();
+        let counts = self.far_counts();
         let taken = self.far.data_hear(self.data_to_server.front(most));
         self.taken.take_front(&mut self.data_to_server, taken);
         self.came = count_on(self.came, taken);
-        self.calm = both_stay(self.calm, counts, self.far.counts());
+        self.calm = both_stay(self.calm, counts, self.far_counts());
         taken
     }
 

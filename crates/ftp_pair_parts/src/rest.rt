@@ -7,11 +7,11 @@ ghost use Rattle.ftp_pair_parts.specs.Shown.{shown, all_rest, all_told, is_quiet
 use crate::parts::Parts;
 use ftp_client_model::Near;
 use ftp_pair_lanes::Queue;
-use ftp_server_model::Far;
+use ftp_server_model::SureFar;
 use ftp_tree::Tree;
 use std::alloc::Allocator;
 
-impl<A: Allocator + Copy, T: Tree<A>, N: Near<A>, F: Far<A, T>> Parts<A, T, N, F> {
+impl<A: Allocator + Copy, T: Tree<A>, N: Near<A>, F: SureFar<A, T>> Parts<A, T, N, F> {
     /// How many octets are on their way.
     pub(crate) fn len_of(&self, queue: Queue) -> usize
         ensures { result ≡ len_of queue self.now }

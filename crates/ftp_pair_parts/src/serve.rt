@@ -10,7 +10,7 @@ use crate::parts::Parts;
 use ftp_client_model::Near;
 use ftp_ends::Wants;
 use ftp_pair_lanes::{Control, Link};
-use ftp_server_model::Far;
+use ftp_server_model::SureFar;
 use ftp_tree::Tree;
 use std::alloc::Allocator;
 
@@ -35,7 +35,7 @@ fn next_of(listens: u16) -> u16
     (listens % PORTS + 1) % PORTS
 }
 
-impl<A: Allocator + Copy, T: Tree<A>, N: Near<A>, F: Far<A, T>> Parts<A, T, N, F> {
+impl<A: Allocator + Copy, T: Tree<A>, N: Near<A>, F: SureFar<A, T>> Parts<A, T, N, F> {
     pub(crate) fn serve_near(&mut self)
         ensures moved { Calmly self.old self.new (shown N.client F.server self.new ≡ near_served (shown N.client F.server self.old)) }
         ensures report { HasRoom N.client self.old → HasRoom N.client self.new }
@@ -128,9 +128,9 @@ impl<A: Allocator + Copy, T: Tree<A>, N: Near<A>, F: Far<A, T>> Parts<A, T, N, F
         ensures report { HasRoom N.client self.old → HasRoom N.client self.new }
         ensures counted { Counted 3 N.client F.server self.old self.new }
     {
-        let counts = self.far.counts();
+        let counts = self.far_counts();
         self.far.data_closed();
-        self.calm = both_stay(self.calm, counts, self.far.counts());
+        self.calm = both_stay(self.calm, counts, self.far_counts());
         match self.link {
             Link::Opened => self.link = Link::ClosedByFar,
             Link::ClosedByNear => self.lose_link(),
@@ -144,10 +144,10 @@ impl<A: Allocator + Copy, T: Tree<A>, N: Near<A>, F: Far<A, T>> Parts<A, T, N, F
         ensures report { HasRoom N.client self.old → HasRoom N.client self.new }
         ensures counted { Counted 3 N.client F.server self.old self.new }
     {
-        let counts = self.far.counts();
+        let counts = self.far_counts();
         self.far.listening(port_of(self.listens));
         self.listens = next_of(self.listens);
-        self.calm = both_stay(self.calm, counts, self.far.counts());
+        self.calm = both_stay(self.calm, counts, self.far_counts());
     }
 
     fn far_leaves(&mut self)

@@ -10,11 +10,11 @@ use crate::event::Event;
 use crate::parts::Parts;
 use ftp_client_model::Near;
 use ftp_pair_lanes::keep;
-use ftp_server_model::Far;
+use ftp_server_model::SureFar;
 use ftp_tree::Tree;
 use std::alloc::{AllocError, Allocator};
 
-impl<A: Allocator + Copy, T: Tree<A>, N: Near<A>, F: Far<A, T>> Parts<A, T, N, F> {
+impl<A: Allocator + Copy, T: Tree<A>, N: Near<A>, F: SureFar<A, T>> Parts<A, T, N, F> {
     /// An event happens where it is possible; it answers whether it was. The room that it takes is made first.
     pub fn step(&mut self, alloc: A, event: Event<A>) -> Result<bool, AllocError>
         requires report { HasRoom N.client self.old }

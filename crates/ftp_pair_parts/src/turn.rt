@@ -9,7 +9,7 @@ ghost use Rattle.ftp_pair_parts.specs.Shown.{shown, HasRoom, NoneEnds, NoneFlows
 use crate::parts::Parts;
 use ftp_client_model::Near;
 use ftp_pair_lanes::{Queue, ROOM};
-use ftp_server_model::Far;
+use ftp_server_model::SureFar;
 use ftp_tree::Tree;
 use std::alloc::Allocator;
 
@@ -21,7 +21,7 @@ pub enum Turn {
     End(Queue),
 }
 
-impl<A: Allocator + Copy, T: Tree<A>, N: Near<A>, F: Far<A, T>> Parts<A, T, N, F> {
+impl<A: Allocator + Copy, T: Tree<A>, N: Near<A>, F: SureFar<A, T>> Parts<A, T, N, F> {
     /// One delivery of at most 4,096 octets, opening or end happens, if one is possible; it answers whether one was. Takes no memory.
     pub fn turn(&mut self) -> bool
         requires report { HasRoom N.client self.old }

@@ -1,7 +1,6 @@
 -- An upload over breaks that is done has put exactly its octets: behind a break the file is a front of them, and a PutFrom goes on
 -- only at the number that SIZE said of it.
 use Rattle.std.proofs.Common.{◌≡◌, ℕ, ◌+◌, ◌<◌, ◌≤◌, ◌^◌, Bool, true, false, cond, List, [], ◌∷◌, ◌++◌, length, take, drop, Option, Some, None, refl, sym, ap, subst, ◌∙◌, arith, append_assoc, length-drop}
-use Rattle.std.specs.FinMap as fin
 use Rattle.std.specs.Ordering.{eq_by_cmp}
 use Rattle.std.specs.Option.{option_map, option_or, unwrap_or, is_some}
 use Rattle.std.specs.Prelude.{◌==◌, ◌-◌, ◌&&◌, not, min, nat_le, if◌then◌else◌}
@@ -27,12 +26,13 @@ use Rattle.ftp_settings.specs.declared.representation.Structure.TheVariants as S
 use Rattle.ftp_settings.specs.declared.representation.Mode.{Mode}
 use Rattle.ftp_settings.specs.declared.representation.Mode.TheVariants as Modes
 use Rattle.ftp_settings.specs.declared.representation.Representation.{Representation}
-use Rattle.ftp_tree.specs.Tree.{Node, File, Table, file_limit, installed, node_at, octets_at, octets_of, octets_or_none, octets_refusal, of_node, room_at, room_refusal, under, whenever, with_part}
+use Rattle.ftp_tree.specs.Map.{Node, File, octets_of, of_node}
+use Rattle.ftp_tree.specs.Tree.{Table, file_limit, most_octets, installed, node_at, octets_at, octets_or_none, octets_refusal, room_at, room_refusal, under, whenever, with_part}
 use Rattle.ftp_tree.specs.declared.fault.TreeFault.{TreeFault}
 use Rattle.ftp_tree.specs.declared.fault.TreeFault.TheVariants as Faults
-use Rattle.ftp_tree.proofs.KeepLaws.{at-insert}
+use Rattle.ftp_tree.proofs.KeepLaws.{at-insert, with_node}
 use Rattle.ftp_tree.proofs.LeafLemmas.{itself}
-use Rattle.ftp_tree.proofs.PartLemmas.{as-part, part-comes, part-stays, part-taken, same-nodes}
+use Rattle.ftp_tree.proofs.PartLemmas.{as-part, part-comes, part-limits, part-stays, part-taken, same-nodes}
 use Rattle.ftp_direct.specs.declared.refusal.Refusal.{Refusal}
 use Rattle.ftp_direct.specs.declared.refusal.Refusal.TheVariants as Refusals
 use Rattle.ftp_direct.specs.Direct.{State, answer, barred_put, changed, chosen, done as does, file_of, first_refusal, limited, named, offset_refusal, or_refused, part, place_at, place_in, place_refusal, put_refusal, refusal, refused_name, refused_octets, refused_room, size_in, skipped}
@@ -49,10 +49,10 @@ use Rattle.ftp_pair_world.specs.Outcome.{Outcome, Whole, Cut, Unopened, Lost, Ca
 -- ---- the map
 
 -- what is put twice at a path is the last
-put_twice : (table : Table) (path : Names) (one other : Node) → fin.insert (fin.insert table path one) path other ≡ fin.insert table path other
+put_twice : (table : Table) (path : Names) (one other : Node) → with_node (with_node table path one) path other ≡ with_node table path other
 put_twice table path one other =
-    same-nodes _ _ (λ at.
-    at-insert (fin.insert table path one) path other at
+    same-nodes _ _ refl (λ at.
+    at-insert (with_node table path one) path other at
     ∙ ap (cond (eq_by_cmp path_cmp at path) (Some other)) (at-insert table path one at)
     ∙ by (eq_by_cmp path_cmp at path) (node_at table at)
     ∙ sym (at-insert table path other at))
@@ -76,7 +76,7 @@ file_there table path octets moment =
 -- a part put twice is the last
 part_twice : (table : Table) (root : Names) (one other : Table) → with_part (with_part table root one) root other ≡ with_part table root other
 part_twice table root one other =
-    sym (as-part table root other (with_part (with_part table root one) root other) (part-comes (with_part table root one) root other)
+    sym (as-part table root other (with_part (with_part table root one) root other) (part-limits (with_part table root one) root other) (part-comes (with_part table root one) root other)
     (λ path out. part-stays (with_part table root one) root other path out ∙ part-stays table root one path out))
 
 -- ---- states of a run
@@ -179,12 +179,12 @@ known_refusal true why is = is
 known_refusal false why is = absurd (cc)
 
 -- what is put is no longer than a file may be
-short_put : (now : State) (path : Names) (count : ℕ) → put_refusal now path count ≡ None → count ≤ file_limit
+short_put : (now : State) (path : Names) (count : ℕ) → put_refusal now path count ≡ None → count ≤ most_octets
 short_put now path count none =
     let room = both_none (refused_room (limited path (room_refusal (part now) path))) (refused_octets (octets_refusal (part now) path count)) none in
     let octets = none_mapped (λ fault. Refusals.TooMuch) (octets_refusal (part now) path count) room.1 in
-    let file = both_none (whenever (not (nat_le count file_limit)) Faults.TooBig) (whenever (not (nat_le count (room_at (part now) path))) Faults.Full) octets in
-    leb-true count file_limit (not_held (nat_le count file_limit) Faults.TooBig file.0)
+    let file = both_none (whenever (not (nat_le count (file_limit (part now)))) Faults.TooBig) (whenever (not (nat_le count (room_at (part now) path))) Faults.Full) octets in
+    omega (arith, leb-true count (file_limit (part now)) (not_held (nat_le count (file_limit (part now))) Faults.TooBig file.0))
 
 -- ---- places in type I
 
@@ -208,7 +208,7 @@ place_found kind file count place image is =
 
 -- so few octets that a file may have them
 abbrev Small : OverBreaks → Type 0
-Small u = length u.octets ≤ file_limit
+Small u = length u.octets ≤ most_octets
 
 -- the file that stands there is the first so many of the octets
 record Has (u : OverBreaks) (now : State) (count : ℕ) : Type 0 where

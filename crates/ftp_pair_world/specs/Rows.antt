@@ -8,7 +8,8 @@ use Rattle.ftp_command.specs.declared.fault.CommandFault.TheVariants as Faults
 use Rattle.ftp_operation.specs.Answer.{Octets, Broken as BrokenOff}
 use Rattle.ftp_operation.specs.declared.op.Op.{Op}
 use Rattle.ftp_operation.specs.declared.op.Op.TheVariants as Ops
-use Rattle.ftp_tree.specs.Tree.{Dir, Table, installed, node_at}
+use Rattle.ftp_tree.specs.Map.{Dir}
+use Rattle.ftp_tree.specs.Tree.{Table, installed, node_at}
 use Rattle.ftp_direct.specs.Direct.{State, changed, named, part}
 use Rattle.ftp_client_model.specs.Octets.{download_flow}
 use Rattle.ftp_client_model.specs.Plan.{settings_of}

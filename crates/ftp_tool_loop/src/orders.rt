@@ -9,7 +9,7 @@ use ftp_facts::Text;
 use ftp_server_model::Far;
 use ftp_tool_script::{Order, moment_of, write_report};
 use ftp_tool_status::Status;
-use ftp_tree::MemTree;
+use ftp_tree_memory::MemTree;
 use std::alloc::Global;
 use std::io;
 use std::io::{Error, ErrorKind, Write};

@@ -17,7 +17,7 @@ use ftp_server_transfer::TreeTransfer;
 use ftp_tool_accounts::two_accounts;
 use ftp_tool_script::{Order, Script, read_script};
 use ftp_tool_status::Status;
-use ftp_tree::MemTree;
+use ftp_tree_memory::MemTree;
 use std::alloc::Global;
 use std::io;
 use std::io::{Eprint, Error, ErrorKind};

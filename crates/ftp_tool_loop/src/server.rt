@@ -5,7 +5,7 @@ use crate::end::{Connection, End, Event};
 use ftp_ends::Wants;
 use ftp_facts::Moment;
 use ftp_server_model::Far;
-use ftp_tree::MemTree;
+use ftp_tree_memory::MemTree;
 use std::alloc::Allocator;
 use std::marker::PhantomData;
 

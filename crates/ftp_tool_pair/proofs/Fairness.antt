@@ -1,5 +1,5 @@
 -- What makes a beginning fair, and what does not.
-use Rattle.std.proofs.Common.{◌≡◌, ◌∙◌, ◌<◌, ◌≤◌, ℕ, Bool, true, false, List, [], Option, Some, None, nat_le, sym, ap, subst}
+use Rattle.std.proofs.Common.{◌≡◌, ◌∙◌, ◌<◌, ◌≤◌, ℕ, Bool, true, false, List, [], Option, Some, None, nat_le, sym, ap, subst, arith}
 use Rattle.std.specs.Prelude.{IsTrue}
 use Rattle.std.specs.List.{list_all}
 use Rattle.std.proofs.lemmas.Bool.{leb-false, leb-true, le-leb, false≢true}
@@ -29,7 +29,7 @@ part_none table seen root is none = ap (λ s. part (start table s)) is ∙ ap (u
 
 -- whether the map is within its limit where the login sees it
 abbrev pub is_within : (user pass : List ℕ) → List Account → Table → Bool
-is_within user pass accounts table = nat_le (octets_in (part (start table (login_account accounts user pass)))) total_limit
+is_within user pass accounts table = nat_le (octets_in (part (start table (login_account accounts user pass)))) (total_limit table)
 
 pub can_begin : (user pass : List ℕ) (accounts list : List Account) (table : Table) (near_host far_host : Host) → IsTrue (is_user user) → IsTrue (is_password pass) → accounts ≡ list
     → accounts_refusal list ≡ None → IsTrue (list_all (λ account. is_path account.root) list) → IsSoundTree table → is_within user pass accounts table ≡ true
@@ -41,7 +41,7 @@ can_begin user pass accounts list table near_host far_host named worded same apa
     accounts = ap accounts_refusal same ∙ apart;
     roots = subst (λ l. IsTrue (list_all (λ account. is_path account.root) l)) (sym same) roots;
     tree = sound.tree;
-    files = few_are_short (part (start table (login_account accounts user pass))) few;
+    files = few_are_short (part (start table (login_account accounts user pass))) (omega (arith, few));
     entries = sound.entries;
     near_typed = near;
     far_typed = far;
@@ -50,8 +50,8 @@ can_begin user pass accounts list table near_host far_host named worded same apa
   octets = few;
 }
   where
-    few : octets_in (part (start table (login_account accounts user pass))) ≤ total_limit
-    few = leb-true (octets_in (part (start table (login_account accounts user pass)))) total_limit within
+    few : octets_in (part (start table (login_account accounts user pass))) ≤ total_limit table
+    few = leb-true (octets_in (part (start table (login_account accounts user pass)))) (total_limit table) within
 
 -- ---- not fair
 
@@ -65,12 +65,12 @@ not_accounts user pass list table near_host far_host fault refused can = absurd 
 pub not_full : (user pass : List ℕ) (accounts list : List Account) (table : Table) (near_host far_host : Host) → accounts ≡ list → is_within user pass accounts table ≡ false
     → ¬ CanBegin (begun user pass list table near_host far_host)
 not_full user pass accounts list table near_host far_host same over can =
-    let all : is_within user pass list table ≡ true = le-leb (octets_in (part (start table (login_account list user pass)))) total_limit can.octets in
+    let all : is_within user pass list table ≡ true = le-leb (octets_in (part (start table (login_account list user pass)))) (total_limit table) can.octets in
     absurd (false≢true (sym over ∙ ap (λ l. is_within user pass l table) same ∙ all))
 
 -- ---- and why
 
 pub is_over : (user pass : List ℕ) (accounts list : List Account) (table : Table) → accounts ≡ list → is_within user pass accounts table ≡ false
-    → total_limit < octets_in (part (start table (login_account list user pass)))
+    → total_limit table < octets_in (part (start table (login_account list user pass)))
 is_over user pass accounts list table same over =
-    leb-false (octets_in (part (start table (login_account list user pass)))) total_limit (sym (ap (λ l. is_within user pass l table) same) ∙ over)
+    leb-false (octets_in (part (start table (login_account list user pass)))) (total_limit table) (sym (ap (λ l. is_within user pass l table) same) ∙ over)

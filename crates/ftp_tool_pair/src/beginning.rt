@@ -99,7 +99,7 @@ fn fits<A: Allocator + Copy, T: Tree<A>>(
     accounts: &Accounts<A>,
     tree: &T,
 ) -> bool
-    ensures octets { result ≡ nat_le (octets_in (part (start (T.table tree.now) (login_account accounts.now login.now.user login.now.pass)))) total_limit }
+    ensures octets { result ≡ nat_le (octets_in (part (start (T.table tree.now) (login_account accounts.now login.now.user login.now.pass)))) (total_limit (T.table tree.now)) }
     ensures sound { IsSoundTree (T.table tree.now) }
 {
     match accounts.login_account(login) {

@@ -9,14 +9,14 @@ use ftp_client_steps::ClientTransfer;
 use ftp_pair::World;
 use ftp_server::Server;
 use ftp_server_session::ServerTransfer;
-use ftp_tree::Tree;
+use ftp_tree::SureTree;
 use std::alloc::{AllocError, Allocator};
 
 /// A client and a server in one world; `C` and `J` are how their transfers are held.
 pub type Ends<A, T, C, J> = World<A, T, Client<A, C>, Server<A, T, J>>;
 
-/// The world of a client and a server that begin with this (RFC 959, section 2.3).
-pub fn world_of<A: Allocator + Copy, T: Tree<A>, C: ClientTransfer<A>, J: ServerTransfer<A, T>>(
+/// The world of a client and a server that begin with this, over a tree whose device never strays (RFC 959, section 2.3).
+pub fn world_of<A: Allocator + Copy, T: SureTree<A>, C: ClientTransfer<A>, J: ServerTransfer<A, T>>(
     alloc: A,
     of: Beginning<A, T>,
 ) -> Result<Ends<A, T, C, J>, AllocError>

@@ -10,7 +10,7 @@ use ftp_client_model::Near;
 use ftp_control::TURNS;
 use ftp_facts::{Moment, Text};
 use ftp_pair::{Event, World};
-use ftp_server_model::Far;
+use ftp_server_model::SureFar;
 use ftp_tool_script::{Order, moment_of};
 use ftp_tree::Tree;
 use std::alloc::{AllocError, Allocator};
@@ -29,7 +29,7 @@ where
     A: Allocator + Copy,
     T: Tree<A>,
     N: Near<A>,
-    S: Far<A, T>,
+    S: SureFar<A, T>,
     ensures leads { OnOk result (LeadsTelling (orders_at first_second orders.items) world.old world.new transcript.old transcript.new) }
     ensures rests { OnOk result (Rests (orders_at first_second orders.items) world.old world.new) }
 {
@@ -51,7 +51,7 @@ where
     A: Allocator + Copy,
     T: Tree<A>,
     N: Near<A>,
-    S: Far<A, T>,
+    S: SureFar<A, T>,
     ensures quiet { OnOk result (IsQuiet world.now.world) }
 {
     if world.is_quiet() && world.finished() {
@@ -88,7 +88,7 @@ where
     A: Allocator + Copy,
     T: Tree<A>,
     N: Near<A>,
-    S: Far<A, T>,
+    S: SureFar<A, T>,
     ensures { IfOk result (λ possible. possible ≡ true → LeadsTo (order_at moment.seconds order ∷ []) [] world.old world.new) }
 {
     match order.into_parts() {
@@ -108,7 +108,7 @@ where
     A: Allocator + Copy,
     T: Tree<A>,
     N: Near<A>,
-    S: Far<A, T>,
+    S: SureFar<A, T>,
     ensures { OnOk result (LeadsTelling [] world.old world.new transcript.old transcript.new) }
 {
     for _ in 0..TURNS {
@@ -130,7 +130,7 @@ where
     A: Allocator + Copy,
     T: Tree<A>,
     N: Near<A>,
-    S: Far<A, T>,
+    S: SureFar<A, T>,
     ensures { OnOk result (LeadsTelling [] world.old world.new transcript.old transcript.new) }
 {
     for _ in 0..TURNS {

@@ -17,12 +17,13 @@ use ftp_client_steps::ClientTransfer;
 use ftp_client_transfer::OperationTransfer;
 use ftp_facts::Text;
 use ftp_pair::World;
-use ftp_server_model::Far;
+use ftp_server_model::SureFar;
 use ftp_server_session::ServerTransfer;
 use ftp_server_transfer::TreeTransfer;
 use ftp_tool_script::{NoScript, Order, Script, read_script, write_reports};
 use ftp_tool_status::Status;
-use ftp_tree::{MemTree, Tree};
+use ftp_tree::Tree;
+use ftp_tree_memory::MemTree;
 use std::alloc::Allocator;
 use std::io;
 use std::io::{Error, ErrorKind, Read, Write};
@@ -134,7 +135,7 @@ where
     A: Allocator + Copy,
     T: Tree<A>,
     N: Near<A>,
-    S: Far<A, T>,
+    S: SureFar<A, T>,
     W: Write,
     ensures plays { IfOk result (λ status. PlaysIn A settings.transcript orders.items world.old world.new
         (W.contents writer.old) (W.contents writer.new) status) }

@@ -9,7 +9,7 @@ use crate::transcript::Transcript;
 use ftp_client_model::Near;
 use ftp_control::TURNS;
 use ftp_pair::{Event, Queue, World};
-use ftp_server_model::Far;
+use ftp_server_model::SureFar;
 use ftp_tree::Tree;
 use std::alloc::{AllocError, Allocator};
 
@@ -27,7 +27,7 @@ where
     A: Allocator + Copy,
     T: Tree<A>,
     N: Near<A>,
-    S: Far<A, T>,
+    S: SureFar<A, T>,
     ensures { OnOk result (LeadsTelling [] world.old world.new transcript.old transcript.new) }
 {
     let asked = flow(world, Queue::ControlToServer, piece, transcript)?;
@@ -46,7 +46,7 @@ where
     A: Allocator + Copy,
     T: Tree<A>,
     N: Near<A>,
-    S: Far<A, T>,
+    S: SureFar<A, T>,
     ensures { OnOk result (LeadsTo [] [] world.old world.new) }
 {
     let left = tell(world, Queue::ControlToServer)?;
@@ -62,7 +62,7 @@ where
     A: Allocator + Copy,
     T: Tree<A>,
     N: Near<A>,
-    S: Far<A, T>,
+    S: SureFar<A, T>,
     ensures { OnOk result (LeadsTo [] [] world.old world.new) }
 {
     world.step(Event::End(queue))
@@ -75,7 +75,7 @@ where
     A: Allocator + Copy,
     T: Tree<A>,
     N: Near<A>,
-    S: Far<A, T>,
+    S: SureFar<A, T>,
     ensures { OnOk result (LeadsTo [] [] world.old world.new) }
 {
     world.step(Event::Open)
@@ -91,7 +91,7 @@ where
     A: Allocator + Copy,
     T: Tree<A>,
     N: Near<A>,
-    S: Far<A, T>,
+    S: SureFar<A, T>,
     ensures { IfOk result (λ possible. LeadsTo [] (delivered_by (Deliver (queue_of queue) count) possible world.new.world) world.old world.new) }
 {
     world.step(Event::Deliver(queue, count))
@@ -109,7 +109,7 @@ where
     A: Allocator + Copy,
     T: Tree<A>,
     N: Near<A>,
-    S: Far<A, T>,
+    S: SureFar<A, T>,
     ensures { OnOk result (LeadsTelling [] world.old world.new transcript.old transcript.new) }
 {
     let mut left = most_of(piece);
@@ -146,7 +146,7 @@ where
     A: Allocator + Copy,
     T: Tree<A>,
     N: Near<A>,
-    S: Far<A, T>,
+    S: SureFar<A, T>,
     ensures { OnOk result (LeadsTelling [] world.old world.new transcript.old transcript.new) }
 {
     if !carry(world, queue, count)? {
