@@ -51,6 +51,7 @@ const VERBS: &[(&'static [u8], Verb)] = &[
     (b"dirs", Verb::Heading),
     (b"file", Verb::Heading),
     (b"full", Verb::Heading),
+    (b"device", Verb::Heading),
     (b"refusals", Verb::Heading),
     (b"failures", Verb::Heading),
     (b"in", Verb::Heading),

@@ -13,7 +13,8 @@ use ftp_server_model::Far;
 use ftp_server_parts::{Counted, ServerTransfer};
 use ftp_server_play::{Cue, Played as Made, Plays};
 use ftp_server_transfer::TreeTransfer;
-use ftp_tree::{MemTree, Tree};
+use ftp_tree::SureTree;
+use ftp_tree_memory::MemTree;
 use rows_base::{Refusing, number, said};
 use rows_tree::FailingTree;
 use std::alloc::{AllocError, Allocator};
@@ -100,7 +101,7 @@ trait Lists<A: Allocator + Copy> {
     fn make(&mut self, heap: A, cues: &[Cue<A>]) -> Result<Made<A>, AllocError>;
 }
 
-impl<A: Allocator + Copy, T: Tree<A>, J: ServerTransfer<A, T>> Lists<A> for Server<A, T, J> {
+impl<A: Allocator + Copy, T: SureTree<A>, J: ServerTransfer<A, T>> Lists<A> for Server<A, T, J> {
     fn make(&mut self, heap: A, cues: &[Cue<A>]) -> Result<Made<A>, AllocError> {
         self.play(heap, cues)
     }

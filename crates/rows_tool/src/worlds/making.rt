@@ -7,12 +7,13 @@ use ftp_client_steps::CountedTransfer;
 use ftp_client_transfer::OperationTransfer;
 use ftp_operation::Login;
 use ftp_pair::World;
-use ftp_server_model::Far;
+use ftp_server_model::SureFar;
 use ftp_server_parts::Counted;
 use ftp_server_transfer::TreeTransfer;
 use ftp_tool_pair::{Beginning, beginning_of, world_of};
 use ftp_tool_script::login_of;
-use ftp_tree::{HeldTree, MemTree};
+use ftp_tree::SureTree;
+use ftp_tree_memory::{HeldTree, MemTree};
 use rows_base::{Refusing, cut};
 use rows_ends::Holds;
 use std::alloc::{Allocator, Global};
@@ -53,19 +54,19 @@ fn enter<A: Allocator + Copy>(heap: A, login: Login<A>, row: &[u8], desk: &mut D
 }
 
 /// Plays a row in a world over such a tree, with such transfers: who names both ends does not name these.
-fn begin<A: Allocator + Copy, T: HeldTree<A>, C: CountedTransfer<A>, J: Counted<A, T>>(
-    heap: A,
-    of: Beginning<A, T>,
-    row: &[u8],
-    desk: &mut Desk,
-) {
+fn begin<
+    A: Allocator + Copy,
+    T: HeldTree<A> + SureTree<A>,
+    C: CountedTransfer<A>,
+    J: Counted<A, T>,
+>(heap: A, of: Beginning<A, T>, row: &[u8], desk: &mut Desk) {
     match world_of::<A, T, C, J>(heap, of) {
         Ok(world) => play_world(world, heap, row, desk),
         Err(_) => desk.paper.line(NO_WORLD),
     }
 }
 
-fn play_world<A: Allocator + Copy, T: HeldTree<A>, N: Near<A> + Holds, F: Far<A, T> + Holds>(
+fn play_world<A: Allocator + Copy, T: HeldTree<A>, N: Near<A> + Holds, F: SureFar<A, T> + Holds>(
     world: World<A, T, N, F>,
     heap: A,
     row: &[u8],

@@ -6,10 +6,10 @@ use ftp_client_model::Near;
 use ftp_facts::{Moment, Text};
 use ftp_operation::{How, Op};
 use ftp_pair::{Event, World};
-use ftp_server_model::Far;
+use ftp_server_model::SureFar;
 use ftp_settings::{Kind, Mode, Representation, Structure};
 use ftp_tool_script::{Order, moment_of, order_of};
-use ftp_tree::HeldTree;
+use ftp_tree_memory::HeldTree;
 use rows_base::Paper;
 use rows_ends::Holds;
 use rows_tree::show_tree;
@@ -17,12 +17,12 @@ use std::alloc::{AllocError, Allocator, Global};
 
 /// A world, and how it grows.
 #[derive(Drop)]
-pub struct Played<A: Allocator + Copy, T: HeldTree<A>, N: Near<A>, F: Far<A, T>> {
+pub struct Played<A: Allocator + Copy, T: HeldTree<A>, N: Near<A>, F: SureFar<A, T>> {
     pub world: World<A, T, N, F>,
     pub heap: A,
 }
 
-impl<A: Allocator + Copy, T: HeldTree<A>, N: Near<A>, F: Far<A, T>> Played<A, T, N, F> {
+impl<A: Allocator + Copy, T: HeldTree<A>, N: Near<A>, F: SureFar<A, T>> Played<A, T, N, F> {
     fn step(&mut self, event: Event<A>) -> Became {
         match self.world.step(event) {
             Ok(true) => Became::Happened,
@@ -96,7 +96,7 @@ fn events_of<A: Allocator + Copy>(
     Ok(events)
 }
 
-impl<A: Allocator + Copy, T: HeldTree<A>, N: Near<A> + Holds, F: Far<A, T> + Holds> Plays
+impl<A: Allocator + Copy, T: HeldTree<A>, N: Near<A> + Holds, F: SureFar<A, T> + Holds> Plays
     for Played<A, T, N, F> {
     fn happens(&mut self, happening: Happening) -> Became {
         self.step(happening_event(happening))
