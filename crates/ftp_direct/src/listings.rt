@@ -17,7 +17,7 @@ use crate::nodes::{absent_fault, directory_fault, is_file};
 use crate::refusal::{Refusal, find, tell};
 use ftp_facts::{Entry, EntryKind, Text};
 use ftp_operation::{Answer, How, Op, is_number};
-use ftp_tree::{Path, Tree, TreeFault};
+use ftp_tree::{Path, Sight, Tree, TreeFault};
 use std::alloc::{AllocError, Allocator};
 
 /// Says the entry of what stands at a path.
@@ -33,7 +33,7 @@ pub(crate) fn facts<A: Allocator + Copy, T: Tree<A>>(
         IsAnswer (T.failures tree.old) (T.failures tree.new) (due old (Op.Facts text.now) 0) old (said_of answer) (here (T.table tree.new) root.now cwd.now)) }
     ensures kept { OnErr result (IsAsBefore (T.failures tree.old) (T.failures tree.new) (T.table tree.old) (T.table tree.new)) }
 {
-    let path = match see_here(alloc, tree, root, cwd, text)? {
+    let path = match see_here(alloc, tree, root, cwd, text, Sight::Path)? {
         Ok(path) => path,
         Err(why) => return Ok(tell(why)),
     };
@@ -56,7 +56,7 @@ pub(crate) fn list<A: Allocator + Copy, T: Tree<A>>(
         IsAnswer (T.failures tree.old) (T.failures tree.new) (due old (Op.List text.now how) 0) old (said_of answer) (here (T.table tree.new) root.now cwd.now)) }
     ensures kept { OnErr result (IsAsBefore (T.failures tree.old) (T.failures tree.new) (T.table tree.old) (T.table tree.new)) }
 {
-    let path = match see_here(alloc, tree, root, cwd, text)? {
+    let path = match see_here(alloc, tree, root, cwd, text, Sight::Files)? {
         Ok(path) => path,
         Err(why) => return Ok(tell(why)),
     };
@@ -89,7 +89,7 @@ pub(crate) fn names<A: Allocator + Copy, T: Tree<A>>(
         IsAnswer (T.failures tree.old) (T.failures tree.new) (due old (Op.Names text.now how) 0) old (said_of answer) (here (T.table tree.new) root.now cwd.now)) }
     ensures kept { OnErr result (IsAsBefore (T.failures tree.old) (T.failures tree.new) (T.table tree.old) (T.table tree.new)) }
 {
-    let path = match see_here(alloc, tree, root, cwd, text)? {
+    let path = match see_here(alloc, tree, root, cwd, text, Sight::Files)? {
         Ok(path) => path,
         Err(why) => return Ok(tell(why)),
     };

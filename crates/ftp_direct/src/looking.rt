@@ -8,7 +8,7 @@ ghost use Rattle.ftp_direct.specs.Look.{Sees};
 
 use crate::refusal::{Refusal, find};
 use ftp_facts::Text;
-use ftp_tree::{Path, Tree};
+use ftp_tree::{Path, Sight, Tree};
 use std::alloc::{AllocError, Allocator};
 
 /// The path that a text names, read from the current directory, after a look at it; or the refusal to tell: `long` of a path past the limits of
@@ -19,6 +19,7 @@ pub(crate) fn see<A: Allocator + Copy, T: Tree<A>>(
     root: &Path<A>,
     cwd: &Path<A>,
     text: &Text<A>,
+    sight: Sight,
     long: Refusal,
 ) -> Result<Result<Path<A>, Refusal>, AllocError>
     requires { IsTrue (is_path_text text.now) }
@@ -29,7 +30,7 @@ pub(crate) fn see<A: Allocator + Copy, T: Tree<A>>(
     let Some(path) = find(alloc, cwd, text)? else {
         return Ok(Err(long));
     };
-    match tree.look(root, &path) {
+    match tree.look(root, &path, sight) {
         Ok(()) => Ok(Ok(path)),
         Err(_) => Ok(Err(Refusal::LocalFault)),
     }
@@ -42,6 +43,7 @@ pub(crate) fn see_here<A: Allocator + Copy, T: Tree<A>>(
     root: &Path<A>,
     cwd: &Path<A>,
     text: &Text<A>,
+    sight: Sight,
 ) -> Result<Result<Path<A>, Refusal>, AllocError>
     requires { IsTrue (is_optional_text text.now) }
     ensures seen { IfOk result (λ seen. Sees (place cwd.now text.now) Refusal.Unavailable seen (T.failures tree.old) (T.failures tree.new)) }
@@ -49,8 +51,8 @@ pub(crate) fn see_here<A: Allocator + Copy, T: Tree<A>>(
     ensures kept { OnErr result (T.failures tree.new ≡ T.failures tree.old) }
 {
     if !text.as_slice().is_empty() {
-        return see(alloc, tree, root, cwd, text, Refusal::Unavailable);
+        return see(alloc, tree, root, cwd, text, sight, Refusal::Unavailable);
     }
     let here = Text::copy_of(*alloc, b".")?;
-    see(alloc, tree, root, cwd, &here, Refusal::Unavailable)
+    see(alloc, tree, root, cwd, &here, sight, Refusal::Unavailable)
 }

@@ -14,7 +14,7 @@ use crate::refusal::{Refusal, refused, tell};
 use ftp_facts::Text;
 use ftp_operation::{Answer, Op};
 use ftp_path::key::is_within;
-use ftp_tree::{Path, Tree, TreeFault};
+use ftp_tree::{Path, Sight, Tree, TreeFault};
 use std::alloc::{AllocError, Allocator};
 
 /// Says which directory is the current one.
@@ -41,7 +41,15 @@ pub(crate) fn change_dir<A: Allocator + Copy, T: Tree<A>>(
     ensures kept { OnErr result (IsAsBefore (T.failures tree.old) (T.failures tree.new) (T.table tree.old) (T.table tree.new)) }
     ensures stays { OnErr result (cwd.new ≡ cwd.old) }
 {
-    let path = match see(alloc, tree, root, cwd, text, Refusal::Unavailable)? {
+    let path = match see(
+        alloc,
+        tree,
+        root,
+        cwd,
+        text,
+        Sight::Path,
+        Refusal::Unavailable,
+    )? {
         Ok(path) => path,
         Err(why) => return Ok(tell(why)),
     };
@@ -83,7 +91,15 @@ pub(crate) fn make_dir<A: Allocator + Copy, T: Tree<A>>(
         IsAnswer (T.failures tree.old) (T.failures tree.new) (due old (Op.MakeDir text.now) 0) old (said_of answer) (here (T.table tree.new) root.now cwd.now)) }
     ensures kept { OnErr result (IsAsBefore (T.failures tree.old) (T.failures tree.new) (T.table tree.old) (T.table tree.new)) }
 {
-    let path = match see(alloc, tree, root, cwd, text, Refusal::Unavailable)? {
+    let path = match see(
+        alloc,
+        tree,
+        root,
+        cwd,
+        text,
+        Sight::Path,
+        Refusal::Unavailable,
+    )? {
         Ok(path) => path,
         Err(why) => return Ok(tell(why)),
     };
@@ -107,7 +123,15 @@ pub(crate) fn remove_dir<A: Allocator + Copy, T: Tree<A>>(
         IsAnswer (T.failures tree.old) (T.failures tree.new) (due old (Op.RemoveDir text.now) 0) old (said_of answer) (here (T.table tree.new) root.now cwd.now)) }
     ensures kept { OnErr result (IsAsBefore (T.failures tree.old) (T.failures tree.new) (T.table tree.old) (T.table tree.new)) }
 {
-    let path = match see(alloc, tree, root, cwd, text, Refusal::Unavailable)? {
+    let path = match see(
+        alloc,
+        tree,
+        root,
+        cwd,
+        text,
+        Sight::Path,
+        Refusal::Unavailable,
+    )? {
         Ok(path) => path,
         Err(why) => return Ok(tell(why)),
     };
@@ -133,7 +157,15 @@ pub(crate) fn delete<A: Allocator + Copy, T: Tree<A>>(
         IsAnswer (T.failures tree.old) (T.failures tree.new) (due old (Op.Delete text.now) 0) old (said_of answer) (here (T.table tree.new) root.now cwd.now)) }
     ensures kept { OnErr result (IsAsBefore (T.failures tree.old) (T.failures tree.new) (T.table tree.old) (T.table tree.new)) }
 {
-    let path = match see(alloc, tree, root, cwd, text, Refusal::Unavailable)? {
+    let path = match see(
+        alloc,
+        tree,
+        root,
+        cwd,
+        text,
+        Sight::Path,
+        Refusal::Unavailable,
+    )? {
         Ok(path) => path,
         Err(why) => return Ok(tell(why)),
     };
@@ -159,14 +191,22 @@ pub(crate) fn rename<A: Allocator + Copy, T: Tree<A>>(
         IsAnswer (T.failures tree.old) (T.failures tree.new) (due old (Op.Rename from.now to.now) 0) old (said_of answer) (here_onto (T.table tree.new) root.now cwd.now onto)) }
     ensures kept { OnErr result (IsAsBefore (T.failures tree.old) (T.failures tree.new) (T.table tree.old) (T.table tree.new)) }
 {
-    let source = match see(alloc, tree, root, cwd, from, Refusal::Unavailable)? {
+    let source = match see(
+        alloc,
+        tree,
+        root,
+        cwd,
+        from,
+        Sight::Path,
+        Refusal::Unavailable,
+    )? {
         Ok(source) => source,
         Err(why) => return Ok(tell(why)),
     };
     if is_held(tree, root, &source, cwd) {
         return Ok(tell(Refusal::Unavailable));
     }
-    let target = match see(alloc, tree, root, cwd, to, Refusal::BadName)? {
+    let target = match see(alloc, tree, root, cwd, to, Sight::Path, Refusal::BadName)? {
         Ok(target) => target,
         Err(why) => return Ok(tell(why)),
     };

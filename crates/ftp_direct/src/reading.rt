@@ -16,7 +16,7 @@ use crate::opening::open_there;
 use crate::refusal::{Refusal, refused, tell};
 use ftp_facts::Text;
 use ftp_operation::{Answer, How, Op};
-use ftp_tree::{Path, Tree, TreeFault};
+use ftp_tree::{Path, Sight, Tree, TreeFault};
 use std::alloc::{AllocError, Allocator};
 
 /// Gets a file's octets.
@@ -107,7 +107,15 @@ pub(crate) fn modified<A: Allocator + Copy, T: Tree<A>>(
         IsAnswer (T.failures tree.old) (T.failures tree.new) (due old (Op.Modified text.now) 0) old (said_of answer) (here (T.table tree.new) root.now cwd.now)) }
     ensures kept { OnErr result (IsAsBefore (T.failures tree.old) (T.failures tree.new) (T.table tree.old) (T.table tree.new)) }
 {
-    let path = match see(alloc, tree, root, cwd, text, Refusal::Unavailable)? {
+    let path = match see(
+        alloc,
+        tree,
+        root,
+        cwd,
+        text,
+        Sight::Path,
+        Refusal::Unavailable,
+    )? {
         Ok(path) => path,
         Err(why) => return Ok(tell(why)),
     };
@@ -130,7 +138,15 @@ pub(crate) fn find_file<A: Allocator + Copy, T: Tree<A>>(
     ensures same { NoStray (T.failures tree.old) (T.failures tree.new) → T.table tree.new ≡ T.table tree.old }
     ensures kept { OnErr result (T.failures tree.new ≡ T.failures tree.old) }
 {
-    let path = match see(alloc, tree, root, cwd, text, Refusal::Unavailable)? {
+    let path = match see(
+        alloc,
+        tree,
+        root,
+        cwd,
+        text,
+        Sight::Path,
+        Refusal::Unavailable,
+    )? {
         Ok(path) => path,
         Err(why) => return Ok(Err(why)),
     };

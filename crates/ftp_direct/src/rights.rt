@@ -15,7 +15,7 @@ use crate::offsets::takes_offset;
 use crate::refusal::Refusal;
 use ftp_facts::Text;
 use ftp_operation::{Op, Rights};
-use ftp_tree::{Path, Tree};
+use ftp_tree::{Path, Sight, Tree};
 use std::alloc::{AllocError, Allocator};
 
 /// Whether an account with these rights may put a file at a path.
@@ -53,7 +53,7 @@ fn barred_put<A: Allocator + Copy, T: Tree<A>>(
     ensures same { NoStray (T.failures tree.old) (T.failures tree.new) → T.table tree.new ≡ T.table tree.old }
     ensures kept { OnErr result (T.failures tree.new ≡ T.failures tree.old) }
 {
-    match see(alloc, tree, root, cwd, text, Refusal::BadName)? {
+    match see(alloc, tree, root, cwd, text, Sight::Path, Refusal::BadName)? {
         Ok(path) => Ok(barred(may_put_at(tree, root, &path, rights))),
         Err(Refusal::LocalFault) => Ok(Some(Refusal::LocalFault)),
         Err(_) => Ok(barred(rights.may_put(false))),

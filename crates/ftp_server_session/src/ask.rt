@@ -16,7 +16,7 @@ use ftp_path::Path;
 use ftp_server_model::{FixedReply, Pending, ReplyKind};
 use ftp_server_parts::{Fault, ServerTransfer};
 use ftp_settings::{Mode, Representation, Structure};
-use ftp_tree::Tree;
+use ftp_tree::{Sight, Tree};
 use std::alloc::Allocator;
 
 impl<A: Allocator + Copy, T: Tree<A>, J: ServerTransfer<A, T>> Session<A, T, J> {
@@ -66,7 +66,7 @@ impl<A: Allocator + Copy, T: Tree<A>, J: ServerTransfer<A, T>> Session<A, T, J> 
         ensures turn { Turns T.table T.failures J.view (mdtm text.now) self.old self.new result }
         ensures little { LeavesLittle 0 self.old self.new result }
     {
-        let Some(path) = self.see(text)? else {
+        let Some(path) = self.see(text, Sight::Path)? else {
             return Ok(ReplyKind::Fixed(FixedReply::Refused));
         };
         match self.tree.stamp(&self.root, &path) {
@@ -81,7 +81,7 @@ impl<A: Allocator + Copy, T: Tree<A>, J: ServerTransfer<A, T>> Session<A, T, J> 
         ensures turn { Turns T.table T.failures J.view (mlst text.now) self.old self.new result }
         ensures little { LeavesLittle 0 self.old self.new result }
     {
-        let Some(path) = self.see_here(text)? else {
+        let Some(path) = self.see_here(text, Sight::Path)? else {
             return Ok(ReplyKind::Fixed(FixedReply::Refused));
         };
         if absent_fault(&self.tree, &self.root, &path).is_some() {

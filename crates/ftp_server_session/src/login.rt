@@ -12,7 +12,7 @@ use ftp_operation::{Account, Accounts, Rights};
 use ftp_path::Path;
 use ftp_server_model::{Access, FixedReply, Life, ReplyKind};
 use ftp_server_parts::{Fault, ServerTransfer};
-use ftp_tree::Tree;
+use ftp_tree::{Sight, Tree};
 use std::alloc::Allocator;
 
 impl<A: Allocator + Copy, T: Tree<A>, J: ServerTransfer<A, T>> Session<A, T, J> {
@@ -48,7 +48,7 @@ impl<A: Allocator + Copy, T: Tree<A>, J: ServerTransfer<A, T>> Session<A, T, J> 
         ensures little { LeavesLittle 0 self.old self.new result }
     {
         let top = Path::root(self.alloc);
-        look(&mut self.tree, &top, &account.root)?;
+        look(&mut self.tree, &top, &account.root, Sight::Path)?;
         if !is_dir(&self.tree, &top, &account.root) {
             self.log_out();
             return Ok(ReplyKind::Fixed(FixedReply::LoginRefused));

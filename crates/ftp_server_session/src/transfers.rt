@@ -22,7 +22,7 @@ use ftp_direct::{absent_fault, directory_fault, len_at, may_put_at, place_at};
 use ftp_path::Path;
 use ftp_server_model::{FixedReply, Keep, Pending, ReplyKind, ServerLink, Way};
 use ftp_server_parts::{Fault, ServerTransfer, room_text};
-use ftp_tree::{Tree, TreeFault};
+use ftp_tree::{Sight, Tree, TreeFault};
 use std::alloc::Allocator;
 
 impl<A: Allocator + Copy, T: Tree<A>, J: ServerTransfer<A, T>> Session<A, T, J> {
@@ -59,7 +59,7 @@ impl<A: Allocator + Copy, T: Tree<A>, J: ServerTransfer<A, T>> Session<A, T, J> 
         ensures turn { Turns T.table T.failures J.view (stor pending.now text.now) self.old self.new result }
         ensures little { LeavesLittle 0 self.old self.new result }
     {
-        let Some(mut path) = self.see(text)? else {
+        let Some(mut path) = self.see(text, Sight::Path)? else {
             let text = self.unfit_text();
             return Ok(self.not_begun(text));
         };
@@ -75,7 +75,7 @@ impl<A: Allocator + Copy, T: Tree<A>, J: ServerTransfer<A, T>> Session<A, T, J> 
         ensures turn { Turns T.table T.failures J.view (appe text.now) self.old self.new result }
         ensures little { LeavesLittle 0 self.old self.new result }
     {
-        let Some(mut path) = self.see(text)? else {
+        let Some(mut path) = self.see(text, Sight::Path)? else {
             let text = self.unfit_text();
             return Ok(self.not_begun(text));
         };
@@ -92,7 +92,7 @@ impl<A: Allocator + Copy, T: Tree<A>, J: ServerTransfer<A, T>> Session<A, T, J> 
         ensures turn { Turns T.table T.failures J.view (list text.now) self.old self.new result }
         ensures little { LeavesLittle 0 self.old self.new result }
     {
-        let Some(mut path) = self.see_here(text)? else {
+        let Some(mut path) = self.see_here(text, Sight::Files)? else {
             return Ok(self.not_begun(FixedReply::Refused));
         };
         if absent_fault(&self.tree, &self.root, &path).is_some() {
@@ -116,7 +116,7 @@ impl<A: Allocator + Copy, T: Tree<A>, J: ServerTransfer<A, T>> Session<A, T, J> 
         ensures turn { Turns T.table T.failures J.view (nlst text.now) self.old self.new result }
         ensures little { LeavesLittle 0 self.old self.new result }
     {
-        let Some(mut path) = self.see_here(text)? else {
+        let Some(mut path) = self.see_here(text, Sight::Files)? else {
             return Ok(self.not_begun(FixedReply::Refused));
         };
         if absent_fault(&self.tree, &self.root, &path).is_some() {
@@ -141,7 +141,7 @@ impl<A: Allocator + Copy, T: Tree<A>, J: ServerTransfer<A, T>> Session<A, T, J> 
         ensures turn { Turns T.table T.failures J.view (mlsd text.now) self.old self.new result }
         ensures little { LeavesLittle 0 self.old self.new result }
     {
-        let Some(mut path) = self.see_here(text)? else {
+        let Some(mut path) = self.see_here(text, Sight::Files)? else {
             return Ok(self.not_begun(FixedReply::Refused));
         };
         if let Some(fault) = directory_fault(&self.tree, &self.root, &path) {

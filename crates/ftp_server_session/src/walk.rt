@@ -11,7 +11,7 @@ use ftp_direct::{directory_fault, is_busy, is_held, move_to};
 use ftp_path::Path;
 use ftp_server_model::{FixedReply, Pending, ReplyKind};
 use ftp_server_parts::{Fault, ServerTransfer};
-use ftp_tree::{Tree, TreeFault};
+use ftp_tree::{Sight, Tree, TreeFault};
 use std::alloc::Allocator;
 
 impl<A: Allocator + Copy, T: Tree<A>, J: ServerTransfer<A, T>> Session<A, T, J> {
@@ -24,7 +24,7 @@ impl<A: Allocator + Copy, T: Tree<A>, J: ServerTransfer<A, T>> Session<A, T, J> 
         ensures turn { Turns T.table T.failures J.view (cwd text.now) self.old self.new result }
         ensures little { LeavesLittle 0 self.old self.new result }
     {
-        let Some(path) = self.see(text)? else {
+        let Some(path) = self.see(text, Sight::Path)? else {
             return Ok(ReplyKind::Fixed(FixedReply::Refused));
         };
         if directory_fault(&self.tree, &self.root, &path).is_some() {
@@ -53,7 +53,7 @@ impl<A: Allocator + Copy, T: Tree<A>, J: ServerTransfer<A, T>> Session<A, T, J> 
         if !self.rights.make_dir {
             return Ok(ReplyKind::Fixed(FixedReply::NotAllowed));
         }
-        let Some(path) = self.see(text)? else {
+        let Some(path) = self.see(text, Sight::Path)? else {
             return Ok(ReplyKind::Fixed(FixedReply::Refused));
         };
         match self.tree.make_dir(&self.root, &path) {
@@ -71,7 +71,7 @@ impl<A: Allocator + Copy, T: Tree<A>, J: ServerTransfer<A, T>> Session<A, T, J> 
         if !self.rights.remove_dir {
             return Ok(ReplyKind::Fixed(FixedReply::NotAllowed));
         }
-        let Some(path) = self.see(text)? else {
+        let Some(path) = self.see(text, Sight::Path)? else {
             return Ok(ReplyKind::Fixed(FixedReply::Refused));
         };
         if is_busy(&path, &self.cwd) {
@@ -92,7 +92,7 @@ impl<A: Allocator + Copy, T: Tree<A>, J: ServerTransfer<A, T>> Session<A, T, J> 
         if !self.rights.delete {
             return Ok(ReplyKind::Fixed(FixedReply::NotAllowed));
         }
-        let Some(path) = self.see(text)? else {
+        let Some(path) = self.see(text, Sight::Path)? else {
             return Ok(ReplyKind::Fixed(FixedReply::Refused));
         };
         match self.tree.delete(&self.root, &path) {
@@ -110,7 +110,7 @@ impl<A: Allocator + Copy, T: Tree<A>, J: ServerTransfer<A, T>> Session<A, T, J> 
         if !self.rights.rename {
             return Ok(ReplyKind::Fixed(FixedReply::NotAllowed));
         }
-        let Some(path) = self.see(text)? else {
+        let Some(path) = self.see(text, Sight::Path)? else {
             return Ok(ReplyKind::Fixed(FixedReply::Refused));
         };
         if is_held(&self.tree, &self.root, &path, &self.cwd) {
@@ -136,7 +136,7 @@ impl<A: Allocator + Copy, T: Tree<A>, J: ServerTransfer<A, T>> Session<A, T, J> 
         if let Some(refusal) = self.source_text(from)? {
             return Ok(ReplyKind::Fixed(refusal));
         }
-        let Some(to) = self.see(text)? else {
+        let Some(to) = self.see(text, Sight::Path)? else {
             return Ok(ReplyKind::Fixed(FixedReply::NameRefused));
         };
         match move_to(&mut self.tree, self.rights.onto, &self.root, from, &to) {
@@ -153,7 +153,7 @@ impl<A: Allocator + Copy, T: Tree<A>, J: ServerTransfer<A, T>> Session<A, T, J> 
         if !self.rights.rename {
             return Ok(Some(FixedReply::NotAllowed));
         }
-        look(&mut self.tree, &self.root, from)?;
+        look(&mut self.tree, &self.root, from, Sight::Path)?;
         known_to_fit(from);
         if is_held(&self.tree, &self.root, from, &self.cwd) {
             return Ok(Some(FixedReply::Refused));

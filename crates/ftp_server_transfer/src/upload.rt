@@ -19,7 +19,7 @@ use ftp_path::Path;
 use ftp_server_model::{FixedReply, Keep};
 use ftp_server_parts::{Fault, Marker, Received, Told};
 use ftp_settings::{MARKER_LIMIT, Representation};
-use ftp_tree::Tree;
+use ftp_tree::{Sight, Tree};
 use ftp_wire::{Decoded, Decoder, Taken};
 use std::alloc::Allocator;
 
@@ -168,7 +168,7 @@ impl<A: Allocator + Copy, T: Tree<A>> Upload<A, T> {
             keep,
             decoder,
         } = self;
-        let Ok(()) = tree.look(root, &path) else {
+        let Ok(()) = tree.look(root, &path, Sight::Path) else {
             return Err(Fault::Device);
         };
         if let Some(why) = end_refusal(tree, root, &path, keep, decoder.len(), rights) {

@@ -16,4 +16,4 @@ pub use fault::{Broken, TreeFault};
 pub use ftp_path::{Name, Path, PathFault, is_path_text};
 pub use label::Label;
 pub use limits::Limits;
-pub use tree::{DirEntry, FileFacts, NodeKind, SureTree, Tree};
+pub use tree::{DirEntry, FileFacts, NodeKind, Sight, SureTree, Tree};

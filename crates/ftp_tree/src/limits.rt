@@ -1,4 +1,6 @@
 // How much a tree may hold.
+ghost use Rattle.std.specs.Prelude.{◌≡◌};
+ghost use Rattle.ftp_tree.specs.Tree.{default_limits};
 
 /// How much a tree may hold, of octets and of nodes. More than 10 ^ 17 octets are none, whatever a limit says.
 #[derive(Clone, Copy)]
@@ -19,4 +21,12 @@ impl Limits {
         total: 67_108_864,
         nodes: 16_384,
     };
+}
+
+impl Default for Limits {
+    fn default() -> Limits
+        ensures { result ≡ default_limits }
+    {
+        Limits::DEFAULT
+    }
 }

@@ -19,6 +19,15 @@ pub enum NodeKind {
     File,
 }
 
+/// How far a tree looks at a path before a command acts there.
+#[derive(Clone, Copy, Debug, PartialEq, Eq)]
+pub enum Sight {
+    /// At what stands at it and above it: of a directory, which names it has.
+    Path,
+    /// Also at each file in the directory there: how large it is, and of when. A listing tells that.
+    Files,
+}
+
 /// What a directory shows of a file in it: how many octets it has, and when it was installed.
 #[derive(Clone, Copy)]
 pub struct FileFacts {
@@ -53,11 +62,12 @@ pub trait Tree<A: Allocator + Copy>: Drop {
     ghost opened: { Self.Open → List ℕ };
 
     /// Looks whether what stands at a path, above it, or in the directory there was changed by others, and takes up what it finds. A command
-    /// looks before it reads a path. Where nobody else can change anything there is nothing to do.
+    /// looks before it reads a path, as far as it tells of it. Where nobody else can change anything there is nothing to do.
     fn look<B: Allocator + Copy, C: Allocator + Copy>(
         &mut self,
         root: &Path<B>,
         path: &Path<C>,
+        sight: Sight,
     ) -> Result<(), Broken>
         ensures same { NoStray (failures self.old) (failures self.new) → table self.new ≡ table self.old }
         ensures steady { OnOk result (IsSteady (failures self.old) (failures self.new)) }

@@ -13,7 +13,7 @@ use crate::node::{Count, Node, Standing};
 use crate::place::Joined;
 use ftp_facts::Moment;
 use ftp_path::{Name, Path};
-use ftp_tree::{Broken, DirEntries, Limits, NodeKind, SureTree, Tree, TreeFault};
+use ftp_tree::{Broken, DirEntries, Limits, NodeKind, Sight, SureTree, Tree, TreeFault};
 use std::alloc::{AllocError, Allocator};
 use std::marker::Model;
 
@@ -69,6 +69,7 @@ impl<A: Allocator + Copy> Tree<A> for MemTree<A> {
         &mut self,
         _root: &Path<B>,
         _path: &Path<C>,
+        _sight: Sight,
     ) -> Result<(), Broken> {
         Ok(())
     }

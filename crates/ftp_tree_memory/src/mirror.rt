@@ -12,7 +12,7 @@ use crate::held::HeldTree;
 use crate::memory::MemTree;
 use ftp_facts::Moment;
 use ftp_path::{Name, Path};
-use ftp_tree::{Broken, DirEntries, NodeKind, SureTree, Tree, TreeFault};
+use ftp_tree::{Broken, DirEntries, NodeKind, Sight, SureTree, Tree, TreeFault};
 use std::alloc::{AllocError, Allocator};
 
 /// A tree in memory, and a folder to which each change goes first. All that a change needs of memory is had, then the folder
@@ -70,6 +70,7 @@ impl<A: Allocator + Copy, D: Folder> Tree<A> for Mirror<A, D> {
         &mut self,
         _root: &Path<B>,
         _path: &Path<C>,
+        _sight: Sight,
     ) -> Result<(), Broken> {
         Ok(())
     }

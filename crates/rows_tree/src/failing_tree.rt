@@ -4,7 +4,7 @@ ghost use Rattle.ftp_tree.specs.Change.{never_strayed, next_count};
 
 use ftp_facts::Moment;
 use ftp_path::{Name, Path};
-use ftp_tree::{Broken, DirEntries, NodeKind, SureTree, Tree, TreeFault};
+use ftp_tree::{Broken, DirEntries, NodeKind, Sight, SureTree, Tree, TreeFault};
 use ftp_tree_memory::{Content, MemTree};
 use std::alloc::{AllocError, Allocator};
 
@@ -76,6 +76,7 @@ impl<A: Allocator + Copy> Tree<A> for FailingTree<A> {
         &mut self,
         _root: &Path<B>,
         _path: &Path<C>,
+        _sight: Sight,
     ) -> Result<(), Broken> {
         if self.fails() {
             return Err(Broken);
