@@ -1,10 +1,2 @@
-pub mod BranchLemmas
 pub mod ContentLemmas
-pub mod FrontLemmas
 pub mod MirrorLemmas
-pub mod MoveLemmas
-pub mod NameLemmas
-pub mod PlaceLemmas
-pub mod PlacingLemmas
-pub mod ShownLemmas
-pub mod WholeLemmas

@@ -1,5 +1,2 @@
-pub mod Branch
-pub mod BranchFalls
 pub mod Folder
 pub mod Kept
-pub mod Store

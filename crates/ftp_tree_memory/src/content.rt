@@ -6,6 +6,7 @@ use crate::held::HeldTree;
 use crate::kept::Kept;
 use ftp_path::Path;
 use ftp_tree::{Draft, TreeFault};
+use ftp_tree_nodes::Holder;
 use ftp_tree_pages::Pages;
 use std::alloc::{AllocError, Allocator};
 use std::marker::Model;
@@ -42,6 +43,14 @@ impl<A: Allocator + Copy> Draft for Content<A> {
 
     fn push(&mut self, more: &[u8]) -> Result<(), AllocError> {
         Content::push(self, more)
+    }
+}
+
+impl<A: Allocator + Copy> Holder for Content<A> {
+    ghost octets = { λ content. content };
+
+    fn len(&self) -> u64 {
+        Content::len(self)
     }
 }
 
@@ -196,7 +205,7 @@ impl<A: Allocator + Copy> Content<A> {
         Ok(content)
     }
 
-    /// Puts octets behind those that it has. Refused memory, it is as it was; so are octets that several hold.
+    /// Puts octets after those that it has. Refused memory, it is as it was; so are octets that several hold.
     pub fn push(&mut self, octets: &[u8]) -> Result<(), AllocError>
         ensures ok { OnOk result (self.new ≡ self.old ++ octets.now) }
         ensures err { OnErr result (self.new ≡ self.old) }
@@ -207,7 +216,7 @@ impl<A: Allocator + Copy> Content<A> {
         }
     }
 
-    /// Puts the octets of another content behind those that it has. Refused memory, it has some of them.
+    /// Puts the octets of another content after those that it has. Refused memory, it has some of them.
     pub(crate) fn push_all(&mut self, more: &Content<A>) -> Result<(), AllocError>
         ensures { OnOk result (self.new ≡ self.old ++ more.now) }
     {

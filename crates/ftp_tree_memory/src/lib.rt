@@ -2,16 +2,13 @@
 //! `Tree` of `ftp_tree`.
 #![tactic(auto)]
 
+mod changing;
 mod content;
 mod device;
 mod held;
 mod kept;
 mod memory;
 mod mirror;
-mod node;
-mod place;
-mod placing;
-mod refusing;
 
 pub use content::Content;
 pub use device::{Folder, FolderFault};

@@ -1,40 +1,27 @@
-// A tree in memory, from its root.
-ghost use Rattle.std.specs.Prelude.{◌≡◌, ◌≤◌, ◌++◌, ◌⊎◌, [], None, IfOk, OnErr, OnOk, length, take};
-ghost use Rattle.std.specs.FinMap as fin;
-ghost use Rattle.std.specs.Option.{option_map};
+// A tree in memory: nodes whose files have their octets at hand.
+ghost use Rattle.std.specs.Prelude.{◌≡◌, ◌≤◌, ◌++◌, [], IfOk, OnErr, OnOk, None, length, take};
 ghost use Rattle.ftp_tree.specs.Change.{never_strayed};
-ghost use Rattle.ftp_tree.specs.Sound.{IsSoundTree};
-ghost use Rattle.ftp_tree.specs.Tree.{delete_refusal, install_refusal, file_limit, installed, node_at, octets_in, octets_or_none, remove_refusal, removed, root_alone, root_within, total_limit, under, with_part};
-ghost use Rattle.ftp_tree_memory.specs.Store.{standing_node};
+ghost use Rattle.ftp_tree.specs.Tree.{install_refusal, installed, octets_or_none, root_alone, root_within, under, with_part};
 
 use crate::content::Content;
 use crate::held::HeldTree;
-use crate::node::{Count, Node, Standing};
-use crate::place::Joined;
 use ftp_facts::Moment;
 use ftp_path::{Name, Path};
 use ftp_tree::{Broken, DirEntries, Limits, NodeKind, Sight, SureTree, Tree, TreeFault};
+use ftp_tree_nodes::{Nodes, Standing};
 use std::alloc::{AllocError, Allocator};
 use std::marker::Model;
 
-/// The most octets that any limit lets a file have, or all files together (own choice).
-const MOST_OCTETS: u64 = 100_000_000_000_000_000;
-
 /// A tree that is kept in memory. It has no device, so its count of device failures stays at 0.
 pub struct MemTree<A: Allocator + Copy> {
-    pub(crate) root: Node<A>,
-    pub(crate) limits: Limits,
+    pub(crate) nodes: Nodes<A, Content<A>>,
     pub(crate) alloc: A,
 }
 
 /// By hand: a derived drop is made anew in each crate that lets a tree go, and with it all that is generic over trees.
 impl<A: Allocator + Copy> Drop for MemTree<A> {
     fn drop(self) {
-        let Self {
-            root: _,
-            limits: _,
-            alloc: _,
-        } = self;
+        let Self { nodes: _, alloc: _ } = self;
     }
 }
 
@@ -46,12 +33,7 @@ impl<A: Allocator + Copy> Model for MemTree<A> {
 
     ghost coded = { table_code };
 
-    ghost use Rattle.ftp_tree.specs.Sound.{IsSoundTree};
-    ghost use Rattle.ftp_tree.specs.Rows.{whole};
-
-    ghost view = { λ tree. whole tree.limits tree.root };
-
-    ghost invariant = { λ tree. IsSoundTree (whole tree.limits tree.root) };
+    ghost view = { λ tree. tree.nodes };
 }
 
 impl<A: Allocator + Copy> Tree<A> for MemTree<A> {
@@ -74,53 +56,38 @@ impl<A: Allocator + Copy> Tree<A> for MemTree<A> {
         Ok(())
     }
 
-    #[tactic(auto, unfolding(ftp_tree::specs::Tree::kind_at))]
     fn kind<B: Allocator + Copy, C: Allocator + Copy>(
         &self,
         root: &Path<B>,
         path: &Path<C>,
     ) -> Option<NodeKind> {
-        match self.standing(root, path) {
-            Some(Standing::Dir) => Some(NodeKind::Dir),
-            Some(Standing::File(..)) => Some(NodeKind::File),
-            None => None,
-        }
+        self.nodes.kind(root, path)
     }
 
-    #[tactic(auto, unfolding(ftp_tree::specs::Tree::size_at, ftp_tree::specs::Tree::octets_at))]
     fn size<B: Allocator + Copy, C: Allocator + Copy>(
         &self,
         root: &Path<B>,
         path: &Path<C>,
     ) -> Option<u64> {
-        match self.standing(root, path) {
-            Some(Standing::File(content, _)) => Some(content.len()),
-            Some(Standing::Dir) | None => None,
-        }
+        self.nodes.size(root, path)
     }
 
-    #[tactic(auto, unfolding(ftp_tree::specs::Tree::stamp_at))]
     fn stamp<B: Allocator + Copy, C: Allocator + Copy>(
         &self,
         root: &Path<B>,
         path: &Path<C>,
     ) -> Option<Moment> {
-        match self.standing(root, path) {
-            Some(Standing::File(_, moment)) => Some(moment),
-            Some(Standing::Dir) | None => None,
-        }
+        self.nodes.stamp(root, path)
     }
 
-    #[tactic(auto, unfolding(ftp_tree::specs::Tree::octets_or_none, ftp_tree::specs::Tree::octets_at))]
     fn open<B: Allocator + Copy, C: Allocator + Copy>(
         &mut self,
         root: &Path<B>,
         path: &Path<C>,
     ) -> Result<Content<A>, TreeFault> {
-        match self.standing(root, path) {
-            None => Err(TreeFault::Absent),
-            Some(Standing::Dir) => Err(TreeFault::WrongKind),
-            Some(Standing::File(content, _)) => match content.share() {
+        match self.nodes.file(root, path) {
+            Err(fault) => Err(fault),
+            Ok(content) => match content.share() {
                 Ok(file) => Ok(file),
                 Err(_) => Err(TreeFault::Memory),
             },
@@ -141,11 +108,7 @@ impl<A: Allocator + Copy> Tree<A> for MemTree<A> {
         path: &Path<C>,
         place: usize,
     ) -> Option<Name<'_>> {
-        let above = Joined::of(root, path);
-        let Some(node) = self.root.find(above.key()) else {
-            return None;
-        };
-        node.nth_name(place)
+        self.nodes.nth_name(root, path, place)
     }
 
     fn entries<B: Allocator + Copy, C: Allocator + Copy>(
@@ -153,11 +116,7 @@ impl<A: Allocator + Copy> Tree<A> for MemTree<A> {
         root: &Path<B>,
         path: &Path<C>,
     ) -> Result<DirEntries<A>, AllocError> {
-        let above = Joined::of(root, path);
-        let Some(node) = self.root.find(above.key()) else {
-            return Ok(DirEntries::none(self.alloc));
-        };
-        node.entries(self.alloc)
+        self.nodes.entries(root, path)
     }
 
     fn room<B: Allocator + Copy, C: Allocator + Copy>(
@@ -165,10 +124,7 @@ impl<A: Allocator + Copy> Tree<A> for MemTree<A> {
         root: &Path<B>,
         path: &Path<C>,
     ) -> Result<u64, TreeFault> {
-        match self.room_refusal(root, path) {
-            Some(fault) => Err(fault),
-            None => Ok(self.room_at(root, path)),
-        }
+        self.nodes.room(root, path)
     }
 
     fn most<B: Allocator + Copy, C: Allocator + Copy>(
@@ -176,7 +132,7 @@ impl<A: Allocator + Copy> Tree<A> for MemTree<A> {
         root: &Path<B>,
         path: &Path<C>,
     ) -> u64 {
-        self.room_at(root, path)
+        self.nodes.most(root, path)
     }
 
     fn device_failures(&self) -> u64 {
@@ -184,7 +140,7 @@ impl<A: Allocator + Copy> Tree<A> for MemTree<A> {
     }
 
     fn fits<B: Allocator + Copy>(&self, root: &Path<B>) -> bool {
-        self.count_below(root).octets <= self.total_limit() as u128
+        self.nodes.fits(root)
     }
 
     fn make_dir<B: Allocator + Copy, C: Allocator + Copy>(
@@ -192,13 +148,7 @@ impl<A: Allocator + Copy> Tree<A> for MemTree<A> {
         root: &Path<B>,
         path: &Path<C>,
     ) -> Result<(), TreeFault> {
-        if let Some(fault) = self.make_refusal(root, path) {
-            return Err(fault);
-        }
-        match self.make_place(root, path) {
-            Ok(()) => Ok(()),
-            Err(_) => Err(TreeFault::Memory),
-        }
+        self.nodes.make_dir(root, path)
     }
 
     fn remove_dir<B: Allocator + Copy, C: Allocator + Copy>(
@@ -234,7 +184,7 @@ impl<A: Allocator + Copy> Tree<A> for MemTree<A> {
         if let Some(fault) = self.rename_refusal(root, from, to) {
             return Err(fault);
         }
-        match self.move_all(root, from, to) {
+        match self.nodes.move_all(root, from, to) {
             Ok(()) => Ok(()),
             Err(_) => Err(TreeFault::Memory),
         }
@@ -297,7 +247,7 @@ impl<A: Allocator + Copy> HeldTree<A> for MemTree<A> {
         at: u64,
         max: usize,
     ) -> &[u8] {
-        match self.standing(root, path) {
+        match self.nodes.standing(root, path) {
             Some(Standing::File(content, _)) => content.piece(at, max),
             Some(Standing::Dir) | None => b"".as_slice(),
         }
@@ -330,29 +280,13 @@ impl<A: Allocator + Copy> MemTree<A> {
     }
 
     /// The root alone, within some limits. Takes no memory.
-    #[tactic(auto, unfolding(ftp_tree::specs::Tree::root_within))]
     pub fn within(alloc: A, limits: Limits) -> MemTree<A>
         ensures { result ≡ root_within limits }
     {
         MemTree {
-            root: Node::dir(alloc),
-            limits,
+            nodes: Nodes::within(alloc, limits),
             alloc,
         }
-    }
-
-    /// The most octets of a file.
-    pub(crate) fn file_limit(&self) -> u64
-        ensures { result ≡ file_limit self.now }
-    {
-        self.limits.file.min(MOST_OCTETS)
-    }
-
-    /// The most octets of all files at or below a root together.
-    pub(crate) fn total_limit(&self) -> u64
-        ensures { result ≡ total_limit self.now }
-    {
-        self.limits.total.min(MOST_OCTETS)
     }
 
     /// The first octets of the file at a path, `keep` of them if it has so many, and then those that came.
@@ -366,36 +300,10 @@ impl<A: Allocator + Copy> MemTree<A> {
     ) -> Result<Content<A>, AllocError>
         ensures { IfOk result (λ whole. whole ≡ take keep (octets_or_none (under self.now root.now) path.now) ++ came) }
     {
-        match self.standing(root, path) {
+        match self.nodes.standing(root, path) {
             Some(Standing::File(content, _)) => behind(self.alloc, content, keep, came),
             Some(Standing::Dir) | None => Ok(came),
         }
-    }
-
-    /// What stands at a path below a root. It is asked for each piece of a file, so no path is joined for it.
-    pub(crate) fn standing<B: Allocator + Copy, C: Allocator + Copy>(
-        &self,
-        root: &Path<B>,
-        path: &Path<C>,
-    ) -> Option<Standing<'_, A>>
-        ensures { option_map standing_node result ≡ node_at (under self.now root.now) path.now }
-    {
-        let Some(part) = self.root.find(root.key()) else {
-            return None;
-        };
-        part.at(path.key())
-    }
-
-    /// How many nodes stand at or below a root, and how many octets their files have. What stands in the whole tree is sound.
-    pub(crate) fn count_below<B: Allocator + Copy>(&self, root: &Path<B>) -> Count
-        ensures nodes { result.nodes ≡ fin.len (under self.now root.now).map }
-        ensures octets { result.octets ≡ octets_in (under self.now root.now) }
-        ensures sound { IsSoundTree self.now }
-    {
-        let Some(node) = self.root.find(root.key()) else {
-            return Count::NONE;
-        };
-        node.count()
     }
 
     /// Puts a file where no refusal applies. Its octets are taken out of the content, unless memory is refused.
@@ -412,27 +320,12 @@ impl<A: Allocator + Copy> MemTree<A> {
     {
         content.settle(self.alloc)?;
         let octets = content.take(self.alloc);
-        let node = Node::file(octets, moment);
-        let place = Joined::of(root, path);
-        if let Err(node) = self.root.put(self.alloc, place.key(), node) {
-            *content = node.into_content(self.alloc);
+        if let Err(octets) = self.nodes.put_file(root, path, octets, moment) {
+            *content = octets;
             content.unsettle(self.alloc);
             return Err(AllocError);
         }
         Ok(())
-    }
-
-    /// Takes away what stands at a path, where no refusal applies to a file or to a directory there. Takes no memory.
-    pub(crate) fn take_away<B: Allocator + Copy, C: Allocator + Copy>(
-        &mut self,
-        root: &Path<B>,
-        path: &Path<C>,
-    )
-        requires { let part = under self.old root.now in (delete_refusal part path.now ≡ None) ⊎ (remove_refusal part path.now ≡ None) }
-        ensures { self.new ≡ with_part self.old root.now (removed (under self.old root.now) path.now) }
-    {
-        let place = Joined::of(root, path);
-        let _gone = self.root.take_out(place.key());
     }
 }
 

@@ -1,13 +1,12 @@
-use Rattle.std.proofs.Common.{min, ap, ◌+◌, ◌∙◌}
-use Rattle.ftp_tree.specs.Tree.{octets_or_none, under}
-use Rattle.ftp_tree_memory.proofs.FrontLemmas.{refused-behind}
+use Rattle.std.proofs.Common.{take, sym, ap, ◌+◌, ◌∙◌, length}
+use Rattle.std.proofs.lemmas.List.{length-append}
+use Rattle.ftp_tree.specs.Tree.{install_refusal, octets_or_none, under}
 use Rattle.ftp_tree_memory.proofs.memory.MemTree.put_refusal.Goals as goal
 
 pub returns : goal.returns
 returns g c =
     let part = under c.args.self.now c.args.root.now in
-    let octets = octets_or_none part c.args.path.now in
-    c.install_refusal.ensures
-    ∙ refused-behind part c.args.path.now octets c.args.came.now c.args.keep c.min-kept.result c.saturating_add.result
-    (c.min-kept.ensures ∙ ap (min c.args.keep) c.len_at.ensures)
-    (c.saturating_add.ensures ∙ ap (λ n. min (c.min-kept.result + n) 18446744073709551615) c.len.ensures)
+    let kept = take c.args.keep (octets_or_none part c.args.path.now) in
+    c.put_refusal.ensures
+    ∙ ap (λ table. install_refusal (under table c.args.root.now) c.args.path.now (length (take c.args.keep (octets_or_none (under table c.args.root.now) c.args.path.now)) + c.len.result)) c.self.view_is
+    ∙ ap (install_refusal part c.args.path.now) (ap (λ n. length kept + n) c.len.ensures ∙ sym (length-append kept c.args.came.now))

@@ -1,7 +1,7 @@
 use Rattle.std.proofs.Common.{inl, is_some, length, refl, sym, ap, ◌∙◌}
 use Rattle.ftp_tree.specs.Tree.{installed, removed, under, with_part}
 use Rattle.ftp_tree.specs.Change.{never_strayed}
-use Rattle.ftp_tree_memory.proofs.PlacingLemmas.{had, install-above}
+use Rattle.ftp_tree_nodes.proofs.PlacingLemmas.{had, install-above}
 use Rattle.ftp_tree_memory.specs.Folder.{changed_below}
 use Rattle.ftp_tree_memory.proofs.MirrorLemmas.{always-ok, install-over, kind-absent, mirrors-on, on-ok, spares-known}
 use Rattle.ftp_tree_memory.proofs.mirror.Mirror.put_settled.Goals as goal

@@ -1,5 +1,5 @@
 use Rattle.std.proofs.Common.{sym, ◌∙◌}
-use Rattle.ftp_tree_memory.proofs.PlacingLemmas.{had, make-above, make-absent}
+use Rattle.ftp_tree_nodes.proofs.PlacingLemmas.{had, make-above, make-absent}
 use Rattle.ftp_tree_memory.proofs.MirrorLemmas.{on-err, on-ok, refuses-device}
 use Rattle.ftp_tree_memory.proofs.mirror.MirrorTree.make_dir.Goals as goal
 

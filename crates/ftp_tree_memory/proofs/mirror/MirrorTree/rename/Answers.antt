@@ -1,7 +1,7 @@
 use Rattle.std.proofs.Common.{sym, ap, ◌∙◌}
 use Rattle.ftp_tree.specs.Tree.{moved, rename_refusal, under, with_part}
 use Rattle.ftp_tree.specs.Change.{never_strayed}
-use Rattle.ftp_tree_memory.proofs.PlacingLemmas.{had, move-above, move-absent}
+use Rattle.ftp_tree_nodes.proofs.PlacingLemmas.{had, move-above, move-absent}
 use Rattle.ftp_tree_memory.specs.Folder.{changed_below}
 use Rattle.ftp_tree_memory.proofs.MirrorLemmas.{mirrors-on, on-err, on-ok, refuses-device}
 use Rattle.ftp_tree_memory.proofs.mirror.MirrorTree.rename.Goals as goal

@@ -1,8 +1,0 @@
-use Rattle.std.proofs.Common.{◌≡◌, map, take}
-use Rattle.ftp_tree_memory.specs.Branch.{parts}
-use Rattle.ftp_tree_memory.specs.Store.{shown_part}
-use Rattle.ftp_tree_memory.proofs.node.entries_of.Given as goal
-
--- the entries so far are those of the children so far
-abbrev pub invariant-loop-child : goal.invariant-loop-child
-invariant-loop-child g l = l.entries ≡ map shown_part (parts (take l.child-index l.children))

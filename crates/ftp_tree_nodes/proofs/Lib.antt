@@ -1,0 +1,9 @@
+pub mod BranchLemmas
+pub mod CountLemmas
+pub mod CutLemmas
+pub mod MoveLemmas
+pub mod NameLemmas
+pub mod PlaceLemmas
+pub mod PlacingLemmas
+pub mod ShownLemmas
+pub mod WholeLemmas
