@@ -1,4 +1,4 @@
-// Rows of a server's transfers alone, on a tree that others change between their calls, or whose device fails.
+// Rows of a server's transfers alone, on a tree that others change between their calls, or whose device fails or strays.
 use ftp_facts::Moment;
 use ftp_operation::Rights;
 use ftp_path::Path;
@@ -9,7 +9,7 @@ use ftp_settings::{Kind, Mode, Representation, Structure};
 use ftp_tree::{Draft, Tree, TreeFault};
 use ftp_tree_memory::MemTree;
 use rows_base::{Paper, cut, found, number, octets_of, split};
-use rows_tree::{FailingTree, place, show_tree};
+use rows_tree::{FailingTree, StrayingTree, place, show_tree, strays_so};
 use std::alloc::{AllocError, Global};
 
 /// The second in which what comes is put.
@@ -21,7 +21,7 @@ const NOW: Moment = Moment {
 #[derive(Drop)]
 struct Stage<J: Drop> {
     alloc: Global,
-    tree: FailingTree<Global>,
+    tree: StrayingTree<Global>,
     transfer: Option<J>,
     settings: Representation,
     rights: Rights,
@@ -37,6 +37,7 @@ enum Step {
     Remove,
     Rename,
     Device,
+    Strays,
     Adds,
     Download,
     Upload,
@@ -60,6 +61,7 @@ const STEPS: &[(&'static [u8], Step)] = &[
     (b"remove", Step::Remove),
     (b"rename", Step::Rename),
     (b"device", Step::Device),
+    (b"strays", Step::Strays),
     (b"adds", Step::Adds),
     (b"download", Step::Download),
     (b"upload", Step::Upload),
@@ -79,12 +81,12 @@ const ROOM: usize = 4_096;
 
 /// Plays a row: each line, and what came of it behind it.
 pub fn play_row(alloc: Global, row: &[u8], paper: &mut Paper) {
-    play::<TreeTransfer<Global, FailingTree<Global>>>(alloc, row, paper);
+    play::<TreeTransfer<Global, StrayingTree<Global>>>(alloc, row, paper);
     paper.put(b"\n");
 }
 
 /// The same by such transfers: who names a tree's does not name these.
-fn play<J: ServerTransfer<Global, FailingTree<Global>>>(
+fn play<J: ServerTransfer<Global, StrayingTree<Global>>>(
     alloc: Global,
     row: &[u8],
     paper: &mut Paper,
@@ -102,12 +104,12 @@ fn play<J: ServerTransfer<Global, FailingTree<Global>>>(
     }
 }
 
-impl<J: ServerTransfer<Global, FailingTree<Global>>> Stage<J> {
-    /// Nothing stands in the tree, and its device does not fail; files go in type I, file structure and stream mode.
+impl<J: ServerTransfer<Global, StrayingTree<Global>>> Stage<J> {
+    /// Nothing stands in the tree, and its device neither fails nor strays; files go in type I, file structure and stream mode.
     fn new(alloc: Global) -> Stage<J> {
         Stage {
             alloc,
-            tree: FailingTree::new(MemTree::new(alloc), 0),
+            tree: StrayingTree::new(FailingTree::new(MemTree::new(alloc), 0)),
             transfer: None,
             settings: Representation {
                 kind: Kind::Image,
@@ -125,12 +127,20 @@ impl<J: ServerTransfer<Global, FailingTree<Global>>> Stage<J> {
             Step::Type => self.settings.kind = Kind::Ascii,
             Step::Adds => self.rights.replace = false,
             Step::Device => self.tree.fails_at(number(rest)),
+            Step::Strays => self.strays(rest, paper),
             Step::Give => self.give(number(rest), paper),
             Step::Data => self.data(rest, paper),
             Step::End => self.ends(false, paper),
             Step::Break => self.ends(true, paper),
             Step::Tree => show_tree(self.alloc, self.tree.memory(), paper),
             step => self.at_path(step, rest, paper),
+        }
+    }
+
+    /// The device strays so from here on.
+    fn strays(&mut self, how: &[u8], paper: &mut Paper) {
+        if !strays_so(self.alloc, self.alloc, &mut self.tree, how) {
+            paper.line(b"! no stray");
         }
     }
 

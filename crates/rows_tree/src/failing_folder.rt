@@ -7,8 +7,7 @@ ghost use Rattle.ftp_tree.specs.Tree.{installed, root_alone};
 use ftp_facts::Moment;
 use ftp_path::Path;
 use ftp_tree::Tree;
-use ftp_tree_folder::{Folder, FolderFault};
-use ftp_tree_memory::{Content, HeldTree, MemTree};
+use ftp_tree_memory::{Content, Folder, FolderFault, HeldTree, MemTree};
 use std::alloc::{AllocError, Allocator};
 
 /// A folder that is kept in memory. It fails once, at the call whose number it is given, and where its tree refuses.

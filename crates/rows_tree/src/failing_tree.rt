@@ -12,7 +12,7 @@ use std::alloc::{AllocError, Allocator};
 /// look among them, of which a put that keeps octets is none.
 #[derive(Drop)]
 pub struct FailingTree<A: Allocator + Copy> {
-    tree: MemTree<A>,
+    pub(crate) tree: MemTree<A>,
     /// How many calls are still counted until it fails; none at 0.
     left: u64,
     failures: u64,

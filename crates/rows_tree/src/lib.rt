@@ -1,4 +1,4 @@
-//! For tests alone: plays the rows of a script on paths, on trees, on a mirrored tree over a folder that fails and on trees whose device fails,
+//! For tests alone: plays the rows of a script on paths, on trees, on a mirrored tree over a folder that fails and on trees whose device fails or strays,
 //! by single calls and by operations, and writes what each line answers.
 #![tactic(auto)]
 
@@ -18,6 +18,9 @@ mod row;
 mod run;
 mod said;
 mod step;
+mod stray;
+mod straying;
+mod straying_tree;
 mod told;
 mod tree;
 mod verb;
@@ -26,6 +29,12 @@ mod words;
 pub use change::make_dirs;
 pub use failing_tree::FailingTree;
 pub use in_memory::direct_in_memory;
+pub use operation::play_user;
 pub use paths::place;
 pub use row::play_all;
+pub use stray::{Change, Stray};
+pub use straying::strays_so;
+pub use straying_tree::StrayingTree;
+pub use told::Told;
 pub use tree::show_tree;
+pub use words::cut_before;

@@ -1,5 +1,5 @@
 // A row: played whole, and again with each of its growths refused, or each call of its folder failing, in turn.
-use crate::run::{play_over_folder, play_tree};
+use crate::run::{play_over_folder, play_straying, play_tree};
 use crate::told::Told;
 use crate::words::heading;
 use rows_base::{Paper, Refusing, cut, number, row_in_front};
@@ -59,10 +59,13 @@ fn play<'a>(
     told: &mut Told,
 ) {
     let fails = heading(row, b"fails");
+    let strays = heading(row, b"strays");
     let is_mirrored = !heading(row, b"mirrored").is_empty();
     if is_mirrored || !fails.is_empty() {
         let fails_at = if is_mirrored { fails_at } else { number(fails) };
         play_over_folder(ample, heap, alloc, row, fails_at, told);
+    } else if !strays.is_empty() {
+        play_straying(ample, heap, alloc, row, strays, told);
     } else {
         play_tree(ample, heap, alloc, row, told);
     }

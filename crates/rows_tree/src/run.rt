@@ -3,16 +3,18 @@ use crate::accounts::show_login;
 use crate::apart::Apart;
 use crate::change::{make_dirs, show_change};
 use crate::failing_folder::FailingFolder;
+use crate::failing_tree::FailingTree;
 use crate::octets::octets_of;
 use crate::operation::play_user;
 use crate::paths::{place, show_path, show_text};
 use crate::reading::{show_places, show_reading};
 use crate::step::{Line, Step, line_of};
+use crate::straying::strays_so;
+use crate::straying_tree::StrayingTree;
 use crate::told::Told;
 use crate::words::{cut_before, heading};
 use ftp_tree::{Tree, TreeFault};
-use ftp_tree_folder::Mirror;
-use ftp_tree_memory::{HeldTree, MemTree};
+use ftp_tree_memory::{HeldTree, MemTree, Mirror};
 use rows_base::{Paper, cut, number};
 use std::alloc::{Allocator, Global};
 
@@ -206,16 +208,26 @@ fn play_on<A: Allocator + Copy, T: HeldTree<A>>(
     let (lines, users) = cut_before(row, b"\nas ");
     play_lines(heap, alloc, tree, b"", lines, told);
     play_users(ample, heap, alloc, tree, users, told);
-    let paper = &mut told.paper;
     if !heading(row, b"fails").is_empty() {
-        paper.number(tree.device_failures().wrapping_add(1));
-        paper.put(b" failures\n");
+        told.paper.number(tree.device_failures().wrapping_add(1));
+        told.paper.put(b" failures\n");
     }
-    if !places.is_empty() {
-        paper.put(b"stands: ");
-        show_places(alloc, tree, places, paper);
-        paper.put(b"\n");
+    show_stands(alloc, tree, places, &mut told.paper);
+}
+
+/// What stands at the places of a row in the end, if it has some.
+fn show_stands<A: Allocator + Copy, T: HeldTree<A>>(
+    alloc: Global,
+    tree: &T,
+    places: &[u8],
+    paper: &mut Paper,
+) {
+    if places.is_empty() {
+        return;
     }
+    paper.put(b"stands: ");
+    show_places(alloc, tree, places, paper);
+    paper.put(b"\n");
 }
 
 /// Plays a row on a tree of its own.
@@ -241,4 +253,32 @@ pub fn play_over_folder<A: Allocator + Copy>(
 ) {
     let mut mirror = Mirror::new(MemTree::new(heap), FailingFolder::new(alloc, fails_at));
     play_on(ample, heap, alloc, &mut mirror, row, told);
+}
+
+/// Plays a row on a tree of its own: its lines, and then operations of users on it as one whose device strays so. Writes how often it strayed, and what
+/// then stands at its places.
+pub fn play_straying<A: Allocator + Copy>(
+    ample: A,
+    heap: A,
+    alloc: Global,
+    row: &[u8],
+    how: &[u8],
+    told: &mut Told,
+) {
+    let (lines, users) = cut_before(row, b"\nas ");
+    let mut tree = MemTree::new(heap);
+    play_lines(heap, alloc, &mut tree, b"", lines, told);
+    let mut straying = StrayingTree::new(FailingTree::new(tree, 0));
+    if !strays_so(heap, alloc, &mut straying, how) {
+        told.paper.put(b"! no stray\n");
+    }
+    play_users(ample, heap, alloc, &mut straying, users, told);
+    told.paper.number(straying.strays());
+    told.paper.put(b" strays\n");
+    show_stands(
+        alloc,
+        straying.memory(),
+        heading(row, b"places"),
+        &mut told.paper,
+    );
 }
