@@ -15,7 +15,7 @@ _ftp_tool_options() {
         mv) echo "$place" ;;
         mirror) echo "--delete --delete-any --dry-run --json --checksum --exclude --user --password-file --limit --limit-rate --active --extended --no-extended --no-flush --progress --quiet --timeout --help" ;;
         run) echo "--host --port --user --password-file --timeout --help" ;;
-        serve) echo "--port --dir --sessions --host --accounts --log --keep --login --idle --idle-while-waited --session-while-waited --login-while-waited --passive-ports --passive-address --skip --help" ;;
+        serve) echo "--port --dir --sessions --host --accounts --log --keep --login --idle --idle-while-waited --session-while-waited --login-while-waited --passive-ports --passive-address --skip --most-octets --most-of-a-file --most-files --any --help" ;;
         password) echo "--rounds --help" ;;
         dialogue) echo "--piece --help" ;;
         facts) echo "--help" ;;
@@ -34,6 +34,7 @@ _ftp_tool_values() {
         --stru) echo F R ;;
         --mode) echo S B ;;
         --user | --timeout | --limit | --limit-rate | --exclude | --host | --port | --rounds | --piece | --sessions) ;;
+        --most-*) echo any ;;
         --login | --idle | --*-while-waited | --passive-ports | --passive-address) ;;
         *) case $1 in
             get | put) echo files ;;

@@ -12,7 +12,7 @@ use Rattle.ftp_operation.specs.Account.{Account, accounts_refusal}
 use Rattle.ftp_operation.specs.declared.account.AccountsFault.{AccountsFault}
 use Rattle.ftp_tool_accounts.specs.Blame.{HoldsUp, IsBarred, IsBlamed, IsHeld, IsOff, account_limit}
 use Rattle.ftp_tool_accounts.specs.Line.{Says, is_silent, of_accounts}
-use Rattle.ftp_tool_accounts.specs.Lines.{Adds, Line, Lists, SayEach, SaysAll, lines_of, numbered, speakers, speaking, without_cr}
+use Rattle.ftp_tool_accounts.specs.Lines.{Adds, Line, Lists, SayEach, SaysAll, Stands, lines_of, numbered, speakers, speaking, without_cr}
 use Rattle.ftp_tool_accounts.specs.declared.fault.LineFault.{LineFault}
 use Rattle.ftp_tool_accounts.specs.declared.fault.TextFault.{TextFault}
 use Rattle.ftp_tool_accounts.specs.declared.fault.TextFault.TheVariants as Texts
@@ -97,13 +97,6 @@ speaking_both line lines = by (not (is_silent line.1))
 -- a line that is not silent, and then others
 speaking_first : (line : Line) (lines : List Line) → is_silent line.1 ≡ false → speaking (line ∷ lines) ≡ line ∷ speaking lines
 speaking_first line lines speaks = ap (λ b. cond (not b) (line ∷ speaking lines) (speaking lines)) speaks
-
--- of all lines these are left, and the others say the accounts so far
-pub record Stands (all left : List Line) (now : Lists) : Type 0 where
-  pub above : List Line
-  pub whole : all ≡ above ++ speaking left
-  pub say : SayEach above now.0
-  pub numbers : now.1 ≡ map (λ line. line.0) above
 
 -- before the first line
 pub first_stands : (text : List ℕ) (now : Lists) → now.0 ≡ [] → now.1 ≡ [] → Stands (speakers text) (numbered 1 (lines_of text)) now

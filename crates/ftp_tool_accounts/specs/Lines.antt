@@ -53,3 +53,10 @@ pub record Adds (line : Line) (old new : Lists) : Type 0 where
   pub say : SayEach (speaking (line ∷ [])) accounts
   pub adds : new.0 ≡ old.0 ++ accounts
   pub numbers : new.1 ≡ old.1 ++ map (λ line. line.0) (speaking (line ∷ []))
+
+-- of all lines these are left, and the others say the accounts so far
+pub record Stands (all left : List Line) (now : Lists) : Type 0 where
+  pub above : List Line
+  pub whole : all ≡ above ++ speaking left
+  pub say : SayEach above now.0
+  pub numbers : now.1 ≡ map (λ line. line.0) above

@@ -3,10 +3,9 @@ ghost use Rattle.std.specs.Prelude.{◌≡◌, None, IfOk};
 ghost use Rattle.ftp_operation.specs.Account.{accounts_refusal};
 
 use crate::fault::AccountsFileFault;
+use crate::reach::{Reach, read_reach};
 use crate::reading::read_accounts;
-use crate::roots::read_roots;
 use ftp_operation::Accounts;
-use ftp_path::Path;
 use ftp_tool_words::{NotPrivate, read_private};
 use std::alloc::Global;
 use std::fs::Files;
@@ -28,14 +27,14 @@ pub fn load_accounts<R: Files + AllocGlobal>(
     }
 }
 
-/// The roots of the accounts that a file says.
-pub fn load_roots<R: Files + AllocGlobal>(
+/// How far the accounts reach that a file says.
+pub fn load_reach<R: Files + AllocGlobal>(
     files: &R,
     file: &str,
-) -> Result<Vec<Path<Global>, Global>, AccountsFileFault> {
+) -> Result<Reach<Global>, AccountsFileFault> {
     let text = text_of(files, file)?;
-    match read_roots(files.alloc(), text.as_slice()) {
-        Ok(roots) => Ok(roots),
+    match read_reach(files.alloc(), text.as_slice()) {
+        Ok(reach) => Ok(reach),
         Err(fault) => Err(AccountsFileFault::Text(fault)),
     }
 }

@@ -6,11 +6,11 @@ mod fault;
 mod file;
 mod known;
 mod line;
+mod reach;
 mod reading;
-mod roots;
 
 pub use fault::{AccountsFileFault, LineFault, TextFault};
-pub use file::{load_accounts, load_roots};
+pub use file::{load_accounts, load_reach};
 pub use known::two_accounts;
+pub use reach::{Reach, read_reach};
 pub use reading::read_accounts;
-pub use roots::read_roots;

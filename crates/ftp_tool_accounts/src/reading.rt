@@ -2,7 +2,7 @@
 ghost use Rattle.std.specs.Prelude.{◌≡◌, ◌++◌, ◌∷◌, [], None, IfOk, IfErr, length};
 ghost use Rattle.ftp_operation.specs.Account.{accounts_refusal};
 ghost use Rattle.ftp_tool_accounts.specs.Blame.{IsBlamed, IsHeld, IsOff};
-ghost use Rattle.ftp_tool_accounts.specs.Lines.{Adds, SaysAll, without_cr};
+ghost use Rattle.ftp_tool_accounts.specs.Lines.{Adds, SaysAll, Stands, speakers, without_cr};
 
 use crate::blame::blamed;
 use crate::fault::TextFault;
@@ -28,6 +28,17 @@ pub fn read_accounts<A: Allocator + Copy>(alloc: A, text: &[u8]) -> Result<Accou
     ensures allowed { IfOk result (λ accounts. accounts_refusal accounts ≡ None) }
     ensures fault { IfErr result (λ fault. IsBlamed text.now fault) }
 {
+    match said_in(alloc, text) {
+        Ok(said) => said.accounts(),
+        Err(fault) => Err(fault),
+    }
+}
+
+/// What the lines of a text say.
+pub(crate) fn said_in<A: Allocator + Copy>(alloc: A, text: &[u8]) -> Result<Said<A>, TextFault>
+    ensures said { IfOk result (λ said. Stands (speakers text.now) [] (said.list.items, said.numbers.items)) }
+    ensures fault { IfErr result (λ fault. IsBlamed text.now fault) }
+{
     if text.starts_with(MARK) {
         return Err(TextFault::Mark);
     }
@@ -44,7 +55,7 @@ pub fn read_accounts<A: Allocator + Copy>(alloc: A, text: &[u8]) -> Result<Accou
     if let Err(fault) = said.read_line(alloc, number, without_cr(rest)) {
         return Err(fault);
     }
-    said.accounts()
+    Ok(said)
 }
 
 /// A line without the CR at its end.
@@ -59,7 +70,7 @@ pub(crate) fn without_cr(line: &[u8]) -> &[u8]
 
 /// The accounts so far, and the number of the line of each.
 #[derive(Drop)]
-struct Said<A: Allocator + Copy> {
+pub(crate) struct Said<A: Allocator + Copy> {
     list: Vec<Account<Text<A>, Path<A>>, A>,
     numbers: Vec<usize, A>,
 }
@@ -106,6 +117,14 @@ impl<A: Allocator + Copy> Said<A> {
             return Ok(());
         }
         Err(TextFault::Memory)
+    }
+
+    /// The accounts, whether or not they can be a server's.
+    pub(crate) fn into_list(self) -> Vec<Account<Text<A>, Path<A>>, A>
+        ensures { result.items ≡ self.list.items }
+    {
+        let Said { list, numbers: _ } = self;
+        list
     }
 
     /// The accounts, where they can be a server's.

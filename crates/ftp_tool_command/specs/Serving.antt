@@ -1,20 +1,49 @@
 -- What the values of `serve` ask to be served (own choice).
-use Rattle.std.specs.Prelude.{◌≡◌, ◌^◌, ⊤, ℕ, List, Option, Some, None, option_map}
+use Rattle.std.specs.Prelude.{◌≡◌, ◌^◌, ◌-◌, ⊤, ℕ, List, Option, Some, None, option_map}
 use Rattle.std.specs.Net.Grammar.{IsIpText}
 use Rattle.std.specs.declared.net.IpAddr.{IpAddr}
+use Rattle.ftp_tool_command.specs.Amount.{SaysMost}
+use Rattle.ftp_tool_command.specs.declared.serving.LimitWords.{LimitWords}
+use Rattle.ftp_tool_command.specs.declared.serving.Scope.{Scope}
+use Rattle.ftp_tool_command.specs.declared.serving.Scope.TheVariants.{Any, Usual}
 use Rattle.ftp_tool_command.specs.declared.serving.ServeWords.{ServeWords}
 use Rattle.ftp_tool_command.specs.declared.serving.WaitWords.{WaitWords}
 use Rattle.ftp_tool_serve.specs.declared.serving.Serving.{Serving}
-use Rattle.ftp_tool_sockets.specs.declared.patience.Limits.{Limits}
+use Rattle.ftp_tool_sockets.specs.declared.patience.Limits.{Limits as Waits}
 use Rattle.ftp_tool_words.specs.Words.{SaysBelow, SaysPort, SaysPorts, SaysSessions}
+use Rattle.ftp_tree.specs.Tree.{default_limits}
+use Rattle.ftp_tree.specs.declared.limits.Limits.{Limits}
+use Rattle.ftp_tree_disk.specs.declared.fault.Odd.{Odd}
+use Rattle.ftp_tree_disk.specs.declared.fault.Odd.TheVariants.{LeaveOut}
 
 -- each is a number of seconds below 2 ^ 32
-pub record AreWaits (words : WaitWords) (limits : Limits) : Type 0 where
-  pub login : SaysBelow (2 ^ 32) words.login.now limits.login
-  pub idle : SaysBelow (2 ^ 32) words.idle.now limits.idle
-  pub idle_while_waited : SaysBelow (2 ^ 32) words.idle_while_waited.now limits.idle_while_waited
-  pub session_while_waited : SaysBelow (2 ^ 32) words.session_while_waited.now limits.session_while_waited
-  pub login_while_waited : SaysBelow (2 ^ 32) words.login_while_waited.now limits.login_while_waited
+pub record AreWaits (words : WaitWords) (waits : Waits) : Type 0 where
+  pub login : SaysBelow (2 ^ 32) words.login.now waits.login
+  pub idle : SaysBelow (2 ^ 32) words.idle.now waits.idle
+  pub idle_while_waited : SaysBelow (2 ^ 32) words.idle_while_waited.now waits.idle_while_waited
+  pub session_while_waited : SaysBelow (2 ^ 32) words.session_while_waited.now waits.session_while_waited
+  pub login_while_waited : SaysBelow (2 ^ 32) words.login_while_waited.now waits.login_while_waited
+
+-- a limit is what its word says, and without one this one
+abbrev pub SaysLimit : Option (List ℕ) → ℕ → ℕ → Type 0
+SaysLimit None unsaid most = most ≡ unsaid
+SaysLimit (Some word) unsaid most = SaysMost word most
+
+-- what holds where no word says a limit: with --any there is none, and else that of a tree that is told no other
+abbrev pub unsaid_limits : Scope → Limits
+unsaid_limits Usual = default_limits
+unsaid_limits Any = record { file = 2 ^ 64 - 1; total = 2 ^ 64 - 1; nodes = 2 ^ 64 - 1 }
+
+-- each of the three is what its word says, or what holds without one
+pub record AreLimits (scope : Scope) (words : LimitWords) (limits : Limits) : Type 0 where
+  pub file : SaysLimit (option_map (λ word. word.now) words.of_a_file) (unsaid_limits scope).file limits.file
+  pub total : SaysLimit (option_map (λ word. word.now) words.octets) (unsaid_limits scope).total limits.total
+  pub nodes : SaysLimit (option_map (λ word. word.now) words.files) (unsaid_limits scope).nodes limits.nodes
+
+-- with --any what can't be served is left out too
+abbrev pub odd_of : Scope → Odd → Odd
+odd_of Usual odd = odd
+odd_of Any odd = LeaveOut
 
 -- an address in numbers, if a word is given
 abbrev pub SaysAddress : Option (List ℕ) → Option IpAddr → Type 0
@@ -34,5 +63,6 @@ pub record Asks (words : ServeWords) (serving : Serving) : Type 0 where
   pub others : serving.others ≡ words.others
   pub passive : SaysPorts words.passive.now serving.passive.0 serving.passive.1
   pub passive_address : SaysAddress (option_map (λ word. word.now) words.passive_address) serving.passive_address
-  pub odd : serving.odd ≡ words.odd
-  pub limits : AreWaits words.waits serving.limits
+  pub odd : serving.odd ≡ odd_of words.scope words.odd
+  pub waits : AreWaits words.waits serving.waits
+  pub limits : AreLimits words.scope words.limits serving.limits

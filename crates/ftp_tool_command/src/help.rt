@@ -28,7 +28,7 @@ Example:
   printf 'a\\nb' | ftp_tool frame --type I --stru R --mode B | od -An -tx1";
 
 pub const SERVE: &str = "\
-Loads the folder, and serves control connections one after another; what clients change is changed in the folder first.
+Reads the names of the folder, and serves control connections one after another; what clients change is changed in the folder first.
 Who may log in: those of the file of accounts, each below its root; it is read anew for each session. Without one guest with the password
 secret and anonymous, who may change all that is served, and then an address of the loopback alone is listened at. Everything goes in
 cleartext, passwords too.
@@ -39,17 +39,19 @@ o beside f rename a file onto another, which only o lets, w both p and m. A root
 no other. The file's mode gives its group and others nothing.
 Output: listening on, the address and the port, once clients can connect. With --log on standard error a line for each session that begins
 or ends, login, refused command, transfer and change: moment, peer, verb, path, octets of data connections, code.
-Each session begins with the folder as it is then: what other programs put there or took away since is seen, and only files that changed
-are read; with --keep what was loaded at the start is kept. What can't be served is left out then, with a note; at the start it is refused,
-or with --skip left out too. A client is told 421 and ended that says and sends nothing for the seconds of --idle, or of --idle-while-waited
-where another client waits; that is not logged in after those of --login; and, whatever it says or sends, once another client waits for those
-of --session-while-waited, before a login of --login-while-waited. From the third refused login on answers wait a second, and the tenth ends
-the connection; so do answers to an address from its tenth one on, over all connections, until ten minutes after the last.
+What other programs put there, change or take away is seen by the next command that asks for it; with --keep nothing is looked at again.
+What can't be served is refused at the start, or with --skip left out with a note, and left out later. At most 67,108,864 octets of files
+and 16,384 files and directories are served below each account's root, unless --most-octets, --most-of-a-file and --most-files say
+another number, as 20G, or any; --any says any for each, and --skip. A client is told 421 and ended that says and sends nothing for the
+seconds of --idle, or of --idle-while-waited where another client waits; that is not logged in after those of --login; and, whatever it
+says or sends, once another client waits for those of --session-while-waited, before a login of --login-while-waited. From the third
+refused login on answers wait a second, and the tenth ends the connection; so do answers to an address from its tenth one on, over all
+connections, until ten minutes after the last.
 Status: 0 done; 2 bad command line; 3 the folder, the accounts, the port or a session failed, or memory was refused.
 
 Example:
   ftp_tool serve --port 2121 --dir . --sessions forever
-  ftp_tool serve --port 21 --dir /srv/files --sessions forever --host 0.0.0.0 --accounts /etc/ftp_tool.accounts --log";
+  ftp_tool serve --port 21 --dir /srv/files --sessions forever --any --host 0.0.0.0 --accounts /etc/ftp_tool.accounts --log";
 
 pub const RUN: &str = "\
 Input: a script, lines with LF at their ends, also at the last. The first is login USER PASS, but with --user no line is, and passwords are

@@ -1,9 +1,11 @@
 //! What a command line asks for: one level of subcommands, as tables of words, and what their values say. No IO.
 #![tactic(auto)]
 
+mod amount;
 mod command_line;
 mod fetching;
 mod help;
+mod laws;
 mod mirroring;
 mod pairing;
 mod password;
@@ -16,6 +18,7 @@ mod words;
 
 pub use command_line::{Program, command, program_of};
 pub use fetching::{PLACE_OPTION, asked_of, fetch_task_of, get_task_of, is_matched};
+pub use laws::one_most;
 pub use mirroring::mirror_of;
 pub use pairing::settings_of;
 pub use password::rounds_of;

@@ -1,24 +1,29 @@
 // The subcommand `serve`: its words.
-ghost use Rattle.std.specs.Prelude.{ℕ, Option, IfOk, IfSome, IfNone, OnErr, option_map};
+ghost use Rattle.std.specs.Prelude.{◌≡◌, ℕ, Option, IfOk, IfSome, IfNone, OnErr, option_map};
 ghost use Rattle.std.specs.Net.Grammar.{IsIpText};
 ghost use Rattle.std.specs.declared.net.IpAddr.{IpAddr};
 ghost use Rattle.ftp_tool_serve.specs.declared.serving.Serving.{Serving};
-ghost use Rattle.ftp_tool_sockets.specs.declared.patience.Limits.{Limits};
+ghost use Rattle.ftp_tool_sockets.specs.declared.patience.Limits.{Limits as Waits};
 ghost use Rattle.ftp_tool_words.specs.Words.{SaysPorts, SaysSessions};
 ghost use Rattle.ftp_tool_words.specs.declared.words.Sessions.{Sessions};
-ghost use Rattle.ftp_tool_command.specs.Serving.{AreWaits, Asks, SaysAddress};
+ghost use Rattle.ftp_tree.specs.declared.limits.Limits.{Limits};
+ghost use Rattle.ftp_tool_command.specs.Serving.{AreLimits, AreWaits, Asks, SaysAddress, SaysLimit, odd_of, unsaid_limits};
 
+use crate::amount::most_of;
 use crate::help;
 use crate::refusal::Refusal;
 use crate::words::{Form, MOST, Subcommand, Value, Word, chosen, text_in};
 use clap::ArgMatches;
 use ftp_tool_files::number_of;
-use ftp_tool_serve::{Limits, Log, Odd, Others, Serving, Sessions};
+use ftp_tool_serve::{Limits, Log, Odd, Others, Serving, Sessions, Waits};
 use ftp_tool_words::{port_of, ports_of, sessions_of};
 use std::net::IpAddr;
 
 /// How long something is waited for.
 const SECONDS: Value<'static> = Value::Number("SECONDS", 0, MOST);
+
+/// How much of something is served.
+const AMOUNT: Value<'static> = Value::Text("N|any");
 
 /// The words of `serve`.
 pub const SERVE: Subcommand<'static> = Subcommand {
@@ -69,7 +74,7 @@ const OPTIONS: &[Word<'static>] = &[
     Word {
         name: "keep",
         form: Form::Flag,
-        help: "nobody else changes the folder: it is not looked at anew for each session",
+        help: "nobody else changes the folder: it is not looked at again before each command",
     },
     Word {
         name: "login",
@@ -111,6 +116,26 @@ const OPTIONS: &[Word<'static>] = &[
         form: Form::Flag,
         help: "leaves out at the start too what of the folder can't be served, and tells it",
     },
+    Word {
+        name: "most-octets",
+        form: Form::Given(AMOUNT),
+        help: "the most octets of all files below an account's root together; K, M, G and T are powers of 1,024; else 64M",
+    },
+    Word {
+        name: "most-of-a-file",
+        form: Form::Given(AMOUNT),
+        help: "the most octets of a file; else 64M",
+    },
+    Word {
+        name: "most-files",
+        form: Form::Given(AMOUNT),
+        help: "the most files and directories below an account's root; else 16K",
+    },
+    Word {
+        name: "any",
+        form: Form::Flag,
+        help: "serves all that can be served: --skip, and any for each of these three that is not given",
+    },
 ];
 
 /// The values of `serve`, as they stand on a command line.
@@ -126,7 +151,18 @@ pub(crate) struct ServeWords<'a> {
     passive: &'a str,
     passive_address: Option<&'a str>,
     odd: Odd,
+    scope: Scope,
     waits: WaitWords<'a>,
+    limits: LimitWords<'a>,
+}
+
+/// What of a folder is served where no word of its own says it.
+#[derive(Clone, Copy)]
+pub(crate) enum Scope {
+    /// As much as a tree has that is told no limits.
+    Usual,
+    /// All that can be served.
+    Any,
 }
 
 /// Those of them that are seconds.
@@ -137,6 +173,14 @@ pub(crate) struct WaitWords<'a> {
     idle_while_waited: &'a str,
     session_while_waited: &'a str,
     login_while_waited: &'a str,
+}
+
+/// Those of them that are limits, where they are there.
+#[derive(Clone, Copy)]
+pub(crate) struct LimitWords<'a> {
+    octets: Option<&'a str>,
+    of_a_file: Option<&'a str>,
+    files: Option<&'a str>,
 }
 
 /// What is to be served; refused where a value is none of its option.
@@ -152,14 +196,28 @@ pub fn serving_of<'a>(words: &'a ArgMatches<'_>) -> Result<Serving<'a>, Refusal<
         passive: text_in(words, "passive-ports"),
         passive_address: words.get_str("passive-address"),
         odd: chosen(words, "skip", Odd::LeaveOut, Odd::Refuse),
-        waits: WaitWords {
-            login: text_in(words, "login"),
-            idle: text_in(words, "idle"),
-            idle_while_waited: text_in(words, "idle-while-waited"),
-            session_while_waited: text_in(words, "session-while-waited"),
-            login_while_waited: text_in(words, "login-while-waited"),
-        },
+        scope: chosen(words, "any", Scope::Any, Scope::Usual),
+        waits: wait_words(words),
+        limits: limit_words(words),
     })
+}
+
+fn wait_words<'a>(words: &'a ArgMatches<'_>) -> WaitWords<'a> {
+    WaitWords {
+        login: text_in(words, "login"),
+        idle: text_in(words, "idle"),
+        idle_while_waited: text_in(words, "idle-while-waited"),
+        session_while_waited: text_in(words, "session-while-waited"),
+        login_while_waited: text_in(words, "login-while-waited"),
+    }
+}
+
+fn limit_words<'a>(words: &'a ArgMatches<'_>) -> LimitWords<'a> {
+    LimitWords {
+        octets: words.get_str("most-octets"),
+        of_a_file: words.get_str("most-of-a-file"),
+        files: words.get_str("most-files"),
+    }
 }
 
 /// What these values ask to be served; refused where one is none of its option.
@@ -174,9 +232,10 @@ fn serving_by<'a>(words: ServeWords<'a>) -> Result<Serving<'a>, Refusal<'a>>
     let Some(port) = port_of(words.port) else {
         return Err(Refusal::Number);
     };
-    let Some(limits) = limits_by(words.waits) else {
+    let Some(waits) = waits_by(words.waits) else {
         return Err(Refusal::Number);
     };
+    let limits = limits_by(words.scope, words.limits)?;
     Ok(Serving {
         host,
         port,
@@ -184,11 +243,12 @@ fn serving_by<'a>(words: ServeWords<'a>) -> Result<Serving<'a>, Refusal<'a>>
         sessions,
         accounts: words.accounts,
         log: words.log,
-        limits,
+        waits,
         passive,
         passive_address,
+        limits,
         others: words.others,
-        odd: words.odd,
+        odd: odd_of(words.scope, words.odd),
     })
 }
 
@@ -247,20 +307,74 @@ fn passive_address_by(word: Option<&str>) -> Result<Option<IpAddr>, Refusal<'_>>
     }
 }
 
-fn limits_by(words: WaitWords<'_>) -> Option<Limits>
-    ensures some { IfSome result (λ limits. AreWaits words.entry limits) }
-    ensures none { IfNone result ((limits : Limits) → ¬ AreWaits words.entry limits) }
+fn waits_by(words: WaitWords<'_>) -> Option<Waits>
+    ensures some { IfSome result (λ waits. AreWaits words.entry waits) }
+    ensures none { IfNone result ((waits : Waits) → ¬ AreWaits words.entry waits) }
 {
     let login = number_of(words.login)?;
     let idle = number_of(words.idle)?;
     let idle_while_waited = number_of(words.idle_while_waited)?;
     let session_while_waited = number_of(words.session_while_waited)?;
     let login_while_waited = number_of(words.login_while_waited)?;
-    Some(Limits {
+    Some(Waits {
         login,
         idle,
         idle_while_waited,
         session_while_waited,
         login_while_waited,
     })
+}
+
+/// How much is served; a limit that no word says is that of the scope.
+fn limits_by<'a>(scope: Scope, words: LimitWords<'a>) -> Result<Limits, Refusal<'a>>
+    ensures some { IfOk result (λ limits. AreLimits scope words.entry limits) }
+    ensures none { OnErr result ((limits : Limits) → ¬ AreLimits scope words.entry limits) }
+{
+    let unsaid = unsaid_limits(scope);
+    let file = most_by("--most-of-a-file <N|any>", words.of_a_file, unsaid.file)?;
+    let total = most_by("--most-octets <N|any>", words.octets, unsaid.total)?;
+    let nodes = most_by("--most-files <N|any>", words.files, unsaid.nodes)?;
+    Ok(Limits { file, total, nodes })
+}
+
+/// How much is served where no word says it.
+fn unsaid_limits(scope: Scope) -> Limits
+    ensures { result ≡ unsaid_limits scope }
+{
+    match scope {
+        Scope::Usual => Limits::default(),
+        Scope::Any => Limits {
+            file: u64::MAX,
+            total: u64::MAX,
+            nodes: u64::MAX,
+        },
+    }
+}
+
+/// A limit, which is this one where no word says it.
+fn most_by<'a>(option: &'a str, word: Option<&'a str>, unsaid: u64) -> Result<u64, Refusal<'a>>
+    ensures some { IfOk result (λ most. SaysLimit (option_map (λ word. word.now) word.entry) unsaid most) }
+    ensures none { OnErr result ((most : ℕ) → ¬ SaysLimit (option_map (λ word. word.now) word.entry) unsaid most) }
+{
+    let Some(word) = word else {
+        return Ok(unsaid);
+    };
+    match most_of(word) {
+        Some(most) => Ok(most),
+        None => Err(Refusal::of(
+            option,
+            word,
+            "a number is wanted, with K, M, G or T after it or nothing, or any",
+        )),
+    }
+}
+
+/// What is done with what can't be served.
+fn odd_of(scope: Scope, odd: Odd) -> Odd
+    ensures { result ≡ odd_of scope odd }
+{
+    match scope {
+        Scope::Usual => odd,
+        Scope::Any => Odd::LeaveOut,
+    }
 }

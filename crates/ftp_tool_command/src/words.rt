@@ -1,8 +1,5 @@
 // Words of a command line, as tables, and what `clap` makes of them.
-ghost use Rattle.std.specs.Prelude.{◌<◌, ◌^◌};
-ghost use Rattle.std.specs.Option.{SomeIff};
-ghost use Rattle.std.specs.Str.Parse.{IsNumeral, digits_value};
-
+use crate::amount::{amount_of, octets_of};
 use crate::refusal::Refusal;
 use clap::builder::{ValueParser, ValueRange};
 use clap::{Arg, ArgAction, ArgMatches, Command};
@@ -78,8 +75,8 @@ pub const LIMIT: Word<'static> = Word {
 /// How fast a transfer may be.
 pub const LIMIT_RATE: Word<'static> = Word {
     name: "limit-rate",
-    form: Form::Given(Value::Name("OCTETS[K|M|G]")),
-    help: "the most octets a second over a data connection, K, M and G are powers of 1,024; 0, and without it: no limit",
+    form: Form::Given(Value::Name("OCTETS[K|M|G|T]")),
+    help: "the most octets a second over a data connection, K, M, G and T are powers of 1,024; 0, and without it: no limit",
 };
 
 /// The most octets that a file may be said to have.
@@ -318,43 +315,14 @@ pub fn rate_in<'a>(matches: &'a ArgMatches<'_>) -> Result<u64, Refusal<'a>> {
     if text.is_empty() {
         return Ok(0);
     }
-    match rate_of(text) {
+    match amount_of(text) {
         Some(rate) => Ok(rate),
         None => Err(Refusal::of(
-            "--limit-rate <OCTETS[K|M|G]>",
+            "--limit-rate <OCTETS[K|M|G|T]>",
             text,
-            "decimal digits are wanted, and K, M or G behind them or nothing, less than 2^64 octets in all",
+            "decimal digits are wanted, and K, M, G or T after them or nothing, less than 2^64 in all",
         )),
     }
-}
-
-/// A decimal number of octets, or of the power of 1,024 that the letter behind it says, below 2^64.
-fn rate_of(text: &str) -> Option<u64> {
-    let (digits, unit) = parted(text);
-    octets_of(digits)?.checked_mul(unit)
-}
-
-/// A text without the letter of a power of 1,024 at its end, and that power; 1 without one.
-fn parted(text: &str) -> (&str, u64) {
-    for (letter, unit) in UNITS {
-        if let Some(digits) = text.strip_suffix(*letter) {
-            return (digits, *unit);
-        }
-    }
-    (text, 1)
-}
-
-/// The letters of powers of 1,024.
-const UNITS: &[(char, u64)] = &[('K', 1_024), ('M', 1_048_576), ('G', 1_073_741_824)];
-
-/// A decimal number below 2^64, as it is written: digits alone, leading zeros read, no sign.
-fn octets_of(text: &str) -> Option<u64>
-    ensures { SomeIff result (IsNumeral 10 text.now × (digits_value 10 text.now < 2 ^ 64)) (digits_value 10 text.now) }
-{
-    if text.starts_with('+') {
-        return None;
-    }
-    text.parse::<u64>().ok()
 }
 
 /// Type, structure and mode, each by its letter.

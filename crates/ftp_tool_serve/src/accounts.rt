@@ -1,7 +1,8 @@
 // Who may log in.
-use ftp_operation::Accounts;
-use ftp_path::Path;
-use ftp_tool_accounts::{AccountsFileFault, TextFault, load_accounts, load_roots, two_accounts};
+use ftp_operation::{Accounts, Rights};
+use ftp_tool_accounts::{
+    AccountsFileFault, Reach, TextFault, load_accounts, load_reach, two_accounts,
+};
 use std::alloc::{AllocError, Global};
 use std::fs::Files;
 
@@ -19,13 +20,16 @@ pub fn accounts_of<R: Files + AllocGlobal>(
     }
 }
 
-/// The roots of those accounts.
-pub(crate) fn roots_of<R: Files + AllocGlobal>(
+/// How far those accounts reach.
+pub(crate) fn reach_of<R: Files + AllocGlobal>(
     rt: &R,
     file: Option<&str>,
-) -> Result<Vec<Path<Global>, Global>, AccountsFileFault> {
+) -> Result<Reach<Global>, AccountsFileFault> {
     match file {
-        Some(file) => load_roots(rt, file),
-        None => Ok(Vec::new(rt.alloc())),
+        Some(file) => load_reach(rt, file),
+        None => Ok(Reach {
+            roots: Vec::new(rt.alloc()),
+            rights: Rights::all(),
+        }),
     }
 }

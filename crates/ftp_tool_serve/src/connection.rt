@@ -20,7 +20,7 @@ use ftp_tool_sockets::{
     keep_alive, say_at_once, say_goodbye,
 };
 use ftp_tree::Tree;
-use ftp_tree_folder::Explains;
+use ftp_tree_disk::Explains;
 use std::alloc::Global;
 use std::cell::RefCell;
 use std::io;

@@ -9,7 +9,7 @@ use ftp_command::Verb;
 use ftp_server_model::{Answered, Far};
 use ftp_tool_sockets::{Over, monotonic_seconds, pause};
 use ftp_tree::Tree;
-use ftp_tree_folder::Explains;
+use ftp_tree_disk::Explains;
 use std::alloc::Global;
 use std::cell::Cell;
 use std::io;
@@ -38,12 +38,12 @@ struct Before {
     failures: u64,
 }
 
-/// A line that is told: what it says, the code of its last reply, if it had one, and why a change of the folder failed.
+/// A line that is told: what it says, the code of its last reply, if it had one, and why the folder failed.
 #[derive(Clone, Copy)]
-struct Closed<'a> {
+struct Closed {
     asked: Asked,
     code: Option<u16>,
-    why: Option<&'a io::Error>,
+    why: Option<io::Error>,
 }
 
 /// Tells of one session, a line each: the moment, the peer, the user, the verb, what it names, the octets that went over data connections for
@@ -163,9 +163,9 @@ impl<'a, R: Tells> Journal<'a, R> {
     }
 
     /// Why the folder failed in the call, if it did.
-    fn why<'b, T, F>(&self, server: &'b F) -> Option<&'b io::Error>
+    fn why<T, F>(&self, server: &F) -> Option<io::Error>
     where
-        T: Tree<Global> + Explains + 'b,
+        T: Tree<Global> + Explains,
         F: Far<Global, T>,
     {
         if server.counts().failures == self.before.get().failures {
@@ -198,7 +198,7 @@ impl<'a, R: Tells> Journal<'a, R> {
 
     /// A line was answered for good, and then somebody is logged in, or nobody: takes in how a login went, and tells the line, where it is one that
     /// is told.
-    fn close(&self, is_in: bool, closed: Closed<'_>) {
+    fn close(&self, is_in: bool, closed: Closed) {
         self.user
             .set(if is_in { self.named.get() } else { Line::new() });
         let Some(code) = closed.code else {
@@ -303,7 +303,7 @@ impl<'a, R: Tells> Journal<'a, R> {
     }
 
     /// Tells a line, where sessions are told.
-    fn tell(&self, closed: Closed<'_>) {
+    fn tell(&self, closed: Closed) {
         if self.service.log == Log::Silent {
             return;
         }

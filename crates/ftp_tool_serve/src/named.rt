@@ -10,12 +10,34 @@ pub(crate) struct Named<'a>(pub(crate) &'a [u8]);
 impl<'a> Display for Named<'a> {
     fn fmt<W: fmt::Write>(&self, formatter: &mut Formatter<W>) -> fmt::Result {
         formatter.write_str("\"")?;
-        for (index, part) in self.0.split(|octet| *octet == b'"').enumerate() {
-            if index > 0 {
-                formatter.write_str("\\x22")?;
-            }
-            Shown(part).fmt(formatter)?;
-        }
+        write_within(self.0, formatter)?;
         formatter.write_str("\"")
     }
+}
+
+/// A place below a folder, with that before it, in the same way.
+#[derive(Clone, Copy)]
+pub(crate) struct Placed<'a> {
+    pub(crate) dir: &'a str,
+    pub(crate) below: &'a [u8],
+}
+
+impl<'a> Display for Placed<'a> {
+    fn fmt<W: fmt::Write>(&self, formatter: &mut Formatter<W>) -> fmt::Result {
+        formatter.write_str("\"")?;
+        write_within(self.dir.as_bytes(), formatter)?;
+        write_within(self.below, formatter)?;
+        formatter.write_str("\"")
+    }
+}
+
+/// Writes a text as it stands between quotation marks.
+fn write_within<W: fmt::Write>(text: &[u8], formatter: &mut Formatter<W>) -> fmt::Result {
+    for (index, part) in text.split(|octet| *octet == b'"').enumerate() {
+        if index > 0 {
+            formatter.write_str("\\x22")?;
+        }
+        Shown(part).fmt(formatter)?;
+    }
+    Ok(())
 }

@@ -2,21 +2,24 @@
 ghost use Rattle.std.specs.Prelude.{◌↔◌, IsTrue};
 ghost use Rattle.ftp_tool_serve.specs.Listening.{MayListen};
 
-use crate::accounts::{accounts_of, roots_of};
+use crate::accounts::{accounts_of, reach_of};
 use crate::connection::{Service, session};
 use crate::journal::Log;
-use crate::starting::{Unserved, is_folder, opened, tell_left, tell_roots};
+use crate::starting::{Unserved, dir_text, is_folder, opened, tell_roots};
 use crate::tells::{NoClient, OfFile, Told};
-use ftp_control::{TURNS, Watch};
-use ftp_operation::Accounts;
+use ftp_control::TURNS;
+use ftp_operation::{Accounts, Rights};
+use ftp_tool_accounts::Reach;
 use ftp_tool_guesses::Guesses;
 use ftp_tool_log::Lines;
 use ftp_tool_shown::Shown;
-use ftp_tool_sockets::{Limits, PassivePorts, Patience, SystemWatch, pause};
+use ftp_tool_sockets::{Limits as Waits, PassivePorts, Patience, pause};
 use ftp_tool_status::Status;
 use ftp_tool_words::Sessions;
-use ftp_tree_folder::{DiskFolder, LoadFault, Mirror, Seen, reloaded};
-use std::alloc::Global;
+use ftp_tree::{Limits, Tree};
+use ftp_tree_disk::{Explains, LoadFault, Odd, Others};
+use ftp_tree_host::{Host, SystemHost};
+use std::alloc::{AllocError, Global};
 use std::cell::RefCell;
 use std::fmt::Display;
 use std::fs::Files;
@@ -42,31 +45,17 @@ pub struct Serving<'a> {
     pub accounts: Option<&'a str>,
     pub log: Log,
     /// How long clients are waited for.
-    pub limits: Limits,
+    pub waits: Waits,
     /// The first and the last port of passive data connections.
     pub passive: (u16, u16),
     /// The address that PASV names, of a server that clients reach by another one than its own.
     pub passive_address: Option<IpAddr>,
+    /// How much is served below each account's root.
+    pub limits: Limits,
+    /// Whether anybody else changes the folder while it is served.
     pub others: Others,
+    /// What is done at the start with what of the folder can't be served.
     pub odd: Odd,
-}
-
-/// Whether anybody else changes the folder while it is served.
-#[derive(Clone, Copy)]
-pub enum Others {
-    /// Others may: each session begins with the folder as it is then.
-    Change,
-    /// Nobody does: what was loaded at the start is what stands there.
-    Keep,
-}
-
-/// What is done at the start with what of the folder can't be served. A session that begins later leaves it out.
-#[derive(Clone, Copy)]
-pub enum Odd {
-    /// The first of that is told, and nothing is served.
-    Refuse,
-    /// It is left out, and told.
-    LeaveOut,
 }
 
 /// What stays the same over all sessions.
@@ -124,15 +113,10 @@ fn refuse<R: Eprint, F: Display>(rt: &R, what: &str, fault: &F) -> io::Result<St
     Ok(Status::Failed)
 }
 
-/// Tells that a folder can't be written.
-fn tell_unwritten<R: Eprint>(
-    rt: &R,
-    dir: &str,
-    error: io::Error,
-) -> io::Result<Option<TcpListener>> {
-    let dir = Shown(dir.as_bytes());
-    eprintln!(rt; "error: {dir}: the folder can't be written: {error}")?;
-    Ok(None)
+/// Tells that a folder can't be written, in a line that begins so.
+fn tell_unwritten<R: Eprint>(rt: &R, begins: &str, dir: &str, error: io::Error) -> io::Result<()> {
+    let dir = Shown(dir_text(dir).as_bytes());
+    eprintln!(rt; "{begins}: {dir}: the folder can't be written: {error}")
 }
 
 /// Tells where is listened at.
@@ -168,15 +152,38 @@ where
         + Clone
         + Drop,
 {
-    let roots = match roots_of(rt, job.accounts) {
-        Ok(roots) => roots,
+    let reach = match reach_of(rt, job.accounts) {
+        Ok(reach) => reach,
         Err(fault) => return refuse(rt, "accounts: ", &OfFile(job.accounts, &fault)),
     };
+    match SystemHost::new(rt, job.dir) {
+        Ok(host) => serve_host(rt, &host, job, &reach),
+        Err(AllocError) => refuse(rt, "", &LoadFault::Memory),
+    }
+}
+
+/// Loads the folder that a host has and serves it.
+fn serve_host<R, H>(
+    rt: &R,
+    host: &H,
+    job: &Serving<'_>,
+    reach: &Reach<Global>,
+) -> io::Result<Status>
+where
+    R: Net<Listener = TcpListener, Stream = TcpStream>
+        + Files
+        + Clock
+        + Print
+        + Eprint
+        + AllocGlobal,
+    H: Host,
+{
     let lines = Lines::new();
-    match opened(rt, job, roots.as_slice(), &lines) {
-        Ok(mirror) => {
-            tell_roots(rt, &mirror, job.accounts, roots.as_slice(), &lines);
-            serve_mirror(rt, mirror, job, &lines)
+    let roots = reach.roots.as_slice();
+    match opened(rt, host, job, roots, &lines) {
+        Ok(tree) => {
+            tell_roots(rt, &tree, job.accounts, roots, &lines);
+            serve_tree(rt, tree, job, reach.rights, &lines)
         }
         Err(fault) => refuse_folder(rt, job, &fault),
     }
@@ -188,9 +195,11 @@ fn refuse_folder<R: Files + Eprint>(
     job: &Serving<'_>,
     fault: &LoadFault,
 ) -> io::Result<Status> {
-    let status = refuse(rt, "", &Unserved(fault))?;
+    let status = refuse(rt, "", &Unserved::of(job, fault))?;
     if job.odd == Odd::Refuse && is_folder(rt, job.dir) {
-        eprintln!(rt; "note: with --skip what can't be served is left out")?;
+        eprintln!(rt;
+            "note: with --skip what can't be served is left out; with --any there are no limits either"
+        )?;
     }
     Ok(status)
 }
@@ -200,17 +209,18 @@ fn try_writing<R: Files + AllocGlobal>(rt: &R, job: &Serving<'_>) -> io::Result<
     if job.sessions != Sessions::Count(0) {
         return Ok(());
     }
-    let dir = if job.dir.is_empty() { "." } else { job.dir };
+    let dir = dir_text(job.dir);
     let place = format!(in rt.alloc(); "{dir}/ftp-left-try\x7f")?;
     fs::write(rt, place.as_str(), "")?;
     fs::remove_file(rt, place.as_str())
 }
 
-/// Listens at the port and serves a folder.
-fn serve_mirror<'a, R>(
-    rt: &'a R,
-    mirror: Mirror<Global, DiskFolder<'a, R>>,
+/// Listens at the port and serves a tree, which accounts may change by these rights together.
+fn serve_tree<R, T>(
+    rt: &R,
+    tree: T,
     job: &Serving<'_>,
+    rights: Rights,
     lines: &Lines,
 ) -> io::Result<Status>
 where
@@ -219,26 +229,29 @@ where
         + Clock
         + Print
         + Eprint
-        + AllocGlobal
-        + Clone
-        + Drop,
+        + AllocGlobal,
+    T: Tree<Global> + Explains,
 {
-    match listener_for(rt, job) {
-        Ok(Some(listener)) => Ok(serve_by(rt, mirror, job, &listener, lines)),
+    match listener_for(rt, job, rights) {
+        Ok(Some(listener)) => Ok(serve_by(rt, tree, job, &listener, lines)),
         Ok(None) => Ok(Status::Failed),
         Err(error) => Err(error),
     }
 }
 
-/// Listens at the port, where the folder can be written; else it is told why not.
-fn listener_for<R>(rt: &R, job: &Serving<'_>) -> io::Result<Option<TcpListener>>
+/// Listens at the port, where the folder can be written, or nobody may change it anyway; else it is told why not.
+fn listener_for<R>(rt: &R, job: &Serving<'_>, rights: Rights) -> io::Result<Option<TcpListener>>
 where
     R: Net<Listener = TcpListener, Stream = TcpStream> + Files + Print + Eprint + AllocGlobal,
 {
-    match try_writing(rt, job) {
-        Ok(()) => listener_at(rt, job),
-        Err(error) => tell_unwritten(rt, job.dir, error),
+    if let Err(error) = try_writing(rt, job) {
+        let goes_on = !rights.may_change();
+        tell_unwritten(rt, if goes_on { "note" } else { "error" }, job.dir, error)?;
+        if !goes_on {
+            return Ok(None);
+        }
     }
+    listener_at(rt, job)
 }
 
 /// Listens at the port, and tells where, or why not.
@@ -270,22 +283,17 @@ fn tell_unheard<R: Eprint>(
     Ok(None)
 }
 
-/// Serves a folder at a port that is listened at.
-fn serve_by<'a, R>(
-    rt: &'a R,
-    mirror: Mirror<Global, DiskFolder<'a, R>>,
+/// Serves a tree at a port that is listened at.
+fn serve_by<R, T>(
+    rt: &R,
+    tree: T,
     job: &Serving<'_>,
     listener: &TcpListener,
     lines: &Lines,
 ) -> Status
 where
-    R: Net<Listener = TcpListener, Stream = TcpStream>
-        + Files
-        + Clock
-        + Eprint
-        + AllocGlobal
-        + Clone
-        + Drop,
+    R: Net<Listener = TcpListener, Stream = TcpStream> + Files + Clock + Eprint + AllocGlobal,
+    T: Tree<Global> + Explains,
 {
     let passive = PassivePorts::new(job.passive.0, job.passive.1);
     let guesses = RefCell::new(Guesses::nothing(rt.alloc()));
@@ -296,26 +304,20 @@ where
         lines,
         guesses: &guesses,
     };
-    serve_at(rt, mirror, desk)
+    serve_at(rt, tree, desk)
 }
 
 /// Serves control connections one after another; a session that failed counts, and makes the status a failure.
-fn serve_at<'a, R>(rt: &'a R, mirror: Mirror<Global, DiskFolder<'a, R>>, desk: Desk<'_>) -> Status
+fn serve_at<R, T>(rt: &R, tree: T, desk: Desk<'_>) -> Status
 where
-    R: Net<Listener = TcpListener, Stream = TcpStream>
-        + Files
-        + Clock
-        + Eprint
-        + AllocGlobal
-        + Clone
-        + Drop,
+    R: Net<Listener = TcpListener, Stream = TcpStream> + Files + Clock + Eprint + AllocGlobal,
+    T: Tree<Global> + Explains,
 {
-    let mut mirror = mirror;
-    let mut seen = Seen::nothing(rt.alloc());
+    let mut tree = tree;
     let mut status = Status::Done;
     for _ in 0..turns_of(desk.job.sessions) {
-        let (back, went) = next_session(rt, mirror, &mut seen, desk);
-        mirror = back;
+        let (back, went) = next_session(rt, tree, desk);
+        tree = back;
         if !went {
             status = Status::Failed;
         }
@@ -331,30 +333,19 @@ fn turns_of(sessions: Sessions) -> u64 {
     }
 }
 
-/// Serves the next control connection; gives the folder's mirror back, and whether all went well.
-fn next_session<'a, R>(
-    rt: &'a R,
-    mirror: Mirror<Global, DiskFolder<'a, R>>,
-    seen: &mut Seen,
-    desk: Desk<'_>,
-) -> (Mirror<Global, DiskFolder<'a, R>>, bool)
+/// Serves the next control connection; gives the tree back, and whether all went well.
+fn next_session<R, T>(rt: &R, tree: T, desk: Desk<'_>) -> (T, bool)
 where
-    R: Net<Listener = TcpListener, Stream = TcpStream>
-        + Files
-        + Clock
-        + Eprint
-        + AllocGlobal
-        + Clone
-        + Drop,
+    R: Net<Listener = TcpListener, Stream = TcpStream> + Files + Clock + Eprint + AllocGlobal,
+    T: Tree<Global> + Explains,
 {
     let Some(stream) = next_client(rt, desk.listener, desk.lines) else {
-        return (mirror, false);
+        return (tree, false);
     };
     let Some(accounts) = accounts_told(rt, desk.job.accounts, desk.lines) else {
-        return (mirror, false);
+        return (tree, false);
     };
-    let mirror = looked_at(rt, mirror, seen, desk);
-    let patience = Patience::new(desk.job.limits, Some(desk.listener));
+    let patience = Patience::new(desk.job.waits, Some(desk.listener));
     let service = Service {
         log: desk.job.log,
         patience: &patience,
@@ -363,31 +354,8 @@ where
         lines: desk.lines,
         guesses: desk.guesses,
     };
-    let (mirror, ended) = session(rt, mirror, accounts, &stream, service);
-    (mirror, ended.is_ok())
-}
-
-/// The mirror of the folder as it is now, where others may change it. What of it can't be served is told.
-fn looked_at<'a, R>(
-    rt: &'a R,
-    mirror: Mirror<Global, DiskFolder<'a, R>>,
-    seen: &mut Seen,
-    desk: Desk<'_>,
-) -> Mirror<Global, DiskFolder<'a, R>>
-where
-    R: Files + Clock + Eprint + AllocGlobal + Clone + Drop,
-{
-    let job = desk.job;
-    if job.others == Others::Keep {
-        return mirror;
-    }
-    let Ok(roots) = roots_of(rt, job.accounts) else {
-        return mirror;
-    };
-    let now = SystemWatch::new(rt).moment().seconds;
-    let (mirror, left) = reloaded(rt, job.dir, roots.as_slice(), mirror, seen, now);
-    tell_left(rt, &left, desk.lines);
-    mirror
+    let (tree, ended) = session(rt, tree, accounts, &stream, service);
+    (tree, ended.is_ok())
 }
 
 /// Waits for the next client. Where the system refuses to give one, that is told once, and tried again each second.

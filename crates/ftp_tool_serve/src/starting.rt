@@ -1,54 +1,55 @@
 // How the folder is opened, and what is told of it and of the accounts before anybody is served.
-use crate::named::Named;
-use crate::serving::{Odd, Serving};
+use crate::named::{Named, Placed};
+use crate::serving::Serving;
 use crate::tells::Told;
-use ftp_control::Watch;
 use ftp_path::Path;
 use ftp_tool_log::Lines;
-use ftp_tool_sockets::SystemWatch;
-use ftp_tree::{NodeKind, Tree, TreeFault};
-use ftp_tree_folder::{Disk, DiskFolder, LeftOut, LoadFault, Mirror, Reason, Seen, open, reloaded};
-use ftp_tree_memory::MemTree;
+use ftp_tree::{Limits, NodeKind, Tree, TreeFault};
+use ftp_tree_disk::{DiskTree, LeftOut, LoadFault, Odd, Reason, Unknown, open};
+use ftp_tree_host::Host;
 use std::alloc::Global;
 use std::fmt::{Display, Formatter};
 use std::fs::Files;
 use std::time::Clock;
 use std::{fmt, fs};
 
-/// The mirror of the folder. Where what can't be served is left out, that is told.
-pub(crate) fn opened<'a, R>(
-    rt: &'a R,
+/// The tree of the folder that a host has. Where what can't be served is left out, that is told.
+pub(crate) fn opened<'a, R, H>(
+    rt: &R,
+    host: &'a H,
     job: &Serving<'_>,
     roots: &[Path<Global>],
     lines: &Lines,
-) -> Result<Mirror<Global, DiskFolder<'a, R>>, LoadFault>
+) -> Result<DiskTree<'a, H, Unknown>, LoadFault>
 where
-    R: Files + Clock + AllocGlobal + Clone + Drop,
+    R: Files + Clock,
+    H: Host,
 {
-    if job.odd == Odd::Refuse || !is_folder(rt, job.dir) {
-        return open(rt, job.dir, roots);
-    }
-    let Ok(folder) = DiskFolder::new(rt, job.dir) else {
-        return Err(LoadFault::Memory);
+    let odd = if is_folder(rt, job.dir) {
+        job.odd
+    } else {
+        Odd::Refuse
     };
-    let empty = Mirror::new(MemTree::new(rt.alloc()), folder);
-    let mut seen = Seen::nothing(rt.alloc());
-    let now = SystemWatch::new(rt).moment().seconds;
-    let (mirror, left) = reloaded(rt, job.dir, roots, empty, &mut seen, now);
-    tell_left(rt, &left, lines);
-    Ok(mirror)
+    let (tree, left) = open(host, roots, job.limits, odd, job.others)?;
+    tell_left(rt, job, &left, lines);
+    Ok(tree)
 }
 
-/// Whether a folder is there; an empty text is the current one.
+/// The text of a folder: an empty one is the current one.
+pub(crate) fn dir_text(dir: &str) -> &str {
+    if dir.is_empty() { "." } else { dir }
+}
+
+/// Whether a folder is there.
 pub(crate) fn is_folder<R: Files>(rt: &R, dir: &str) -> bool {
-    let dir = if dir.is_empty() { "." } else { dir };
-    fs::metadata(rt, dir).is_ok_and(|found| found.is_dir())
+    fs::metadata(rt, dir_text(dir)).is_ok_and(|found| found.is_dir())
 }
 
 /// Tells what of the folder is not served.
-pub(crate) fn tell_left<R: Clock>(rt: &R, left: &LeftOut, lines: &Lines) {
+fn tell_left<R: Clock>(rt: &R, job: &Serving<'_>, left: &LeftOut, lines: &Lines) {
     if let Some(first) = &left.first {
         let count = left.count;
+        let first = Unserved::of(job, first);
         lines.tell(rt, &NotServed { count, first });
     }
 }
@@ -80,24 +81,60 @@ pub(crate) fn tell_roots<R: Clock + AllocGlobal, T: Tree<Global>>(
 
 /// Why something can't be served: its place, and the reason; a limit with its number.
 #[derive(Clone, Copy)]
-pub(crate) struct Unserved<'a>(pub(crate) &'a LoadFault);
+pub(crate) struct Unserved<'a> {
+    dir: &'a str,
+    limits: Limits,
+    fault: &'a LoadFault,
+}
+
+impl<'a> Unserved<'a> {
+    /// Why something of a folder that is to be served can't be.
+    pub(crate) fn of(job: &Serving<'a>, fault: &'a LoadFault) -> Unserved<'a> {
+        Unserved {
+            dir: dir_text(job.dir),
+            limits: job.limits,
+            fault,
+        }
+    }
+}
 
 impl<'a> Display for Unserved<'a> {
     fn fmt<W: fmt::Write>(&self, formatter: &mut Formatter<W>) -> fmt::Result {
-        let LoadFault::Refused { place, why } = self.0 else {
-            return write!(formatter, "{}", self.0);
+        let LoadFault::Refused { place, why } = self.fault else {
+            return write!(formatter, "{}", self.fault);
         };
-        let place = Named(place.as_bytes());
+        let place = Placed {
+            dir: self.dir,
+            below: place.as_slice(),
+        };
+        write!(formatter, "{place}: ")?;
+        let Limits { file, total, nodes } = self.limits;
         match why {
             Reason::Tree(TreeFault::TooBig) => write!(
                 formatter,
-                "{place}: past a limit: a file has at most 67,108,864 octets, a name 255, and a path 900"
+                "past a limit: a file has {} octets, a name at most 255, and a path 900",
+                Most(file)
             ),
             Reason::Tree(TreeFault::Full) => write!(
                 formatter,
-                "{place}: past a limit: below one root at most 16,384 files and directories are served, and files of 67,108,864 octets together"
+                "past a limit: below one root {} files and directories are served, and files of {} octets together",
+                Most(nodes),
+                Most(total)
             ),
-            other => write!(formatter, "{place}: {other}"),
+            other => write!(formatter, "{other}"),
+        }
+    }
+}
+
+/// A limit, in front of what it counts.
+#[derive(Clone, Copy)]
+struct Most(u64);
+
+impl Display for Most {
+    fn fmt<W: fmt::Write>(&self, formatter: &mut Formatter<W>) -> fmt::Result {
+        match self.0 {
+            u64::MAX => write!(formatter, "any number of"),
+            most => write!(formatter, "at most {most}"),
         }
     }
 }
@@ -106,13 +143,12 @@ impl<'a> Display for Unserved<'a> {
 #[derive(Clone, Copy)]
 struct NotServed<'a> {
     count: u64,
-    first: &'a LoadFault,
+    first: Unserved<'a>,
 }
 
 impl<'a> Display for NotServed<'a> {
     fn fmt<W: fmt::Write>(&self, formatter: &mut Formatter<W>) -> fmt::Result {
         let NotServed { count, first } = self;
-        let first = Unserved(first);
         write!(
             formatter,
             "note: {count} of the folder's entries are not served; the first is {first}"

@@ -86,7 +86,7 @@ pub(crate) struct Entry<'a> {
     pub(crate) verb: Option<Verb>,
     pub(crate) names: &'a [u8],
     pub(crate) moved: u64,
-    pub(crate) outcome: Outcome<'a>,
+    pub(crate) outcome: Outcome,
 }
 
 impl<'a> Display for Entry<'a> {
@@ -113,13 +113,13 @@ fn verb_text(verb: Option<Verb>) -> &'static str {
 
 /// How a line ended: the code of its last reply, `reset`, and the system's reason.
 #[derive(Drop)]
-pub(crate) struct Outcome<'a> {
+pub(crate) struct Outcome {
     pub(crate) code: Option<u16>,
     pub(crate) fate: Fate,
-    pub(crate) why: Option<&'a io::Error>,
+    pub(crate) why: Option<io::Error>,
 }
 
-impl<'a> Display for Outcome<'a> {
+impl Display for Outcome {
     fn fmt<W: fmt::Write>(&self, formatter: &mut Formatter<W>) -> fmt::Result {
         match self.code {
             Some(code) => write!(formatter, "{code}")?,
@@ -128,7 +128,7 @@ impl<'a> Display for Outcome<'a> {
         if self.fate == Fate::Reset {
             write!(formatter, " reset")?;
         }
-        match self.why {
+        match &self.why {
             Some(why) => write!(formatter, " {why}"),
             None => Ok(()),
         }

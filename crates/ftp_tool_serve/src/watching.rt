@@ -4,7 +4,7 @@ use crate::tells::Tells;
 use ftp_server_drive::Watches;
 use ftp_server_model::Far;
 use ftp_tree::Tree;
-use ftp_tree_folder::Explains;
+use ftp_tree_disk::Explains;
 use std::alloc::Global;
 use std::marker::PhantomData;
 

@@ -3,10 +3,11 @@ use crate::handle::Handle;
 use crate::made::file;
 use ftp_operation::Accounts;
 use ftp_tool_serve::{
-    Guesses, Limits, Lines, Log, PassivePorts, Patience, Service, accounts_of, session,
+    Guesses, Lines, Log, PassivePorts, Patience, Service, Waits, accounts_of, session,
 };
-use ftp_tree::Tree;
-use ftp_tree_folder::{DiskFolder, Explains, Mirror, open};
+use ftp_tree::{Limits, Tree};
+use ftp_tree_disk::{DiskTree, Explains, Odd, Others, Unknown, open};
+use ftp_tree_host::{Host, SystemHost};
 use rows_base::{Paper, cut};
 use std::alloc::Global;
 use std::cell::RefCell;
@@ -36,7 +37,7 @@ const BEHIND: &[u8] =
     b"|\r\nNLST\r\nRETR none\r\nRNFR a\r\nRNTO d/b\r\nDELE d\r\nSIZE d/up\r\nQUIT\r\n";
 
 /// How long the client is waited for, in seconds.
-const LIMITS: Limits = Limits {
+const WAITS: Waits = Waits {
     login: 30,
     idle: 30,
     idle_while_waited: 30,
@@ -90,26 +91,34 @@ pub(crate) fn put_replies(paper: &mut Paper, replies: &[u8]) {
     }
 }
 
-/// Serves a control connection over a folder; gives whether all went well.
-fn served(rt: &HostRuntime, stream: &TcpStream, over: Over<'_>) -> io::Result<bool> {
-    let Ok(mirror) = open(rt, over.dir, &[]) else {
-        return Err(io::Error::from(ErrorKind::InvalidData));
-    };
-    match served_over(rt, stream, mirror, over.accounts) {
-        Ok((_mirror, ended)) => Ok(ended),
-        Err(fault) => Err(fault),
+/// The tree of the folder that a host has.
+pub(crate) fn opened<'a, H: Host>(host: &'a H) -> io::Result<DiskTree<'a, H, Unknown>> {
+    match open(host, &[], Limits::DEFAULT, Odd::Refuse, Others::Change) {
+        Ok((tree, _left)) => Ok(tree),
+        Err(_) => Err(io::Error::from(ErrorKind::InvalidData)),
     }
 }
 
-/// Serves a control connection over the mirror of a folder; gives that back, and whether all went well.
-pub(crate) fn served_over<'a>(
-    rt: &'a HostRuntime,
+/// Serves a control connection over a folder; gives whether all went well.
+fn served(rt: &HostRuntime, stream: &TcpStream, over: Over<'_>) -> io::Result<bool> {
+    let host = SystemHost::new(rt, over.dir)?;
+    let tree = opened(&host)?;
+    let (_tree, ended) = served_over(rt, stream, tree, over.accounts)?;
+    Ok(ended)
+}
+
+/// Serves a control connection over a tree; gives that back, and whether all went well.
+pub(crate) fn served_over<T>(
+    rt: &HostRuntime,
     stream: &TcpStream,
-    mirror: Mirror<Global, DiskFolder<'a, HostRuntime>>,
+    tree: T,
     accounts: Option<&str>,
-) -> io::Result<(Mirror<Global, DiskFolder<'a, HostRuntime>>, bool)> {
+) -> io::Result<(T, bool)>
+where
+    T: Tree<Global> + Explains,
+{
     match accounts_of(rt, accounts) {
-        Ok(accounts) => Ok(served_accounts(rt, stream, mirror, accounts)),
+        Ok(accounts) => Ok(served_accounts(rt, stream, tree, accounts)),
         Err(_) => Err(io::Error::from(ErrorKind::InvalidData)),
     }
 }
@@ -124,7 +133,7 @@ fn served_accounts<T>(
 where
     T: Tree<Global> + Explains,
 {
-    let patience = Patience::new(LIMITS, None);
+    let patience = Patience::new(WAITS, None);
     let passive = PassivePorts::new(0, 0);
     let lines = Lines::new();
     let guesses = RefCell::new(Guesses::nothing(rt.alloc()));

@@ -59,6 +59,7 @@ fn played(rt: &HostRuntime) -> io::Result<Status> {
 enum Rows {
     Lines,
     Trees,
+    Disks,
     Ends,
     Worlds,
 }
@@ -66,6 +67,7 @@ enum Rows {
 const FILES: &[(&str, Rows)] = &[
     ("lines", Rows::Lines),
     ("trees", Rows::Trees),
+    ("disks", Rows::Disks),
     ("ends", Rows::Ends),
     ("worlds", Rows::Worlds),
 ];
@@ -83,6 +85,7 @@ fn play_all(alloc: Global, rows: Rows, script: &[u8]) -> Paper {
     match rows {
         Rows::Lines => rows_lines::play_all(alloc, script),
         Rows::Trees => rows_tree::play_all(alloc, script),
+        Rows::Disks => rows_disk::play_all(alloc, script),
         Rows::Ends => rows_ends::play_all(alloc, script),
         Rows::Worlds => worlds::play_all(alloc, script),
     }

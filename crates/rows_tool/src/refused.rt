@@ -2,8 +2,9 @@
 use crate::handle::Handle;
 use crate::made::{deep, file};
 use crate::statuses::put;
-use ftp_tool_serve::{Limits, Log, Odd, Others, Serving, Sessions, accounts_of, serve};
-use ftp_tree_folder::{LoadFault, open};
+use ftp_tool_serve::{Limits, Log, Odd, Others, Serving, Sessions, Waits, accounts_of, serve};
+use ftp_tree_disk::{DiskTree, LeftOut, LoadFault, Unknown, open};
+use ftp_tree_host::SystemHost;
 use rows_base::Paper;
 use std::net::{IpAddr, Ipv4Addr, Net, SocketAddr, TcpListener};
 use std::os::unix::fs::symlink;
@@ -98,7 +99,7 @@ pub(crate) fn nobody<'a>(dir: &'a str) -> Serving<'a> {
         sessions: Sessions::Count(0),
         accounts: None,
         log: Log::Silent,
-        limits: Limits {
+        waits: Waits {
             login: 0,
             idle: 0,
             idle_while_waited: 0,
@@ -107,6 +108,7 @@ pub(crate) fn nobody<'a>(dir: &'a str) -> Serving<'a> {
         },
         passive: (0, 0),
         passive_address: None,
+        limits: Limits::DEFAULT,
         others: Others::Keep,
         odd: Odd::Refuse,
     }
@@ -139,7 +141,10 @@ fn tell(rt: &HostRuntime, fault: &LoadFault) -> io::Result<()> {
 
 /// Writes why a folder is refused, if it is.
 fn tell_folder(rt: &HostRuntime, dir: &str) -> io::Result<()> {
-    match &open(rt, dir, &[]) {
+    let host = SystemHost::new(rt, dir)?;
+    let opened: Result<(DiskTree<'_, SystemHost<'_, HostRuntime>, Unknown>, LeftOut), LoadFault> =
+        open(&host, &[], Limits::DEFAULT, Odd::Refuse, Others::Keep);
+    match &opened {
         Ok(_) => Ok(()),
         Err(fault) => tell(rt, fault),
     }

@@ -1,11 +1,13 @@
 // An inbox under a mixed load, in short (at length: scripts/soak): clients one after another, of whom some are cut in the middle, and somebody who
 // takes away what came between them.
 use crate::handle::SENT;
-use crate::loopback::{join, served_over};
-use ftp_tree_folder::{DiskFolder, Mirror, Seen, open, reloaded};
+use crate::loopback::{join, opened, served_over};
+use ftp_tree::Tree;
+use ftp_tree_disk::Explains;
+use ftp_tree_host::SystemHost;
 use rows_base::Paper;
 use std::alloc::Global;
-use std::io::{ErrorKind, Write};
+use std::io::Write;
 use std::net::{Shutdown, TcpStream};
 use std::{fs, io};
 
@@ -60,43 +62,26 @@ fn said(rt: &HostRuntime, lines: &[u8], ends: Ends) -> io::Result<(TcpStream, Tc
     Ok((client, stream))
 }
 
-/// Serves a client over what the folder has by now, and gives its mirror back.
-fn served_anew<'a>(
-    rt: &'a HostRuntime,
-    stream: &TcpStream,
-    mirror: Mirror<Global, DiskFolder<'a, HostRuntime>>,
-    seen: &mut Seen,
-) -> io::Result<Mirror<Global, DiskFolder<'a, HostRuntime>>> {
-    let (mirror, _left) = reloaded(rt, DIR, &[], mirror, seen, 0);
-    match served_over(rt, stream, mirror, None) {
-        Ok((mirror, _ended)) => Ok(mirror),
-        Err(fault) => Err(fault),
-    }
-}
-
-/// Puts what is there behind each client.
-fn put_clients<'a>(
-    rt: &'a HostRuntime,
-    paper: &mut Paper,
-    mirror: Mirror<Global, DiskFolder<'a, HostRuntime>>,
-) -> io::Result<()> {
-    let mut mirror = mirror;
-    let mut seen = Seen::nothing(rt.alloc());
+/// Puts what is there after each client.
+fn put_clients<T>(rt: &HostRuntime, paper: &mut Paper, tree: T) -> io::Result<()>
+where
+    T: Tree<Global> + Explains,
+{
+    let mut tree = tree;
     for (name, lines, ends) in CLIENTS {
         let (_client, stream) = said(rt, *lines, *ends)?;
-        mirror = served_anew(rt, &stream, mirror, &mut seen)?;
+        let (back, _ended) = served_over(rt, &stream, tree, None)?;
+        tree = back;
         paper.holds(*name, taken(rt)? == matches!(ends, Ends::Whole));
     }
     Ok(())
 }
 
-/// Writes what is there behind each client.
+/// Writes what is there after each client.
 pub(crate) fn row(rt: &HostRuntime) -> io::Result<()> {
     fs::create_dir(rt, DIR)?;
     let mut paper = Paper::new(rt.alloc());
-    match open(rt, DIR, &[]) {
-        Ok(mirror) => put_clients(rt, &mut paper, mirror)?,
-        Err(_) => return Err(io::Error::from(ErrorKind::InvalidData)),
-    }
+    let host = SystemHost::new(rt, DIR)?;
+    put_clients(rt, &mut paper, opened(&host)?)?;
     rt.write_all(paper.text())
 }

@@ -1,0 +1,3 @@
+pub mod PlaceLemmas
+pub mod PutLemmas
+pub mod StrayLemmas

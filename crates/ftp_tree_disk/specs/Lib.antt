@@ -1,0 +1,4 @@
+pub mod Note
+pub mod Place
+pub mod Put
+pub mod Stray

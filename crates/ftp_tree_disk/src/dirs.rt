@@ -1,0 +1,179 @@
+// How the directories of a disk looked when their names were taken in.
+use crate::roots::Roots;
+use ftp_path::Path;
+use ftp_tree::Sight;
+use ftp_tree_host::{Look, Stamp};
+use std::alloc::{AllocError, Global};
+use std::collections::BTreeMap;
+
+/// What was changed less than so many nanoseconds ago may be changed again without looking otherwise (own choice).
+const FRESH: i64 = 100_000_000;
+
+/// The same where stamps seem to have no parts of a second (own choice).
+const COARSELY_FRESH: i64 = 2_000_000_000;
+
+/// How a directory was taken in.
+#[derive(Clone, Copy, Debug, PartialEq, Eq)]
+pub(crate) enum Taken {
+    /// All that can be served.
+    Whole,
+    /// Something was left out that passed a limit: a file in it that becomes shorter does not change how the directory looks.
+    Short,
+    /// It was changed so shortly before that a later change may look the same.
+    Fresh,
+}
+
+/// How a directory looked, and how it was taken in then.
+#[derive(Clone, Copy)]
+pub(crate) struct Seen {
+    look: Look,
+    taken: Taken,
+}
+
+impl Seen {
+    /// A directory that looked so before its names were listed, at a time.
+    pub(crate) fn of(look: Look, now: Stamp) -> Seen {
+        let is_fresh = is_fresh(look.modified, now) || is_fresh(look.touched, now);
+        let taken = if is_fresh { Taken::Fresh } else { Taken::Whole };
+        Seen { look, taken }
+    }
+
+    /// The same, where something passed a limit.
+    pub(crate) fn short(self) -> Seen {
+        let taken = match self.taken {
+            Taken::Whole | Taken::Short => Taken::Short,
+            Taken::Fresh => Taken::Fresh,
+        };
+        Seen {
+            look: self.look,
+            taken,
+        }
+    }
+
+    /// Whether its names need not be listed again.
+    fn holds(self, look: Look, sight: Sight) -> bool {
+        let is_enough = match self.taken {
+            Taken::Whole => true,
+            Taken::Short => sight == Sight::Path,
+            Taken::Fresh => false,
+        };
+        is_enough && self.look == look
+    }
+}
+
+/// Whether a later change may have the same stamp.
+fn is_fresh(stamp: Stamp, now: Stamp) -> bool {
+    let age = nanos(now).saturating_sub(nanos(stamp));
+    let bound = if stamp.nanos == 0 {
+        COARSELY_FRESH
+    } else {
+        FRESH
+    };
+    age < bound
+}
+
+/// Nanoseconds since 1970.
+fn nanos(stamp: Stamp) -> i64 {
+    stamp
+        .seconds
+        .saturating_mul(1_000_000_000)
+        .saturating_add(stamp.nanos)
+}
+
+/// The directories whose names were taken in, by their names joined, and below which roots limits are counted. Nothing is wrong where one is forgotten:
+/// its names are listed again.
+pub(crate) struct Dirs {
+    pub(crate) roots: Roots,
+    alloc: Global,
+    seen: BTreeMap<Vec<u8, Global>, Seen, Global>,
+}
+
+/// By hand, as that of a tree.
+impl Drop for Dirs {
+    fn drop(self) {
+        let Self {
+            roots: _,
+            alloc: _,
+            seen: _,
+        } = self;
+    }
+}
+
+impl Dirs {
+    /// None, and no root but the tree's.
+    pub(crate) fn new(alloc: Global) -> Dirs {
+        Dirs {
+            roots: Roots::none(alloc),
+            alloc,
+            seen: BTreeMap::new(alloc),
+        }
+    }
+
+    /// None, and limits that are counted below each of some roots.
+    pub(crate) fn below(alloc: Global, roots: &[Path<Global>]) -> Result<Dirs, AllocError> {
+        let roots = Roots::of(alloc, roots)?;
+        Ok(Dirs {
+            roots,
+            alloc,
+            seen: BTreeMap::new(alloc),
+        })
+    }
+
+    /// Whether the names of a directory that looks so need not be listed.
+    pub(crate) fn has(&self, key: &[u8], look: Look, sight: Sight) -> bool {
+        match self.seen.get(key) {
+            Some(seen) => seen.holds(look, sight),
+            None => false,
+        }
+    }
+
+    /// The names of a directory were taken in. Refused memory, it is not noted.
+    pub(crate) fn note(&mut self, key: &[u8], seen: Seen) -> Result<(), AllocError> {
+        if let Some(before) = self.seen.get_mut(key) {
+            *before = seen;
+            return Ok(());
+        }
+        let key = Vec::from_slice(self.alloc, key)?;
+        match self.seen.insert(key, seen) {
+            Ok(_) => Ok(()),
+            Err(_) => Err(AllocError),
+        }
+    }
+
+    /// The names of a directory are listed at the next look, and those of each that stands below it.
+    pub(crate) fn forget(&mut self, key: &[u8]) {
+        self.forget_one(key);
+        if self.forget_below(key).is_err() {
+            self.seen.clear();
+        }
+    }
+
+    /// The names of a directory are listed at the next look.
+    pub(crate) fn forget_one(&mut self, key: &[u8]) {
+        let _seen = self.seen.remove(key);
+    }
+
+    /// Forgets the directories below another, one after another.
+    fn forget_below(&mut self, key: &[u8]) -> Result<(), AllocError> {
+        let mut above = Vec::from_slice(self.alloc, key)?;
+        above.push(b'/')?;
+        for _ in 0..self.seen.len() {
+            let Some(below) = self.first_from(above.as_slice())? else {
+                return Ok(());
+            };
+            self.forget_one(below.as_slice());
+        }
+        Ok(())
+    }
+
+    /// The first directory whose names joined start so.
+    fn first_from(&self, front: &[u8]) -> Result<Option<Vec<u8, Global>>, AllocError> {
+        let from = Vec::from_slice(self.alloc, front)?;
+        match self.seen.range(from..).next() {
+            Some((key, _)) if key.as_slice().starts_with(front) => {
+                Ok(Some(Vec::from_slice(self.alloc, key.as_slice())?))
+            }
+            _ => Ok(None),
+        }
+    }
+}

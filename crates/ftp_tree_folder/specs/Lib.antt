@@ -1,2 +1,0 @@
-pub mod Moment
-pub mod Place

@@ -1,0 +1,116 @@
+// What a tree of a disk asks of a system that has its files.
+ghost use Rattle.std.specs.Prelude.{◌≤◌, ◌<◌, IfOk, length};
+
+use ftp_facts::Moment;
+use std::alloc::Global;
+use std::io;
+
+/// A time of a system: seconds since 1970, and nanoseconds of the second.
+#[derive(Clone, Copy, Debug, PartialEq, Eq)]
+pub struct Stamp {
+    pub seconds: i64,
+    pub nanos: i64,
+}
+
+/// What tells a file or a directory from each other one, and from what it was before a change: its device and inode, how many octets it has, and
+/// when it and its inode were changed last.
+#[derive(Clone, Copy, Debug, PartialEq, Eq)]
+pub struct Look {
+    pub device: u64,
+    pub inode: u64,
+    pub len: u64,
+    pub modified: Stamp,
+    pub touched: Stamp,
+}
+
+/// What stands at a place. A link is not followed.
+#[derive(Clone, Copy, Debug, PartialEq, Eq)]
+pub enum Found {
+    Nothing,
+    Dir(Look),
+    File(Look),
+    /// A link, a device, a pipe or a socket.
+    Other,
+}
+
+/// Who has the files of a folder. A place `below` it is a `/` before each of its names, and empty for the folder itself; no name of it is `.` or `..`.
+/// No link on the way to a place is followed: such a call fails. `found` and `names` alone look at no directory on the way: who asks them comes from the
+/// folder down, and has found each of them. Where a call fails, what stood at its place stands there still, unless it says else.
+pub trait Host {
+    /// A file that is open.
+    type File: Drop;
+    /// A file that is written beside a name, and has that once it is whole. Let go of by `discard`, it is gone.
+    type Part: Drop;
+
+    /// Where memory is had.
+    fn memory(&self) -> Global;
+
+    /// The time now, as the system stamps files: none of its stamps is later, but for those that others set.
+    fn now(&self) -> Stamp;
+
+    /// What stands at a place. Nothing does below a file, and by a name that is too long for the system.
+    fn found(&self, below: &str) -> io::Result<Found>;
+
+    /// The names in a directory, a NUL after each, in the order in which the system lists them; without `.` and `..`.
+    fn names(&self, below: &str) -> io::Result<Vec<u8, Global>>;
+
+    /// Opens the file that looked so, and no other that has come in its place: the same inode, with as many octets, changed at the same time. That its
+    /// inode was touched since is no change.
+    fn open(&self, below: &str, look: Look) -> io::Result<Self::File>;
+
+    /// Reads octets of an open file from a place on, and says how many; an end before the first of them is a failure.
+    fn read(&self, file: &mut Self::File, at: u64, room: &mut [u8]) -> io::Result<usize>
+        ensures most { IfOk result (λ count. count ≤ length room.old) }
+        ensures some { IfOk result (λ count. 0 < length room.old → 0 < count) };
+
+    /// Begins a file that is written beside a place, in its directory, by a name that `is_left` knows. Once that directory has another
+    /// name itself, the part gets none any more.
+    fn begin(&self, below: &str) -> io::Result<Self::Part>;
+
+    /// Writes octets after those that a part has. Where that fails, the part is of no use any more.
+    fn write(&self, part: &mut Self::Part, octets: &[u8]) -> io::Result<()>;
+
+    /// Puts the first octets of the file that looked so, `count` of them, in front of those that a part has. Where that fails, the part is of no use
+    /// any more.
+    fn keep(&self, part: &mut Self::Part, below: &str, look: Look, count: u64) -> io::Result<()>;
+
+    /// Gives a part its moment and the name of a place where nothing stands; it and its name are on the disk then. Where something does, that stays,
+    /// and this fails. How it looks.
+    fn put_new(&self, part: &mut Self::Part, below: &str, moment: Moment) -> io::Result<Look>;
+
+    /// Gives a part its moment, the permissions of the file that stands at a place, and the name of that, in one step; it and its name are on the disk
+    /// then. Where only the flush of the directory fails, the file is replaced already. How it looks.
+    fn put_over(&self, part: &mut Self::Part, below: &str, moment: Moment) -> io::Result<Look>;
+
+    /// Removes a part that got no name.
+    fn discard(&self, part: &mut Self::Part);
+
+    /// Makes a directory, and its name is on the disk then.
+    fn make_dir(&self, below: &str) -> io::Result<()>;
+
+    /// Removes an empty directory. Where only the flush of the directory above fails, it is gone already.
+    fn remove_dir(&self, below: &str) -> io::Result<()>;
+
+    /// Removes a file. Where only the flush of the directory fails, it is gone already.
+    fn delete(&self, below: &str) -> io::Result<()>;
+
+    /// Moves what stands at a place to one where nothing stands. Its inode is touched by that.
+    fn rename(&self, from: &str, to: &str) -> io::Result<()>;
+
+    /// Moves a file into the place of another, in one step. Its inode is touched by that. Where only the flush of the directories fails, it is there
+    /// already.
+    fn rename_onto(&self, from: &str, to: &str) -> io::Result<()>;
+
+    /// Whether a name is that of a part, of this program or one that an interrupted write left, or of one that was kept so. A look leaves it out.
+    fn is_left(&self, name: &str) -> bool;
+
+    /// Keeps a part that an interrupted write left under a name of its own, where nobody finds it by the protocol; one without octets is removed. Only
+    /// before anything is begun: a part that is written now has such a name too.
+    fn leave(&self, below: &str, len: u64) -> io::Result<()>;
+
+    /// Notes why a call failed, for whoever tells of it.
+    fn blame(&self, error: io::Error);
+
+    /// Why the last call that was blamed failed, once.
+    fn reason(&self) -> Option<io::Error>;
+}

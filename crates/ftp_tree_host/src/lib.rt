@@ -1,0 +1,20 @@
+//! What a tree of a disk asks of a system, and the folder of a system that gives it, by `std::fs`: written beside and moved, flushed, and no link followed
+//! (own choice).
+#![tactic(auto)]
+
+mod front;
+mod host;
+mod left;
+mod listing;
+mod moment;
+mod moving;
+mod part;
+mod place;
+mod reading;
+mod system;
+
+pub use host::{Found, Host, Look, Stamp};
+pub use moment::moment_of;
+pub use part::SystemPart;
+pub use reading::SystemFile;
+pub use system::SystemHost;

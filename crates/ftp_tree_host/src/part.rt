@@ -1,0 +1,191 @@
+// A file that is written beside a name, so that a crash leaves the old one or the new one.
+ghost use Rattle.std.specs.Prelude.{◌≡◌, [], IfOk, IfSome, OnOk};
+ghost use Rattle.std.specs.Io.Buffered.{writer_buffer, writer_contents, writer_inner};
+ghost use Rattle.std.specs.Io.KnownBytes.{Appends, Keeps};
+
+use crate::host::Look;
+use crate::moment::time_of;
+use crate::place::{check_free, look_of, sync_above};
+use ftp_facts::Moment;
+use std::alloc::Global;
+use std::fs::{FileTimes, Files, OpenFile, OpenOptions, Permissions};
+use std::io::{BufWriter, Error, ErrorKind, Write};
+use std::os::unix::fs::{OpenOptionsExt, PermissionsExt};
+use std::{fs, io};
+
+/// The permissions of a file that has no predecessor, less the umask, and of one while it is to take the place of another.
+const NEW_MODE: u32 = 0o666;
+
+const OWN_MODE: u32 = 0o600;
+
+/// How many octets are gathered for one call of the system; a piece of so many goes on at once.
+const GATHERED: usize = 65_536;
+
+/// A file that is written beside a name.
+#[derive(Drop)]
+pub struct SystemPart<F: Write + Drop> {
+    pub(crate) file: BufWriter<F, Global>,
+    /// Where it is, until it has the name.
+    pub(crate) beside: Option<String<Global>>,
+    /// The permissions of the file that had the name when this one was begun.
+    pub(crate) kept: Option<u32>,
+}
+
+impl<F: Write + OpenFile + Drop> SystemPart<F> {
+    /// Writes octets after those that it has.
+    pub(crate) fn write(&mut self, octets: &[u8]) -> io::Result<()>
+        ensures { OnOk result (Appends (writer_contents F.contents self.old.file) (writer_contents F.contents self.new.file) octets.now) }
+    {
+        self.file.write_all(octets)
+    }
+
+    /// Hands all its octets to the system.
+    pub(crate) fn hand_on(&mut self) -> io::Result<()>
+        ensures handed { OnOk result (writer_buffer self.new.file ≡ []) }
+        ensures kept { Keeps (writer_contents F.contents self.old.file) (writer_contents F.contents self.new.file) }
+    {
+        self.file.flush()
+    }
+
+    /// Hands all its octets to the system, gives the file its permissions, where they are known, and its moment, and flushes it.
+    pub(crate) fn settle(&mut self, mode: Option<u32>, moment: Moment) -> io::Result<()>
+        ensures handed { OnOk result (writer_buffer self.new.file ≡ []) }
+        ensures kept { Keeps (writer_contents F.contents self.old.file) (writer_contents F.contents self.new.file) }
+    {
+        self.hand_on()?;
+        let file = self.file.get_ref();
+        if let Some(mode) = mode {
+            file.set_permissions(Permissions::from_mode(mode))?;
+        }
+        file.set_times(FileTimes::new().set_modified(time_of(moment)?))?;
+        file.sync_all()
+    }
+
+    /// Where it is, as long as it has no name.
+    pub(crate) fn beside(&self) -> io::Result<&str> {
+        match &self.beside {
+            Some(beside) => Ok(beside.as_str()),
+            None => Err(Error::from(ErrorKind::NotFound)),
+        }
+    }
+
+    /// How the file looks.
+    pub(crate) fn look(&self) -> io::Result<Look> {
+        Ok(look_of(&self.file.get_ref().metadata()?))
+    }
+}
+
+/// Makes the part of a file beside a place, by its own place. Nobody else may open one that is to replace a file. None where something has its name.
+pub(crate) fn begun_at<R: Files>(
+    files: &R,
+    alloc: Global,
+    beside: String<Global>,
+    kept: Option<u32>,
+) -> io::Result<Option<SystemPart<R::File>>>
+    ensures { IfOk result (λ made. IfSome made (λ part. writer_buffer part.file ≡ [])) }
+{
+    let mut how = OpenOptions::new();
+    let mode = if kept.is_some() { OWN_MODE } else { NEW_MODE };
+    how.write(true).create_new(true).mode(mode);
+    let made = match how.open(files, beside.as_str()) {
+        Ok(file) => BufWriter::with_capacity(alloc, GATHERED, file),
+        Err(error) if error.kind() == ErrorKind::AlreadyExists => return Ok(None),
+        Err(error) => return Err(error),
+    };
+    let file = kept_or_gone(files, beside.as_str(), made)?;
+    Ok(Some(SystemPart {
+        file,
+        beside: Some(beside),
+        kept,
+    }))
+}
+
+/// The permissions of the file at a place, if one is there.
+pub(crate) fn mode_at<R: Files>(files: &R, place: &str) -> io::Result<Option<u32>> {
+    match fs::symlink_metadata(files, place) {
+        Ok(found) if found.is_file() => Ok(Some(found.permissions().mode() & 0o777)),
+        Ok(_) => Ok(None),
+        Err(error) if error.kind() == ErrorKind::NotFound => Ok(None),
+        Err(error) => Err(error),
+    }
+}
+
+/// Gives a part the name of a place where nothing stands: where something does, also what came there since, that stays, and this fails. So does it
+/// where the directory can't be flushed: then the file is removed again. How it looks.
+pub(crate) fn name_new<R: Files>(
+    files: &R,
+    part: &mut SystemPart<R::File>,
+    place: &str,
+    moment: Moment,
+) -> io::Result<Look>
+    ensures handed { OnOk result (writer_buffer part.new.file ≡ []) }
+    ensures kept { Keeps (writer_contents R.File.Write.contents part.old.file) (writer_contents R.File.Write.contents part.new.file) }
+{
+    check_free(files, place)?;
+    part.settle(part.kept, moment)?;
+    move_new(files, part.beside()?, place)?;
+    part.beside = None;
+    kept_or_gone(files, place, sealed(files, part, place))
+}
+
+/// Gives a part the name of a place in one step, whatever file stands there, and the permissions of that.
+pub(crate) fn name_over<R: Files>(
+    files: &R,
+    part: &mut SystemPart<R::File>,
+    place: &str,
+    moment: Moment,
+) -> io::Result<Look>
+    ensures handed { OnOk result (writer_buffer part.new.file ≡ []) }
+    ensures kept { Keeps (writer_contents R.File.Write.contents part.old.file) (writer_contents R.File.Write.contents part.new.file) }
+{
+    let kept = mode_at(files, place)?.or(part.kept);
+    part.settle(kept, moment)?;
+    fs::rename(files, part.beside()?, place)?;
+    part.beside = None;
+    sealed(files, part, place)
+}
+
+/// The name of a file that has one is on the disk; how it looks then.
+fn sealed<R: Files>(files: &R, part: &SystemPart<R::File>, place: &str) -> io::Result<Look> {
+    sync_above(files, place)?;
+    part.look()
+}
+
+/// Removes a part that got no name.
+pub(crate) fn discard<R: Files>(files: &R, part: &mut SystemPart<R::File>) {
+    if let Some(beside) = &part.beside {
+        let _gone = fs::remove_file(files, beside.as_str());
+    }
+    part.beside = None;
+}
+
+/// Where the last step with a file failed, it is removed.
+fn kept_or_gone<R: Files, T: Drop>(files: &R, place: &str, done: io::Result<T>) -> io::Result<T>
+    ensures { result ≡ done }
+{
+    if done.is_err() {
+        let _gone = fs::remove_file(files, place);
+    }
+    done
+}
+
+/// Gives a file the name of a place where nothing stands, in one step: by a link, since that replaces nothing, and then the other name goes. A file system
+/// without links has no such step: there it is looked at once more and then moved, and what comes between the two is replaced (own choice).
+fn move_new<R: Files>(files: &R, from: &str, to: &str) -> io::Result<()> {
+    match fs::hard_link(files, from, to) {
+        Ok(()) => {
+            let _gone = fs::remove_file(files, from);
+            Ok(())
+        }
+        Err(error) if has_no_links(error.kind()) => {
+            check_free(files, to)?;
+            fs::rename(files, from, to)
+        }
+        Err(error) => Err(error),
+    }
+}
+
+/// Whether a link was refused as by a file system that has none.
+fn has_no_links(kind: ErrorKind) -> bool {
+    matches!(kind, ErrorKind::PermissionDenied | ErrorKind::Unsupported)
+}
