@@ -19,6 +19,7 @@ pub mod Theorems
 pub mod Delaying
 pub mod Swapping
 pub mod Mixing
+pub mod Moving
 pub mod Ordering
 pub mod Breaking
 pub mod BothBroken

@@ -1,5 +1,5 @@
 -- A deed beside the control connection and one of the other end that is not change places.
-use Rattle.std.proofs.Common.{◌≡◌, ◌⊎◌, inl, inr, sym, ap, subst, ◌∙◌}
+use Rattle.std.proofs.Common.{◌≡◌, ◌⊎◌, inl, inr, None, Some, sym, ap, subst, ◌∙◌}
 use Rattle.std.specs.Prelude.{⊤}
 use Rattle.ftp_pair_drives.specs.Between.{Between, Can, Far, Near, Ways, Who, peer}
 use Rattle.ftp_pair_drives.specs.Swaps.{IsOfControl, ReadsWritten}
@@ -20,27 +20,29 @@ with_control ways between = record between { control = ways }
 -- so it does
 stays : (who : Who) (touch : Touch) (old new : Between) → IsElse touch → Can who touch old new → new.control ≡ old.control
 stays Near Parts old new is can = ap (λ (m : Between). m.control) can
-stays Near (Listens port) old new is can = ap (λ (m : Between). m.control) can
-stays Near (Dials endpoint) old new is can = ap (λ (m : Between). m.control) can.1
-stays Near (Accepts host) old new is can = ap (λ (m : Between). m.control) can.2
+stays Near (Listens None) old new is can = ap (λ (m : Between). m.control) can
+stays Near (Listens (Some port)) old new is can = ap (λ (m : Between). m.control) can.1
+stays Near (Dials endpoint) old new is can = ap (λ (m : Between). m.control) can.2
+stays Near (Accepts host) old new is can = ap (λ (m : Between). m.control) can.1
 stays Near (IsDenied endpoint) old new is can = ap (λ (m : Between). m.control) can
 stays Near IsMissed old new is can = ap (λ (m : Between). m.control) can
 stays Near (Writes octets) old new is can = ap (λ (m : Between). m.control) can.1
 stays Near (Takes octets) old new is can = ap (λ (m : Between). m.control) can.2
 stays Near Ends old new is can = ap (λ (m : Between). m.control) can.1
-stays Near Resets old new is can = ap (λ (m : Between). m.control) can
+stays Near Resets old new is can = ap (λ (m : Between). m.control) can.1
 stays Near ToldEnd old new is can = ap (λ (m : Between). m.control) can.2
 stays Near ToldBreak old new is can = ap (λ (m : Between). m.control) can.1
 stays Far Parts old new is can = ap (λ (m : Between). m.control) can
-stays Far (Listens port) old new is can = ap (λ (m : Between). m.control) can
-stays Far (Dials endpoint) old new is can = ap (λ (m : Between). m.control) can.1
-stays Far (Accepts host) old new is can = ap (λ (m : Between). m.control) can.2
+stays Far (Listens None) old new is can = ap (λ (m : Between). m.control) can
+stays Far (Listens (Some port)) old new is can = ap (λ (m : Between). m.control) can.1
+stays Far (Dials endpoint) old new is can = ap (λ (m : Between). m.control) can.2
+stays Far (Accepts host) old new is can = ap (λ (m : Between). m.control) can.1
 stays Far (IsDenied endpoint) old new is can = ap (λ (m : Between). m.control) can
 stays Far IsMissed old new is can = ap (λ (m : Between). m.control) can
 stays Far (Writes octets) old new is can = ap (λ (m : Between). m.control) can.1
 stays Far (Takes octets) old new is can = ap (λ (m : Between). m.control) can.2
 stays Far Ends old new is can = ap (λ (m : Between). m.control) can.1
-stays Far Resets old new is can = ap (λ (m : Between). m.control) can
+stays Far Resets old new is can = ap (λ (m : Between). m.control) can.1
 stays Far ToldEnd old new is can = ap (λ (m : Between). m.control) can.2
 stays Far ToldBreak old new is can = ap (λ (m : Between). m.control) can.1
 stays who touch old new is can = absurd is
@@ -49,27 +51,29 @@ stays who touch old new is can = absurd is
 moves_so : (who : Who) (touch : Touch) (ways : Ways) (old new : Between) → IsElse touch → Can who touch old new
     → Can who touch (with_control ways old) (with_control ways new)
 moves_so Near Parts ways old new is can = ap (with_control ways) can
-moves_so Near (Listens port) ways old new is can = ap (with_control ways) can
-moves_so Near (Dials endpoint) ways old new is can = (can.0, ap (with_control ways) can.1)
-moves_so Near (Accepts host) ways old new is can = (can.0, can.1, ap (with_control ways) can.2)
+moves_so Near (Listens None) ways old new is can = ap (with_control ways) can
+moves_so Near (Listens (Some port)) ways old new is can = (can.0, ap (with_control ways) can.1)
+moves_so Near (Dials endpoint) ways old new is can = (can.0, can.1, ap (with_control ways) can.2)
+moves_so Near (Accepts host) ways old new is can = (can.0, ap (with_control ways) can.1)
 moves_so Near (IsDenied endpoint) ways old new is can = ap (with_control ways) can
 moves_so Near IsMissed ways old new is can = ap (with_control ways) can
 moves_so Near (Writes octets) ways old new is can = (can.0, ap (with_control ways) can.1)
 moves_so Near (Takes octets) ways old new is can = (can.0, can.1, ap (with_control ways) can.2)
 moves_so Near Ends ways old new is can = (can.0, ap (with_control ways) can.1)
-moves_so Near Resets ways old new is can = ap (with_control ways) can
+moves_so Near Resets ways old new is can = (can.0, ap (with_control ways) can.1)
 moves_so Near ToldEnd ways old new is can = (can.0, can.1, ap (with_control ways) can.2)
 moves_so Near ToldBreak ways old new is can = (can.0, ap (with_control ways) can.1)
 moves_so Far Parts ways old new is can = ap (with_control ways) can
-moves_so Far (Listens port) ways old new is can = ap (with_control ways) can
-moves_so Far (Dials endpoint) ways old new is can = (can.0, ap (with_control ways) can.1)
-moves_so Far (Accepts host) ways old new is can = (can.0, can.1, ap (with_control ways) can.2)
+moves_so Far (Listens None) ways old new is can = ap (with_control ways) can
+moves_so Far (Listens (Some port)) ways old new is can = (can.0, ap (with_control ways) can.1)
+moves_so Far (Dials endpoint) ways old new is can = (can.0, can.1, ap (with_control ways) can.2)
+moves_so Far (Accepts host) ways old new is can = (can.0, ap (with_control ways) can.1)
 moves_so Far (IsDenied endpoint) ways old new is can = ap (with_control ways) can
 moves_so Far IsMissed ways old new is can = ap (with_control ways) can
 moves_so Far (Writes octets) ways old new is can = (can.0, ap (with_control ways) can.1)
 moves_so Far (Takes octets) ways old new is can = (can.0, can.1, ap (with_control ways) can.2)
 moves_so Far Ends ways old new is can = (can.0, ap (with_control ways) can.1)
-moves_so Far Resets ways old new is can = ap (with_control ways) can
+moves_so Far Resets ways old new is can = (can.0, ap (with_control ways) can.1)
 moves_so Far ToldEnd ways old new is can = (can.0, can.1, ap (with_control ways) can.2)
 moves_so Far ToldBreak ways old new is can = (can.0, ap (with_control ways) can.1)
 moves_so who touch ways old new is can = absurd is
@@ -94,7 +98,7 @@ control_alone who (Reads octets) old new is can = alone _ old new can.1
 control_alone who touch old new is can = absurd is
 
 -- the second in the place of the first
-abbrev Changed : (who : Who) (first second : Touch) (old new : Between) → Type 0
+abbrev pub Changed : (who : Who) (first second : Touch) (old new : Between) → Type 0
 Changed who first second old new = (other : Between) × Can (peer who) second old other × Can who first other new
 
 -- the first is beside the control connection

@@ -40,7 +40,7 @@ decided_moment moment f (Asks asked) pending s =
     ap (λ (t : Turn). if is_allowed asked s then t else tells Texts.NotLoggedIn (forgets asked s)) (act_moment moment f asked pending s)
 
 -- nor a transfer that is given out
-out_moment : (connection : ServerLink Transfer) (moment : ℕ) (v : View) → given_out connection (clock_step moment v)
+pub out_moment : (connection : ServerLink Transfer) (moment : ℕ) (v : View) → given_out connection (clock_step moment v)
     ≡ clock_step moment (given_out connection v)
 out_moment Data.Free moment v = refl
 out_moment Data.Passive moment v = refl

@@ -1,11 +1,12 @@
 -- Orders in which each deed can happen, where neighbours change places.
-use Rattle.std.proofs.Common.{◌≡◌, ℕ, Bool, true, false, true≢false, List, [], ◌∷◌, ◌++◌, refl, sym, ap, subst, ◌∙◌}
+use Rattle.std.proofs.Common.{◌≡◌, inl, inr, ℕ, Bool, true, false, true≢false, List, [], ◌∷◌, ◌++◌, None, Some, refl, sym, ap, subst, ◌∙◌}
 use Rattle.ftp_pair_drives.specs.Alone.{ClientAttends, ClientIsCalm, IsAsking, IsServing, ServerAttends, ServerIsCalm}
-use Rattle.ftp_pair_drives.specs.Between.{Between, Can, CanTurn, Client, Far, Happened, Near, Server, Turn, Who, coming, with_coming}
-use Rattle.ftp_pair_drives.specs.Swaps.{AreApart, AreOfSameEnds, DeedsGoBehind, IsApartFrom, IsOfControl, NeighboursChangePlaces, OrdersLeaveOne, OrdersLeaveTheEnds, ReadsWritten}
+use Rattle.ftp_pair_drives.specs.Between.{Between, Can, CanTurn, Client, Far, Happened, Near, Server, Turn, Who, coming, peer, with_coming}
+use Rattle.ftp_pair_drives.specs.Swaps.{AreApart, AreFree, AreOfSameEnds, DeedsGoBehind, IsApartFrom, IsOfControl, NeighboursChangePlaces, OrdersLeaveOne, OrdersLeaveTheEnds, ReadsWritten}
 use Rattle.ftp_pair_drives.specs.Touches.{Touch, None_of_it, Says, Reads, Parts, Listens, Dials, Accepts, IsDenied, IsMissed, Writes, Takes, Ends, Resets, ToldEnd, ToldBreak, touch_in}
 use Rattle.ftp_pair_drives.proofs.Ending.{Goes}
-use Rattle.ftp_pair_drives.proofs.Mixing.{change_places}
+use Rattle.ftp_pair_drives.proofs.Mixing.{Changed, change_places}
+use Rattle.ftp_pair_drives.proofs.Moving.{moving_deeds_change_places}
 use Rattle.ftp_pair_drives.proofs.Swapping.{same_rest}
 
 -- ---- what lies between after an order
@@ -18,9 +19,10 @@ can_once who (Reads octets) old one other a b =
     let rest = same_rest octets (coming who one.control) (coming who other.control) (sym a.0 ∙ b.0) in
     a.1 ∙ ap (λ (l : List ℕ). record old { control = with_coming who l old.control }) rest ∙ sym b.1
 can_once who Parts old one other a b = a ∙ sym b
-can_once who (Listens port) old one other a b = a ∙ sym b
-can_once who (Dials endpoint) old one other a b = a.1 ∙ sym b.1
-can_once who (Accepts host) old one other a b = a.2 ∙ sym b.2
+can_once who (Listens None) old one other a b = a ∙ sym b
+can_once who (Listens (Some port)) old one other a b = a.1 ∙ sym b.1
+can_once who (Dials endpoint) old one other a b = a.2 ∙ sym b.2
+can_once who (Accepts host) old one other a b = a.1 ∙ sym b.1
 can_once who (IsDenied endpoint) old one other a b = a ∙ sym b
 can_once who IsMissed old one other a b = a ∙ sym b
 can_once who (Writes octets) old one other a b = a.1 ∙ sym b.1
@@ -28,7 +30,7 @@ can_once who (Takes octets) old one other a b =
     let rest = same_rest octets (coming who one.data_ways) (coming who other.data_ways) (sym a.1 ∙ b.1) in
     a.2 ∙ ap (λ (l : List ℕ). record old { data_ways = with_coming who l old.data_ways }) rest ∙ sym b.2
 can_once who Ends old one other a b = a.1 ∙ sym b.1
-can_once who Resets old one other a b = a ∙ sym b
+can_once who Resets old one other a b = a.1 ∙ sym b.1
 can_once who ToldEnd old one other a b = a.2 ∙ sym b.2
 can_once who ToldBreak old one other a b = a.1 ∙ sym b.1
 
@@ -53,6 +55,14 @@ written_by who (Says octets) old new is can = tt
 written_by who (Reads octets) old new is can = (coming who new.control, can.0)
 written_by who touch old new is can = absurd is
 
+-- whatever they are of
+either_way : (who : Who) (first second : Touch) → AreFree first second → (old mid new other : Between) → Can who first old mid
+    → Can (peer who) second mid new → Can (peer who) second old other → Changed who first second old new
+either_way who first second (inl control) old mid new other one two alone =
+    change_places who first second control old mid new one two (λ is. written_by (peer who) second old other is alone)
+either_way who first second (inr moving) old mid new other one two alone =
+    (other, alone, moving_deeds_change_places who first second moving.0 moving.1 old mid new other one two alone)
+
 -- whether it is the server
 is_far : Who → Bool
 is_far Near = false
@@ -68,15 +78,13 @@ swapped before (Server first) (Client second) other now apart alone both =
     let old = both.1.0 in
     let same : alone.0 ≡ old = orders_leave_one before alone.0 old alone.1 both.1.1 in
     let can : Can Near (touch_in second) old other = subst (λ (m : Between). Can Near (touch_in second) m other) same alone.2 in
-    let change = change_places Far (touch_in first) (touch_in second) apart.alone old both.0 now both.1.2 both.2
-    (λ is. written_by Near (touch_in second) old other is can) in
+    let change = either_way Far (touch_in first) (touch_in second) apart.free old both.0 now other both.1.2 both.2 can in
     (change.0, (old, both.1.1, change.1), change.2)
 swapped before (Client first) (Server second) other now apart alone both =
     let old = both.1.0 in
     let same : alone.0 ≡ old = orders_leave_one before alone.0 old alone.1 both.1.1 in
     let can : Can Far (touch_in second) old other = subst (λ (m : Between). Can Far (touch_in second) m other) same alone.2 in
-    let change = change_places Near (touch_in first) (touch_in second) apart.alone old both.0 now both.1.2 both.2
-    (λ is. written_by Far (touch_in second) old other is can) in
+    let change = either_way Near (touch_in first) (touch_in second) apart.free old both.0 now other both.1.2 both.2 can in
     (change.0, (old, both.1.1, change.1), change.2)
 
 -- by the same ends

@@ -1,5 +1,5 @@
 -- What lies between the connections of two drives, and an order of both their deeds in which each happens when it can.
-use Rattle.std.specs.Prelude.{◌≡◌, ℕ, List, [], ◌∷◌, ◌++◌}
+use Rattle.std.specs.Prelude.{◌≡◌, ℕ, List, [], ◌∷◌, ◌++◌, None, Some}
 use Rattle.ftp_control.specs.Deeds.{Deed}
 use Rattle.ftp_server_drive.specs.Side.{server_side}
 use Rattle.ftp_client_drive.specs.Side.{client_side}
@@ -27,9 +27,13 @@ abbrev pub with_coming : Who → List ℕ → Ways → Ways
 with_coming Near octets ways = record ways { to_client = octets }
 with_coming Far octets ways = record ways { to_server = octets }
 
--- how an end stands to the data connection: it has none of it, has it, has ended it, has reset it or was told that it broke
+-- how an end stands to the data connection: it has none of it; it listens at a port, or was dialled there; it has it, has ended it, has reset it or
+-- was told that it broke
 pub data Hold : Type 0 where
-  Has_not Has Has_ended Has_lost : Hold
+  Has_not : Hold
+  Awaits : (port : ℕ) → Hold
+  Is_called : Hold
+  Has Has_ended Has_lost : Hold
 
 pub record Between : Type 0 where
   pub control : Ways
@@ -53,37 +57,38 @@ nothing_yet = record {
   far = Has_not;
 }
 
--- it is over for an end
+-- an end has none, or no more
 abbrev pub IsOver : Hold → Type 0
-IsOver Has_not = Unit {0}
 IsOver Has = ⊥
-IsOver Has_ended = Unit {0}
-IsOver Has_lost = Unit {0}
+IsOver hold = Unit {0}
 
--- an end has it, or had it
-abbrev pub IsHad : Hold → Type 0
-IsHad Has_not = ⊥
-IsHad hold = Unit {0}
+-- it stands at an end, broken or not
+abbrev pub IsStanding : Hold → Type 0
+IsStanding Has = Unit {0}
+IsStanding Has_lost = Unit {0}
+IsStanding hold = ⊥
 
--- the next connection: of the one before both are done, and nothing of it is to be read
+-- the next connection: its peer was dialled, and nothing of the one before is to be read
 abbrev pub dialled : Who → Between → Between
-dialled who between = with_hold who Has (with_hold (peer who) Has_not (record between { data_ways = record { to_server = []; to_client = [] } }))
+dialled who between = with_hold who Has (with_hold (peer who) Is_called (record between { data_ways = record { to_server = []; to_client = [] } }))
 
 -- octets that one writes go after those that its peer is still to read
 abbrev pub sent : Who → List ℕ → Ways → Ways
 sent who octets ways = with_coming (peer who) (coming (peer who) ways ++ octets) ways
 
 -- How a deed of one of them changes what lies between, and when it can: control octets are read in order, and only once they were written; so are
--- those of a data connection, while it is had. Its end is told once the peer ended it and all is read; a break may be told while it is had.
+-- those of a data connection, while it is had. One is dialled where its peer listens, which accepts it after that; who listens again forgets who came
+-- before. Its end is told once the peer ended it and all is read; a break may be told while it is had.
 abbrev pub Can : Who → Touch → (old new : Between) → Type 0
 Can who None_of_it old new = new ≡ old
 Can who (Says octets) old new = new ≡ record old { control = sent who octets old.control }
 Can who (Reads octets) old new =
     (coming who old.control ≡ octets ++ coming who new.control) × (new ≡ record old { control = with_coming who (coming who new.control) old.control })
 Can who Parts old new = new ≡ old
-Can who (Listens port) old new = new ≡ old
-Can who (Dials endpoint) old new = IsOver (hold_of who old) × (new ≡ dialled who old)
-Can who (Accepts host) old new = (hold_of who old ≡ Has_not) × IsHad (hold_of (peer who) old) × (new ≡ with_hold who Has old)
+Can who (Listens None) old new = new ≡ old
+Can who (Listens (Some port)) old new = IsOver (hold_of who old) × (new ≡ with_hold who (Awaits port) old)
+Can who (Dials endpoint) old new = IsOver (hold_of who old) × (hold_of (peer who) old ≡ Awaits endpoint.port) × (new ≡ dialled who old)
+Can who (Accepts host) old new = (hold_of who old ≡ Is_called) × (new ≡ with_hold who Has old)
 Can who (IsDenied endpoint) old new = new ≡ old
 Can who IsMissed old new = new ≡ old
 Can who (Writes octets) old new = (hold_of who old ≡ Has) × (new ≡ record old { data_ways = sent who octets old.data_ways })
@@ -91,7 +96,7 @@ Can who (Takes octets) old new =
     (hold_of who old ≡ Has) × (coming who old.data_ways ≡ octets ++ coming who new.data_ways)
     × (new ≡ record old { data_ways = with_coming who (coming who new.data_ways) old.data_ways })
 Can who Ends old new = (hold_of who old ≡ Has) × (new ≡ with_hold who Has_ended old)
-Can who Resets old new = new ≡ with_hold who Has_lost old
+Can who Resets old new = IsStanding (hold_of who old) × (new ≡ with_hold who Has_lost old)
 Can who ToldEnd old new = (hold_of (peer who) old ≡ Has_ended) × (coming who old.data_ways ≡ []) × (new ≡ old)
 Can who ToldBreak old new = (hold_of who old ≡ Has) × (new ≡ with_hold who Has_lost old)
 

@@ -1,11 +1,11 @@
 -- Deeds of different ends that change places: a deed comes before one of the other end that was done first, where it reads nothing that this wrote.
-use Rattle.std.specs.Prelude.{◌≡◌, ◌⊎◌, ⊤, ℕ, List, [], ◌∷◌, ◌++◌}
+use Rattle.std.specs.Prelude.{◌≡◌, ◌⊎◌, ⊤, ℕ, List, [], ◌∷◌, ◌++◌, Some}
 use Rattle.ftp_control.specs.Deeds.{Stand}
 use Rattle.ftp_client_drive.specs.Side.{client_side}
 use Rattle.ftp_server_drive.specs.Side.{server_side}
 use Rattle.ftp_pair_drives.specs.Between.{Between, Can, Client, Far, Happened, Near, Server, Turn, Who, client_deeds, coming, peer, server_deeds}
 use Rattle.ftp_pair_drives.specs.Claims.{Did}
-use Rattle.ftp_pair_drives.specs.Touches.{Touch, None_of_it, Says, Reads, touch_in}
+use Rattle.ftp_pair_drives.specs.Touches.{Touch, None_of_it, Says, Reads, Listens, Dials, touch_in}
 use Rattle.ftp_pair_world.specs.Claims.{Beginning}
 
 -- beside the control connection alone
@@ -27,6 +27,23 @@ DeedsChangePlaces =
     → Can (peer who) second mid new
     → ReadsWritten (peer who) second old → (other : Between) × Can (peer who) second old other × Can who first other new
 
+-- ---- two deeds of a data connection
+
+-- of one that stands: it is accepted, its octets are written or read, it is left, or an end is told of its end or its break; or nothing is done of any
+abbrev pub IsMoving : Touch → Type 0
+IsMoving None_of_it = ⊥
+IsMoving (Says octets) = ⊥
+IsMoving (Reads octets) = ⊥
+IsMoving (Listens (Some port)) = ⊥
+IsMoving (Dials endpoint) = ⊥
+IsMoving other = ⊤
+
+-- where the second of two can happen without the first, it can come first, and what lies between after both is the same
+abbrev pub MovingDeedsChangePlaces : Type 0
+MovingDeedsChangePlaces =
+    (who : Who) (first second : Touch) → IsMoving first → IsMoving second → (old mid new other : Between) → Can who first old mid
+    → Can (peer who) second mid new → Can (peer who) second old other → Can who first other new
+
 -- ---- in an order
 
 -- whose deed it is, and what it does between
@@ -38,10 +55,14 @@ abbrev pub touch_by : Turn → Touch
 touch_by (Server deed) = touch_in deed
 touch_by (Client deed) = touch_in deed
 
--- deeds of different ends, of which one at least is beside the control connection
+-- one of two at least is beside the control connection, or both are of a data connection that stands
+abbrev pub AreFree : (first second : Touch) → Type 0
+AreFree first second = (IsOfControl first ⊎ IsOfControl second) ⊎ (IsMoving first × IsMoving second)
+
+-- such deeds of different ends
 pub record AreApart (first second : Turn) : Type 0 where
   pub ends : who_of second ≡ peer (who_of first)
-  pub alone : IsOfControl (touch_by first) ⊎ IsOfControl (touch_by second)
+  pub free : AreFree (touch_by first) (touch_by second)
 
 -- one and each of several
 abbrev pub IsApartFrom : Turn → List Turn → Type 0

@@ -6,7 +6,7 @@ ghost use Rattle.ftp_pair_drives.specs.Delays.{DownBreaksCommute, EndForgetsBrea
 ghost use Rattle.ftp_pair_drives.specs.Example.{ExampleHasQuit, ExampleIsFair, ExampleIsOver, ExampleIsPlayed};
 ghost use Rattle.ftp_pair_drives.specs.Over.{DrivesLostAgree, DrivesOverAreTheDirectRun};
 ghost use Rattle.ftp_pair_drives.specs.Quitting.{DrivesThatQuitAreTheDirectRun};
-ghost use Rattle.ftp_pair_drives.specs.Swaps.{DeedsChangePlaces, DeedsGoBehind, NeighboursChangePlaces, OrdersLeaveOne, OrdersLeaveTheEnds};
+ghost use Rattle.ftp_pair_drives.specs.Swaps.{DeedsChangePlaces, DeedsGoBehind, MovingDeedsChangePlaces, NeighboursChangePlaces, OrdersLeaveOne, OrdersLeaveTheEnds};
 
 /// One server's drive and drives of one client leave what a list of the world's events leads to from the beginning, but for the moment that the
 /// server was told last.
@@ -68,14 +68,16 @@ pub fn drives_that_broke_off_are_cut()
     ensures clients { ClientsAreCut }
 {}
 
-/// A deed beside the control connection can come before one of the other end that was done first, where it reads nothing that this wrote.
+/// A deed beside the control connection can come before one of the other end that was done first, where it reads nothing that this wrote; so can one of
+/// a data connection that stands before another of it, where it can happen without that.
 pub fn deeds_change_places()
-    ensures { DeedsChangePlaces }
+    ensures control { DeedsChangePlaces }
+    ensures moving { MovingDeedsChangePlaces }
 {}
 
-/// In an order in which each deed can happen, two neighbours of different ends, one of them beside the control connection, change places where the
-/// second can happen without the first, and a deed goes behind several of the other end that can happen without it: then each can still happen, and the
-/// same lies between. An order leaves but one thing there, and either end what its own deeds leave.
+/// In an order in which each deed can happen, two neighbours of different ends, one of them beside the control connection or both of a data connection that
+/// stands, change places where the second can happen without the first, and a deed goes behind several of the other end that can happen without it: then
+/// each can still happen, and the same lies between. An order leaves but one thing there, and either end what its own deeds leave.
 pub fn orders_change()
     ensures one { OrdersLeaveOne }
     ensures neighbours { NeighboursChangePlaces }

@@ -1,0 +1,9 @@
+pub mod Lines
+pub mod Served
+pub mod Ahead
+pub mod Hearing
+pub mod Known
+pub mod Running
+pub mod Closing
+pub mod Moves
+pub mod Settling
