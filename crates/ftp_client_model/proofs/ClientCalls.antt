@@ -51,9 +51,6 @@ greeted_low Negative code v is = strange_low v
 greeted_low Closing code v is = strange_low v
 greeted_low Displaced code v is = strange_low v
 
-entered : View → View
-entered v = record v { standing = Stands.Entered }
-
 enters_with_low : (job : Job) (v : View) → v.job ≡ job → Low v (enters_with job (record v { standing = Stands.Entered }))
 enters_with_low (Waiting op) v is = begins_low op v (record v { standing = Stands.Entered }) is (omega arith) refl
 enters_with_low Idle v is = record { begins = omega arith; gives = inr (omega arith) }

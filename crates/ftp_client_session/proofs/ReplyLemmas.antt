@@ -1,8 +1,7 @@
 -- What a reply during a transfer changes, said of views.
-use Rattle.std.proofs.Common.{◌≡◌, ◌∙◌, ◌||◌, ◌==◌, ℕ, false, List, refl, sym, ap, subst}
-use Rattle.std.specs.Prelude.{if◌then◌else◌}
+use Rattle.std.proofs.Common.{◌≡◌, ◌∙◌, ◌||◌, ℕ, List, refl, sym, ap, subst}
 use Rattle.ftp_operation.specs.declared.op.Op.{Op}
-use Rattle.ftp_client_model.specs.Dialogue.{behind_opening, closes, marked_flow, noted, unless_open, with_reply}
+use Rattle.ftp_client_model.specs.Dialogue.{behind_opening, closes, noted, unless_open, with_reply}
 use Rattle.ftp_client_model.specs.Replies.{Verdict, Negative}
 use Rattle.ftp_client_model.specs.View.{View, Job, Idle, Waiting, Doing, Transferring, Told, Transfer, stands}
 use Rattle.ftp_client_model.specs.declared.client.ClientLink.{ClientLink}
@@ -20,21 +19,9 @@ noted_by text (Doing op step) v = refl
 noted_by text (Transferring op transfer) v = refl
 noted_by text (Told answer) v = refl
 
-other_by : (code : ℕ) (text : List ℕ) (job : Job) (v : View) → (code == 110) ≡ false → v ≡ in_job (noted code text) job v
-other_by code text Idle v is = refl
-other_by code text (Waiting op) v is = refl
-other_by code text (Doing op step) v is = refl
-other_by code text (Transferring op transfer) v is =
-    ap (λ b. let w : View = record v { job = Transferring op (record transfer { flow = marked_flow (mark_value text) transfer.flow }) } in if b then w else v) (sym is)
-other_by code text (Told answer) v is = refl
-
 -- a 110 is noted
 pub noted_is : (text : List ℕ) (v : View) → (let u : View = record v { job = job_noted (mark_value text) v.job } in u ≡ in_transfer (noted 110 text) v)
 noted_is text v = noted_by text v.job v
-
--- and no other reply
-pub other_is : (code : ℕ) (text : List ℕ) (v : View) → (code == 110) ≡ false → v ≡ in_transfer (noted code text) v
-other_is code text v is = other_by code text v.job v is
 
 -- ---- a refusal behind the opening
 

@@ -3,14 +3,12 @@ use Rattle.std.proofs.Common.{◌≡◌, ◌∙◌, ◌==◌, ◌<◌, ◌+◌, 
 use Rattle.std.proofs.Math.Seq.{take-length}
 use Rattle.std.proofs.lemmas.Bool.{ne_eqb}
 use Rattle.std.proofs.lemmas.List.{append_assoc, append-nil}
-use Rattle.std.specs.Bool.{then_some}
 use Rattle.std.specs.List.{filter, onto_first, position_or_len, slice_split}
 use Rattle.std.specs.Prelude.{if◌then◌else◌}
 use Rattle.std.specs.Option.{option_map}
 use Rattle.ftp_facts.specs.Listed.{Listed, entry_value}
-use Rattle.ftp_facts.specs.Listing.{all_values, but_empty_last, entries_value, is_shown, line_feed, lines_of, name_value, names_value}
+use Rattle.ftp_facts.specs.Listing.{all_values, but_empty_last, entries_value, is_shown, line_feed, lines_of}
 use Rattle.ftp_facts.specs.Value.{and_then}
-use Rattle.ftp_path.specs.Path.{is_listed_text}
 use Rattle.ftp_client_transfer.specs.Listing.{kept}
 
 -- ---- lines
@@ -126,28 +124,6 @@ kept_by false seen octets line behind entry lines is hidden = entry_hidden seen 
 pub entry_kept : (seen : List Listed) (octets line behind : List ℕ) (entry : Listed) → lines_of octets ≡ line ∷ lines_of behind → Some entry ≡ entry_value line
     → with_rest (kept seen entry) (entries_value behind) ≡ with_rest seen (entries_value octets)
 entry_kept seen octets line behind entry lines is = kept_by (is_shown entry) seen octets line behind entry lines is refl
-
--- a line that says none
-pub entry_none : (octets line behind : List ℕ) → lines_of octets ≡ line ∷ lines_of behind → None ≡ entry_value line
-    → None ≡ entries_value octets
-entry_none octets line behind lines is = sym (entries_next octets line behind None lines is)
-
-names_next : (octets line behind : List ℕ) (b : Bool) → lines_of octets ≡ line ∷ lines_of behind → b ≡ is_listed_text line
-    → names_value octets ≡ and_then (then_some b line) (λ value. option_map (λ values. value ∷ values) (all_values name_value (lines_of behind)))
-names_next octets line behind b lines is =
-    ap (all_values name_value) lines
-    ∙ ap (λ c. and_then (then_some c line) (λ value. option_map (λ values. value ∷ values) (all_values name_value (lines_of behind)))) (sym is)
-
--- a name more
-pub name_next : (seen : List (List ℕ)) (octets line behind : List ℕ) → lines_of octets ≡ line ∷ lines_of behind → true ≡ is_listed_text line
-    → with_rest (seen ++ line ∷ []) (names_value behind) ≡ with_rest seen (names_value octets)
-name_next seen octets line behind lines is =
-    with_next seen line (names_value behind) ∙ ap (with_rest seen) (sym (names_next octets line behind true lines is))
-
--- a line that is no name
-pub name_none : (octets line behind : List ℕ) → lines_of octets ≡ line ∷ lines_of behind → false ≡ is_listed_text line
-    → None ≡ names_value octets
-name_none octets line behind lines is = sym (names_next octets line behind false lines is)
 
 -- no line is left
 pub all_entries : (seen : List Listed) (rest octets : List ℕ) → with_rest seen (entries_value rest) ≡ entries_value octets → length rest < 1

@@ -1,6 +1,5 @@
 -- An operation after a look at its path.
-use Rattle.std.proofs.Common.{◌≡◌, ◌⊎◌, ℕ, ◌≤◌, arith, inl, inr, false, List, Some, Result, Ok, Err, IfOk, IfErr, OnErr, refl, ap, sym, ◌∙◌, subst}
-use Rattle.ftp_path.specs.Path.{Names, fits}
+use Rattle.std.proofs.Common.{◌≡◌, ◌⊎◌, ◌≤◌, arith, inl, inr, Result, Ok, Err, IfOk, OnErr, refl, ap, sym, ◌∙◌, subst}
 use Rattle.ftp_tree.specs.Change.{Failures, IsSteady, NoStray, Tells, TellsOne, next_count, one_more}
 use Rattle.ftp_tree.specs.declared.fault.TreeFault.{TreeFault}
 use Rattle.ftp_tree.specs.declared.fault.TreeFault.TheVariants.{Absent, Exists, NotEmpty, WrongKind, TooBig, Full, Busy, BadOffset, Device, Memory}
@@ -8,13 +7,11 @@ use Rattle.ftp_tree.specs.Tree.{Table}
 use Rattle.ftp_tree.proofs.CountLemmas.{next_count-moves, stray-first}
 use Rattle.ftp_operation.specs.declared.answer.Answer.{Answer}
 use Rattle.ftp_operation.specs.Answer.{Said, Refused, said_of}
-use Rattle.ftp_direct.specs.Direct.{State, refused_file}
-use Rattle.ftp_direct.specs.Look.{IsUnseen, SeesFile}
-use Rattle.ftp_direct.specs.declared.refusal.Refusal.{Refusal}
-use Rattle.ftp_direct.specs.declared.refusal.Refusal.TheVariants.{LocalFault, Unavailable}
+use Rattle.ftp_direct.specs.Direct.{State}
+use Rattle.ftp_direct.specs.declared.refusal.Refusal.TheVariants.{LocalFault}
 use Rattle.ftp_direct.specs.Refusal.{code_of}
 use Rattle.ftp_direct.specs.Run.{Gives, IsAnswer, IsAsBefore}
-use Rattle.ftp_direct.proofs.RefusalLemmas.{as_told, stays}
+use Rattle.ftp_direct.proofs.RefusalLemmas.{stays}
 
 -- counts are the same where both parts are
 pub same-counts : (before after : Failures) → after.told ≡ before.told → after.strays ≡ before.strays → after ≡ before
@@ -64,12 +61,6 @@ pub if_counted : {A E : Type 0} (result : Result (Answer A) E) (before after : F
 if_counted (Ok answer) before after due old new is = is.counted
 if_counted (Err fault) before after due old new is = tt
 
--- what is left where memory was refused in a call of the tree
-pub refused_before : {X E : Type 0} (result : Result X E) (fault : TreeFault) (before after : Failures) (old new : Table) → IfErr result (λ _. fault ≡ Memory)
-    → Tells {X = X} (Err fault) before after → (NoStray before after → new ≡ old) → OnErr result (IsAsBefore before after old new)
-refused_before (Ok value) fault before after old new memory told same = tt
-refused_before {X = X} (Err why) fault before after old new memory told same = record { table = same; counts = subst (λ f. Tells {X = X} (Err f) before after) memory told }
-
 -- ---- an answer after calls in which no failure was told
 
 module _ (before mid after : Failures) (table now : Table) (steady : IsSteady before mid) (same : NoStray before mid → now ≡ table) where
@@ -110,10 +101,6 @@ pub looked_still : (before mid : Failures) (table now : Table) → IsSteady befo
     → Gives (due now) said new → IsAnswer before mid (due table) (old table) said new
 looked_still before mid table now steady same due old said new gives =
     looked before mid mid table now steady same due old said new (stays mid mid (due now) (old now) said new refl gives)
-
--- memory was refused before anything else was done
-pub looked_before : (before mid : Failures) (table now : Table) → IsSteady before mid → (NoStray before mid → now ≡ table) → IsAsBefore before mid table now
-looked_before before mid table now steady same = record { table = same; counts = steady }
 
 -- the same, where what was found is known of a device that did not stray alone
 pub looked_once : (before mid after : Failures) (table now : Table) → IsSteady before mid → (NoStray before mid → now ≡ table) → (due : Said × State) (old : State) (said : Said) (new : State)
@@ -165,21 +152,3 @@ failed_look before after table now one same due state said told = record {
   failed = λ moved. (told, ap state (same (ap (λ f. f.strays) moved)));
   counted = inr one;
 }
-
--- so is one of a path that is past the limits of paths, as it is refused
-pub unseen : (path : Names) (before after : Failures) (table now : Table) (long why : Refusal) → IsUnseen path long why before after → (NoStray before after → now ≡ table)
-    → (due : Table → Said × State) (state : Table → State) (said : Said) → said ≡ Refused (code_of why)
-    → (fits path ≡ false → Gives (due now) (Refused (code_of long)) (state now)) → IsAnswer before after (due table) (state table) said (state now)
-unseen path before after table now long why (inl (is, unfit, steady)) same due state said told gives =
-    looked_still before after table now steady same due state said (state now) (as_told (due now) said _ (state now) (told ∙ ap (λ w. Refused (code_of w)) is) (gives unfit))
-unseen path before after table now long why (inr (is, one)) same due state said told gives =
-    failed_look before after table now one same (due table) state said (told ∙ ap (λ w. Refused (code_of w)) is)
-
--- and one of a file that is not there
-pub no_file : (seen : Table → State) (text : List ℕ) (before after : Failures) (table now : Table) (why : Refusal) → SeesFile (seen now) text (Err why) before after
-    → (NoStray before after → now ≡ table) → (due : Table → Said × State) (said : Said) → said ≡ Refused (code_of why)
-    → (refused_file (seen now) text ≡ Some Unavailable → Gives (due now) (Refused (code_of Unavailable)) (seen now)) → IsAnswer before after (due table) (seen table) said (seen now)
-no_file seen text before after table now why (inl (is, none, steady)) same due said told gives =
-    looked_still before after table now steady same due seen said (seen now) (as_told (due now) said _ (seen now) (told ∙ ap (λ w. Refused (code_of w)) is) (gives none))
-no_file seen text before after table now why (inr (is, one)) same due said told gives =
-    failed_look before after table now one same (due table) seen said (told ∙ ap (λ w. Refused (code_of w)) is)

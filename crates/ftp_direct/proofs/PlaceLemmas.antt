@@ -1,8 +1,8 @@
 -- Where an offset leads to in a file, found piece by piece.
-use Rattle.std.proofs.Common.{◌≡◌, ◌≢◌, ℕ, zero, suc, ◌+◌, ◌<◌, ◌≤◌, ◌⊎◌, inl, inr, Bool, true, false, ◌==◌, List, [], ◌++◌, length, take, drop, nat_le, leb-false, Option, Some, None, IfSome, refl, ap, sym, subst, ◌∙◌, arith, zero-add, if◌then◌else◌}
+use Rattle.std.proofs.Common.{◌≡◌, ◌≢◌, ℕ, zero, suc, ◌+◌, ◌<◌, ◌≤◌, ◌⊎◌, inl, inr, Bool, true, false, ◌==◌, List, [], ◌++◌, length, take, drop, nat_le, leb-false, Some, None, refl, ap, sym, subst, ◌∙◌, arith, zero-add, if◌then◌else◌}
 use Rattle.std.specs.List.{find, range_with_len}
 use Rattle.std.proofs.lemmas.Bool.{leb-true}
-use Rattle.std.proofs.lemmas.List.{take-append-drop, length-drop, length-take, length-take-le}
+use Rattle.std.proofs.lemmas.List.{take-append-drop, length-drop, length-take-le}
 use Rattle.std.proofs.lemmas.Bool.Decides.{Decides-eqb}
 use Rattle.std.proofs.Math.Seq.{take-add}
 use Rattle.ftp_repr.specs.Signs.{wire_row}
@@ -77,10 +77,6 @@ module _ (kind : Kind) (file : List ℕ) (offset : ℕ) where
 
 pub offsets_lead : OffsetsLead
 offsets_lead kind octets offset place = (led kind octets offset place, leads kind octets offset place)
-
-pub within_of : (kind : Kind) (octets : List ℕ) (offset : ℕ) (found : Option ℕ) → found ≡ place_in kind octets offset → IfSome found (λ place. place ≤ length octets)
-within_of kind octets offset None is = tt
-within_of kind octets offset (Some place) is = (led kind octets offset place (sym is)).within
 
 -- octets that go each as itself
 pub in_image : (octets : List ℕ) (offset : ℕ) → place_in Image octets offset ≡ (if nat_le offset (length octets) then Some offset else None)
@@ -158,9 +154,6 @@ module _ (kind : Kind) (file piece : List ℕ) (offset at left : ℕ) (within : 
   in_piece place skips =
       let P : List ℕ → Type 0 = λ rest. IsPlace kind rest left place in
       leads kind file offset (at + place) (place_behind kind file offset at left place within so_far (subst P whole (within_stays kind piece (drop (length piece) (drop at file)) left place skips)))
-
-  pub piece_end : (place : ℕ) → Skips kind piece left (Within place) → at + place ≤ length file
-  piece_end place skips = omega (arith, skips.within, within, ap length is, length-take (length piece) (drop at file), length-drop at file)
 
   -- the piece has an octet that is cut
   pub in_octet : Skips kind piece left Inside → place_in kind file offset ≡ None

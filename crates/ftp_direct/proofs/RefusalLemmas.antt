@@ -105,10 +105,6 @@ there_some false refusal fit some = absurd (false≢true fit)
 there_some true None fit some = absurd (false≢true some)
 there_some true (Some fault) fit some = refl
 
--- a path past the limits of paths is refused so
-pub there_long : (fit : Bool) (refusal : Option TreeFault) → fit ≡ false → refused_there (if fit then refusal else Some TooBig) ≡ Some Unavailable
-there_long fit refusal long = ap (λ b. refused_there (if b then refusal else Some TooBig)) long
-
 pub there_none : (fit : Bool) (refusal : Option TreeFault) → fit ≡ true → is_some refusal ≡ false → refused_there (if fit then refusal else Some TooBig) ≡ None
 there_none false refusal fit none = absurd (false≢true fit)
 there_none true None fit none = refl

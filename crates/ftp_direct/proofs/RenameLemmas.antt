@@ -49,11 +49,6 @@ module _ (table : Table) (root cwd : Names) (onto : Bool) (from to : List ℕ) w
       unfolding held
       free_from = ap held (sym is) ∙ free
 
-      pub rename_unfit : fits (resolved cwd to) ≡ false → Gives (due (here_onto table root cwd onto) (Ops.Rename from to) 0) (Refused (code_of BadName)) (here_onto table root cwd onto)
-      rename_unfit long =
-          gives_refused _ (Ops.Rename from to) 0 BadName
-          (refused_named fit_from free_from ∙ ap (λ b. refused_name (if b then rename_refusal (seen (resolved cwd from) (resolved cwd to)) (resolved cwd from) (resolved cwd to) else Some TooBig)) long)
-
       module _ (target : Names) (to_is : target ≡ resolved cwd to) (to_fit : fits target ≡ true) where
         by_name : refusal (here_onto table root cwd onto) (Ops.Rename from to) ≡ refused_name (rename_refusal (seen path target) path target)
         by_name =

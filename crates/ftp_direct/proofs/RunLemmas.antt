@@ -14,7 +14,7 @@ use Rattle.ftp_operation.specs.Answer.{Said, BadOperation, Refused, said_of}
 use Rattle.ftp_operation.specs.Operation.{can_be_sent}
 use Rattle.ftp_direct.specs.Direct.{State, answer, answers, chosen, done, first_refusal, due, here, is_directory, refusal, standing, start}
 use Rattle.ftp_tree.specs.Change.{Failures, NoStray, next_count, one_more}
-use Rattle.ftp_direct.specs.Run.{Gives, IsAnswer, Ran, Turn, answer_of, failures_of, moved_on, order_of, orders_of, run}
+use Rattle.ftp_direct.specs.Run.{IsAnswer, Ran, Turn, answer_of, failures_of, moved_on, order_of, orders_of, run}
 use Rattle.ftp_direct.proofs.LookLemmas.{same-counts}
 use Rattle.ftp_direct.proofs.RefusalLemmas.{still}
 use Rattle.ftp_direct.specs.declared.refusal.Refusal.TheVariants.{NotLoggedIn, LocalFault}
@@ -26,9 +26,6 @@ as_answer : (state : State) (op : Op (List ℕ)) (moment : ℕ) (sent : Bool) �
     → answer state op moment ≡ (if sent then chosen (first_refusal state op) state (done state op moment) else (BadOperation, state))
 unfolding answer
 as_answer state op moment sent is = ap (λ b. if b then chosen (first_refusal state op) state (done state op moment) else (BadOperation, state)) is
-
-gives_by : (one other : Said × State) → one ≡ other → Gives other other.0 other.1 → Gives one other.0 other.1
-gives_by one other is gives = (ap (λ p. p.0) (sym is), ap (λ p. p.1) (sym is))
 
 pub bad_operation : (count : Failures) (state : State) (op : Op (List ℕ)) (moment : ℕ) → can_be_sent op ≡ false
     → IsAnswer count count (answer state op moment) state BadOperation state
@@ -239,10 +236,6 @@ start_known table account found known is dir = ap (λ known. standing table acco
 pub start_unknown : (table : Table) (root : Names) (rights : Rights) (found : Option Account) → root ≡ [] → rights ≡ no_rights → None ≡ found
     → standing table root [] false rights ≡ start table found
 start_unknown table root rights found top nothing none = (λ i. standing table (top i) [] false (nothing i)) ∙ ap (start table) none
-
-pub start_table : (table : Table) (found : Option Account) → (start table found).table ≡ table
-start_table table None = refl
-start_table table (Some account) = refl
 
 -- ---- a tree whose device never fails
 

@@ -1,8 +1,7 @@
 -- How many octets go over the wire, piece by piece.
-use Rattle.std.proofs.Common.{◌≡◌, ℕ, ◌+◌, ◌≤◌, List, [], ◌∷◌, ◌++◌, length, take, drop, refl, ap, sym, ◌∙◌, arith, suc, length-append}
+use Rattle.std.proofs.Common.{◌≡◌, ℕ, ◌+◌, List, [], ◌∷◌, ◌++◌, length, take, drop, refl, ap, sym, ◌∙◌, suc, length-append}
 use Rattle.std.specs.List.{flat_map}
 use Rattle.std.proofs.lemmas.Grind.{flat_map-append}
-use Rattle.std.proofs.lemmas.List.{length-take, length-drop}
 use Rattle.std.proofs.Math.Seq.{take-add}
 use Rattle.ftp_repr.specs.Ascii.{asc, ascii_octet}
 use Rattle.ftp_repr.specs.Signs.{wire_octets, wire_row}
@@ -27,7 +26,3 @@ pub size_step : (kind : Kind) (file piece : List ℕ) (at : ℕ) → piece ≡ t
 size_step kind file piece at is =
     ap (size_in kind) (take-add at (length piece) file) ∙ size_append kind (take at file) (take (length piece) (drop at file))
     ∙ ap (λ p. size_in kind (take at file) + size_in kind p) (sym is) ∙ ap (λ n. size_in kind (take at file) + n) (sym (size_piece kind piece))
-
-pub piece_within : (file piece : List ℕ) (at : ℕ) → at ≤ length file → piece ≡ take (length piece) (drop at file) → at + length piece ≤ length file
-piece_within file piece at within is =
-    omega (arith, ap length is, length-take (length piece) (drop at file), length-drop at file)

@@ -1,6 +1,6 @@
 -- What is known of a session, by the laws of agreement.
 use Rattle.std.proofs.Common.{◌≡◌, ◌∙◌, Bool, true, List, [], ◌∷◌, ◌++◌, map, refl, sym, ap, subst, append-nil, append_assoc, Ok, Err}
-use Rattle.std.specs.Prelude.{IfOk, OnOk}
+use Rattle.std.specs.Prelude.{IfOk}
 use Rattle.std.specs.declared.result.Result.{Result}
 use Rattle.ftp_pair_agreement.proofs.Theorems.{agrees-always, headline, quiet-is-answered, rest-is-quiet}
 use Rattle.ftp_server_model.specs.Machine.{IsReading, Reading}
@@ -117,8 +117,3 @@ agrees_step event (Ok possible) old new did = λ calm read reads.
     goes_on read reads (event_of event ∷ []) (begun_by (event_of event) possible) old.world new.world (timed event, tt)
     (possible, new.world, [], (did calm).1 read reads, sym (append-nil (begun_by (event_of event) possible)), (refl, refl))
 agrees_step event (Err e) old new did = tt
-
--- and after a run
-pub agrees_run : {T E : Type 0} (given : List Event) (result : Result T E) (old new : Seen) → AreTimed given → OnOk result (LeadsCalmly given old new) → OnOk result (AgreesAfter given old new)
-agrees_run given (Ok x) old new in_time leads = agrees_after given old new in_time leads
-agrees_run given (Err e) old new in_time leads = tt

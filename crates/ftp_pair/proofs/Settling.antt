@@ -39,10 +39,6 @@ less_by left was false old new some steady stirs = omega (arith, some)
 
 -- ---- turns lead on
 
--- none yet
-pub none_small : (s : Seen) → LeadsSmall s s
-none_small s calm = (calm, λ read reads. ([], tt, (refl, refl)))
-
 -- one more behind some
 small_last : (read : Reading) (turns : List Event) (event : Event) (old mid new : World) → AreSmall turns → IsSmall event → Leads read old turns [] mid → Happens read event mid true new
     → (all : List Event) × AreSmall all × Leads read old all [] new

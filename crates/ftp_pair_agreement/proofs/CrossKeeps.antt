@@ -23,7 +23,7 @@ use Rattle.ftp_pair_world.specs.Events.{ControlToServer, ControlToClient, pulled
 use Rattle.ftp_pair_world.specs.World.{World, Mark}
 use Rattle.ftp_pair_dialogues.specs.Fetches.{Ask}
 use Rattle.ftp_pair_dialogues.specs.Peeks.{abort_line}
-use Rattle.ftp_pair_dialogues.specs.Stage.{calm, still, Answering, AreWritten, rest, row_octets}
+use Rattle.ftp_pair_dialogues.specs.Stage.{calm, still, AreWritten, rest, row_octets}
 use Rattle.ftp_pair_agreement.specs.Crossing.{AreCut, AreHeard, Cuts, FlowsAbort, crossing_at}
 use Rattle.ftp_pair_agreement.specs.Cut.{Cut, Flows, FlowsRow, coming, world_at}
 use Rattle.ftp_pair_agreement.specs.PeekStages.{AtHalt, IsHaltCross}
@@ -69,11 +69,6 @@ owed_within unit c flow =
 pub abort_anew : Flows (written_line abort_line) [] (written_line abort_line) []
 abort_anew =
     subst (λ l. Flows (written_line abort_line) [] l []) (append-nil (written_line abort_line)) (anew (written_line abort_line) [] (line_is_some abort_line))
-
--- a world of replies alone is one that no line crosses
-pub as_crossing : (b : World) (rows : List Reply) (c : Cut) (h : HeardAs c.held)
-    → world_at b (Answering rows) c ≡ crossing_at b (record { up = no_octets; down = c; ear = h.ear; gathered = h.gathered })
-as_crossing b rows c h = ap (λ v. record (world_at b (Answering rows) c) { near = v }) (h.heard (calm b.near) refl refl)
 
 -- where nothing is on its way it is at rest
 pub as_rest : (b : World) (c : Cuts) → AreCut false [] c → crossing_at b c ≡ world_at b rest no_octets

@@ -77,12 +77,6 @@ pub or_none : (one : Option Refusal) → option_or one None ≡ one
 or_none None = refl
 or_none (Some why) = refl
 
--- what is written is the marked text where there are markers, and the wire of the settings where there are none
-written_is : (b : Bool) (settings : Representation) (start : ℕ) (octets : List ℕ)
-    → written b settings start octets ≡ (if b then marked_text start octets else written_wire settings.mode (form_of settings) octets)
-written_is true settings start octets = refl
-written_is false settings start octets = refl
-
 -- ---- files are short
 
 -- a file of a sound state has no more octets than a map may have

@@ -5,7 +5,6 @@ use Rattle.ftp_direct.specs.Direct.{State, answer}
 use Rattle.ftp_client_model.specs.Calls as near
 use Rattle.ftp_client_model.specs.Calls.{is_busy_job, report_of}
 use Rattle.ftp_ends.specs.Link.{is_wanted}
-use Rattle.ftp_ends.specs.declared.link.Wants.{Wants}
 use Rattle.ftp_ends.specs.declared.link.Wants.TheVariants as Want
 use Rattle.ftp_server_model.specs.Calls as far
 use Rattle.ftp_server_model.specs.Machine.{Reading, IsReading}
@@ -48,10 +47,6 @@ given_none (FarData.Transferring transfer) aside = absurd (cc)
 pub and_false : (b : Bool) → (b && false) ≡ false
 and_false true = refl
 and_false false = refl
-
--- where the client wants nothing, no link is wanted
-nothing_wanted : (wants : Wants) → is_wanted Want.Nothing wants ≡ false
-nothing_wanted wants = refl
 
 -- in a world where neither end wants anything there is no data to give and no link to ask for
 pub still_data : (w : World) → IsStill w → HasNoData w

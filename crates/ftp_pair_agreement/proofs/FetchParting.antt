@@ -25,7 +25,7 @@ use Rattle.ftp_pair_dialogues.specs.Stage.{Way, Asking, Answering}
 use Rattle.ftp_pair_agreement.specs.Cut.{Cut, world_at, PlacedAt}
 use Rattle.ftp_pair_agreement.specs.Follows.{Told, Follows}
 use Rattle.ftp_pair_agreement.specs.Rising.{FaredTo, Lift, Offered, Rising, Risen, Settled, Declined, Unjoined, Closing, Shut, Vanished, fate_said, lift_passes}
-use Rattle.ftp_pair_agreement.specs.Runs.{IsAsked, IsFetching, IsFetchingOn, IsTrailing}
+use Rattle.ftp_pair_agreement.specs.Runs.{IsAsked, IsFetchingOn, IsTrailing}
 use Rattle.ftp_pair_agreement.specs.Stages as Stages
 use Rattle.ftp_pair_agreement.specs.Stages.{Course, Giving, Given, Ended, Severed, Refusing, Unopened, Unclosed, Closed, Lost, Stage, PortAsked, PortTold, Dials, Restarts, Retrieves, Carries, Rises, Tells, Answers, Holds, AtFetch, IsLasting, Dialled, Ported, PortWanted, PortSaid, PortTaken, PortDenied, Awaits, Unaccepted, Dismissed}
 use Rattle.ftp_pair_agreement.proofs.FetchServed.{leads_still, moves_on, lasting_untold}
@@ -155,10 +155,6 @@ lost_follows Stood read from begun w g left lost_to after table few =
     })
 
 module _ (read : Reading) (from : State) (begun : List Order) (w : World) (on : IsFetchingOn read from begun w) where
-  -- what is asked for is under way in this world
-  f : IsFetching read from begun w
-  f = on.fetching
-
   abbrev At : Way → World → Type 0
   At way b = AtFetch on.fetching.now on.fetching.ask read on.fetching.own way b
 

@@ -25,7 +25,7 @@ use Rattle.ftp_pair_agreement.proofs.FetchWants.{flows_or_none, rises_or_none}
 use Rattle.ftp_pair_agreement.proofs.OverClient.{Beside, Under, Behind, under}
 use Rattle.ftp_pair_agreement.proofs.OverLink.{control_end_beside, control_end_none}
 use Rattle.ftp_pair_agreement.proofs.OverFollows.{Parts}
-use Rattle.ftp_pair_agreement.proofs.OverServed.{Working, wants_same, working_after}
+use Rattle.ftp_pair_agreement.proofs.OverServed.{wants_same, working_after}
 use Rattle.ftp_pair_agreement.proofs.OverSettles.{Turned, settle_end}
 use Rattle.ftp_pair_agreement.proofs.Parting.{parts_from_under}
 use Rattle.ftp_pair_agreement.proofs.Phases.{HasFollowed}
@@ -45,10 +45,6 @@ module _ (read : Reading) (reads : IsReading read) (from : State) (begun : List 
   -- the world, whose client has the run
   abbrev real : World
   real = record w { near = record t.near { run = Some t.going.run }; taken = [] }
-
-  -- two worlds that are at the same
-  abbrev Same : World → World → Type 0
-  Same a b = Working t.going.run t.going.op w.marks (marks_of t.going) w.reports (w.reports ++ tried_said t.going.past) w.cutoff w.cutoff a b
 
   -- ---- the control connection ends
 

@@ -176,14 +176,6 @@ module _ (run : Run) (op : Op (List ℕ)) (marks own_marks : List (List Mark)) (
   pub working_served : (a b : World) → Working a b → Working (served a) (served b)
   working_served a b m = served_alike (Some run) marks own_marks reports own_reports cutoff own_cutoff IsWorking (λ n w. w) listens_on a b m
 
-  -- the client is served
-  pub working_near : (a b : World) → Working a b → Working (near_served a) (near_served b)
-  working_near a b m = nears_alike (Some run) marks own_marks reports own_reports cutoff own_cutoff IsWorking (λ n w. w) listens_on a b m
-
-  -- the server is
-  pub working_fars : (a b : World) → Working a b → Working (far_served (far_served (far_served a))) (far_served (far_served (far_served b)))
-  working_fars a b m = fars_alike (Some run) marks own_marks reports own_reports cutoff own_cutoff IsWorking (λ n w. w) listens_on a b m
-
   -- no report is taken
   pub working_collected : (a b : World) → Working a b → Working (collected a) (collected b)
   working_collected a b m =

@@ -16,7 +16,7 @@ use Rattle.ftp_pair_world.specs.World.{World, Link}
 use Rattle.ftp_pair_dialogues.specs.Fetches.{busy, linked}
 use Rattle.ftp_pair_agreement.specs.Follows.{Follows}
 use Rattle.ftp_pair_agreement.specs.PeekStages.{AtHalt, Gave, Gives, Halt, Halted, Halts, is_halt_passing}
-use Rattle.ftp_pair_agreement.specs.Runs.{IsHalting, IsHaltingOn}
+use Rattle.ftp_pair_agreement.specs.Runs.{IsHaltingOn}
 use Rattle.ftp_pair_agreement.specs.Stages.{Closed, Lost, Unclosed}
 use Rattle.ftp_pair_agreement.proofs.FetchParting.{Clears, lost_follows, lost_link, parts_with}
 use Rattle.ftp_pair_agreement.proofs.FetchReplies.{none_more}
@@ -24,9 +24,6 @@ use Rattle.ftp_pair_agreement.proofs.LostFates.{lost_nothing}
 use Rattle.ftp_pair_agreement.proofs.PeekServed.{far_at, near_at}
 
 module _ (from : State) (begun : List Order) (w : World) (on : IsHaltingOn from begun w) where
-  abbrev f : IsHalting from begun w
-  f = on.halting
-
   abbrev a : AtHalt on.halting.now on.halting.ask on.halting.own w
   a = on.halting.stands
 

@@ -1,10 +1,10 @@
 -- Every event keeps what follows of a Peek that has sent ABOR.
-use Rattle.std.proofs.Common.{◌≡◌, inl, ℕ, Bool, true, false, ◌&&◌, List, [], ◌∷◌, ◌++◌, None, refl, sym, ap, subst, ◌∙◌}
+use Rattle.std.proofs.Common.{◌≡◌, inl, ℕ, Bool, true, false, ◌&&◌, List, [], ◌∷◌, ◌++◌, refl, sym, ap, subst, ◌∙◌}
 use Rattle.ftp_ends.specs.Link.{is_wanted}
 use Rattle.ftp_ends.specs.declared.link.Wants.{Wants}
 use Rattle.ftp_direct.specs.Direct.{State}
 use Rattle.ftp_client_model.specs.Calls as near
-use Rattle.ftp_client_model.specs.Calls.{is_busy_job, report_of}
+use Rattle.ftp_client_model.specs.Calls.{is_busy_job}
 use Rattle.ftp_client_model.specs.View.{Job}
 use Rattle.ftp_client_model.specs.declared.client.ClientLink.{ClientLink as NearConnection}
 use Rattle.ftp_server_model.specs.Calls as far
@@ -82,10 +82,6 @@ module _ (state : State) (ask : Ask) (own : List Mark) (w : World) (a : AtHalt s
   -- it is busy
   pub halt_busy : is_busy_job w.near.job ≡ true
   halt_busy = ap (λ v. is_busy_job v.job) (near_at state ask own a.base w a.cuts a.is _ _ a.here.near)
-
-  -- it has nothing to report
-  pub halt_untold : report_of w.near ≡ None
-  halt_untold = ap report_of (near_at state ask own a.base w a.cuts a.is _ _ a.here.near)
 
   -- it gives no octets, and has not closed the link
   pub record HaltGivesNone : Type 0 where

@@ -153,10 +153,6 @@ module _ (read : Reading) (reads : IsReading read) (from : State) where
     later : IsTrailing from begun (record w { taken = [] })
     later = trailing_taken from begun [] w t
 
-    -- what a closed link lets happen
-    lets : (event : Event) → Happens read event w true new → IsTrue (can_happen event w)
-    lets event e = e.0
-
     -- no delivery is possible in a world that trails behind
     pub trails_deliver : (queue : Queue) (count : ℕ) → IsTrue (can_happen (Deliver queue count) w) → ⊥
     trails_deliver ControlToServer count can = never _ (none_there (not (count == 0)) _) (subst (λ u. IsTrue (can_happen (Deliver ControlToServer count) u)) (closed_is read reads from begun w t) can)

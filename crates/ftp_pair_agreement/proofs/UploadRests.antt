@@ -6,7 +6,7 @@ use Rattle.ftp_path.specs.Path.{Names}
 use Rattle.ftp_wire.specs.Decoder.{Decoder}
 use Rattle.ftp_direct.specs.Direct.{State}
 use Rattle.ftp_client_model.specs.Calls as near
-use Rattle.ftp_client_model.specs.Calls.{is_busy_job, is_sound}
+use Rattle.ftp_client_model.specs.Calls.{is_busy_job}
 use Rattle.ftp_client_model.specs.View.{View as Near}
 use Rattle.ftp_server_model.specs.Calls as far
 use Rattle.ftp_server_model.specs.declared.session.Keep.{Keep}
@@ -103,15 +103,6 @@ module _ (state : State) (ask : Ask) (own : List Mark) (rise : Rise) where
   lift_busy (Settled begun mark notes fate left after) n = refl
   lift_busy (Declined why door) n = refl
   lift_busy Unjoined n = refl
-
-  -- it has not failed
-  pub lift_sound : (lift : Lift) (n : Near) → is_sound (lift_near state ask rise lift n).standing ≡ true
-  lift_sound Offered n = refl
-  lift_sound (Rising past octet more came queue mark notes) n = refl
-  lift_sound (Risen past closed came queue mark notes) n = refl
-  lift_sound (Settled begun mark notes fate left after) n = refl
-  lift_sound (Declined why door) n = refl
-  lift_sound Unjoined n = refl
 
   -- but where octets are given or taken it has none to give
   pub lift_owes : (lift : Lift) → lifts lift ≡ false → (n : Near) → near.to_give (lift_near state ask rise lift n) ≡ []

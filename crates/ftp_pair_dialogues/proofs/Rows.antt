@@ -121,11 +121,6 @@ refused_exchange op step command why n f awaits decided = record {
 
 -- ---- rights
 
--- what is not refused is not barred
-pub may_is : (may : Bool) (why : Option Refusal) → or_refused (barred may) why ≡ None → barred may ≡ None
-may_is true why none = refl
-may_is false why none = absurd (cc)
-
 -- nor is it refused for another reason
 pub may_none : (may : Bool) (why : Option Refusal) → or_refused (barred may) why ≡ None → why ≡ None
 may_none true why none = none

@@ -105,10 +105,6 @@ module _ (read : Reading) (state : State) (after : Table) (Goal : Near → Far �
   -- what follows behind all settings
   module _ (wanted : Representation) (asks : asked_settings op ≡ Some wanted)
       (behind : (n : Near) (f : Far) → Stands state n f → n.settings ≡ wanted → LeadsFrom read Along Goal op (opening_of (how_of op) op) n f) where
-    -- a client whose server accepted these settings with this mode
-    with_mode : Near → Representation
-    with_mode n = record n.settings { mode = wanted.mode }
-
     -- a setting's own command is sent
     kind_placed : (n : Near) (job : Job) → placed op Steps.Kind (record (calm (resting n)) { job = job })
         ≡ record (calm (doing op Steps.Kind n)) { owed = written_line (line_of (Commands.Repr wanted.kind)) }

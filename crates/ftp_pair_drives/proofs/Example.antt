@@ -43,10 +43,6 @@ module _ (table : Table) where
   far_first : Far
   far_first = start table (example table).accounts here here
 
-  -- owing nothing
-  quiet_far : Far → Far
-  quiet_far v = record v { owed = [] }
-
   far_logged : Far
   far_logged = record far_first {
     session = record far_first.session { access = Accesses.Known; root = []; rights = all_rights; cwd = [] };

@@ -2,14 +2,13 @@
 use Rattle.std.proofs.Common.{◌≡◌, ℕ, ◌+◌, ◌<◌, ◌≤◌, ◌⊎◌, inl, inr, List, [], length, Bool, true, false, Option, Some, None, refl, sym, ap, subst, arith}
 use Rattle.std.specs.Prelude.{if◌then◌else◌}
 use Rattle.ftp_command.specs.declared.command.Command.{Command}
-use Rattle.ftp_operation.specs.Answer.{Said}
 use Rattle.ftp_operation.specs.declared.op.Op.{Op}
 use Rattle.ftp_client_model.specs.Bounds.{abort_left, login_left, steps_left, job_left, run_left, to_begin, still_to_give}
 use Rattle.ftp_client_model.specs.Calls.{control_end, given_of, listening, listening_by, reports, reported_by, to_give, transfer_over}
 use Rattle.ftp_client_model.specs.Dialogue.{goes_on, last_job, placed, sends_if}
 use Rattle.ftp_client_model.specs.Octets.{flow_of}
 use Rattle.ftp_client_model.specs.Plan.{command_of, count_of, next_step}
-use Rattle.ftp_client_model.specs.View.{View, Job, Idle, Doing, Transferring, Told, Transfer, stands, fails_by, failed_job}
+use Rattle.ftp_client_model.specs.View.{View, Job, Idle, Doing, Transferring, Told, Transfer, stands, fails_by}
 use Rattle.ftp_client_model.specs.declared.client.Abort.TheVariants as Aborts
 use Rattle.ftp_client_model.specs.declared.client.ClientLink.{ClientLink}
 use Rattle.ftp_client_model.specs.declared.client.ClientLink.TheVariants as Data
@@ -111,11 +110,6 @@ near_listening port v apart =
     subst P (sym apart) (by_listens v.connection port v)
 
 -- ---- the client fails
-
--- nothing is to begin once the client has failed
-no_job : (answer : Said) (job : Job) → job_left None (failed_job answer job) ≡ 0
-no_job answer Idle = refl
-no_job answer job = refl
 
 -- nor is anything owed
 fails_unqueued : (v new : View) → new.owed ≡ [] → stands new.connection ≡ false → near_unqueued new ≤ near_unqueued v

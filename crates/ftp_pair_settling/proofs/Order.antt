@@ -75,10 +75,6 @@ pub record FarLow (old new : Far) : Type 0 where
 pub near_same : (v : Near) → NearLow v v
 near_same v = record { begins = omega arith; gives = inr (omega arith, omega arith) }
 
--- a server that has not changed
-pub far_same : (v : Far) → FarLow v v
-far_same v = record { begins = omega arith; gives = inr (omega arith, omega arith) }
-
 -- a number is not less than one that it equals
 pub not_less : {R : Type 0} (a b : ℕ) → a ≡ b → a < b → R
 not_less a b e less = absurd (omega (arith, e, less))

@@ -32,10 +32,6 @@ pub steady_then : (most : ℕ) (before between after : Failures) → IsSteady be
 steady_then most before between after first next =
     ((next.0.0, next.0.1, next.0.2 ∙ ap (moved_on next.0.0) first.0), omega (arith, first.1, next.1))
 
--- none told twice
-pub steady_twice : (before between after : Failures) → IsSteady before between → IsSteady between after → IsSteady before after
-steady_twice before between after first next = (next.0 ∙ first.0, omega (arith, first.1, next.1))
-
 -- none told, where a call did nothing before or after that
 pub steady_behind : (before between after : Failures) → between ≡ before → IsSteady between after → IsSteady before after
 steady_behind before between after same steady = subst (λ f. IsSteady f after) same steady

@@ -6,7 +6,7 @@ use Rattle.ftp_command.specs.declared.fault.CommandFault.{CommandFault}
 use Rattle.ftp_command.specs.declared.fault.CommandFault.TheVariants.{Memory}
 use Rattle.ftp_nvt.specs.Lines.{NvtEvent, line, too_long, owed}
 use Rattle.ftp_ends.specs.Ear.{ear_out, ear_step}
-use Rattle.ftp_server_model.specs.Failing.{AbortFails, ActingFails, AreHeard, EventIsHeard, EventsAreHeard, Late, LineIsHeard, as_ever, not_read, not_done, OctetIsHeard}
+use Rattle.ftp_server_model.specs.Failing.{AbortFails, ActingFails, AreHeard, EventIsHeard, EventsAreHeard, LineIsHeard, as_ever, not_read, not_done, OctetIsHeard}
 use Rattle.ftp_server_model.specs.Machine.{IsReading, MayHear, Reading, aborted, heard_event, heard_events, heard_line, hears, hears_octet, is_abort, later, may_hear}
 use Rattle.ftp_server_model.specs.View.{View, line_limit}
 use Rattle.ftp_server_model.specs.declared.heard.HeardLine.{HeardLine}
@@ -19,10 +19,6 @@ use Rattle.ftp_server.specs.Reading.{HoldsText}
 pub on_ok : {T E : Type 0} {P Q : Type 0} (r : Result T E) → (P → Q) → OnOk r P → OnOk r Q
 on_ok (Ok x) f p = f p
 on_ok (Err e) f p = tt
-
-pub on_both : {T E : Type 0} {P Q R : Type 0} (r : Result T E) → (P → Q → R) → OnOk r P → OnOk r Q → OnOk r R
-on_both (Ok x) f p q = f p q
-on_both (Err e) f p q = tt
 
 pub on_err : {T E : Type 0} {P Q : Type 0} (r : Result T E) → (P → Q) → OnErr r P → OnErr r Q
 on_err (Ok x) f p = tt
@@ -38,9 +34,6 @@ line_waits heard v e = rw e refl
 
 pub abort_fails : (heard : HeardLine (List ℕ)) (v w : View) → is_abort heard v ≡ true → AbortFails v.session.connection v w → ActingFails (is_abort heard v) heard v w
 abort_fails heard v w e h = subst (λ b. ActingFails b heard v w) (sym e) h
-
-pub line_fails : (heard : HeardLine (List ℕ)) (v w : View) → is_abort heard v ≡ false → Late (record v { waiting = Some heard }) w → ActingFails (is_abort heard v) heard v w
-line_fails heard v w e h = subst (λ b. ActingFails b heard v w) (sym e) h
 
 -- a line that says no command is answered whatever memory there is
 pub bad_is_heard : {T E C : Type 0} (r : Result T E) (fault : CommandFault) (v w : View) → OnOk r (C → w ≡ heard_line (Bad fault) v)
@@ -94,9 +87,6 @@ are_append : (read : Reading) (v : View) (front : List ℕ) (octet : ℕ) (w : V
 are_append read v [] octet w may one h = (one, w, h, refl)
 are_append read v (c ∷ cs) octet w may one h =
     (may.0, hears_octet read v c, octet_as_ever read v c, are_append read (hears_octet read v c) cs octet w may.1 one h)
-
-pub hears_none : (v : View) → HearsTo [] v v
-hears_none v read is = (refl, tt)
 
 pub hears_more : (front : List ℕ) (octet : ℕ) (v x w : View) → HearsTo front v x → may_hear x ≡ true
     → ((read : Reading) → IsReading read → w ≡ hears_octet read x octet) → HearsTo (front ++ octet ∷ []) v w

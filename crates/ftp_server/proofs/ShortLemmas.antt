@@ -6,7 +6,6 @@ use Rattle.ftp_command.specs.Command.{Argues, Says}
 use Rattle.ftp_command.specs.declared.command.Command.{Command}
 use Rattle.ftp_command.specs.declared.command.Command.TheVariants as command
 use Rattle.ftp_path.specs.Login.{login_limit}
-use Rattle.ftp_command.specs.declared.fault.CommandFault.{CommandFault}
 use Rattle.ftp_cutting.specs.Machine.{after}
 use Rattle.ftp_nvt.specs.Ear.{event_list, limit_of}
 use Rattle.ftp_nvt.specs.Fold.{Ear, quiet, ear, ear_of, ear_step, ear_out}
@@ -15,7 +14,7 @@ use Rattle.ftp_nvt.specs.declared.event.Event.{Event}
 use Rattle.ftp_nvt.specs.declared.event.Event.TheVariants.{Line}
 use Rattle.ftp_nvt.proofs.ReaderLemmas.{reader_is_ear}
 use Rattle.ftp_server_model.specs.View.{line_limit}
-use Rattle.ftp_server_model.specs.declared.heard.HeardLine.TheVariants.{Bad, Asks}
+use Rattle.ftp_server_model.specs.declared.heard.HeardLine.TheVariants.{Asks}
 use Rattle.ftp_ends.specs.Limits.{IsShortLine}
 use Rattle.ftp_ends.proofs.ReadLemmas.{AreShortEvents, ear_says, ear_short, none_short}
 use Rattle.ftp_server_laws.proofs.SaidLemmas.{heard_short}
@@ -93,6 +92,3 @@ name_said a (command.Opts text) h = omega arith
 -- what a line within the limit says may wait
 pub command_waits : (text : List ℕ) (command : Command (List ℕ)) → length text ≤ line_limit → Says text command → MayWait (Some (Asks command))
 command_waits text command short says = (paths_said _ command says.1, heard_short text (Asks command) short says, name_said _ command says.1)
-
-pub fault_waits : (fault : CommandFault) → MayWait (Some (Bad fault))
-fault_waits fault = (tt, omega arith, omega arith)

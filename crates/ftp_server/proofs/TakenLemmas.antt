@@ -19,9 +19,6 @@ are_append : (v : View) (front back : List ℕ) (w : View) → MayReceive v fron
 are_append v [] back w may more = more
 are_append v (c ∷ cs) back w may more = (may.0, receives_octet v c, inl refl, are_append (receives_octet v c) cs back w may.1 more)
 
-pub row_none : (v : View) → ReceivesTo [] v v
-row_none v = (refl, tt)
-
 -- more octets of a piece
 pub row_more : (piece : List ℕ) (i count : ℕ) (v x w : View) → ReceivesTo (take i piece) v x → ReceivesTo (take count (drop i piece)) x w → ReceivesTo (take (i + count) piece) v w
 row_more piece i count v x w before now =

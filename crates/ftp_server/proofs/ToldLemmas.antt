@@ -6,13 +6,12 @@ use Rattle.std.proofs.lemmas.List.{take_more}
 use Rattle.std.proofs.Math.Seq.{take-add}
 use Rattle.ftp_mode.specs.Said.{Said, says, marker}
 use Rattle.ftp_mode.specs.declared.fault.FrameFault.{FrameFault}
-use Rattle.ftp_nvt.specs.Lines.{NvtEvent}
 use Rattle.ftp_path.specs.Path.{Names}
 use Rattle.ftp_wire.specs.Decoder.{Decoder, with_sign, read_on, octet_says, fault_of}
 use Rattle.ftp_server_model.specs.Calls.{MayReceive, connection_of, grown, is_upload, may_receive, receives, receives_octet, takes_all, takes_data, takes_octet, takes_said, with_connection}
 use Rattle.ftp_server_model.specs.Endpoint.{forgotten, is_standing}
 use Rattle.ftp_server_model.specs.Far.{Server}
-use Rattle.ftp_server_model.specs.Heard.{Heard, Tells, abort_told, heard_by, heard_by_event, heard_by_events, heard_by_line, heard_by_octet, heard_received, later_heard, latest, told_of, waited_heard}
+use Rattle.ftp_server_model.specs.Heard.{Heard, Tells, abort_told, heard_by, heard_by_line, heard_by_octet, heard_received, later_heard, latest, told_of, waited_heard}
 use Rattle.ftp_server_model.specs.Machine.{IsReading, Reading, given_out, has_room, hears, hears_octet, is_abort, is_connection_busy, is_idle, is_over, later, obeyed, turned, waited}
 use Rattle.ftp_server_model.specs.Act.{decided}
 use Rattle.ftp_server_model.specs.View.{Session, Transfer, View}
@@ -85,10 +84,6 @@ pub obeyed_told : (C : Type 0) {T E : Type 0} (r : Result T E) (heard : HeardLin
 obeyed_told C (Ok x) heard v told waits idle is = λ c. is c ∙ sym (idle_later v heard waits idle).1
 obeyed_told C (Err x) heard v told waits idle is = tt
 
-pub latest_none : (told : Option Heard) → latest None told ≡ told
-latest_none None = refl
-latest_none (Some heard) = refl
-
 -- ---- a call by its step
 
 pub tells : (step : View → View) (heard : Option Heard) (old mid new : Server) → mid.view ≡ step old.view → mid.counts ≡ old.counts → Tells (λ v. v) heard mid new → Tells step heard old new
@@ -129,15 +124,6 @@ line_told heard v told e is = is ∙ sym (ap (λ b. if b then Some abort_told el
 
 pub abort_is_told : (heard : HeardLine (List ℕ)) (v : View) → is_abort heard v ≡ true → Some abort_told ≡ heard_by_line heard v
 abort_is_told heard v e = sym (ap (λ b. if b then Some abort_told else later_heard (record v { waiting = Some heard })) e)
-
--- of one event
-pub event_told : (read : Reading) (event : NvtEvent) (events : List NvtEvent) (v : View) (told : Option Heard) → event ∷ [] ≡ events → told ≡ heard_by_event read event v
-    → told ≡ heard_by_events read None events v
-event_told read event events v told e h = h ∙ ap (λ l. heard_by_events read None l v) e
-
--- of no event
-pub nothing_told : (read : Reading) (events : List NvtEvent) (v : View) → [] ≡ events → None ≡ heard_by_events read None events v
-nothing_told read events v e = ap (λ l. heard_by_events read None l v) e
 
 heard_append : (read : Reading) (told : Option Heard) (v : View) (front : List ℕ) (octet : ℕ) → heard_by read told v (front ++ octet ∷ []) ≡ heard_by_octet read (hears read v front) octet
 heard_append read told v [] octet = refl

@@ -81,11 +81,6 @@ unfolding text_of
 joined-text [] = omega arith
 joined-text (name ∷ names) = omega arith
 
-text-joined : (path : List (List ℕ)) → length (text_of path) ≤ suc (length (joined path))
-unfolding text_of
-text-joined [] = omega arith
-text-joined (name ∷ names) = omega arith
-
 text-short : (path : List (List ℕ)) → length (joined path) ≤ 900 → length (text_of path) ≤ 900
 unfolding text_of
 text-short [] short = omega arith

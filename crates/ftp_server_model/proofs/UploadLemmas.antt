@@ -98,10 +98,6 @@ grown_keeps : (path : Names) (keep : Keep) (d : Decoder) (s : Session) → Trans
 grown_keeps path keep d s kept =
     cond_both (is_over path keep d s) (Data.Transferring Transfers.OverLimit) (Data.Transferring (Transfers.Upload path keep d)) ConnectionKeeps (λ is. tt) (λ is. kept)
 
-busy_grown : (path : Names) (keep : Keep) (d : Decoder) (s : Session) → is_connection_busy (grown path keep d s) ≡ true
-busy_grown path keep d s =
-    cond_both (is_over path keep d s) (Data.Transferring Transfers.OverLimit) (Data.Transferring (Transfers.Upload path keep d)) (λ c. is_connection_busy c ≡ true) (λ is. refl) (λ is. refl)
-
 -- a transfer goes on
 goes_keeps : (connection : ServerLink Transfer) (v : View) → is_connection_busy v.session.connection ≡ true → ConnectionKeeps connection → ServerKeeps v → ServerKeeps (with_connection connection v)
 goes_keeps connection v busy kept k =

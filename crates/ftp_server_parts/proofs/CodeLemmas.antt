@@ -1,5 +1,5 @@
 -- The code that stands at a place of some octets.
-use Rattle.std.proofs.Common.{◌≡◌, ℕ, zero, suc, ◌+◌, ◌-◌, ◌*◌, Bool, true, false, ◌&&◌, List, [], ◌∷◌, drop, Option, Some, None, refl, sym, ap, ◌∙◌, arith, length, ◌≤◌}
+use Rattle.std.proofs.Common.{◌≡◌, ℕ, zero, suc, ◌+◌, ◌-◌, ◌*◌, Bool, true, false, ◌&&◌, List, [], ◌∷◌, drop, Option, Some, None, refl, sym, ap, ◌∙◌, arith}
 use Rattle.std.specs.Prelude.{if◌then◌else◌}
 use Rattle.std.specs.Char.{is_ascii_digit}
 use Rattle.std.specs.List.{slice_get}
@@ -43,10 +43,3 @@ code_at place xs =
     ∙ ap (λ o. of_three (digit_in (slice_get (drop place xs) 0)) (digit_in o) (digit_in (slice_get xs (place + 2)))) (at_place place 1 xs)
     ∙ ap (λ o. of_three (digit_in (slice_get (drop place xs) 0)) (digit_in (slice_get (drop place xs) 1)) (digit_in o)) (at_place place 2 xs)
     ∙ first_three (drop place xs)
-
--- past the end no code stands
-pub none_past : (place : ℕ) (xs : List ℕ) → length xs ≤ place → None ≡ code_in (drop place xs)
-none_past zero [] past = refl
-none_past zero (x ∷ xs) past = absurd (omega (arith, past))
-none_past (suc place) [] past = refl
-none_past (suc place) (x ∷ xs) past = none_past place xs (omega (arith, past))

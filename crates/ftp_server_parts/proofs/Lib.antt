@@ -1,2 +1,3 @@
 pub mod CodeLemmas
 pub mod ReplyLemmas
+pub mod SteadyLemmas

@@ -10,6 +10,7 @@ use Rattle.ftp_server_model.specs.declared.reply.ReplyKind.{ReplyKind}
 use Rattle.ftp_server_parts.specs.Fault.{Counted}
 use Rattle.ftp_server_parts.specs.declared.fault.Fault.{Fault}
 use Rattle.ftp_server_parts.specs.declared.fault.Fault.TheVariants.{Memory, Device}
+use Rattle.ftp_server_parts.proofs.SteadyLemmas.{steady_twice}
 use Rattle.ftp_server_session.specs.Session.{Looks, Turns, session_of}
 use Rattle.ftp_server_session.specs.declared.session.Session.{Session as Held}
 
@@ -20,10 +21,6 @@ abbrev pub Moves : {X : Type 0} → Result X Fault → (before after : Failures)
 Moves (Ok done) before after = IsSteady before after
 Moves (Err fault) before after = Counted fault before after
 
--- two calls that tell no failure tell none
-pub steady_twice : (a b c : Failures) → IsSteady a b → IsSteady b c → IsSteady a c
-steady_twice a b c first second = (second.0 ∙ first.0, omega (arith, first.1, second.1))
-
 -- behind a call that tells no failure a fault counts as it did
 pub steady_counted : (fault : Fault) (a b c : Failures) → IsSteady a b → Counted fault b c → Counted fault a c
 steady_counted Memory a b c first second = steady_twice a b c first second
@@ -33,11 +30,6 @@ steady_counted Device a b c first second = (second.0 ∙ ap next_count first.0, 
 pub fault_strays : (fault : Fault) (a b : Failures) → Counted fault a b → a.strays ≤ b.strays
 fault_strays Memory a b counted = counted.1
 fault_strays Device a b counted = counted.1
-
--- nor in a command
-pub moves_strays : {X : Type 0} (result : Result X Fault) (a b : Failures) → Moves result a b → a.strays ≤ b.strays
-moves_strays (Ok done) a b moves = moves.1
-moves_strays (Err fault) a b moves = fault_strays fault a b moves
 
 -- a command's counts move on behind a look
 pub moves_on : {X : Type 0} (result : Result X Fault) (a b c : Failures) → IsSteady a b → Moves result b c → Moves result a c

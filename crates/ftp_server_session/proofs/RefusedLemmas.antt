@@ -91,16 +91,6 @@ pub source_none : (why : Option Refusal) → None ≡ option_map refusal_text wh
 source_none None none = refl
 source_none (Some why) none = absurd (cc)
 
-source_said : (s : Session) (turn : Turn) (why more : Option Refusal) (text : FixedReply) → Some text ≡ option_map refusal_text why
-    → (s, Replies.Fixed text) ≡ unless (or_refused why more) s turn
-source_said s turn None more text some = absurd (cc)
-source_said s turn (Some why) more text some = cc
-
--- what RNFR named is refused
-pub source_due : (s : Session) (from : Names) (text : List ℕ) (refusal : FixedReply) → Some refusal ≡ option_map refusal_text (refused_source s from)
-    → (s, Replies.Fixed refusal) ≡ renames from (path_of s text) s
-source_due s from text refusal some = source_said s _ (refused_source s from) _ refusal some
-
 -- it is not: the new name decides
 pub by_name : (s : Session) (from to : Names) → None ≡ option_map refusal_text (refused_source s from)
     → renames from to s ≡ unless (refused_name (limited to (rename_refusal (target_seen s from to) from to))) s (tells Texts.Done (with_seen (moved (target_seen s from to) from to) s))

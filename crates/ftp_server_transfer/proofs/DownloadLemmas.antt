@@ -109,11 +109,6 @@ given_front all rest room made few is =
       sym (ap (drop made) is ∙ ap (λ n. drop n (take made room ++ rest)) (sym long) ∙ drop-append_seam (take made room) rest),
     )
 
--- where not all is given, something is left
-pub some_left : (rest : List ℕ) (out : Bool) → out ≡ false → IsTrue out ↔ (rest ≡ []) → 0 < length rest
-some_left [] out going is = absurd (false≢true (sym going ∙ is.1 refl))
-some_left (octet ∷ rest) out going is = omega arith
-
 -- nothing is left behind the last octet
 pub at_end : (file : List ℕ) (count at : ℕ) → count ≡ length file → IsTrue (nat_le count at) ↔ (drop at file ≡ [])
 at_end file count at is = (

@@ -10,11 +10,6 @@ pub dated : (old a b y p q r s t u : List ℕ) → p ≡ old ++ 32 ∷ [] → q 
     → u ≡ old ++ (32 ∷ (a ++ 32 ∷ (b ++ 32 ∷ 32 ∷ y)))
 dated old a b y p q r s t u one two three four five six = rw (six, five, four, three, two, one) (simp append_assoc)
 
--- a line
-pub lined : (old front size date name p q r s t : List ℕ) → p ≡ old ++ front → q ≡ p ++ size → r ≡ q ++ date → s ≡ r ++ 32 ∷ [] → t ≡ s ++ name
-    → t ≡ old ++ (front ++ (size ++ (date ++ 32 ∷ name)))
-lined old front size date name p q r s t one two three four five = rw (five, four, three, two, one) (simp append_assoc)
-
 -- what a line has behind its rights
 pub behind : (old rights rest p q : List ℕ) → p ≡ old ++ rights → q ≡ p ++ rest → q ≡ old ++ (rights ++ rest)
 behind old rights rest p q one two = rw (two, one) (append_assoc old rights rest)

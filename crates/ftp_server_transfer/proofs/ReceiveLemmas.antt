@@ -263,7 +263,3 @@ pub over_comes : (part : Table) (octets : List ℕ) → Comes part Transfers.Ove
 over_comes part octets = λ v under.
     let P : View → Type 0 = λ y. ComesTo y octets Tells.Nothing (past v) in
     subst P (sym (ap (λ c. with_connection c v) under.carried)) (dropped v octets under.going under.room)
-
--- no octet changes nothing
-pub none_comes : (part : Table) (transfer : Transfer) → Comes part transfer [] Tells.Nothing transfer
-none_comes part transfer = λ v under. (tt, ap (λ c. with_connection c v) under.carried)

@@ -3,7 +3,7 @@ use Rattle.std.specs.Prelude.{map}
 use Rattle.ftp_operation.specs.Answer.{Said, said_of}
 use Rattle.ftp_direct.specs.Direct.{State, start}
 use Rattle.ftp_direct.specs.Run.{Ran, orders_of}
-use Rattle.ftp_direct.proofs.RunLemmas.{begun, runs_none, start_known, start_table, start_unknown}
+use Rattle.ftp_direct.proofs.RunLemmas.{begun, runs_none, start_known, start_unknown}
 use Rattle.ftp_direct.proofs.direct_run.direct.Goals as goal
 
 pub returns-in-Some-clause-answers : goal.returns-in-Some-clause-answers
