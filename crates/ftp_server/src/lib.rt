@@ -14,6 +14,7 @@ mod events;
 mod far;
 mod hear;
 mod held;
+mod lend;
 mod line;
 mod reader;
 mod reading;

@@ -1,16 +1,16 @@
 -- What a call makes from what its clauses say, and what it gives where neither count moved.
 use Rattle.std.proofs.Common.{◌≡◌, ◌≤◌, ◌⊎◌, inl, inr, ℕ, zero, suc, false, List, [], ◌∷◌, ◌++◌, length, min, take, drop, Result, sym, ap, subst, ◌∙◌, arith}
-use Rattle.std.specs.Prelude.{IfOk, if◌then◌else◌}
+use Rattle.std.specs.Prelude.{IfOk, Ok, Err, if◌then◌else◌}
 use Rattle.std.proofs.Math.Seq.{take-append_seam}
 use Rattle.std.proofs.lemmas.List.{take_min}
 use Rattle.ftp_server_model.specs.Calls.{MayReceive, clocked, control_step, data_closed, data_end, data_fault, data_opened, data_refused, given_step, gives_control, gives_data, listen_refused, listening, may_receive, receives, receives_octet, to_give}
-use Rattle.ftp_server_model.specs.Failing.{GiveFails}
+use Rattle.ftp_server_model.specs.Failing.{GiveFails, KeepsCourse}
 use Rattle.ftp_server_model.specs.Far.{Acts, Server, Steps}
 use Rattle.ftp_server_model.specs.Machine.{MayHear, Reading, hears, hears_octet, later, may_hear}
 use Rattle.ftp_server_model.specs.Play.{Cue, Gift, Clock, Hear, ControlOut, ControlEnd, Listening, ListenRefused, DataOpened, DataRefused, DataHear, DataOut, DataEnd, DataFault, DataClosed, AsksWants, Took, Octets, most_given, most_heard, most_received}
 use Rattle.ftp_server_model.specs.View.{View}
 use Rattle.ftp_server_play.specs.Cues.{gift_of}
-use Rattle.ftp_server_play.specs.Making.{GivesSome, Makes, TakesHeard, TakesReceived}
+use Rattle.ftp_server_play.specs.Making.{GivesSome, Makes, MakesOnCourse, TakesHeard, TakesReceived}
 use Rattle.ftp_server_play.specs.Playing.{Gives}
 use Rattle.ftp_server_play.specs.declared.cue.Gift.{Gift as Given}
 
@@ -19,8 +19,22 @@ use Rattle.ftp_server_play.specs.declared.cue.Gift.{Gift as Given}
 pub by_cue : (cue arm : Cue) (gift : Gift) (old new : Server) → cue ≡ arm → Makes arm gift old new → Makes cue gift old new
 by_cue cue arm gift old new is makes = subst (λ k. Makes k gift old new) (sym is) makes
 
-pub by_outcome : {A E : Type 0} (cue arm : Cue) (r : Result (Given A) E) (old new : Server) → cue ≡ arm → IfOk r (λ gift. Makes arm (gift_of gift) old new) → IfOk r (λ gift. Makes cue (gift_of gift) old new)
-by_outcome cue arm r old new is makes = subst (λ k. IfOk r (λ gift. Makes k (gift_of gift) old new)) (sym is) makes
+-- the same of an outcome
+pub on_cue : {A E : Type 0} (cue arm : Cue) (r : Result (Given A) E) (old new : Server) → cue ≡ arm → IfOk r (λ gift. MakesOnCourse arm (gift_of gift) old new)
+    → IfOk r (λ gift. MakesOnCourse cue (gift_of gift) old new)
+on_cue cue arm r old new is makes = subst (λ k. IfOk r (λ gift. MakesOnCourse k (gift_of gift) old new)) (sym is) makes
+
+-- what is made is made so where the device did not stray
+pub made_on_course : {A E : Type 0} (cue : Cue) (r : Result (Given A) E) (old new : Server)
+    → IfOk r (λ gift. Makes cue (gift_of gift) old new) → IfOk r (λ gift. MakesOnCourse cue (gift_of gift) old new)
+made_on_course cue (Ok gift) old new makes = λ course. makes
+made_on_course cue (Err fault) old new makes = tt
+
+-- where the device did not stray
+pub on_course : {A E : Type 0} (cue : Cue) (r : Result (Given A) E) (old new : Server) → KeepsCourse old.counts new.counts
+    → IfOk r (λ gift. MakesOnCourse cue (gift_of gift) old new) → IfOk r (λ gift. Makes cue (gift_of gift) old new)
+on_course cue (Ok gift) old new course makes = makes course
+on_course cue (Err fault) old new course makes = tt
 
 -- ---- calls that give octets
 

@@ -2,7 +2,7 @@
 -- `Far` say. Calls by a list are a chain of these.
 use Rattle.std.specs.Prelude.{◌≡◌, ◌≢◌, ◌<◌, ◌≤◌, ◌++◌, ℕ, zero, suc, Bool, true, false, List, [], ◌∷◌, IsTrue, length, take}
 use Rattle.ftp_server_model.specs.Calls.{break_step, clock_step, close_step, control_end, control_step, end_step, given_step, listening_step, may_receive, no_port_step, opened_step, refused_step, to_give, wants}
-use Rattle.ftp_server_model.specs.Failing.{EndFails, GiveFails}
+use Rattle.ftp_server_model.specs.Failing.{EndFails, GiveFails, KeepsCourse}
 use Rattle.ftp_server_model.specs.Far.{Acts, Hears, Receives, Server, Steps}
 use Rattle.ftp_server_model.specs.Machine.{may_hear}
 use Rattle.ftp_server_model.specs.Most.{IsMostHeard, IsMostReceived}
@@ -44,6 +44,10 @@ Makes DataEnd gift old new = (gift ≡ Nothing) × Steps EndFails end_step old n
 Makes DataFault gift old new = (gift ≡ Nothing) × Steps EndFails break_step old new
 Makes DataClosed gift old new = (gift ≡ Nothing) × Acts close_step old new
 Makes AsksWants gift old new = (gift ≡ Wanted (wants old.view)) × (new ≡ old)
+
+-- so it was made where the device of its tree did not stray in it
+abbrev pub MakesOnCourse : Cue → Gift → (old new : Server) → Type 0
+MakesOnCourse cue gift old new = KeepsCourse old.counts new.counts → Makes cue gift old new
 
 -- one more was made, and what it gave stands after what was given before; neither count moved in it, or one did
 pub record MakesNext (is_calm : Bool) (cue : Cue) (before after : List Gift) (old new : Server) : Type 0 where

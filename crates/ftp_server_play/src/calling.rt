@@ -1,7 +1,7 @@
 // One call of a server.
 ghost use Rattle.std.specs.Prelude.{◌≡◌, IfOk, OnErr, vec_len};
 ghost use Rattle.ftp_server_model.specs.Play.{ControlOut, DataOut};
-ghost use Rattle.ftp_server_play.specs.Making.{Makes};
+ghost use Rattle.ftp_server_play.specs.Making.{Makes, MakesOnCourse};
 ghost use Rattle.ftp_server_play.specs.Cues.{cue_of, gift_of};
 
 use crate::cue::{Cue, Gift};
@@ -9,13 +9,26 @@ use ftp_server_model::{Far, SureFar};
 use ftp_tree::Tree;
 use std::alloc::{AllocError, Allocator};
 
-/// Makes a call, and gives what it gave. Where there is no memory for the octets that it may give, it is not made.
+/// Makes a call of a server over a tree whose device never strays, as `make` does.
 pub(crate) fn call<A: Allocator + Copy, T: Tree<A>, S: SureFar<A, T>>(
     alloc: A,
     server: &mut S,
     cue: &Cue<A>,
 ) -> Result<Gift<A>, AllocError>
     ensures makes { IfOk result (λ gift. Makes (cue_of cue.now) (gift_of gift) (S.server server.old) (S.server server.new)) }
+    ensures back { OnErr result (S.server server.new ≡ S.server server.old) }
+{
+    make(alloc, server, cue)
+}
+
+/// Makes a call of a server, and gives what it gave. Where there is no memory for the octets that it may give, it is not made. Of a call in which
+/// the device of the server's tree strayed nothing is said.
+pub fn make<A: Allocator + Copy, T: Tree<A>, S: Far<A, T>>(
+    alloc: A,
+    server: &mut S,
+    cue: &Cue<A>,
+) -> Result<Gift<A>, AllocError>
+    ensures makes { IfOk result (λ gift. MakesOnCourse (cue_of cue.now) (gift_of gift) (S.server server.old) (S.server server.new)) }
     ensures back { OnErr result (S.server server.new ≡ S.server server.old) }
 {
     match cue {
@@ -79,12 +92,12 @@ fn control_out<A: Allocator + Copy, T: Tree<A>, S: Far<A, T>>(
 }
 
 /// Data octets, into so much room.
-fn data_out<A: Allocator + Copy, T: Tree<A>, S: SureFar<A, T>>(
+fn data_out<A: Allocator + Copy, T: Tree<A>, S: Far<A, T>>(
     alloc: A,
     server: &mut S,
     room: usize,
 ) -> Result<Gift<A>, AllocError>
-    ensures makes { IfOk result (λ gift. Makes (DataOut room) (gift_of gift) (S.server server.old) (S.server server.new)) }
+    ensures makes { IfOk result (λ gift. MakesOnCourse (DataOut room) (gift_of gift) (S.server server.old) (S.server server.new)) }
     ensures back { OnErr result (S.server server.new ≡ S.server server.old) }
 {
     let mut octets = empty(alloc, room)?;

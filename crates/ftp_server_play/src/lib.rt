@@ -5,5 +5,6 @@ mod calling;
 mod cue;
 mod playing;
 
+pub use calling::make;
 pub use cue::{Cue, Gift, Played};
 pub use playing::Plays;

@@ -1,12 +1,11 @@
 use Rattle.std.proofs.Common.{◌≡◌, ◌∙◌, arith, length, rules}
-use Rattle.ftp_server_model.proofs.CountLemmas.{sure_course}
 use Rattle.ftp_server_play.proofs.CallLemmas.{cut_back, data_makes}
 use Rattle.ftp_server_play.proofs.calling.data_out.Goals as goal
 
 pub returns-clause-makes : goal.returns-clause-makes
 returns-clause-makes g c =
+    λ course.
     let server = g.S.Far.server in
-    let course = sure_course (server c.args.server.now).counts (server c.data_out-count.new.self).counts (g.met.S.SureFar.never c.args.server.now) (g.met.S.SureFar.never c.data_out-count.new.self) in
     let few = c.data_out-count.ensures.left course in
     let long : length c.data_out-count.new.room ≡ c.in_ok-octets.octets.len = search rules in
     data_makes c.args.room c.data_out-count.result c.truncate.new.self.items (server c.args.server.now) (server c.data_out-count.new.self)

@@ -1,0 +1,103 @@
+// Sessions over one tree.
+ghost use Rattle.std.specs.Prelude.{◌≡◌, ◌<◌, ◌++◌, [], ◌∷◌, IfOk, OnErr, OnOk, vec_len};
+ghost use Rattle.ftp_server_play.specs.Cues.{cue_of, gift_of};
+ghost use Rattle.ftp_server_seats.specs.Lent.{Lent};
+
+use ftp_server_play::{Cue, Gift, make};
+use ftp_server_several::Lends;
+use ftp_tree::Tree;
+use std::alloc::{AllocError, Allocator};
+
+/// Sessions, each in its seat, and the one tree of all. It is lent to the session that is called, and to no other: between two of its calls a session
+/// has the tree that it came with, which no call of `Sessions` reads or changes.
+pub struct Sessions<A: Allocator + Copy, T: Drop, F: Drop> {
+    tree: T,
+    seats: Vec<F, A>,
+    alloc: A,
+}
+
+/// By hand: a derived drop is proved again, part by part, wherever sessions are let go.
+impl<A: Allocator + Copy, T: Drop, F: Drop> Drop for Sessions<A, T, F> {
+    fn drop(self) {
+        let Self {
+            tree: _,
+            seats: _,
+            alloc: _,
+        } = self;
+    }
+}
+
+impl<A: Allocator + Copy, T: Tree<A>, F: Lends<A, T>> Sessions<A, T, F> {
+    ghost use Rattle.ftp_server_seats.specs.Seats.{GivesIn, Turned, seats_of};
+
+    /// No session yet, over this tree.
+    pub fn new(alloc: A, tree: T) -> Sessions<A, T, F>
+        ensures tree { result.tree ≡ tree }
+        ensures none { result.seats.items ≡ [] }
+    {
+        Sessions {
+            tree,
+            seats: Vec::new(alloc),
+            alloc,
+        }
+    }
+
+    /// Gives a session a seat, the next one. Refused memory, it is let go, and all else stays.
+    pub fn seat(&mut self, server: F) -> Result<(), AllocError>
+        ensures seated { OnOk result (self.new.seats.items ≡ self.old.seats.items ++ server ∷ []) }
+        ensures stays { OnErr result (self.new.seats.items ≡ self.old.seats.items) }
+        ensures tree { self.new.tree ≡ self.old.tree }
+    {
+        match self.seats.push(server) {
+            Ok(()) => Ok(()),
+            Err(_) => Err(AllocError),
+        }
+    }
+
+    /// How many seats are taken.
+    pub fn len(&self) -> usize
+        ensures { result ≡ vec_len self.now.seats }
+    {
+        self.seats.len()
+    }
+
+    /// The tree of all.
+    pub fn tree(&self) -> &T
+        ensures { result.now ≡ self.now.tree }
+    {
+        &self.tree
+    }
+
+    /// Calls the session in a seat, with the tree of all; gives what it gave. Where there is no memory for the octets that it may give, it is not called.
+    pub fn call(&mut self, seat: usize, cue: &Cue<A>) -> Result<Gift<A>, AllocError>
+        requires { seat < vec_len self.old.seats }
+
+        // The call is made as its clause of `Far` says, with the tree of all, and all else stays.
+        ensures turned { IfOk result (λ gift. Turned (record { seat = seat; cue = cue_of cue.now }) (gift_of gift) (seats_of T.table T.failures F.Far.server self.old) (seats_of T.table T.failures F.Far.server self.new)) }
+
+        // Where no growth was refused to the session, and the device of the tree did not fail or stray, it is the turn of the definitions.
+        ensures gives { IfOk result (λ gift. GivesIn (record { seat = seat; cue = cue_of cue.now }) (gift_of gift) (seats_of T.table T.failures F.Far.server self.old) (seats_of T.table T.failures F.Far.server self.new)) }
+
+        ensures back { OnErr result (seats_of T.table T.failures F.Far.server self.new ≡ seats_of T.table T.failures F.Far.server self.old) }
+    {
+        let server = &mut self.seats[seat];
+        lent::<A, T, F>(self.alloc, server, &mut self.tree, cue)
+    }
+}
+
+/// Calls a session with a tree that is not its own, which is taken back after the call.
+fn lent<A: Allocator + Copy, T: Tree<A>, F: Lends<A, T>>(
+    alloc: A,
+    server: &mut F,
+    tree: &mut T,
+    cue: &Cue<A>,
+) -> Result<Gift<A>, AllocError>
+    ensures lent { IfOk result (λ gift. Lent (cue_of cue.now) (gift_of gift) (F.Far.server server.old) (T.table tree.old) (T.failures tree.old) (F.Far.server server.new) (T.table tree.new) (T.failures tree.new)) }
+    ensures server { OnErr result (F.Far.server server.new ≡ F.Far.server server.old) }
+    ensures tree { OnErr result ((T.table tree.new ≡ T.table tree.old) × (T.failures tree.new ≡ T.failures tree.old)) }
+{
+    server.exchange(tree);
+    let gift = make::<A, T, F>(alloc, server, cue);
+    server.exchange(tree);
+    gift
+}

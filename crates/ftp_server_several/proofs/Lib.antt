@@ -1,0 +1,9 @@
+pub mod SeatLemmas
+pub mod OwnLemmas
+pub mod DeedLemmas
+pub mod LineLemmas
+pub mod OtherLemmas
+pub mod EndLemmas
+pub mod LimitLemmas
+pub mod CompanyLemmas
+pub mod SmallLemmas

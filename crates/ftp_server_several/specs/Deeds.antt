@@ -1,0 +1,93 @@
+-- Whatever a session does with the map is a line that is acted on or the end of an upload, one after another (RFC 959, section 4.1; own choice that an
+-- upload is done at its end).
+use Rattle.std.specs.Prelude.{◌≡◌, ◌⊎◌, ◌&&◌, ℕ, Bool, true, false, List, [], ◌∷◌, Some, slice_get}
+use Rattle.ftp_direct.specs.Direct.{State, due}
+use Rattle.ftp_operation.specs.Answer.{Said, Done, Refused}
+use Rattle.ftp_operation.specs.declared.op.How.{How}
+use Rattle.ftp_operation.specs.declared.op.Op.{Op}
+use Rattle.ftp_operation.specs.declared.op.Op.TheVariants as Ops
+use Rattle.ftp_path.specs.Path.{Names}
+use Rattle.ftp_settings.specs.Representation.{same_kind, same_structure}
+use Rattle.ftp_settings.specs.declared.representation.Kind.TheVariants as Kinds
+use Rattle.ftp_settings.specs.declared.representation.Structure.TheVariants as Structures
+use Rattle.ftp_wire.specs.Decoder.{Decoder, broken, ended, is_whole}
+use Rattle.ftp_server_model.specs.Machine.{Ending, Reading, at_break, at_end, concluded, is_idle, obeyed}
+use Rattle.ftp_server_model.specs.Play.{Cue, call}
+use Rattle.ftp_server_model.specs.Texts.{code_of}
+use Rattle.ftp_server_model.specs.View.{Session, Transfer, View, as_direct, direct_of}
+use Rattle.ftp_server_model.specs.Walk.{path_of}
+use Rattle.ftp_server_model.specs.declared.heard.HeardLine.{HeardLine}
+use Rattle.ftp_server_model.specs.declared.reply.FixedReply.{FixedReply}
+use Rattle.ftp_server_model.specs.declared.reply.FixedReply.TheVariants as Texts
+use Rattle.ftp_server_model.specs.declared.session.Keep.{Keep}
+use Rattle.ftp_server_model.specs.declared.session.Keep.TheVariants.{First, All}
+use Rattle.ftp_server_model.specs.declared.session.ServerLink.TheVariants as Data
+use Rattle.ftp_server_model.specs.declared.session.Transfer.TheVariants as Transfers
+use Rattle.ftp_server_several.specs.Asked.{state_of}
+use Rattle.ftp_server_several.specs.Several.{Several, Turn, called, exchanged}
+
+-- ---- the end of an upload
+
+-- in image and file structure an offset counts octets of the file
+abbrev pub counts_octets : How → Bool
+counts_octets how = same_kind how.representation.kind Kinds.Image && same_structure how.representation.structure Structures.File
+
+-- What came of an upload is put after the octets that it keeps: a Put, where it keeps none; a PutFrom where it keeps so many of the first; an Append where
+-- it keeps all that stand there by then
+abbrev pub EndsAs : Keep → List ℕ → List ℕ → Op (List ℕ) → Type 0
+EndsAs (First place) text octets op =
+    ((how : How) × (place ≡ 0) × (op ≡ Ops.Put text octets how)) ⊎ ((how : How) × (counts_octets how ≡ true) × (op ≡ Ops.PutFrom text place octets how))
+EndsAs (All count) text octets op = (how : How) × (op ≡ Ops.Append text octets how)
+
+-- an upload's end tells this answer of the direct run and leaves this state: by its own reply, or by the code of the refusal, which leaves all as it was
+abbrev pub EndAnswers : FixedReply → Session → Said × State → Ending → Type 0
+EndAnswers text s (Done, state) ending = ending ≡ (as_direct state s, text)
+EndAnswers text s (Refused code, state) ending = (ending.0 ≡ s) × (code_of ending.1 ≡ code)
+EndAnswers text s other ending = ⊥
+
+-- these octets of an upload to a path are put as the direct run puts them on the map that stands, by whatever text names the path
+abbrev pub IsPut : (moment : ℕ) → Names → Keep → List ℕ → FixedReply → Session → Ending → Type 0
+IsPut moment path keep octets reply s ending =
+    (text : List ℕ) (op : Op (List ℕ)) → path_of s text ≡ path → EndsAs keep text octets op → EndAnswers reply s (due (direct_of s) op moment) ending
+
+-- an upload that is whole is put, and told by 226; one that broke or was cut off is put as far as it is settled, and told by 426
+pub record EndsAreDirect : Type 0 where
+  pub whole : (moment : ℕ) (path : Names) (keep : Keep) (d : Decoder) (s : Session) → is_whole d ≡ true
+      → IsPut moment path keep (ended d).content Texts.Complete s (at_end moment (Transfers.Upload path keep d) s)
+  pub early : (moment : ℕ) (path : Names) (keep : Keep) (d : Decoder) (s : Session) → is_whole d ≡ false
+      → IsPut moment path keep (broken d).content Texts.Broken s (at_end moment (Transfers.Upload path keep d) s)
+  pub broke : (moment : ℕ) (path : Names) (keep : Keep) (d : Decoder) (s : Session)
+      → IsPut moment path keep (broken d).content Texts.Broken s (at_break moment (Transfers.Upload path keep d) s)
+
+-- ---- what a call is made of
+
+-- the same for the direct run: map, root, current directory, rights, and whether somebody is logged in
+abbrev pub IsSame : (s t : Session) → Type 0
+IsSame s t = state_of t ≡ state_of s
+
+-- One deed of a session: a line is acted on; a transfer that stands ends or breaks; or the direct run sees nothing of it
+pub data Deed (v w : View) : Type 0 where
+  acts : (heard : HeardLine (List ℕ)) → is_idle v ≡ true → w ≡ obeyed heard v → Deed v w
+  ends : (transfer : Transfer) (s : Session) → v.session.connection ≡ Data.Transferring transfer → IsSame v.session s
+      → w ≡ concluded (at_end v.footing.moment transfer s) v → Deed v w
+  breaks : (transfer : Transfer) (s : Session) → v.session.connection ≡ Data.Transferring transfer → IsSame v.session s
+      → w ≡ concluded (at_break v.footing.moment transfer s) v → Deed v w
+  rests : IsSame v.session w.session → Deed v w
+
+-- deeds in order
+abbrev pub AreDeeds : List View → (v w : View) → Type 0
+AreDeeds [] v w = w ≡ v
+AreDeeds (u ∷ us) v w = Deed v u × AreDeeds us u w
+
+abbrev pub Deeds : (v w : View) → Type 0
+Deeds v w = (mids : List View) × AreDeeds mids v w
+
+-- so is each call
+abbrev pub CallsAreDeeds : Type 0
+CallsAreDeeds = (read : Reading) (cue : Cue) (v : View) → Deeds v (call read cue v).1
+
+-- and each turn of several: deeds of the session in its seat on the map that stands, whose last leaves the map that stands then
+abbrev pub TurnsAreDeeds : Type 0
+TurnsAreDeeds =
+    (read : Reading) (turn : Turn) (s : Several) (v : View) → slice_get s.seats turn.seat ≡ Some v
+    → (w : View) × Deeds (exchanged s.table v) w × ((called read turn s).1.table ≡ w.session.table)
