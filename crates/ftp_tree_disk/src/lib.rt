@@ -3,6 +3,7 @@
 #![tactic(auto)]
 
 mod answer;
+mod beside;
 mod changing;
 mod counting;
 mod device;
@@ -23,6 +24,7 @@ mod sighting;
 mod taking;
 mod version;
 mod walking;
+mod within;
 
 pub use disk::{DiskTree, Explains, Others};
 pub use draft::DiskDraft;
