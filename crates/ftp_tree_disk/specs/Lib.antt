@@ -1,3 +1,4 @@
+pub mod Beside
 pub mod Note
 pub mod Place
 pub mod Put

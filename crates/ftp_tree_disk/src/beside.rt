@@ -1,4 +1,8 @@
 // The names beside what is asked for. What others took away from there counts for limits, and stays in memory, until they are listed.
+ghost use Rattle.std.specs.Prelude.{◌≡◌, Some, length, true};
+ghost use Rattle.ftp_tree.specs.Tree.{children, kind_at, room_refusal, under};
+ghost use Rattle.ftp_tree_disk.specs.Beside.{are_many_changed};
+
 use crate::dirs::Dirs;
 use crate::here::Here;
 use crate::place::above;
@@ -49,7 +53,7 @@ fn look_there<H: Host, K: Held>(
 }
 
 /// Whether names are listed beside a path: those of a directory of the tree, where they never were; where this tree changed many of them since; where by
-/// what the tree has nothing comes to that path any more; and, where not the longest file could, after a rest.
+/// what the tree has nothing comes to that path any more; and, where room is short, after a rest.
 fn is_due<H: Host, K: Held, B: Allocator + Copy, C: Allocator + Copy>(
     host: &H,
     nodes: &Nodes<Global, Version<K>>,
@@ -57,14 +61,17 @@ fn is_due<H: Host, K: Held, B: Allocator + Copy, C: Allocator + Copy>(
     root: &Path<B>,
     path: &Path<C>,
     here: &Here,
-) -> bool {
+) -> bool
+    ensures full { kind_at (under nodes.now here.now.root) here.now.path ≡ Some NodeKind.Dir
+        → room_refusal (under nodes.now root.now) path.now ≡ Some TreeFault.Full → result ≡ true }
+{
     if nodes.kind(&here.root, &here.path) != Some(NodeKind::Dir) {
         return false;
     }
     let Some(seen) = dirs.seen(here.below.as_bytes()) else {
         return true;
     };
-    if is_much_changed(nodes, here, seen.changes) {
+    if are_many_changed(nodes, here, seen.changes) {
         return true;
     }
     match nodes.room(root, path) {
@@ -75,16 +82,18 @@ fn is_due<H: Host, K: Held, B: Allocator + Copy, C: Allocator + Copy>(
 
 /// Whether this tree changed more than half as many names in a directory as it has there now: so listing them costs each change no more than a few
 /// names, and of what others took away no more stays than as much again as stood there.
-fn is_much_changed<K: Held>(nodes: &Nodes<Global, Version<K>>, here: &Here, changes: u64) -> bool {
-    if changes == 0 {
+#[tactic(auto, using(std::proofs::lemmas::Option::slice_get_past, std::proofs::lemmas::Option::slice_get_within))]
+fn are_many_changed<K: Held>(nodes: &Nodes<Global, Version<K>>, here: &Here, changes: u32) -> bool
+    ensures { result ≡ are_many_changed (length (children (under nodes.now here.now.root) here.now.path)) changes }
+{
+    let Some(last) = (changes as usize * 2).checked_sub(1) else {
         return false;
-    }
-    let last = changes.saturating_mul(2).saturating_sub(1) as usize;
+    };
     nodes.nth_name(&here.root, &here.path, last).is_none()
 }
 
-/// Whether limits that let a file have more octets leave no more than so many.
+/// Whether so many octets are less than half of all that limits allow, and less than the longest file may have.
 fn is_short<K: Held>(nodes: &Nodes<Global, Version<K>>, room: u64) -> bool {
     let limits = nodes.limits();
-    limits.total < u64::MAX && room < limits.file.min(limits.total)
+    limits.total < u64::MAX && room < limits.file.min(limits.total / 2)
 }

@@ -35,7 +35,7 @@ pub(crate) struct Seen {
     at: i64,
     took: i64,
     /// How often this tree changed a name in it since.
-    pub(crate) changes: u64,
+    pub(crate) changes: u32,
 }
 
 impl Seen {
