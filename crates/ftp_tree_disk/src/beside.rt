@@ -65,9 +65,9 @@ fn is_due<H: Host, K: Held, B: Allocator + Copy, C: Allocator + Copy>(
     ensures full { kind_at (under nodes.now here.now.root) here.now.path ≡ Some NodeKind.Dir
         → room_refusal (under nodes.now root.now) path.now ≡ Some TreeFault.Full → result ≡ true }
 {
-    if nodes.kind(&here.root, &here.path) != Some(NodeKind::Dir) {
+    let Some(NodeKind::Dir) = nodes.kind(&here.root, &here.path) else {
         return false;
-    }
+    };
     let Some(seen) = dirs.seen(here.below.as_bytes()) else {
         return true;
     };
@@ -76,7 +76,8 @@ fn is_due<H: Host, K: Held, B: Allocator + Copy, C: Allocator + Copy>(
     }
     match nodes.room(root, path) {
         Ok(room) => is_short(nodes, room) && seen.has_rested(host.now()),
-        Err(fault) => fault == TreeFault::Full,
+        Err(TreeFault::Full) => true,
+        Err(_) => false,
     }
 }
 
