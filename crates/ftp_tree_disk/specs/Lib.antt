@@ -1,4 +1,6 @@
+pub mod Beside
 pub mod Note
+pub mod Parked
 pub mod Place
 pub mod Put
 pub mod Stray

@@ -36,7 +36,7 @@ pub(crate) fn make_at<H: Host, B: Allocator + Copy, C: Allocator + Copy>(
 ) -> io::Result<()> {
     let below = below_of(host.memory(), root, path)?;
     host.make_dir(below.as_str())?;
-    dirs.forget_one(above(below.as_str()));
+    dirs.changed(above(below.as_str()).as_bytes());
     Ok(())
 }
 
@@ -49,8 +49,8 @@ pub(crate) fn remove_at<H: Host, B: Allocator + Copy, C: Allocator + Copy>(
 ) -> io::Result<()> {
     let below = below_of(host.memory(), root, path)?;
     host.remove_dir(below.as_str())?;
-    dirs.forget(below.as_bytes());
-    dirs.forget_one(above(below.as_str()));
+    dirs.forget_one(below.as_bytes());
+    dirs.changed(above(below.as_str()).as_bytes());
     Ok(())
 }
 
@@ -63,7 +63,7 @@ pub(crate) fn delete_at<H: Host, B: Allocator + Copy, C: Allocator + Copy>(
 ) -> io::Result<()> {
     let below = below_of(host.memory(), root, path)?;
     host.delete(below.as_str())?;
-    dirs.forget_one(above(below.as_str()));
+    dirs.changed(above(below.as_str()).as_bytes());
     Ok(())
 }
 
@@ -78,7 +78,8 @@ pub(crate) fn rename_at<H: Host, B: Allocator + Copy, C: Allocator + Copy, D: Al
     let old = below_of(host.memory(), root, from)?;
     let new = below_of(host.memory(), root, to)?;
     host.rename(old.as_str(), new.as_str())?;
-    forget_both(dirs, old.as_str(), new.as_str());
+    dirs.forget(old.as_bytes());
+    both_changed(dirs, old.as_str(), new.as_str());
     Ok(())
 }
 
@@ -92,14 +93,12 @@ pub(crate) fn rename_onto_at<
     let old = below_of(host.memory(), root, from)?;
     let new = below_of(host.memory(), root, to)?;
     host.rename_onto(old.as_str(), new.as_str())?;
-    forget_both(dirs, old.as_str(), new.as_str());
+    both_changed(dirs, old.as_str(), new.as_str());
     Ok(())
 }
 
-/// What stood at two places is listed anew, and so are the directories that they are in.
-fn forget_both(dirs: &mut Dirs, old: &str, new: &str) {
-    dirs.forget(old.as_bytes());
-    dirs.forget(new.as_bytes());
-    dirs.forget_one(above(old));
-    dirs.forget_one(above(new));
+/// A name was changed in each of the directories that two places are in.
+fn both_changed(dirs: &mut Dirs, old: &str, new: &str) {
+    dirs.changed(above(old).as_bytes());
+    dirs.changed(above(new).as_bytes());
 }

@@ -12,6 +12,9 @@ const FRESH: i64 = 100_000_000;
 /// The same where stamps seem to have no parts of a second (own choice).
 const COARSELY_FRESH: i64 = 2_000_000_000;
 
+/// For want of room alone names are listed again once so many times as long went by as it took before (own choice).
+const REST: i64 = 10;
+
 /// How a directory was taken in.
 #[derive(Clone, Copy, Debug, PartialEq, Eq)]
 pub(crate) enum Taken {
@@ -28,6 +31,11 @@ pub(crate) enum Taken {
 pub(crate) struct Seen {
     look: Look,
     taken: Taken,
+    /// When it was, in nanoseconds since 1970, and how many that took.
+    at: i64,
+    took: i64,
+    /// How often this tree changed a name in it since.
+    pub(crate) changes: u32,
 }
 
 impl Seen {
@@ -35,7 +43,21 @@ impl Seen {
     pub(crate) fn of(look: Look, now: Stamp) -> Seen {
         let is_fresh = is_fresh(look.modified, now) || is_fresh(look.touched, now);
         let taken = if is_fresh { Taken::Fresh } else { Taken::Whole };
-        Seen { look, taken }
+        Seen {
+            look,
+            taken,
+            at: nanos(now),
+            took: 0,
+            changes: 0,
+        }
+    }
+
+    /// The same, where its names were taken in by a time.
+    pub(crate) fn by(self, now: Stamp) -> Seen {
+        Seen {
+            took: nanos(now).saturating_sub(self.at),
+            ..self
+        }
     }
 
     /// The same, where something passed a limit.
@@ -44,10 +66,13 @@ impl Seen {
             Taken::Whole | Taken::Short => Taken::Short,
             Taken::Fresh => Taken::Fresh,
         };
-        Seen {
-            look: self.look,
-            taken,
-        }
+        Seen { taken, ..self }
+    }
+
+    /// Whether so long went by since then that its names may be listed for want of room; also where the clock was set back.
+    pub(crate) fn has_rested(self, now: Stamp) -> bool {
+        let age = nanos(now).saturating_sub(self.at);
+        age < 0 || age >= self.took.saturating_mul(REST)
     }
 
     /// Whether its names need not be listed again.
@@ -57,7 +82,7 @@ impl Seen {
             Taken::Short => sight == Sight::Path,
             Taken::Fresh => false,
         };
-        is_enough && self.look == look
+        is_enough && self.changes == 0 && self.look == look
     }
 }
 
@@ -127,6 +152,14 @@ impl Dirs {
         }
     }
 
+    /// How a directory was taken in; none where that is not known.
+    pub(crate) fn seen(&self, key: &[u8]) -> Option<Seen> {
+        match self.seen.get(key) {
+            Some(seen) => Some(*seen),
+            None => None,
+        }
+    }
+
     /// The names of a directory were taken in. Refused memory, it is not noted.
     pub(crate) fn note(&mut self, key: &[u8], seen: Seen) -> Result<(), AllocError> {
         if let Some(before) = self.seen.get_mut(key) {
@@ -137,6 +170,13 @@ impl Dirs {
         match self.seen.insert(key, seen) {
             Ok(_) => Ok(()),
             Err(_) => Err(AllocError),
+        }
+    }
+
+    /// This tree changed a name in a directory, whose names are listed at the next look at it.
+    pub(crate) fn changed(&mut self, key: &[u8]) {
+        if let Some(seen) = self.seen.get_mut(key) {
+            seen.changes = seen.changes.saturating_add(1);
         }
     }
 

@@ -3,6 +3,7 @@
 #![tactic(auto)]
 
 mod answer;
+mod beside;
 mod changing;
 mod counting;
 mod device;
@@ -15,6 +16,7 @@ mod loading;
 mod looking;
 mod names;
 mod opened;
+mod parked;
 mod place;
 mod putting;
 mod record;
@@ -23,10 +25,12 @@ mod sighting;
 mod taking;
 mod version;
 mod walking;
+mod within;
 
 pub use disk::{DiskTree, Explains, Others};
 pub use draft::DiskDraft;
 pub use fault::{LeftOut, LoadFault, Odd, Reason};
 pub use loading::open;
 pub use opened::DiskOpen;
+pub use parked::Parks;
 pub use version::{Held, Unknown, Version};

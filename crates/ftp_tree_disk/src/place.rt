@@ -34,9 +34,9 @@ fn push_names(below: &mut String<Global>, names: &[u8]) -> io::Result<()>
 }
 
 /// Where the directory lies that a place is in.
-pub(crate) fn above(below: &str) -> &[u8] {
+pub(crate) fn above(below: &str) -> &str {
     match below.rsplit_once('/') {
-        Some((above, _)) => above.as_bytes(),
-        None => b"".as_slice(),
+        Some((above, _)) => above,
+        None => "",
     }
 }

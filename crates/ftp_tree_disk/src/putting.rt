@@ -139,7 +139,7 @@ impl<'a, H: Host, K: Held> DiskTree<'a, H, K> {
         let look = self
             .device
             .put(below.as_str(), over, draft, putting, moment)?;
-        self.dirs.forget_one(above(below.as_str()));
+        self.dirs.changed(above(below.as_str()).as_bytes());
         Ok(look)
     }
 }

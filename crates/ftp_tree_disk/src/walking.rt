@@ -203,6 +203,7 @@ impl<'a, H: Host, K: Held> Walk<'a, H, K> {
 
     /// The names in the directory were taken in, which looked so before they were listed.
     pub(crate) fn note(&mut self, seen: Seen) -> Result<(), LoadFault> {
+        let seen = seen.by(self.host.now());
         let seen = if self.is_short { seen.short() } else { seen };
         let below = self.here.below.as_bytes();
         match self.kept.dirs.note(below, seen) {

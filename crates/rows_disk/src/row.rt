@@ -96,7 +96,7 @@ fn play_deed<'a>(
     }
 }
 
-/// The tree of a folder as it begins. Words: `skip`, `keep`, or the most octets of a file.
+/// The tree of a folder as it begins. Words: `skip`, `keep`, or a limit.
 fn started<'a>(
     alloc: Global,
     host: &'a MemoryHost,
@@ -126,12 +126,21 @@ fn started<'a>(
     }
 }
 
+/// The limits of a tree: `files 6` says how many files and directories, `octets 10` of all files together, a number alone of a file.
 fn limits_of(how: &[u8]) -> Limits {
-    match number(how) {
-        0 => Limits::default(),
-        file => Limits {
-            file,
-            ..Limits::default()
+    let usual = Limits::default();
+    match split(how) {
+        (b"files", most) => Limits {
+            nodes: number(most),
+            ..usual
+        },
+        (b"octets", most) => Limits {
+            total: number(most),
+            ..usual
+        },
+        _ => match number(how) {
+            0 => usual,
+            file => Limits { file, ..usual },
         },
     }
 }
