@@ -10,21 +10,11 @@ use std::alloc::{AllocError, Allocator};
 
 /// Sessions, each in its seat, and the one tree of all. It is lent to the session that is called, and to no other: between two of its calls a session
 /// has the tree that it came with, which no call of `Sessions` reads or changes.
+#[derive(Drop)]
 pub struct Sessions<A: Allocator + Copy, T: Drop, F: Drop> {
     tree: T,
     seats: Vec<F, A>,
     alloc: A,
-}
-
-/// By hand: a derived drop is proved again, part by part, wherever sessions are let go.
-impl<A: Allocator + Copy, T: Drop, F: Drop> Drop for Sessions<A, T, F> {
-    fn drop(self) {
-        let Self {
-            tree: _,
-            seats: _,
-            alloc: _,
-        } = self;
-    }
 }
 
 impl<A: Allocator + Copy, T: Tree<A>, F: Lends<A, T>> Sessions<A, T, F> {
