@@ -1,16 +1,21 @@
 -- What a drive of a client beside its control connection did, whole or until it broke off.
-use Rattle.std.specs.Prelude.{◌≡◌, Bool, false, [], ◌∷◌, Option, Some, None, IsTrue}
+use Rattle.std.specs.Option.{option_map}
+use Rattle.std.specs.Prelude.{◌≡◌, ℕ, Bool, false, [], ◌∷◌, Option, Some, None, IsTrue}
 use Rattle.ftp_control.specs.Asking.{Asked, Shut}
 use Rattle.ftp_control.specs.Deeds.{Other, Stand, with_owner}
+use Rattle.ftp_control.specs.Driving.{Leads, LeadsFar}
 use Rattle.ftp_control.specs.Lane.{IsLeft}
 use Rattle.ftp_control.specs.Machine.{Called, Closed, Held, IsCut, Left}
 use Rattle.ftp_control.specs.Outcome.{IsDropped}
 use Rattle.ftp_control.specs.declared.cause.Cause.{Cause}
 use Rattle.ftp_control_drive.specs.Driven.{BreaksOff, Did}
+use Rattle.ftp_control_drive.specs.declared.drive.Turned.{Turned}
+use Rattle.ftp_control_drive.specs.declared.drive.Turned.TheVariants as Turns
 use Rattle.ftp_operation.specs.Answer.{Said, Lost, said_of}
 use Rattle.ftp_operation.specs.declared.answer.Answer.{Answer}
 use Rattle.ftp_client_model.specs.Calls.{is_sound}
 use Rattle.ftp_client_model.specs.Failing.{Client}
+use Rattle.ftp_client_drive.specs.declared.drive.Driven.{Driven}
 use Rattle.ftp_client_drive.specs.Side.{Report, Reporting, client_machine, client_side, is_under_way}
 
 -- the client is asked for its report, which is this answer
@@ -54,3 +59,13 @@ pub record BrokeOff (cause : Cause) (failed : Bool) (start now : Stand client_si
 abbrev pub Drives : (failed : Bool) → (start now : Stand client_side) → Option Cause → Option Said → Type 0
 Drives failed start now None said = Drove start now said
 Drives failed start now (Some cause) said = BrokeOff cause failed start now said
+
+-- so it is of a drive that began where no octets of a data connection were on their way or in hand, and led here
+abbrev pub FromAny : (old : Stand client_side) → (EndsSo : Stand client_side → Type 0) → Type 0
+FromAny old EndsSo = (start : Stand client_side) → start.owner.lane.unwritten ≡ [] → start.owner.lane.untold ≡ [] → Leads start old → EndsSo start
+
+-- so many turns at most: nothing of what they led to is lost, so that those of several calls are one drive; it ends as one does that is made at once
+abbrev pub DrivesOn : {A : Type 0} → (most : ℕ) → (failed : Bool) → (old now : Stand client_side) → Turned (Driven A) → Type 0
+DrivesOn most failed old now (Turns.Over driven) = FromAny old (λ start. Drives failed start now driven.off (option_map said_of driven.report))
+DrivesOn most failed old now Turns.Later = Leads old now
+DrivesOn most failed old now Turns.More = LeadsFar most old now

@@ -4,6 +4,9 @@
 
 mod asks;
 mod drive;
+mod turns;
 
 pub use drive::{Driven, drive_client};
 pub use ftp_control::Control;
+pub use ftp_control_drive::{Data, Turned};
+pub use turns::drive_some;

@@ -44,6 +44,11 @@ module _ {side : Side} where
     pub leads : Leads start now
     pub made : most_turns ≤ left + steps_in leads.deeds
 
+  -- the drive got on by so many deeds, but for one
+  pub record LeadsFar (turns : ℕ) (start now : Stand side) : Type 0 where
+    pub leads : Leads start now
+    pub made : turns ≤ suc (steps_in leads.deeds)
+
   -- ---- what the parts of a drive say
 
   -- a part of a drive leads on, or fails

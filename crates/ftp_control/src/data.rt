@@ -7,8 +7,7 @@ ghost use Rattle.std.specs.IoError.{error_kind};
 ghost use Rattle.ftp_control.specs.Halting.{fate_by, fate_halted};
 ghost use Rattle.ftp_control.specs.Whole.{IsCut, IsWhole};
 
-use crate::pieces::{Failed, TURNS};
-use crate::ports::{DATA_PIECE, For, Ports, Ready};
+use crate::ports::{Beside, DATA_PIECE, For, Ports, Ready};
 use crate::whole::{Fate, Rest, whole_of};
 use std::io::{Error, ErrorKind, Read, Write};
 
@@ -193,46 +192,6 @@ impl<S: Read + Write> DataConnection<S> {
         Ok(())
     }
 
-    /// Writes all octets of the room that are on their way, however long that waits.
-    pub fn write_all(&mut self, room: &[u8]) -> Result<(), Failed>
-        requires { self.old.end ≤ length room.now }
-        ensures sends { Sends (carried_of S.contents self.old) (carried_of S.contents self.new) (on_their_way self.old room.now) (on_their_way self.new room.now) }
-        ensures all { OnOk result (self.new.at ≡ self.new.end) }
-        ensures end { self.new.end ≡ self.old.end }
-        ensures rest { self.new.rest ≡ self.old.rest }
-        ensures stands { is_some self.new.stream ≡ is_some self.old.stream }
-        ensures sound { OnOk result (self.new.fate ≡ self.old.fate) }
-        ensures failed { OnErr result (self.new.fate ≡ Fate.Failed) }
-    {
-        for _ in 0..TURNS {
-            if !self.has_unwritten() {
-                return Ok(());
-            }
-            self.write_more(room)?;
-        }
-        self.fate = Fate::Failed;
-        Err(Failed)
-    }
-
-    /// Writes octets of the room that are on their way, as many as one write takes; none where it was interrupted.
-    fn write_more(&mut self, room: &[u8]) -> Result<(), Failed>
-        requires { self.old.end ≤ length room.now }
-        ensures sends { Sends (carried_of S.contents self.old) (carried_of S.contents self.new) (on_their_way self.old room.now) (on_their_way self.new room.now) }
-        ensures end { self.new.end ≡ self.old.end }
-        ensures rest { self.new.rest ≡ self.old.rest }
-        ensures stands { is_some self.new.stream ≡ is_some self.old.stream }
-        ensures sound { OnOk result (self.new.fate ≡ self.old.fate) }
-        ensures failed { OnErr result (self.new.fate ≡ Fate.Failed) }
-    {
-        match self.write(room) {
-            Ok(()) | Err(Halt::Again) => Ok(()),
-            Err(Halt::Spoken | Halt::Broken) => {
-                self.fate = Fate::Failed;
-                Err(Failed)
-            }
-        }
-    }
-
     /// Reads once, where it is open; none is the end of the data connection.
     pub fn read(&mut self, room: &mut [u8]) -> Result<usize, Halt>
         ensures within { IfOk result (λ count. count ≤ length room.new) }
@@ -274,6 +233,25 @@ impl<S: Read + Write> DataConnection<S> {
         match &mut self.stream {
             Some(stream) => ports.wait(stream, what, hears),
             None => Ready::Data,
+        }
+    }
+
+    /// Whether octets can be read or written now, or what is awaited of the control connection is there. Where none stands, the next read or write
+    /// says so.
+    pub fn looks<P: Ports<Stream = S>>(&mut self, ports: &mut P, what: For, beside: Beside) -> bool
+        ensures left { left_of S.remaining self.new ≡ left_of S.remaining self.old }
+        ensures written { carried_of S.contents self.new ≡ carried_of S.contents self.old }
+        ensures at { self.new.at ≡ self.old.at }
+        ensures end { self.new.end ≡ self.old.end }
+        ensures rest { self.new.rest ≡ self.old.rest }
+        ensures stands { is_some self.new.stream ≡ is_some self.old.stream }
+        ensures fate { self.new.fate ≡ self.old.fate }
+        ensures asked { P.history ports.new ≡ P.history ports.old }
+        ensures later { result ≡ false → P.waits ports.new }
+    {
+        match &mut self.stream {
+            Some(stream) => ports.looks_at(stream, what, beside),
+            None => true,
         }
     }
 

@@ -1,5 +1,5 @@
 // What opens and closes data connections, and what tells the time.
-ghost use Rattle.std.specs.Prelude.{ℕ, List, [], ◌∷◌, Option, None};
+ghost use Rattle.std.specs.Prelude.{◌≡◌, ⊤, ℕ, List, [], ◌∷◌, Option, None, false};
 ghost use Rattle.std.specs.Io.KnownBytes.{Keeps};
 ghost use Rattle.ftp_control.specs.Asking.{Accepts, Adds, Asked, Closes, Connects, Listened, Resets, is_lost, is_over, told_lost};
 
@@ -41,6 +41,29 @@ pub enum Ready {
     Lost,
 }
 
+/// What is awaited that is no data connection that stands.
+#[derive(Clone, Copy)]
+pub enum Awaited {
+    /// Octets of the control connection, or its end.
+    Control,
+    /// The data connection at the port that is listened at.
+    Accepted(Beside),
+    /// A data connection to an endpoint, which is begun at the first look: that it stands, or that it failed.
+    Connected(Endpoint),
+    /// Room of the control connection for replies, 65,536 octets.
+    Replies,
+}
+
+/// What of the control connection is awaited, too.
+#[derive(Clone, Copy, PartialEq, Eq)]
+pub enum Beside {
+    Nothing,
+    /// Its end, or its break.
+    End,
+    /// Octets, its end, or its break.
+    Octets,
+}
+
 /// What the control connection has, told without waiting.
 #[derive(Clone, Copy, PartialEq, Eq)]
 pub enum Spoken {
@@ -60,6 +83,9 @@ pub trait Ports {
     /// What was asked so far, the last one first, where that is known.
     ghost history: { Self → Option (List Asked) } = { λ ports. None };
 
+    /// That the look that was made last told of nothing, where that is known.
+    ghost waits: { Self → Type 0 } = { λ ports. ⊤ };
+
     /// Listens at a port of its choice for one data connection.
     fn listen(&mut self) -> Option<u16>
         ensures { Adds (history self.old) (history self.new) (Listened result ∷ []) };
@@ -78,6 +104,24 @@ pub trait Ports {
         ensures left { Keeps (Self.Stream.remaining stream.old) (Self.Stream.remaining stream.new) }
         ensures written { Keeps (Self.Stream.contents stream.old) (Self.Stream.contents stream.new) }
         ensures asked { Adds (history self.old) (history self.new) (told_lost (is_lost result hears)) };
+
+    /// Whether that is there: the call that waits for it ends at once. Never waits itself. One who has nothing else to do lets that call wait.
+    fn looks(&mut self, _what: Awaited) -> bool
+        ensures asked { history self.new ≡ history self.old }
+        ensures later { result ≡ false → waits self.new }
+    {
+        true
+    }
+
+    /// The same at an open data connection: that a read, or a write, of it would not wait, or what of the control connection is awaited beside.
+    fn looks_at(&mut self, _stream: &mut Self::Stream, _what: For, _beside: Beside) -> bool
+        ensures left { Self.Stream.remaining _stream.new ≡ Self.Stream.remaining _stream.old }
+        ensures written { Self.Stream.contents _stream.new ≡ Self.Stream.contents _stream.old }
+        ensures asked { history self.new ≡ history self.old }
+        ensures later { result ≡ false → waits self.new }
+    {
+        true
+    }
 
     /// What the control connection has now.
     fn spoken(&mut self) -> Spoken

@@ -1,9 +1,11 @@
 -- What the parts of a drive say, put together.
-use Rattle.std.proofs.Common.{◌≡◌, ◌⊎◌, ◌<◌, ◌≤◌, ℕ, suc, length, [], ◌∷◌, inl, inr, refl, subst, sym, arith, List, Option, Result, Ok, Err}
+use Rattle.std.proofs.Common.{◌≡◌, ◌∙◌, ◌⊎◌, ◌<◌, ◌≤◌, ◌+◌, ℕ, suc, length, [], ◌∷◌, drop, take, ap, inl, inr, refl, subst, sym, arith, List, Option, Result, Ok, Err}
+use Rattle.std.specs.Option.{is_some}
 use Rattle.std.specs.Prelude.{OnOk, Bool, IsErrAnd, true, false}
 use Rattle.ftp_control.specs.Asking.{Adds, Asked, Came, Connected, Ended, Listened, Lost, NotCame, NotConnected, Reset, Shut, told_lost}
-use Rattle.ftp_control.specs.Deeds.{Stand, some_of, with_owner}
-use Rattle.ftp_control.specs.Driving.{Flushes, Fails, Goes, Leads, LeadsBy}
+use Rattle.ftp_control.specs.Deeds.{Stand, some_of, steps_in, with_owner}
+use Rattle.ftp_control.specs.Carrying.{told_by}
+use Rattle.ftp_control.specs.Driving.{Flushes, Fails, Goes, Leads, LeadsBy, LeadsFar}
 use Rattle.ftp_control.specs.Lane.{IsLeft, IsRead, Lane, lane_of, with_asked, with_fate, with_untold}
 use Rattle.ftp_control.specs.Machine.{IsFlushed, LeavesFlushed, GetsOn, Stirs, awaits, IsBroken, IsFairEnd, Machine, MayLeave, held, leaves as goes_without, side_of, stand_of}
 use Rattle.ftp_control.specs.Outcome.{IsDropped, IsReset}
@@ -15,16 +17,18 @@ use Rattle.ftp_control.specs.declared.cause.Cause.{Cause}
 use Rattle.ftp_control.specs.declared.data.Halt.{Halt}
 use Rattle.ftp_control.specs.declared.data.Halt.TheVariants as Halts
 use Rattle.ftp_control.specs.declared.whole.Fate.{Fate}
+use Rattle.ftp_control.specs.declared.whole.Rest.{Rest}
 use Rattle.ftp_control.specs.declared.whole.Fate.TheVariants as Fates
 use Rattle.ftp_control.proofs.Going.{goes_then}
 use Rattle.ftp_control.proofs.Idling.{asked_waits, breaks_told, came, came_none, leaves, waits}
 use Rattle.ftp_control.proofs.Lanes.{same_lane}
 use Rattle.ftp_control.proofs.Getting.{gets_goes, stirs_lead, stirs_some, then_gets, then_stirs}
-use Rattle.ftp_control.proofs.Leading.{by_then, by_then_any, fails_spent, gives_up}
+use Rattle.ftp_control.proofs.Leading.{by_then, by_then_any, fails_spent, gives_up, leads_nowhere, leads_then, then_steps}
 use Rattle.ftp_ends.specs.Octets.{has_octets}
 use Rattle.ftp_ends.specs.declared.link.Wants.{Wants}
 use Rattle.ftp_ends.specs.declared.link.Wants.TheVariants as Want
-use Rattle.ftp_control_drive.specs.Calling.{Ends, IsOpenEnd}
+use Rattle.ftp_control_drive.specs.Calling.{Ends, IsOpenEnd, TurnsTo}
+use Rattle.ftp_control_drive.specs.declared.drive.Turned.{Turned}
 use Rattle.ftp_control_drive.specs.Standing.{asked_before}
 
 -- an end beside a control connection, while these octets are in hand
@@ -58,6 +62,25 @@ pub fated_lane : {S : Type 0} (remaining contents : S → Option (List ℕ)) (ol
     → lane_of remaining contents asked new room untold ≡ with_fate fate (lane_of remaining contents asked old room untold)
 fated_lane remaining contents old new fate asked room untold stream at end rest is =
     same_lane remaining contents (record old { fate = fate }) new asked room untold stream at end rest is
+
+abbrev lane_by : Bool → Fate → Rest → (left written : Option (List ℕ)) → (unwritten untold : List ℕ) → Option (List Asked) → Lane
+lane_by stands fate rest left written unwritten untold asked =
+    record { stands = stands; fate = fate; rest = rest; left = left; written = written; unwritten = unwritten; untold = untold; asked = asked }
+
+-- it was looked at, and is as it was
+pub looked_lane : {S : Type 0} (remaining contents : S → Option (List ℕ)) (old new : DataConnection S) (asked : Option (List Asked)) (room untold : List ℕ)
+    → told_by remaining new.stream ≡ told_by remaining old.stream → told_by contents new.stream ≡ told_by contents old.stream → new.at ≡ old.at → new.end ≡ old.end
+    → new.rest ≡ old.rest → is_some new.stream ≡ is_some old.stream → new.fate ≡ old.fate
+    → lane_of remaining contents asked new room untold ≡ lane_of remaining contents asked old room untold
+looked_lane remaining contents old new asked room untold left written at end rest stands fate =
+    let told = told_by remaining in let holds = told_by contents in
+    ap (λ s. lane_by s new.fate new.rest (told new.stream) (holds new.stream) (drop new.at (take new.end room)) untold asked) stands
+    ∙ ap (λ f. lane_by (is_some old.stream) f new.rest (told new.stream) (holds new.stream) (drop new.at (take new.end room)) untold asked) fate
+    ∙ ap (λ r. lane_by (is_some old.stream) old.fate r (told new.stream) (holds new.stream) (drop new.at (take new.end room)) untold asked) rest
+    ∙ ap (λ l. lane_by (is_some old.stream) old.fate old.rest l (holds new.stream) (drop new.at (take new.end room)) untold asked) left
+    ∙ ap (λ w. lane_by (is_some old.stream) old.fate old.rest (told old.stream) w (drop new.at (take new.end room)) untold asked) written
+    ∙ ap (λ n. lane_by (is_some old.stream) old.fate old.rest (told old.stream) (holds old.stream) (drop n (take new.end room)) untold asked) at
+    ∙ ap (λ n. lane_by (is_some old.stream) old.fate old.rest (told old.stream) (holds old.stream) (drop old.at (take n room)) untold asked) end
 
 -- one that an end wants no more may be left, where no read or write failed that it was not told
 pub may_leave : (done : Type 0) (want : Wants) (fate : Fate) → goes_without want ≡ true → (fate ≡ Fates.Failed → ⊥) → MayLeave done want fate
@@ -172,3 +195,45 @@ module _ (machine : Machine) where
       → IsErrAnd r (λ e. e ≡ cause) → Fails cause a b → Ends machine last a b r
   ends_err last cause a b (Ok over) failed fails = absurd failed
   ends_err last cause a b (Err e) failed fails = subst (λ e. Fails e a b) (sym failed) fails
+
+  -- nothing moved
+  pub leads_same : (a b : Stand (side_of machine)) → b ≡ a → Leads a b
+  leads_same a b same = subst (λ s. Leads a s) (sym same) (leads_nowhere a)
+
+  -- its data connection is as it was
+  pub leads_looked : (a : Stand (side_of machine)) (lane : Lane) → lane ≡ a.owner.lane → Leads a (with_owner (held a.owner.end lane) a)
+  leads_looked a lane same = leads_same a _ (ap (λ l. with_owner (held a.owner.end l) a) same)
+
+  -- so many turns were made, by each of which the drive got on, but for the last one where it is over
+  abbrev pub MadeBy : (made : ℕ) → (a b : Stand (side_of machine)) → Type 0
+  MadeBy made a b =
+      ((leads : Leads a b) × (made ≤ steps_in leads.deeds)) ⊎ (LeadsFar made a b × ((machine.serves ≡ true) × (machine.wants b.owner.end ≡ Want.CloseAll)))
+
+  pub made_leads : (made : ℕ) (a b : Stand (side_of machine)) → MadeBy made a b → Leads a b
+  made_leads made a b (inl by) = by.0
+  made_leads made a b (inr over) = over.0.leads
+
+  pub made_far : (made : ℕ) (a b : Stand (side_of machine)) → MadeBy made a b → LeadsFar made a b
+  made_far made a b (inl by) = record { leads = by.0; made = omega (arith, by.1) }
+  made_far made a b (inr over) = over.0
+
+  -- none was made
+  pub made_none : (a : Stand (side_of machine)) → MadeBy 0 a a
+  made_none a = inl (leads_nowhere a, omega arith)
+
+  -- one turn more, where it was not over
+  pub made_on : (made : ℕ) (a b c d : Stand (side_of machine)) → MadeBy made a b → IsOpenEnd machine b.owner.end → Leads b c
+      → Stirs machine c d ⊎ (Leads c d × ((machine.serves ≡ true) × (machine.wants d.owner.end ≡ Want.CloseAll))) → MadeBy (made + 1) a d
+  made_on made a b c d (inr over) is_open aside turned = absurd (is_open over.1.0 over.1.1)
+  made_on made a b c d (inl by) is_open aside (inl stirs) =
+      let first = leads_then a b c by.0 aside in
+      let second = stirs_lead c d stirs in
+      inl (leads_then a c d first second, omega (arith, by.1, stirs_some c d stirs, then_steps a c d first second, then_steps a b c by.0 aside))
+  made_on made a b c d (inl by) is_open aside (inr over) =
+      let first = leads_then a b c by.0 aside in
+      inr (record { leads = leads_then a c d first over.0; made = omega (arith, by.1, then_steps a c d first over.0, then_steps a b c by.0 aside) }, over.1)
+
+  pub turns_err : {Over : Type 0} (last : Over → (old new : machine.Here) → Type 0) (most : ℕ) (cause : Cause) (a b : Stand (side_of machine)) (r : Result (Turned Over) Cause)
+      → IsErrAnd r (λ e. e ≡ cause) → Fails cause a b → TurnsTo machine last most a b r
+  turns_err last most cause a b (Ok turned) failed fails = absurd failed
+  turns_err last most cause a b (Err e) failed fails = subst (λ e. Fails e a b) (sym failed) fails

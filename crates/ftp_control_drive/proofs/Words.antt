@@ -14,7 +14,7 @@ pub use Rattle.ftp_control.specs.Driving.{Fails, Leads, LeadsBy, Quietly}
 pub use Rattle.ftp_control.specs.Lane.{IsOpen, Lane, no_lane, with_given, with_untold}
 pub use Rattle.ftp_control.specs.Machine.{Closed, held, side_of, stand_of}
 pub use Rattle.ftp_control.specs.Outcome.{in_hand}
-pub use Rattle.ftp_control_drive.proofs.Steps.{asks, came_nothing, ends_err, fated_lane, flushed_so, handing, leaves_flushed, TurnsBy, loses, may_leave, owes_none, owes_some, said_some, sent_fate, then_turns, turned_off, turns_lead, turns_on, turns_spent}
+pub use Rattle.ftp_control_drive.proofs.Steps.{asks, came_nothing, ends_err, leads_looked, leads_same, looked_lane, made_far, made_leads, made_none, made_on, MadeBy, turns_err, fated_lane, flushed_so, handing, leaves_flushed, TurnsBy, loses, may_leave, owes_none, owes_some, said_some, sent_fate, then_turns, turned_off, turns_lead, turns_on, turns_spent}
 pub use Rattle.ftp_control_drive.specs.Calling.{Ends}
 pub use Rattle.ftp_control_drive.specs.Standing.{IsKept, Why, lane_at, standing}
 pub use Rattle.std.proofs.lemmas.List.{nil_from_length, take-append-le}

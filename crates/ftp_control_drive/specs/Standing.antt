@@ -1,5 +1,5 @@
 -- Where a drive of the program stands.
-use Rattle.std.specs.Prelude.{◌≡◌, ◌⊎◌, ℕ, Bool, true, List, [], Option, IfErr}
+use Rattle.std.specs.Prelude.{◌≡◌, ◌⊎◌, ◌<◌, ℕ, Bool, true, List, [], Option, IfErr}
 use Rattle.std.specs.Option.{is_some}
 use Rattle.std.specs.Io.KnownBytes.{IsAtEnd}
 use Rattle.std.specs.declared.result.Result.{Result}
@@ -14,6 +14,7 @@ use Rattle.ftp_control.specs.Unheard.{unheard_of}
 use Rattle.ftp_control.specs.declared.cause.Cause.{Cause}
 use Rattle.ftp_control.specs.declared.control.Control.{Control}
 use Rattle.ftp_control.specs.declared.whole.Fate.TheVariants.{Sound}
+use Rattle.ftp_control.specs.declared.whole.Rest.TheVariants.{Nothing}
 use Rattle.ftp_ends.specs.declared.link.Wants.TheVariants as Want
 use Rattle.ftp_control_drive.specs.declared.data.Data.{Data}
 use Rattle.ftp_control_drive.specs.declared.drive.Drive.{Drive}
@@ -26,6 +27,11 @@ lane_at remaining contents asked data_connection untold = lane_of remaining cont
 abbrev pub IsOpenAt : {S : Type 0} → Data S → Type 0
 IsOpenAt data_connection = (is_some data_connection.connection.stream ≡ true) × (data_connection.connection.fate ≡ Sound)
 
+-- octets are on their way over one that is open, and its end has no more for it
+abbrev pub IsParting : {S : Type 0} → Data S → Type 0
+IsParting data_connection =
+    IsOpenAt data_connection × (data_connection.connection.rest ≡ Nothing) × (data_connection.connection.at < data_connection.connection.end)
+
 -- one is left, and fairly
 abbrev pub Leaving : (old new : Lane) → Type 0
 Leaving old new = (asked : Asked) × IsLeft asked old new × IsFairEnd old asked
@@ -34,9 +40,10 @@ Leaving old new = (asked : Asked) × IsLeft asked old new × IsFairEnd old asked
 abbrev pub HasEnded : {S : Type 0} → (remaining : S → Option (List ℕ)) → Data S → Type 0
 HasEnded remaining data_connection = (is_some data_connection.connection.stream ≡ true) × IsAtEnd (left_of remaining data_connection.connection)
 
--- it is a drive of the same end, control connection and ports
+-- it is a drive of the same end, control connection, ports and data connection
 abbrev pub IsKept : {K E R W P S : Type 0} → (old new : Drive K E R W P S) → Type 0
 IsKept old new = (new.end.ghost_name ≡ old.end.ghost_name) × (new.control.ghost_name ≡ old.control.ghost_name) × (new.ports.ghost_name ≡ old.ports.ghost_name)
+    × (new.data.ghost_name ≡ old.data.ghost_name)
 
 -- an end beside its control connection breaks off only for a cause, after this was asked
 abbrev pub Why : {R W T : Type 0} → (machine : Machine) → (serves : Bool) → machine.Here → Option (List Asked) → Control R W → Result T Cause → Type 0
@@ -47,7 +54,7 @@ Why machine serves here asked control result =
 module _ (machine : Machine) {K E R W P S : Type 0} (here : E → machine.Here) (left : R → Option (List ℕ)) (written : W → Option (List ℕ))
     (history : P → Option (List Asked)) (remaining contents : S → Option (List ℕ)) where
   abbrev pub standing : Drive K E R W P S → Stand (side_of machine)
-  standing drive = stand_of machine left written (held (here drive.end.now) (lane_at remaining contents (history drive.ports.now) drive.data [])) drive.control.now
+  standing drive = stand_of machine left written (held (here drive.end.now) (lane_at remaining contents (history drive.ports.now) drive.data.now [])) drive.control.now
 
   -- it leads on
   abbrev pub LeadsOn : (old new : Drive K E R W P S) → Type 0

@@ -16,7 +16,7 @@ use ftp_control::{Cause, Fate, For, Halt, Ports, Ready, Spoken};
 use ftp_ends::Wants;
 use std::io::{Read, Write};
 
-impl<'e, 'k, 'p, K, E, R, W, P, S> Drive<'e, 'k, 'p, K, E, R, W, P, S>
+impl<'e, 'k, 'p, 'd, K, E, R, W, P, S> Drive<'e, 'k, 'p, 'd, K, E, R, W, P, S>
 where
     K: EndCalls<E>,
     R: Read + Drop,
@@ -28,9 +28,9 @@ where
     #[tactic(auto, using(ftp_control::proofs::Getting::gets_then, ftp_control::proofs::Getting::then_gets, ftp_control::proofs::Getting::stirs_then, ftp_control::proofs::Leading::leads_then, ftp_control::proofs::Getting::gets_goes))]
     pub(crate) fn carry(&mut self) -> Result<(), Cause>
         requires wants { K.machine.wants (K.here self.old.end.now) ≡ Wants.Send }
-        requires sound { self.old.data.connection.fate ≢ Fate.Failed }
+        requires sound { self.old.data.now.connection.fate ≢ Fate.Failed }
         requires flushed { IsFlushed K.machine (K.here self.old.end.now) }
-        requires none { K.machine.serves ≡ false → IsOpenAt self.old.data → self.old.data.connection.at ≡ self.old.data.connection.end }
+        requires none { K.machine.serves ≡ false → IsOpenAt self.old.data.now → self.old.data.now.connection.at ≡ self.old.data.now.connection.end }
         ensures gets { Gets K.machine K.here R.remaining W.contents P.history S.remaining S.contents self.old self.new result }
         ensures why { Why K.machine K.machine.serves (K.here self.new.end.now) (P.history self.new.ports.now) self.new.control.now result }
         ensures kept { IsKept self.old self.new }
@@ -55,7 +55,7 @@ where
     #[tactic(auto, using(ftp_control::proofs::Getting::gets_then, ftp_control::proofs::Getting::gets_goes))]
     pub(crate) fn receive(&mut self) -> Result<(), Cause>
         requires wants { K.machine.wants (K.here self.old.end.now) ≡ Wants.Receive }
-        requires sound { self.old.data.connection.fate ≢ Fate.Failed }
+        requires sound { self.old.data.now.connection.fate ≢ Fate.Failed }
         requires flushed { IsFlushed K.machine (K.here self.old.end.now) }
         ensures gets { Gets K.machine K.here R.remaining W.contents P.history S.remaining S.contents self.old self.new result }
         ensures why { Why K.machine K.machine.serves (K.here self.new.end.now) (P.history self.new.ports.now) self.new.control.now result }
@@ -75,8 +75,8 @@ where
     /// Octets were to go over a data connection, or to come, and none is open: the end is told where none stands, and one that it was told of is left.
     fn miss(&mut self)
         requires moves { moves_octets (K.machine.wants (K.here self.old.end.now)) ≡ true }
-        requires sound { self.old.data.connection.fate ≢ Fate.Failed }
-        requires none { IsOpenAt self.old.data → ⊥ }
+        requires sound { self.old.data.now.connection.fate ≢ Fate.Failed }
+        requires none { IsOpenAt self.old.data.now → ⊥ }
         requires flushed { IsFlushed K.machine (K.here self.old.end.now) }
         ensures stirs { StirsOn K.machine K.here R.remaining W.contents P.history S.remaining S.contents self.old self.new }
         ensures kept { IsKept self.old self.new }
@@ -92,7 +92,7 @@ where
     fn wait(&mut self, what: For) -> Ready
         requires { awaits (K.machine.wants (K.here self.old.end.now)) ≡ true }
         ensures stirs { StirsOn K.machine K.here R.remaining W.contents P.history S.remaining S.contents self.old self.new }
-        ensures ready { IsOpenAt self.old.data → IsOpenAt self.new.data }
+        ensures ready { IsOpenAt self.old.data.now → IsOpenAt self.new.data.now }
         ensures end { self.new.end.now ≡ self.old.end.now }
         ensures first { result ≡ Ready.Control → 0 < length (unheard_of self.new.control.now) → HasLost (P.history self.new.ports.now) }
         ensures lost { result ≡ Ready.Lost → HasLost (P.history self.new.ports.now) }
@@ -106,7 +106,7 @@ where
     fn lost(&mut self) -> Result<(), Cause>
         requires flushed { IsFlushed K.machine (K.here self.old.end.now) }
         requires lost { HasLost (P.history self.old.ports.now) }
-        requires ready { IsOpenAt self.old.data }
+        requires ready { IsOpenAt self.old.data.now }
         requires wants { K.machine.wants (K.here self.old.end.now) ≡ Wants.Receive }
         ensures goes { Follows K.machine K.here R.remaining W.contents P.history S.remaining S.contents self.old self.new result }
         ensures why { Why K.machine K.machine.serves (K.here self.new.end.now) (P.history self.new.ports.now) self.new.control.now result }
@@ -121,7 +121,7 @@ where
     /// Takes what a data connection has: octets are handed on; or it ended or broke, and the end is told that.
     fn take(&mut self) -> Result<(), Cause>
         requires flushed { IsFlushed K.machine (K.here self.old.end.now) }
-        requires ready { IsOpenAt self.old.data }
+        requires ready { IsOpenAt self.old.data.now }
         requires wants { K.machine.wants (K.here self.old.end.now) ≡ Wants.Receive }
         ensures goes { Follows K.machine K.here R.remaining W.contents P.history S.remaining S.contents self.old self.new result }
         ensures why { Why K.machine K.machine.serves (K.here self.new.end.now) (P.history self.new.ports.now) self.new.control.now result }
@@ -135,15 +135,26 @@ where
         }
     }
 
-    /// Takes octets from the end, where all before were written, and writes them; where that fails, the data connection is lost.
-    #[tactic(auto, using(ftp_control::proofs::Leading::leads_then, ftp_control::proofs::Getting::stirs_lead))]
+    /// Takes octets from the end, where all before were written, and writes some of those on their way.
+    #[tactic(auto, using(ftp_control::proofs::Leading::leads_then))]
     fn send_more(&mut self)
-        requires ready { IsOpenAt self.old.data }
+        requires ready { IsOpenAt self.old.data.now }
         requires wants { K.machine.wants (K.here self.old.end.now) ≡ Wants.Send }
         ensures leads { LeadsOn K.machine K.here R.remaining W.contents P.history S.remaining S.contents self.old self.new }
         ensures kept { IsKept self.old self.new }
     {
         self.fill();
+        self.push();
+    }
+
+    /// Writes octets on their way, as many as one write takes; where that fails, the data connection is lost.
+    #[tactic(auto, using(ftp_control::proofs::Leading::leads_then, ftp_control::proofs::Getting::stirs_lead, ftp_control::proofs::Getting::stirs_then))]
+    pub(crate) fn push(&mut self)
+        requires ready { IsOpenAt self.old.data.now }
+        ensures leads { LeadsOn K.machine K.here R.remaining W.contents P.history S.remaining S.contents self.old self.new }
+        ensures stirs { self.old.data.now.connection.at < self.old.data.now.connection.end → StirsOn K.machine K.here R.remaining W.contents P.history S.remaining S.contents self.old self.new }
+        ensures kept { IsKept self.old self.new }
+    {
         match self.write() {
             Err(Halt::Broken) => self.lose(),
             _ => {}
@@ -154,8 +165,8 @@ where
     #[tactic(auto, using(ftp_control::proofs::Getting::gets_then))]
     pub(crate) fn send(&mut self) -> Result<(), Cause>
         requires flushed { IsFlushed K.machine (K.here self.old.end.now) }
-        requires ready { IsOpenAt self.old.data }
-        requires some { self.old.data.connection.at < self.old.data.connection.end }
+        requires ready { IsOpenAt self.old.data.now }
+        requires some { self.old.data.now.connection.at < self.old.data.now.connection.end }
         ensures gets { Gets K.machine K.here R.remaining W.contents P.history S.remaining S.contents self.old self.new result }
         ensures why { Why K.machine K.machine.serves (K.here self.new.end.now) (P.history self.new.ports.now) self.new.control.now result }
         ensures kept { IsKept self.old self.new }
@@ -168,11 +179,11 @@ where
 
     /// Takes octets from the end, where all before were written.
     fn fill(&mut self)
-        requires ready { IsOpenAt self.old.data }
+        requires ready { IsOpenAt self.old.data.now }
         requires wants { K.machine.wants (K.here self.old.end.now) ≡ Wants.Send }
-        ensures ready { IsOpenAt self.new.data }
+        ensures ready { IsOpenAt self.new.data.now }
         ensures leads { LeadsOn K.machine K.here R.remaining W.contents P.history S.remaining S.contents self.old self.new }
-        ensures stirs { self.old.data.connection.at ≡ self.old.data.connection.end → StirsOn K.machine K.here R.remaining W.contents P.history S.remaining S.contents self.old self.new }
+        ensures stirs { self.old.data.now.connection.at ≡ self.old.data.now.connection.end → StirsOn K.machine K.here R.remaining W.contents P.history S.remaining S.contents self.old self.new }
         ensures kept { IsKept self.old self.new }
     {
         self.data.fill::<K, E>(self.end);
@@ -180,14 +191,14 @@ where
 
     /// Writes octets that are not written yet.
     fn write(&mut self) -> Result<(), Halt>
-        requires { IsOpenAt self.old.data }
+        requires { IsOpenAt self.old.data.now }
         ensures end { self.new.end.now ≡ self.old.end.now }
-        ensures fate { self.new.data.connection.fate ≡ fate_by result Fate.Sound }
+        ensures fate { self.new.data.now.connection.fate ≡ fate_by result Fate.Sound }
         ensures leads { LeadsOn K.machine K.here R.remaining W.contents P.history S.remaining S.contents self.old self.new }
-        ensures stirs { self.old.data.connection.at < self.old.data.connection.end → StirsOn K.machine K.here R.remaining W.contents P.history S.remaining S.contents self.old self.new }
+        ensures stirs { self.old.data.now.connection.at < self.old.data.now.connection.end → StirsOn K.machine K.here R.remaining W.contents P.history S.remaining S.contents self.old self.new }
         ensures kept { IsKept self.old self.new }
     {
-        self.data.write::<K, E>()
+        self.data.write()
     }
 
     /// Follows a read or a write of the data connection that moved no octet: one that asks reads what goes first, where all before was heard, and
@@ -195,7 +206,7 @@ where
     #[tactic(auto, using(ftp_control::proofs::Getting::gets_goes, ftp_control::proofs::Getting::stirs_lead, ftp_control::proofs::Leading::leads_nowhere))]
     fn halted(&mut self, halt: Halt) -> Result<(), Cause>
         requires flushed { IsFlushed K.machine (K.here self.old.end.now) }
-        requires failed { halt ≡ Halt.Broken → self.old.data.connection.fate ≡ Fate.Failed }
+        requires failed { halt ≡ Halt.Broken → self.old.data.now.connection.fate ≡ Fate.Failed }
         ensures goes { Follows K.machine K.here R.remaining W.contents P.history S.remaining S.contents self.old self.new result }
         ensures why { Why K.machine K.machine.serves (K.here self.new.end.now) (P.history self.new.ports.now) self.new.control.now result }
         ensures kept { IsKept self.old self.new }
@@ -219,8 +230,8 @@ where
     /// The data connection ended: that is told, unless the control connection goes first.
     fn ended(&mut self) -> Result<(), Cause>
         requires flushed { IsFlushed K.machine (K.here self.old.end.now) }
-        requires ready { IsOpenAt self.old.data }
-        requires ended { HasEnded S.remaining self.old.data }
+        requires ready { IsOpenAt self.old.data.now }
+        requires ended { HasEnded S.remaining self.old.data.now }
         requires wants { K.machine.wants (K.here self.old.end.now) ≡ Wants.Receive }
         ensures goes { Follows K.machine K.here R.remaining W.contents P.history S.remaining S.contents self.old self.new result }
         ensures why { Why K.machine K.machine.serves (K.here self.new.end.now) (P.history self.new.ports.now) self.new.control.now result }
@@ -237,7 +248,7 @@ where
     #[tactic(auto, using(ftp_control::proofs::Getting::then_gets, ftp_control::proofs::Getting::then_stirs))]
     pub(crate) fn broke(&mut self) -> Result<(), Cause>
         requires flushed { IsFlushed K.machine (K.here self.old.end.now) }
-        requires failed { self.old.data.connection.fate ≡ Fate.Failed }
+        requires failed { self.old.data.now.connection.fate ≡ Fate.Failed }
         ensures gets { Gets K.machine K.here R.remaining W.contents P.history S.remaining S.contents self.old self.new result }
         ensures why { Why K.machine K.machine.serves (K.here self.new.end.now) (P.history self.new.ports.now) self.new.control.now result }
         ensures kept { IsKept self.old self.new }
@@ -268,8 +279,8 @@ where
     #[tactic(auto, using(ftp_control::proofs::Causing::passes))]
     fn over(&mut self, spoken: Spoken) -> Result<(), Cause>
         requires before { spoken ≢ Spoken.Ended }
-        requires ready { IsOpenAt self.old.data }
-        requires ended { HasEnded S.remaining self.old.data }
+        requires ready { IsOpenAt self.old.data.now }
+        requires ended { HasEnded S.remaining self.old.data.now }
         requires wants { K.machine.wants (K.here self.old.end.now) ≡ Wants.Receive }
         ensures goes { Follows K.machine K.here R.remaining W.contents P.history S.remaining S.contents self.old self.new result }
         ensures why { Why K.machine K.machine.serves (K.here self.new.end.now) (P.history self.new.ports.now) self.new.control.now result }
@@ -284,10 +295,10 @@ where
     /// The data connection ended now, and the control connection, as far as it was looked at, has not: the end is told.
     fn tell_end(&mut self, _spoken: Spoken)
         requires before { _spoken ≢ Spoken.Ended }
-        requires ready { IsOpenAt self.old.data }
-        requires ended { HasEnded S.remaining self.old.data }
+        requires ready { IsOpenAt self.old.data.now }
+        requires ended { HasEnded S.remaining self.old.data.now }
         requires wants { K.machine.wants (K.here self.old.end.now) ≡ Wants.Receive }
-        ensures fate { self.new.data.connection.fate ≡ Fate.Over }
+        ensures fate { self.new.data.now.connection.fate ≡ Fate.Over }
         ensures leads { LeadsOn K.machine K.here R.remaining W.contents P.history S.remaining S.contents self.old self.new }
         ensures kept { IsKept self.old self.new }
     {
@@ -297,7 +308,7 @@ where
 
     /// Closes what stands of the data connection.
     pub(crate) fn leave(&mut self)
-        requires may { MayLeave (K.machine.IsDone (K.here self.old.end.now)) (K.machine.wants (K.here self.old.end.now)) self.old.data.connection.fate }
+        requires may { MayLeave (K.machine.IsDone (K.here self.old.end.now)) (K.machine.wants (K.here self.old.end.now)) self.old.data.now.connection.fate }
         requires flushed { IsFlushed K.machine (K.here self.old.end.now) }
         ensures stirs { StirsOn K.machine K.here R.remaining W.contents P.history S.remaining S.contents self.old self.new }
         ensures kept { IsKept self.old self.new }
@@ -307,7 +318,7 @@ where
 
     /// The data connection is lost: the end is told, and it is reset.
     fn lose(&mut self)
-        requires { IsBroken (K.machine.wants (K.here self.old.end.now)) (is_some self.old.data.connection.stream) self.old.data.connection.fate }
+        requires { IsBroken (K.machine.wants (K.here self.old.end.now)) (is_some self.old.data.now.connection.stream) self.old.data.now.connection.fate }
         ensures stirs { StirsOn K.machine K.here R.remaining W.contents P.history S.remaining S.contents self.old self.new }
         ensures kept { IsKept self.old self.new }
     {
@@ -322,7 +333,7 @@ where
         ensures leads { LeadsOn K.machine K.here R.remaining W.contents P.history S.remaining S.contents self.old self.new }
         ensures listening { result ≢ Spoken.Nothing → IsListening K.machine (K.here self.new.end.now) }
         ensures asked { Adds (P.history self.old.ports.now) (P.history self.new.ports.now) (told_lost (is_over result)) }
-        ensures data { self.new.data ≡ self.old.data }
+        ensures data { self.new.data.now ≡ self.old.data.now }
         ensures end { self.new.end.now ≡ self.old.end.now }
         ensures kept { IsKept self.old self.new }
     {

@@ -1,12 +1,12 @@
 // The octets of a control connection: those that the end owes are written, those that were read are heard.
-ghost use Rattle.std.specs.Prelude.{◌≡◌, ◌<◌, IsTrue, OnOk, length, [], List, Option};
+ghost use Rattle.std.specs.Prelude.{◌≡◌, ◌<◌, IsTrue, OnOk, length, true, [], List, Option};
 ghost use Rattle.ftp_control.specs.Asking.{Asked};
 ghost use Rattle.ftp_control.specs.Cause.{HasLost};
 ghost use Rattle.ftp_control.specs.Driving.{Flushes};
 ghost use Rattle.ftp_control.specs.Lane.{Lane};
 ghost use Rattle.ftp_control.specs.Machine.{IsFlushed, IsListening, held, stand_of};
 ghost use Rattle.ftp_control.specs.Unheard.{unheard_of};
-ghost use Rattle.ftp_control_drive.specs.Standing.{Follows, Gets, IsKept, StirsOn, Why, standing};
+ghost use Rattle.ftp_control_drive.specs.Standing.{Follows, Gets, IsKept, IsParting, StirsOn, Why, standing};
 
 use crate::calls::EndCalls;
 use crate::drive::Drive;
@@ -35,7 +35,7 @@ where
     Ok(())
 }
 
-impl<'e, 'k, 'p, K, E, R, W, P, S> Drive<'e, 'k, 'p, K, E, R, W, P, S>
+impl<'e, 'k, 'p, 'd, K, E, R, W, P, S> Drive<'e, 'k, 'p, 'd, K, E, R, W, P, S>
 where
     K: EndCalls<E>,
     R: Read + Drop,
@@ -43,13 +43,14 @@ where
     P: Ports<Stream = S>,
     S: Read + Write,
 {
-    /// Writes all control octets that the end owes.
+    /// Writes all control octets that the end owes, which is not before the last octets of its data connection are written, where it serves.
     pub(crate) fn flush(&mut self) -> Result<(), Cause>
+        requires parted { K.machine.serves ≡ true → IsParting self.old.data.now → ⊥ }
         ensures goes { Follows K.machine K.here R.remaining W.contents P.history S.remaining S.contents self.old self.new result }
         ensures flushes { Flushes (standing K.machine K.here R.remaining W.contents P.history S.remaining S.contents self.old) (standing K.machine K.here R.remaining W.contents P.history S.remaining S.contents self.new) result }
         ensures owes { OnOk result (IsFlushed K.machine (K.here self.new.end.now)) }
         ensures unheard { unheard_of self.new.control.now ≡ unheard_of self.old.control.now }
-        ensures data { self.new.data ≡ self.old.data }
+        ensures data { self.new.data.now ≡ self.old.data.now }
         ensures why { Why K.machine K.machine.serves (K.here self.new.end.now) (P.history self.new.ports.now) self.new.control.now result }
         ensures kept { IsKept self.old self.new }
     {

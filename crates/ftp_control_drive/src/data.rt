@@ -6,11 +6,11 @@ ghost use Rattle.ftp_control.specs.Halting.{fate_by};
 ghost use Rattle.ftp_control.specs.Lane.{IsRead, IsWaited, no_lane, with_fate};
 ghost use Rattle.ftp_control.specs.Machine.{IsCut, Stirring, held, seen, side_of};
 ghost use Rattle.ftp_control.specs.Outcome.{IsReset, IsSent, IsWrote, in_hand};
-ghost use Rattle.ftp_control_drive.specs.Standing.{HasEnded, IsOpenAt, Leaving, lane_at};
+ghost use Rattle.ftp_control_drive.specs.Standing.{HasEnded, IsOpenAt, IsParting, Leaving, lane_at};
 
 use crate::calls::EndCalls;
 use crate::hand::fill_front;
-use ftp_control::{DATA_PIECE, DataConnection, Failed, Fate, For, Halt, Ports, Ready, Rest};
+use ftp_control::{Beside, DATA_PIECE, DataConnection, Fate, For, Halt, Ports, Ready, Rest};
 use ftp_ends::Wants;
 use std::io::{Read, Write};
 
@@ -22,7 +22,7 @@ pub struct Data<S> {
 
 impl<S: Read + Write> Data<S> {
     /// No data connection.
-    pub(crate) fn new() -> Data<S>
+    pub fn new() -> Data<S>
         ensures none { result.connection.stream ≡ None }
         ensures all { result.connection.at ≡ result.connection.end }
         ensures sound { result.connection.fate ≡ Fate.Sound }
@@ -86,37 +86,39 @@ impl<S: Read + Write> Data<S> {
         DATA_PIECE
     }
 
-    /// Writes octets that are not written yet: as many as one write takes, or, of an end that serves and has no others, all.
-    pub(crate) fn write<K: EndCalls<E>, E>(&mut self) -> Result<(), Halt>
+    /// Writes octets that are not written yet, as many as one write takes.
+    pub(crate) fn write(&mut self) -> Result<(), Halt>
         requires { IsOpenAt self.old }
         ensures written { (asked : Option (List Asked)) → IsSent (lane_at S.remaining S.contents asked self.old []) (lane_at S.remaining S.contents asked self.new []) }
         ensures some { self.old.connection.at < self.old.connection.end → (asked : Option (List Asked)) → IsWrote (lane_at S.remaining S.contents asked self.old []) (lane_at S.remaining S.contents asked self.new []) }
         ensures fate { self.new.connection.fate ≡ fate_by result Fate.Sound }
-        ensures all { OnOk result (K.machine.serves ≡ true → self.new.connection.rest ≡ Rest.Nothing → self.new.connection.at ≡ self.new.connection.end) }
     {
         if !self.connection.has_unwritten() {
             return Ok(());
         }
-        if K::serves() {
-            if self.connection.rest() == Rest::Nothing {
-                return self.write_all();
-            }
-        }
         self.connection.write(&self.room)
     }
 
-    /// Writes all octets that are not written yet.
-    fn write_all(&mut self) -> Result<(), Halt>
-        requires ready { IsOpenAt self.old }
-        requires some { self.old.connection.at < self.old.connection.end }
-        ensures written { (asked : Option (List Asked)) → IsWrote (lane_at S.remaining S.contents asked self.old []) (lane_at S.remaining S.contents asked self.new []) }
-        ensures fate { self.new.connection.fate ≡ fate_by result Fate.Sound }
-        ensures all { OnOk result (self.new.connection.at ≡ self.new.connection.end) }
+    /// Whether octets are on their way over one that is open, and its end has no more: the last of a download or a listing, or of an upload.
+    pub(crate) fn is_parting(&self) -> bool
+        ensures some { IsTrue result → IsParting self.now }
+        ensures none { result ≡ false → IsParting self.now → ⊥ }
     {
-        match self.connection.write_all(&self.room) {
-            Ok(()) => Ok(()),
-            Err(Failed) => Err(Halt::Broken),
-        }
+        self.is_open() && self.connection.has_unwritten() && self.connection.rest() == Rest::Nothing
+    }
+
+    /// Whether octets can go over it now, or what is awaited of the control connection is there.
+    pub(crate) fn looks<P: Ports<Stream = S>>(
+        &mut self,
+        ports: &mut P,
+        what: For,
+        beside: Beside,
+    ) -> bool
+        ensures same { (asked : Option (List Asked)) → lane_at S.remaining S.contents asked self.new [] ≡ lane_at S.remaining S.contents asked self.old [] }
+        ensures asked { P.history ports.new ≡ P.history ports.old }
+        ensures later { result ≡ false → P.waits ports.new }
+    {
+        self.connection.looks(ports, what, beside)
     }
 
     /// Waits until octets can go over it, or where `hears` until the control connection is to be served.
@@ -154,7 +156,7 @@ impl<S: Read + Write> Data<S> {
 
     /// Closes it, if it is open, and the port that is listened at.
     #[tactic(auto, using(ftp_control::proofs::Lanes::leaves))]
-    pub(crate) fn leave<P: Ports<Stream = S>>(&mut self, ports: &mut P)
+    pub fn leave<P: Ports<Stream = S>>(&mut self, ports: &mut P)
         ensures { Leaving (lane_at S.remaining S.contents (P.history ports.old) self.old []) (lane_at S.remaining S.contents (P.history ports.new) self.new []) }
     {
         self.connection.close(ports);

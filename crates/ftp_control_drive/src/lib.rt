@@ -9,7 +9,8 @@ mod data;
 mod drive;
 mod hand;
 mod meet;
+mod wait;
 
 pub use calls::{EndCalls, Given};
 pub use data::Data;
-pub use drive::drive_end;
+pub use drive::{Turned, drive_end, drive_on};

@@ -14,7 +14,7 @@ use ftp_endpoint::{Endpoint, Host};
 use ftp_ends::Wants;
 use std::io::{Read, Write};
 
-impl<'e, 'k, 'p, K, E, R, W, P, S> Drive<'e, 'k, 'p, K, E, R, W, P, S>
+impl<'e, 'k, 'p, 'd, K, E, R, W, P, S> Drive<'e, 'k, 'p, 'd, K, E, R, W, P, S>
 where
     K: EndCalls<E>,
     R: Read + Drop,
@@ -27,7 +27,7 @@ where
     pub(crate) fn accept(&mut self) -> Result<(), Cause>
         requires wants { K.machine.wants (K.here self.old.end.now) ≡ Wants.Accept }
         requires flushed { IsFlushed K.machine (K.here self.old.end.now) }
-        requires sound { self.old.data.connection.fate ≢ Fate.Failed }
+        requires sound { self.old.data.now.connection.fate ≢ Fate.Failed }
         ensures gets { Gets K.machine K.here R.remaining W.contents P.history S.remaining S.contents self.old self.new result }
         ensures why { Why K.machine K.machine.serves (K.here self.new.end.now) (P.history self.new.ports.now) self.new.control.now result }
         ensures kept { IsKept self.old self.new }
@@ -62,7 +62,7 @@ where
     pub(crate) fn connect(&mut self, endpoint: Endpoint)
         requires wants { K.machine.wants (K.here self.old.end.now) ≡ Wants.Connect endpoint }
         requires flushed { IsFlushed K.machine (K.here self.old.end.now) }
-        requires sound { self.old.data.connection.fate ≢ Fate.Failed }
+        requires sound { self.old.data.now.connection.fate ≢ Fate.Failed }
         ensures stirs { StirsOn K.machine K.here R.remaining W.contents P.history S.remaining S.contents self.old self.new }
         ensures kept { IsKept self.old self.new }
     {
@@ -78,7 +78,7 @@ where
 
     /// The data connection that was had last is open now, and this host is at its other end.
     fn opened(&mut self, stream: S, host: Host)
-        requires none { is_some self.old.data.connection.stream ≡ false }
+        requires none { is_some self.old.data.now.connection.stream ≡ false }
         requires flushed { IsFlushed K.machine (K.here self.old.end.now) }
         ensures stirs { (before : Option (List Asked)) (had : Asked) → Adds before (P.history self.old.ports.now) (had ∷ []) → IsHad host had (S.remaining stream) (S.contents stream) → IsWanted (K.machine.wants (K.here self.old.end.now)) had → Stirs K.machine (asked_before before (standing K.machine K.here R.remaining W.contents P.history S.remaining S.contents self.old)) (standing K.machine K.here R.remaining W.contents P.history S.remaining S.contents self.new) }
         ensures kept { IsKept self.old self.new }
@@ -92,7 +92,7 @@ where
     pub(crate) fn close(&mut self)
         requires wants { K.machine.wants (K.here self.old.end.now) ≡ Wants.CloseData }
         requires flushed { IsFlushed K.machine (K.here self.old.end.now) }
-        requires sound { self.old.data.connection.fate ≢ Fate.Failed }
+        requires sound { self.old.data.now.connection.fate ≢ Fate.Failed }
         ensures stirs { StirsOn K.machine K.here R.remaining W.contents P.history S.remaining S.contents self.old self.new }
         ensures kept { IsKept self.old self.new }
     {

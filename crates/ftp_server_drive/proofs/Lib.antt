@@ -1,2 +1,3 @@
 pub mod Giving
 pub mod Hearing
+pub mod Ending

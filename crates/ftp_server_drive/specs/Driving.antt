@@ -1,14 +1,17 @@
 -- What a drive of a server beside its control connection did, whole or until it broke off.
-use Rattle.std.specs.Prelude.{◌≡◌, Bool, true, [], ◌∷◌}
+use Rattle.std.specs.Prelude.{◌≡◌, ℕ, Bool, true, [], ◌∷◌}
 use Rattle.std.specs.declared.result.Result.{Result}
 use Rattle.std.specs.declared.result.Result.TheVariants.{Ok, Err}
 use Rattle.ftp_ends.specs.declared.link.Wants.TheVariants.{CloseAll}
 use Rattle.ftp_control.specs.Asking.{Asked}
 use Rattle.ftp_control.specs.Deeds.{Other, Stand, with_owner}
+use Rattle.ftp_control.specs.Driving.{Leads, LeadsFar}
 use Rattle.ftp_control.specs.Lane.{IsLeft}
 use Rattle.ftp_control.specs.Machine.{Held, IsCut, IsFairEnd, Left}
 use Rattle.ftp_control.specs.declared.cause.Cause.{Cause}
 use Rattle.ftp_control_drive.specs.Driven.{BreaksOff, Did}
+use Rattle.ftp_control_drive.specs.declared.drive.Turned.{Turned}
+use Rattle.ftp_control_drive.specs.declared.drive.Turned.TheVariants as Turns
 use Rattle.ftp_server_model.specs.Calls.{wants}
 use Rattle.ftp_server_drive.specs.Side.{Timed, server_machine, server_side}
 
@@ -45,3 +48,14 @@ pub record BrokeOff (cause : Cause) (failed : Bool) (start now : Stand server_si
 abbrev pub Drives : {T : Type 0} → (failed : Bool) → (start now : Stand server_side) → Result T Cause → Type 0
 Drives failed start now (Ok value) = Drove start now
 Drives failed start now (Err cause) = BrokeOff cause failed start now
+
+-- so it is of a drive that began where no octets of a data connection were on their way or in hand, and led here
+abbrev pub FromAny : (old : Stand server_side) → (EndsSo : Stand server_side → Type 0) → Type 0
+FromAny old EndsSo = (start : Stand server_side) → start.owner.lane.unwritten ≡ [] → start.owner.lane.untold ≡ [] → Leads start old → EndsSo start
+
+-- so many turns at most: nothing of what they led to is lost, so that those of several calls are one drive; it ends as one does that is made at once
+abbrev pub DrivesOn : {T : Type 0} → (most : ℕ) → (failed : Bool) → (old now : Stand server_side) → Result (Turned T) Cause → Type 0
+DrivesOn most failed old now (Ok (Turns.Over value)) = FromAny old (λ start. Drove start now)
+DrivesOn most failed old now (Ok Turns.Later) = Leads old now
+DrivesOn most failed old now (Ok Turns.More) = LeadsFar most old now
+DrivesOn most failed old now (Err cause) = FromAny old (λ start. BrokeOff cause failed start now)

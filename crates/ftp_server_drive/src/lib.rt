@@ -5,7 +5,10 @@
 mod clocked;
 mod drive;
 mod serves;
+mod turns;
 
 pub use clocked::{Clocked, Watches};
 pub use drive::drive_server;
 pub use ftp_control::Control;
+pub use ftp_control_drive::{Data, Turned};
+pub use turns::drive_some;

@@ -11,4 +11,4 @@ pub returns-clause-why : goal.returns-clause-why
 returns-clause-why g c = c.flush.ensures.why _
 
 pub returns-clause-owes : goal.returns-clause-owes
-returns-clause-owes g c = flushed_so g.K.EndCalls.machine _ _ c.flush.result (c.flush.ensures.flushes (lane_at g.S.Read.remaining g.S.Write.contents (g.P.Ports.history c.args.self.now.ports.now) c.args.self.now.data []))
+returns-clause-owes g c = flushed_so g.K.EndCalls.machine _ _ c.flush.result (c.flush.ensures.flushes (lane_at g.S.Read.remaining g.S.Write.contents (g.P.Ports.history c.args.self.now.ports.now) c.args.self.now.data.now []))

@@ -26,7 +26,7 @@ returns-in-Err-Broken-clause-goes g c =
     let asked = g.P.Ports.history c.args.self.now.ports.now in
     let lane = lane_at g.S.Read.remaining g.S.Write.contents asked c.come.new.self in
     goes_then _ _ _ c.broke.result (came_nothing g.K.EndCalls.machine _ (lane []) c.requires.wants
-    (subst (λ r. IsRead (in_hand r c.come.new.self.room) (lane_at g.S.Read.remaining g.S.Write.contents asked c.args.self.now.data []) (with_fate Fates.Sound (lane (in_hand r c.come.new.self.room))))
+    (subst (λ r. IsRead (in_hand r c.come.new.self.room) (lane_at g.S.Read.remaining g.S.Write.contents asked c.args.self.now.data.now []) (with_fate Fates.Sound (lane (in_hand r c.come.new.self.room))))
     c.in-Err-Broken.is (c.come.ensures.moved asked)) (sent_fate c.come.result _ c.come.ensures.fate)) (gets_goes _ _ c.broke.result c.broke.ensures.gets)
 
 pub returns-in-Err-clause-goes : goal.returns-in-Err-clause-goes
@@ -34,5 +34,5 @@ returns-in-Err-clause-goes g c =
     let asked = g.P.Ports.history c.args.self.now.ports.now in
     let lane = lane_at g.S.Read.remaining g.S.Write.contents asked c.come.new.self in
     goes_then _ _ _ c.halted.result (came_nothing g.K.EndCalls.machine _ (lane []) c.requires.wants
-    (subst (λ r. IsRead (in_hand r c.come.new.self.room) (lane_at g.S.Read.remaining g.S.Write.contents asked c.args.self.now.data []) (with_fate Fates.Sound (lane (in_hand r c.come.new.self.room))))
+    (subst (λ r. IsRead (in_hand r c.come.new.self.room) (lane_at g.S.Read.remaining g.S.Write.contents asked c.args.self.now.data.now []) (with_fate Fates.Sound (lane (in_hand r c.come.new.self.room))))
     c.in-Err.is (c.come.ensures.moved asked)) (sent_fate c.come.result _ c.come.ensures.fate)) c.halted.ensures.goes

@@ -9,5 +9,5 @@ returns-clause-leads g c =
     let at = standing calls.machine calls.here g.R.Read.remaining g.W.Write.contents g.P.Ports.history g.S.Read.remaining g.S.Write.contents old in
     let told = c.told.ensures in
     subst (λ lane. Leads at (with_owner (held (calls.here c.data_end.new.end) lane) at))
-    (sym (fated_lane g.S.Read.remaining g.S.Write.contents old.data.connection c.told.new.self Fates.Over (g.P.Ports.history old.ports.now) old.data.room [] told.stream told.at told.end told.rest told.told))
+    (sym (fated_lane g.S.Read.remaining g.S.Write.contents old.data.now.connection c.told.new.self Fates.Over (g.P.Ports.history old.ports.now) old.data.now.room [] told.stream told.at told.end told.rest told.told))
     (ends_told calls.machine _ _ at.owner.lane c.data_end.ensures c.requires.wants c.requires.ready c.requires.ended.1 refl _ _ _)

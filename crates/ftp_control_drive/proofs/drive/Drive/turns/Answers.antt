@@ -3,7 +3,7 @@ use Rattle.ftp_control_drive.proofs.Words.{asides, by_nowhere, ends_err, fails_t
 use Rattle.ftp_control_drive.proofs.drive.Drive.turns.Goals as goal
 
 pub loop-self-init : goal.loop-self-init
-loop-self-init g c = (inl (by_nowhere _ _ c.new-turns.ensures), (refl, refl, refl))
+loop-self-init g c = (inl (by_nowhere _ _ c.new-turns.ensures), (refl, refl, refl, refl))
 
 pub returns-in-Some-clause-ends : goal.returns-in-Some-clause-ends
 returns-in-Some-clause-ends g c = (_, turns_lead g.K.EndCalls.machine _ _ _ c.loop-self.invariant.0, rw c.in-Some.is at c.over.ensures, refl)
