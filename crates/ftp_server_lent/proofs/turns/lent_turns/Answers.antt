@@ -1,0 +1,20 @@
+use Rattle.std.proofs.Common.{[]}
+use Rattle.ftp_control.specs.Machine.{held}
+use Rattle.ftp_control_drive.specs.Standing.{lane_at}
+use Rattle.ftp_server_drive.specs.Side.{beside, timed}
+use Rattle.ftp_server_lent.proofs.Ending.{takes}
+use Rattle.ftp_server_lent.specs.Lending.{holding}
+use Rattle.ftp_server_lent.proofs.turns.lent_turns.Goals as goal
+
+pub returns-clause-turn : goal.returns-clause-turn
+returns-clause-turn g c =
+    let made = c.some_turns-turned in
+    let server = g.F.Far.server in
+    let here = timed server g.C.Watch.told in
+    let lane = lane_at g.P.Stream.Read.remaining g.P.Stream.Write.contents in
+    let stand = beside g.R.Read.remaining g.W.Write.contents in
+    let old = stand (held (here c.args.clocked.now) (lane (g.P.Ports.history c.args.ports.now) c.args.data.now [])) c.args.control.now in
+    let mid = stand (held (here made.new.clocked) (lane (g.P.Ports.history made.new.ports) made.new.data [])) made.new.control in
+    let back = holding (g.T.Tree.table c.exchange.new.tree) (g.T.Tree.failures c.exchange.new.tree) in
+    takes _ old mid (server c.exchange.new.self) (server c.exchange-2.new.self) back c.exchange.ensures.taken made.ensures.turned c.exchange.ensures.left
+    c.exchange.ensures.failures c.exchange-2.ensures.left c.exchange-2.ensures.failures c.exchange-2.ensures.taken

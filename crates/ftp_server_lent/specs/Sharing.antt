@@ -1,0 +1,52 @@
+-- Sessions that are driven over one tree, which is lent to the one whose turn it is (own choice).
+use Rattle.std.specs.Prelude.{◌≡◌, ℕ, eqb, List, [], ◌∷◌, Some, slice_get, slice_set, if◌then◌else◌}
+use Rattle.ftp_control.specs.Deeds.{Stand}
+use Rattle.ftp_server_drive.specs.Side.{server_side}
+use Rattle.ftp_server_lent.specs.Among.{IsOneDrive}
+use Rattle.ftp_server_lent.specs.Lending.{Holding}
+use Rattle.ftp_server_lent.specs.Turning.{AllGoOn, TakesTurn, Turn}
+
+-- the one tree, and the sessions in their seats
+pub record Shared : Type 0 where
+  pub tree : Holding
+  pub seats : List (Stand server_side)
+
+-- a session takes a turn; or the tree becomes another, since it is looked at anew
+pub data Event : Type 0 where
+  Turns : (seat : ℕ) → (turn : Turn) → Event
+  Looks : (tree : Holding) → Event
+
+-- the session in a seat takes a turn: it is lent the tree that stands, and what it gives back stands from then on; all other sessions stay
+pub record TurnsIn (seat : ℕ) (turn : Turn) (old new : Shared) : Type 0 where
+  pub before : Stand server_side
+  pub after : Stand server_side
+  pub sits : slice_get old.seats seat ≡ Some before
+  pub takes : TakesTurn turn before after
+  pub found : turn.lent ≡ old.tree
+  pub left : new.tree ≡ turn.left
+  pub others : new.seats ≡ slice_set old.seats seat after
+
+-- what each does
+abbrev pub Happens : Event → (old new : Shared) → Type 0
+Happens (Turns seat turn) old new = TurnsIn seat turn old new
+Happens (Looks tree) old new = new ≡ record old { tree = tree }
+
+-- events, the last one first
+abbrev pub Happened : List Event → (start now : Shared) → Type 0
+Happened [] start now = now ≡ start
+Happened (event ∷ before) start now = (mid : Shared) × Happened before start mid × Happens event mid now
+
+-- the turns of the session in a seat, in the same order
+abbrev pub turns_in : ℕ → List Event → List Turn
+turns_in seat [] = []
+turns_in seat (Looks tree ∷ before) = turns_in seat before
+turns_in seat (Turns other turn ∷ before) = if eqb other seat then turn ∷ turns_in seat before else turns_in seat before
+
+-- Whatever the others do: all turns of a session are one drive, in which its tree is exchanged for the one that stands when it is its turn. It begins where
+-- no octets of a data connection are on their way or in hand, and takes no turn once its drive is over or broke off
+abbrev pub EachIsOneDrive : Type 0
+EachIsOneDrive =
+    (events : List Event) (start now : Shared) (seat : ℕ) (first : Stand server_side) (turn : Turn) (before : List Turn)
+    → Happened events start now → slice_get start.seats seat ≡ Some first → first.owner.lane.unwritten ≡ [] → first.owner.lane.untold ≡ []
+    → turns_in seat events ≡ turn ∷ before → AllGoOn before
+    → (last : Stand server_side) × (slice_get now.seats seat ≡ Some last) × IsOneDrive turn before first last

@@ -1,0 +1,90 @@
+// Some turns of a session, with a tree that is lent.
+ghost use Rattle.std.specs.Prelude.{[]};
+ghost use Rattle.ftp_control.specs.Machine.{held};
+ghost use Rattle.ftp_control_drive.specs.Calling.{IsLater};
+ghost use Rattle.ftp_control_drive.specs.Standing.{lane_at};
+ghost use Rattle.ftp_server_drive.specs.Side.{beside, timed};
+ghost use Rattle.ftp_server_lent.specs.Lending.{holding};
+ghost use Rattle.ftp_server_lent.specs.Turning.{MakesTurns, TakesTurn};
+
+use crate::serves::Serves;
+use ftp_control::{Cause, Control, Ports, Watch};
+use ftp_control_drive::{Data, Turned, drive_on};
+use ftp_server_drive::{Clocked, Watches};
+use ftp_server_model::Far;
+use ftp_server_several::Lends;
+use ftp_tree::Tree;
+use std::alloc::Allocator;
+use std::io::{Read, Write};
+
+/// Serves a control connection for some turns with a tree that is lent: until the server is done with it, until the next turn would wait, or `most` turns.
+/// None of them waits where `ports` looks rightly, so that others are served meanwhile. After them the tree has what they made of it, and the server has its
+/// own tree again. The next call, with the same server, connections and `data`, goes on where this one ended; before the first one no data connection stands.
+///
+/// Once it is over, and where it breaks off, all is as `drive_server` leaves it: the server is told that the control connection ended where it broke off,
+/// and the data connection and the port are closed.
+pub fn lent_turns<A, T, F, R, W, P, C, O>(
+    clocked: &mut Clocked<F, C, O>,
+    control: &mut Control<R, W>,
+    ports: &mut P,
+    data: &mut Data<P::Stream>,
+    tree: &mut T,
+    most: u64,
+) -> Result<Turned<()>, Cause>
+where
+    A: Allocator + Copy,
+    T: Tree<A>,
+    F: Lends<A, T>,
+    R: Read + Drop,
+    W: Write + Drop,
+    P: Ports,
+    C: Watch,
+    O: Watches<F>,
+    ensures turn { TakesTurn (record { most = most; lent = holding (T.table tree.old) (T.failures tree.old); left = holding (T.table tree.new) (T.failures tree.new); failed = control.new.failed; went = result }) (beside R.remaining W.contents (held (timed F.Far.server C.told clocked.old) (lane_at P.Stream.remaining P.Stream.contents (P.history ports.old) data.old [])) control.old) (beside R.remaining W.contents (held (timed F.Far.server C.told clocked.new) (lane_at P.Stream.remaining P.Stream.contents (P.history ports.new) data.new [])) control.new) }
+    ensures later { IsLater (P.waits ports.new) result }
+{
+    clocked.server.exchange(tree);
+    let turned = some_turns::<A, T, F, R, W, P, C, O>(clocked, control, ports, data, most);
+    clocked.server.exchange(tree);
+    turned
+}
+
+/// The same with the tree that the server has.
+fn some_turns<A, T, F, R, W, P, C, O>(
+    clocked: &mut Clocked<F, C, O>,
+    control: &mut Control<R, W>,
+    ports: &mut P,
+    data: &mut Data<P::Stream>,
+    most: u64,
+) -> Result<Turned<()>, Cause>
+where
+    A: Allocator + Copy,
+    T: Tree<A>,
+    F: Far<A, T>,
+    R: Read + Drop,
+    W: Write + Drop,
+    P: Ports,
+    C: Watch,
+    O: Watches<F>,
+    ensures turned { MakesTurns most control.new.failed (beside R.remaining W.contents (held (timed F.server C.told clocked.old) (lane_at P.Stream.remaining P.Stream.contents (P.history ports.old) data.old [])) control.old) (beside R.remaining W.contents (held (timed F.server C.told clocked.new) (lane_at P.Stream.remaining P.Stream.contents (P.history ports.new) data.new [])) control.new) result }
+    ensures later { IsLater (P.waits ports.new) result }
+{
+    let turned = drive_on::<Serves<A, T>, Clocked<F, C, O>, R, W, P>(
+        clocked, control, ports, data, most,
+    );
+    match turned {
+        Ok(turned) => match turned {
+            Turned::Over(over) => {
+                data.leave(ports);
+                Ok(Turned::Over(over))
+            }
+            Turned::Later => Ok(Turned::Later),
+            Turned::More => Ok(Turned::More),
+        },
+        Err(cause) => {
+            data.cut::<Serves<A, T>, Clocked<F, C, O>>(clocked);
+            data.leave(ports);
+            Err(cause)
+        }
+    }
+}
