@@ -1,7 +1,4 @@
--- What a wait for sockets gives, and how long it may be (own choice).
-use Rattle.std.specs.Prelude.{ℕ, zero, suc, ◌-◌, ◌*◌, ◌==◌, min, nat_le, Option, Some, None, if◌then◌else◌}
-use Rattle.ftp_tool_sockets.specs.declared.patience.Over.{Over}
-use Rattle.ftp_tool_sockets.specs.declared.patience.Term.{Term}
+-- What a wait for the control connection and another socket gives (own choice).
 use Rattle.ftp_control.specs.declared.ports.Spoken.{Spoken}
 use Rattle.ftp_control.specs.declared.ports.Spoken.TheVariants as Said
 use Rattle.ftp_tool_sockets.specs.declared.wait.Heeds.{Heeds}
@@ -11,34 +8,10 @@ use Rattle.ftp_tool_sockets.specs.declared.wait.Other.TheVariants as Others
 use Rattle.ftp_tool_sockets.specs.declared.wait.Woke.{Woke}
 use Rattle.ftp_tool_sockets.specs.declared.wait.Woke.TheVariants as Woken
 
--- what is left, in milliseconds, of a limit of so many seconds; of none there is no term
-abbrev pub term_after : ℕ → ℕ → Over → Option Term
-term_after zero spent over = None
-term_after (suc limit) spent over = Some (record { left = suc limit * 1000 - spent; over = over })
-
--- the one of two that ends sooner
-abbrev pub sooner_of : Option Term → Option Term → Option Term
-sooner_of (Some one) (Some other) = if nat_le one.left other.left then Some one else Some other
-sooner_of (Some one) None = Some one
-sooner_of None other = other
-
--- the shorter of two limits in seconds, of which 0 is none
-abbrev pub stricter : ℕ → ℕ → ℕ
-stricter one other = if one == 0 then other else (if other == 0 then one else min one other)
-
--- the octet that urgent data hides after another one: LF after CR, the data mark after IAC, and IAC after IAC IP (RFC 854; RFC 959, section 4.1.3)
-abbrev pub hidden : ℕ → Option ℕ
-hidden last = if last == 13 then Some 10 else (if last == 255 then Some 242 else (if last == 244 then Some 255 else None))
-
--- what ends a wait for the control connection and another socket: octets of the first before the other where they go first, then the
--- other, and then what is heeded of the first
+-- octets of the first before the other where they go first, then the other, and then what is heeded of the first
 abbrev pub wakes : Spoken → Other → Heeds → Woke
 wakes Said.Octets other Heed.OctetsFirst = Woken.Spoken
 wakes said Others.Ready heeds = Woken.Ready
 wakes Said.Nothing Others.Waits heeds = Woken.Failed
 wakes said Others.Waits Heed.End = Woken.Ended
 wakes said Others.Waits heeds = Woken.Spoken
-
--- the port after one, in turn among those from `first` to `last`
-abbrev pub next_port : ℕ → ℕ → ℕ → ℕ
-next_port first last port = if nat_le first port then (if nat_le last port then first else suc port) else first

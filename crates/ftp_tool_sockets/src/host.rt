@@ -16,7 +16,7 @@ pub fn host_of(addr: SocketAddr) -> Host
 }
 
 /// The address of an endpoint.
-pub(crate) fn addr_of(endpoint: Endpoint) -> SocketAddr {
+pub fn addr_of(endpoint: Endpoint) -> SocketAddr {
     let ip = match endpoint.host {
         Host::V4(octets) => IpAddr::V4(Ipv4Addr::from_octets(octets)),
         Host::V6(octets) => IpAddr::V6(Ipv6Addr::from_octets(octets)),

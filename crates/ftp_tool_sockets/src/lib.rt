@@ -1,26 +1,23 @@
-//! Real connections for a server or a client: `Ports` of `ftp_control` over sockets, the reader of a control connection, and the system's clock.
-//! One thread waits for the control connection and a data connection together (RFC 959, section 2.3).
+//! Real connections: `Ports` of `ftp_control` over sockets, the reader and the writer of a control connection, for one who asks and waits; and what
+//! a server's have in common with them. One thread waits for the control connection and a data connection together (RFC 959, section 2.3).
 #![tactic(auto)]
 
 mod control;
 mod host;
-pub mod laws;
 mod link;
 mod options;
-mod passive;
 mod patience;
 mod ports;
 mod sockets;
 mod wait;
 mod watch;
 
-pub use control::{ControlReader, ControlWriter, say_at_once, say_goodbye};
-pub use host::host_of;
+pub use control::{ControlReader, ControlWriter, say_goodbye, send_now};
+pub use host::{addr_of, host_of};
 pub use link::Link;
-pub use options::keep_alive;
-pub use passive::PassivePorts;
-pub use patience::{Limits, Over, Patience, monotonic_seconds};
-pub use ports::SocketPorts;
+pub use options::{drop_connection, keep_alive, limit_room, limit_untaken};
+pub use patience::{Patience, monotonic_millis};
+pub use ports::{OPENING_MILLIS, SocketPorts};
 pub use sockets::Sockets;
-pub use wait::{has_room_now, pause};
+pub use wait::{Heeds, Other, Woke, asking, has_room_now, pause, spoken_by, woken};
 pub use watch::SystemWatch;

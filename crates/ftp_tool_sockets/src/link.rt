@@ -1,7 +1,7 @@
-// A data connection that does not outlast its control connection.
+// A data connection of one who asks, which does not outlast its control connection.
 use crate::options::{drop_connection, limit_untaken};
 use crate::patience::{Patience, monotonic_millis, piece_of};
-use crate::wait::{Heeds, Woke, has_room, wait, wait_millis};
+use crate::wait::{Heeds, Woke, wait, wait_millis};
 use ftp_control::{For, Ready, TURNS};
 use std::io;
 use std::io::{Error, ErrorKind, Read, Write};
@@ -10,21 +10,13 @@ use std::net::{Shutdown, TcpStream};
 /// The most reads of octets that came behind the end of a transfer.
 const LAST_READS: u32 = 4096;
 
-/// How long a write waits after the end of the control connection, in milliseconds.
-const LAST_MILLIS: u64 = 30_000;
-
-/// A data connection. A read that would wait ends where the control connection does; one that hears fails as `WouldBlock` where
-/// the control connection has octets or ended, and so does a write. A write that doesn't hear goes on after the end of the control connection
-/// while the peer takes octets within 30 seconds. Where patience is over, what would wait fails, and so does a connection whose peer takes nothing of what
-/// was written for as long. Where no time is left of the session, each read and each write fails.
+/// A data connection. A read or a write that would wait fails as `WouldBlock` where the control connection has octets or ended. Where patience is over,
+/// what would wait fails, and so does a connection whose peer takes nothing of what was written for as long.
 #[derive(Drop)]
 pub struct Link<'a> {
     control: &'a TcpStream,
     stream: TcpStream,
-    heeds: Heeds,
-    patience: &'a Patience<'a>,
-    /// Whether the end of the control connection was met: what goes after it is no sign of life.
-    outlives: bool,
+    patience: &'a Patience,
     /// Whether the peer's end was read, behind all that it sent.
     has_ended: bool,
 }
@@ -47,33 +39,21 @@ impl<'a> Link<'a> {
     pub(crate) fn new(
         control: &'a TcpStream,
         stream: TcpStream,
-        heeds: Heeds,
-        patience: &'a Patience<'a>,
+        patience: &'a Patience,
     ) -> io::Result<Link<'a>> {
         stream.set_nonblocking(true)?;
         stream.set_nodelay(true)?;
         Ok(Link {
             control,
             stream,
-            heeds,
             patience,
-            outlives: false,
             has_ended: false,
         })
     }
 
-    /// Fails where no time is left of the session, also where octets or room are there.
-    fn check_time(&self) -> io::Result<()> {
-        if self.patience.is_spent() {
-            Err(lost())
-        } else {
-            Ok(())
-        }
-    }
-
     /// So many octets went over the connection.
     fn moved(&self, count: usize) {
-        if count > 0 && !self.outlives {
+        if count > 0 {
             self.patience.stir();
         }
     }
@@ -108,16 +88,6 @@ impl<'a> Link<'a> {
             self.limit();
         }
         wait(self.control, &self.stream, what, heeds, self.patience)
-    }
-
-    /// Waits after the end of the control connection until there is room.
-    fn await_room(&mut self) -> io::Result<()> {
-        self.outlives = true;
-        if has_room(&self.stream, LAST_MILLIS, self.patience) {
-            Ok(())
-        } else {
-            Err(lost())
-        }
     }
 
     /// Whether the peer's end was read, behind all that it sent: such a connection can be dropped, and nothing of what was sent is lost.
@@ -159,11 +129,24 @@ impl<'a> Link<'a> {
         let left = piece_of(until.saturating_sub(monotonic_millis()));
         wait_millis(self.control, &self.stream, For::Octets, Heeds::End, left) == Woke::Ready
     }
+
+    /// Waits until octets can be read or written; fails where the control connection has octets or ended before.
+    fn await_turn(&self, what: For) -> io::Result<()> {
+        match wait(
+            self.control,
+            &self.stream,
+            what,
+            Heeds::Octets,
+            self.patience,
+        ) {
+            Woke::Ready => Ok(()),
+            woke => Err(halted(woke)),
+        }
+    }
 }
 
 impl<'a> Read for Link<'a> {
     fn read(&mut self, room: &mut [u8]) -> io::Result<usize> {
-        self.check_time()?;
         for _ in 0..TURNS {
             match self.stream.read(room) {
                 Err(error) if error.kind() == ErrorKind::WouldBlock => {}
@@ -174,16 +157,7 @@ impl<'a> Read for Link<'a> {
                 }
                 failed => return failed,
             }
-            match wait(
-                self.control,
-                &self.stream,
-                For::Octets,
-                self.heeds,
-                self.patience,
-            ) {
-                Woke::Ready => {}
-                woke => return Err(halted(woke)),
-            }
+            self.await_turn(For::Octets)?;
         }
         Err(lost())
     }
@@ -191,7 +165,6 @@ impl<'a> Read for Link<'a> {
 
 impl<'a> Write for Link<'a> {
     fn write(&mut self, octets: &[u8]) -> io::Result<usize> {
-        self.check_time()?;
         for _ in 0..TURNS {
             match self.stream.write(octets) {
                 Err(error) if error.kind() == ErrorKind::WouldBlock => {}
@@ -202,17 +175,7 @@ impl<'a> Write for Link<'a> {
                 failed => return failed,
             }
             self.limit();
-            match wait(
-                self.control,
-                &self.stream,
-                For::Room,
-                self.heeds,
-                self.patience,
-            ) {
-                Woke::Ready => {}
-                Woke::Ended => self.await_room()?,
-                woke => return Err(halted(woke)),
-            }
+            self.await_turn(For::Room)?;
         }
         Err(lost())
     }

@@ -48,13 +48,19 @@ pub fn keep_alive<S: AsRawFd>(stream: &S) -> io::Result<()> {
 
 /// Octets for which a peer makes no room, or of which it says nothing, for so many milliseconds break the connection (the user timeout of RFC 9293,
 /// section 3.9.1); 0: they wait as long as the system lets them.
-pub(crate) fn limit_untaken<S: AsRawFd>(stream: &S, millis: i32) -> io::Result<()> {
+pub fn limit_untaken<S: AsRawFd>(stream: &S, millis: i32) -> io::Result<()> {
     let (fd, tcp) = (stream.as_raw_fd(), c::IPPROTO_TCP);
     check(unsafe { c::setsockopt(fd, tcp, c::TCP_USER_TIMEOUT, &value(millis), 4) })
 }
 
+/// At most so many octets wait in the system for the peer to take them, or twice as many as the system counts them.
+pub fn limit_room<S: AsRawFd>(stream: &S, octets: i32) -> io::Result<()> {
+    let (fd, socket) = (stream.as_raw_fd(), c::SOL_SOCKET);
+    check(unsafe { c::setsockopt(fd, socket, c::SO_SNDBUF, &value(octets), 4) })
+}
+
 /// Drops a connection: its peer finds a reset, and what was not sent is lost. Linux does that where a connected socket is connected to no
 /// address; where it is refused, the peer finds an end.
-pub(crate) fn drop_connection<S: AsRawFd>(stream: &S) {
+pub fn drop_connection<S: AsRawFd>(stream: &S) {
     let _status = unsafe { c::connect(stream.as_raw_fd(), &[0; 128], NO_ADDRESS) };
 }

@@ -1,39 +1,34 @@
-// Data connections over real sockets.
+// Data connections of one who asks, over real sockets.
 ghost use Rattle.std.specs.Prelude.{◌≡◌, None};
 ghost use Rattle.ftp_control.specs.Asking.{Closes};
 
 use crate::host::{addr_of, host_of};
 use crate::link::Link;
-use crate::passive::{PassivePorts, listen_at};
 use crate::patience::{Patience, monotonic_millis, piece_of};
 use crate::sockets::Sockets;
 use crate::wait::{Heeds, Woke, look_at, wait, wait_millis};
 use ftp_control::{Accepted, For, Ports, Ready, Spoken, TURNS, Whole};
-use ftp_endpoint::{Endpoint, Host};
+use ftp_endpoint::Endpoint;
 use std::io;
 use std::io::ErrorKind;
 use std::net::{IpAddr, SocketAddr, TcpListener, TcpStream};
 use std::os::fd::AsRawFd;
 
 /// How long an opening may take, in milliseconds.
-const OPENING_MILLIS: u64 = 30_000;
+pub const OPENING_MILLIS: u64 = 30_000;
 
 /// How long the end of the last data connection is waited for, in milliseconds.
 const LEAVING_MILLIS: u64 = 500;
 
-/// Data connections beside one control connection.
+/// Data connections beside one control connection, which wait as long as patience lasts.
 #[derive(Drop)]
 pub struct SocketPorts<'a, R: Sockets> {
     net: &'a R,
     control: &'a TcpStream,
     /// The address of this end.
     here: IpAddr,
-    /// What a read or a write of a data connection that would wait heeds of the control connection.
-    heeds: Heeds,
     /// How long the peer is waited for.
-    patience: &'a Patience<'a>,
-    /// What a server's data connections have beside a client's.
-    served: Option<Served<'a>>,
+    patience: &'a Patience,
     listener: Option<TcpListener>,
     /// A connection that was ended, until what the peer sent too much is read.
     leaving: Option<Link<'a>>,
@@ -42,44 +37,18 @@ pub struct SocketPorts<'a, R: Sockets> {
 }
 
 impl<'a, R: Sockets> SocketPorts<'a, R> {
-    /// Data connections of a server, at the address that its client reached: they wait as long as its patience lasts, a passive one listens at one
-    /// of these ports, and no host but the client's is accepted there.
+    /// None was opened yet.
     pub fn new(
         net: &'a R,
         control: &'a TcpStream,
-        patience: &'a Patience<'a>,
-        passive: &'a PassivePorts,
-    ) -> io::Result<SocketPorts<'a, R>> {
-        let client = host_of(control.peer_addr()?);
-        let served = Served { passive, client };
-        SocketPorts::beside(net, control, patience, Heeds::End, Some(served))
-    }
-
-    /// Data connections of a client, which wait as long as its patience lasts: a read or a write of one that would wait fails as `WouldBlock` where
-    /// the control connection has octets or ended.
-    pub fn hearing(
-        net: &'a R,
-        control: &'a TcpStream,
-        patience: &'a Patience<'a>,
-    ) -> io::Result<SocketPorts<'a, R>> {
-        SocketPorts::beside(net, control, patience, Heeds::Octets, None)
-    }
-
-    fn beside(
-        net: &'a R,
-        control: &'a TcpStream,
-        patience: &'a Patience<'a>,
-        heeds: Heeds,
-        served: Option<Served<'a>>,
+        patience: &'a Patience,
     ) -> io::Result<SocketPorts<'a, R>> {
         let here = control.local_addr()?.ip().to_canonical();
         Ok(SocketPorts {
             net,
             control,
             here,
-            heeds,
             patience,
-            served,
             listener: None,
             leaving: None,
             opened: 0,
@@ -114,12 +83,10 @@ impl<'a, R: Sockets> SocketPorts<'a, R> {
         }
     }
 
-    /// Listens at one of the passive ports of a server, or at a port that the system chooses.
+    /// Listens at a port that the system chooses.
     fn bind(&mut self) -> io::Result<u16> {
-        let (listener, port) = match self.served {
-            Some(served) => served.passive.listen(self.net, self.here)?,
-            None => listen_at(self.net, self.here, 0)?,
-        };
+        let listener = self.net.listener(SocketAddr::new(self.here, 0))?;
+        let port = listener.local_addr()?.port();
         listener.set_nonblocking(true)?;
         self.listener = Some(listener);
         Ok(port)
@@ -148,18 +115,10 @@ impl<'a, R: Sockets> SocketPorts<'a, R> {
 
     /// An open connection as a link, which is counted.
     fn counted(&mut self, stream: TcpStream) -> Option<Link<'a>> {
-        let link = Link::new(self.control, stream, self.heeds, self.patience).ok()?;
+        let link = Link::new(self.control, stream, self.patience).ok()?;
         self.opened = self.opened.saturating_add(1);
         Some(link)
     }
-}
-
-/// What a server's data connections have beside a client's.
-#[derive(Clone, Copy)]
-struct Served<'a> {
-    passive: &'a PassivePorts,
-    /// The client's host; one that comes from another host is let go.
-    client: Host,
 }
 
 /// What waiting at a port gave.
@@ -170,24 +129,21 @@ enum Waited {
     Refused,
 }
 
-/// The next connection that comes from a host that may, if one did.
-fn take_next(listener: &TcpListener, served: Option<Served<'_>>) -> Option<Waited> {
+/// The next connection that comes, if one did.
+fn take_next(listener: &TcpListener) -> Option<Waited> {
     match listener.accept() {
-        Ok((stream, peer)) => match served {
-            Some(served) if host_of(peer) != served.client => None,
-            _ => Some(Waited::Came(stream, peer)),
-        },
+        Ok((stream, peer)) => Some(Waited::Came(stream, peer)),
         Err(error) if error.kind() == ErrorKind::WouldBlock => None,
         Err(_) => Some(Waited::Refused),
     }
 }
 
 /// Whether a connection that was begun is open, or was refused, within 30 seconds and while patience and the control connection last.
-fn is_open_in_time<S: AsRawFd>(control: &TcpStream, begun: &S, patience: &Patience<'_>) -> bool {
+fn is_open_in_time<S: AsRawFd>(control: &TcpStream, begun: &S, patience: &Patience) -> bool {
     let until = monotonic_millis().saturating_add(OPENING_MILLIS);
     for _ in 0..TURNS {
         let left = until.saturating_sub(monotonic_millis());
-        if left == 0 || patience.is_over() {
+        if left == 0 || patience.is_spent() {
             return false;
         }
         match wait_millis(control, begun, For::Room, Heeds::End, piece_of(left)) {
@@ -203,13 +159,12 @@ fn is_open_in_time<S: AsRawFd>(control: &TcpStream, begun: &S, patience: &Patien
 fn wait_at(
     listener: &TcpListener,
     control: &TcpStream,
-    patience: &Patience<'_>,
-    served: Option<Served<'_>>,
+    patience: &Patience,
     hears: bool,
 ) -> Waited {
     let heeds = if hears { Heeds::Octets } else { Heeds::End };
     for _ in 0..TURNS {
-        if let Some(waited) = take_next(listener, served) {
+        if let Some(waited) = take_next(listener) {
             return waited;
         }
         match wait(control, listener, For::Octets, heeds, patience) {
@@ -234,7 +189,7 @@ impl<'a, R: Sockets> Ports for SocketPorts<'a, R> {
         let Some(listener) = &self.listener else {
             return Accepted::Refused;
         };
-        match wait_at(listener, self.control, self.patience, self.served, hears) {
+        match wait_at(listener, self.control, self.patience, hears) {
             Waited::Came(stream, peer) => self.linked(stream, peer),
             Waited::Spoken => Accepted::Spoken,
             Waited::Refused => Accepted::Refused,

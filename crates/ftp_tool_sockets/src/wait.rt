@@ -2,7 +2,7 @@
 ghost use Rattle.std.specs.Prelude.{◌≡◌};
 ghost use Rattle.ftp_tool_sockets.specs.Waiting.{wakes};
 
-use crate::patience::{Patience, Waited, monotonic_millis, piece_of};
+use crate::patience::{Patience, Waited};
 use ftp_control::{For, Spoken, TURNS};
 use libc::net as c;
 use libc::types::pollfd;
@@ -10,7 +10,7 @@ use std::os::fd::AsRawFd;
 
 /// What ended a waiting.
 #[derive(Clone, Copy)]
-pub(crate) enum Woke {
+pub enum Woke {
     /// The other socket has something, or room.
     Ready,
     /// The control connection has octets, or ended.
@@ -23,7 +23,7 @@ pub(crate) enum Woke {
 
 /// What of the control connection ends a waiting.
 #[derive(Clone, Copy)]
-pub(crate) enum Heeds {
+pub enum Heeds {
     /// Its end alone, where the other socket is not ready.
     End,
     /// Octets too, where the other socket is not ready.
@@ -34,7 +34,7 @@ pub(crate) enum Heeds {
 
 /// Whether what was asked for of the other socket is there.
 #[derive(Clone, Copy)]
-pub(crate) enum Other {
+pub enum Other {
     Waits,
     Ready,
 }
@@ -46,12 +46,12 @@ pub(crate) fn wait<C: AsRawFd, S: AsRawFd>(
     other: &S,
     what: For,
     heeds: Heeds,
-    patience: &Patience<'_>,
+    patience: &Patience,
 ) -> Woke {
     let mut asked = both_of(control, other, what, heeds);
     match patience.wait(&mut asked) {
         Waited::Told => told_by(&asked, heeds),
-        Waited::Over(_) => Woke::TimeOver,
+        Waited::Over => Woke::TimeOver,
         Waited::Failed => Woke::Failed,
     }
 }
@@ -82,7 +82,7 @@ fn both_of<C: AsRawFd, S: AsRawFd>(control: &C, other: &S, what: For, heeds: Hee
 }
 
 /// A socket of which these events are asked.
-pub(crate) fn asking<S: AsRawFd>(socket: &S, events: i16) -> pollfd {
+pub fn asking<S: AsRawFd>(socket: &S, events: i16) -> pollfd {
     pollfd {
         fd: socket.as_raw_fd(),
         events,
@@ -134,24 +134,6 @@ pub(crate) fn ask(asked: &mut [pollfd], millis: i32) -> Polled {
     Polled::Failed
 }
 
-/// Whether there is room for octets on a socket within so many milliseconds and while patience lasts, whatever the control connection does.
-pub(crate) fn has_room<S: AsRawFd>(socket: &S, millis: u64, patience: &Patience<'_>) -> bool {
-    let mut asked = [asking(socket, c::POLLOUT)];
-    let until = monotonic_millis().saturating_add(millis);
-    for _ in 0..TURNS {
-        let left = until.saturating_sub(monotonic_millis());
-        if left == 0 || patience.is_over() {
-            return false;
-        }
-        match ask(&mut asked, piece_of(left)) {
-            Polled::Told => return true,
-            Polled::Failed => return false,
-            Polled::TimeOver => {}
-        }
-    }
-    false
-}
-
 /// What a control connection has now.
 pub(crate) fn look_at<C: AsRawFd>(control: &C) -> Spoken {
     let mut asked = [asking(control, c::POLLIN | c::POLLRDHUP)];
@@ -163,7 +145,7 @@ pub(crate) fn look_at<C: AsRawFd>(control: &C) -> Spoken {
 }
 
 /// What the events of a control connection say: an end or a break, octets, or nothing.
-fn spoken_by(events: i16) -> Spoken {
+pub fn spoken_by(events: i16) -> Spoken {
     if events & (c::POLLRDHUP | c::POLLHUP | c::POLLERR) != 0 {
         Spoken::Ended
     } else if events == 0 {
@@ -174,7 +156,7 @@ fn spoken_by(events: i16) -> Spoken {
 }
 
 /// What ends a wait, by what both have.
-fn woken(control: Spoken, other: Other, heeds: Heeds) -> Woke
+pub fn woken(control: Spoken, other: Other, heeds: Heeds) -> Woke
     ensures { result ≡ wakes control other heeds }
 {
     match (control, other, heeds) {

@@ -1,8 +1,8 @@
 // The ports that passive data connections are listened at.
 ghost use Rattle.std.specs.Prelude.{◌≡◌};
-ghost use Rattle.ftp_tool_sockets.specs.Waiting.{next_port};
+ghost use Rattle.ftp_tool_looking.specs.Looking.{next_port};
 
-use crate::sockets::Sockets;
+use ftp_tool_sockets::Sockets;
 use std::cell::Cell;
 use std::io;
 use std::io::ErrorKind;
@@ -46,11 +46,7 @@ impl PassivePorts {
 }
 
 /// Listens at a port, and says which: the system is asked only where it chooses one, as of port 0.
-pub(crate) fn listen_at<R: Sockets>(
-    net: &R,
-    here: IpAddr,
-    port: u16,
-) -> io::Result<(TcpListener, u16)> {
+fn listen_at<R: Sockets>(net: &R, here: IpAddr, port: u16) -> io::Result<(TcpListener, u16)> {
     let listener = net.listener(SocketAddr::new(here, port))?;
     if port != 0 {
         return Ok((listener, port));

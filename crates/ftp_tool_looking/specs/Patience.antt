@@ -1,10 +1,10 @@
 -- How long a session may last (own choice): a limit of silence is put off by each sign of life, and one of time by nothing.
 use Rattle.std.specs.Prelude.{◌≡◌, ℕ, suc, ◌*◌, ◌≤◌, Bool, true, false, Option, Some, None, if◌then◌else◌}
-use Rattle.ftp_tool_sockets.specs.Waiting.{sooner_of, term_after}
-use Rattle.ftp_tool_sockets.specs.declared.patience.Limits.{Limits}
-use Rattle.ftp_tool_sockets.specs.declared.patience.Over.TheVariants as Overs
-use Rattle.ftp_tool_sockets.specs.declared.patience.Stand.{Stand}
-use Rattle.ftp_tool_sockets.specs.declared.patience.Term.{Term}
+use Rattle.ftp_tool_looking.specs.Looking.{sooner_of, term_after}
+use Rattle.ftp_tool_looking.specs.declared.patience.Limits.{Limits}
+use Rattle.ftp_tool_looking.specs.declared.patience.Over.TheVariants as Overs
+use Rattle.ftp_tool_looking.specs.declared.patience.Stand.{Stand}
+use Rattle.ftp_tool_looking.specs.declared.patience.Term.{Term}
 
 -- what is left of a limit while another client waits since so many milliseconds
 abbrev pub while_waited : Option ℕ → (ℕ → Option Term) → Option Term

@@ -1,0 +1,62 @@
+// What one waits for who does not wait: the round of all sessions polls it.
+use libc::net as c;
+use libc::types::pollfd;
+
+/// A row of which nothing is asked.
+const NOTHING: pollfd = pollfd {
+    fd: -1,
+    events: 0,
+    revents: 0,
+};
+
+/// What ends a wait: events of two sockets, or a moment of the monotonic clock in milliseconds.
+#[derive(Clone, Copy)]
+pub struct Awaits {
+    pub rows: [pollfd; 2],
+    pub until: u64,
+}
+
+impl Awaits {
+    /// Nothing does.
+    pub fn nothing() -> Awaits {
+        Awaits {
+            rows: [NOTHING, NOTHING],
+            until: u64::MAX,
+        }
+    }
+
+    /// This moment does.
+    pub(crate) fn until(until: u64) -> Awaits {
+        Awaits {
+            until,
+            ..Awaits::nothing()
+        }
+    }
+
+    /// Events of one socket do.
+    pub(crate) fn one(row: pollfd) -> Awaits {
+        Awaits::both(row, NOTHING)
+    }
+
+    /// Events of either of two do.
+    pub(crate) fn both(row: pollfd, other: pollfd) -> Awaits {
+        Awaits {
+            rows: [row, other],
+            until: u64::MAX,
+        }
+    }
+
+    /// Events of these, or the moment, whichever comes first.
+    pub(crate) fn or_until(self, until: u64) -> Awaits {
+        Awaits { until, ..self }
+    }
+}
+
+/// Asks now what of these rows is there, and never waits.
+pub(crate) fn look(rows: &mut [pollfd]) {
+    if c::poll(rows, 0) < 0 {
+        for row in rows.iter_mut() {
+            row.revents = 0;
+        }
+    }
+}

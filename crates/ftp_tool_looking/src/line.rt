@@ -1,0 +1,221 @@
+// A control connection of a server, with all that whoever serves it shares.
+ghost use Rattle.std.specs.Prelude.{◌≡◌};
+ghost use Rattle.ftp_tool_looking.specs.Looking.{hidden};
+
+use crate::awaits::{Awaits, look};
+use crate::patience::{Limits, Over, Patience};
+use ftp_control::Spoken;
+use ftp_tool_sockets::{
+    Sockets, asking, keep_alive, limit_room, monotonic_millis, send_now, spoken_by,
+};
+use libc::net as c;
+use libc::types::pollfd;
+use std::cell::Cell;
+use std::io;
+use std::net::{Shutdown, SocketAddr, TcpStream};
+
+/// The most octets of replies that wait in the system for a client to take them.
+const REPLIES: i32 = 65_536;
+
+/// A control connection; how long its client is waited for; and what it has had of a turn. Who reads, writes and looks at it has a share of it each.
+#[derive(Drop)]
+pub struct Line {
+    pub(crate) stream: TcpStream,
+    pub patience: Patience,
+    /// Whether the urgent octet that waits was put back already.
+    given: Cell<bool>,
+    /// The last octet that was read.
+    pub(crate) last: Cell<u8>,
+    /// What the last look found to be read, until it is read.
+    seen: Cell<Option<Waiting>>,
+    /// Until when no reply goes.
+    held: Cell<u64>,
+    /// Whether a reply went in this turn, and whether octets of a data connection did.
+    replied: Cell<bool>,
+    moved: Cell<bool>,
+}
+
+/// What of a control connection can be read.
+#[derive(Clone, Copy)]
+pub(crate) struct Waiting {
+    /// An urgent octet waits that was not put back yet.
+    pub(crate) is_urgent: bool,
+    /// Other octets or the end do.
+    pub(crate) has_more: bool,
+}
+
+impl Line {
+    /// A control connection that was taken now. Nothing waits for it from then on.
+    pub fn new(stream: TcpStream, limits: Limits) -> io::Result<Line> {
+        stream.set_nonblocking(true)?;
+        stream.set_nodelay(true)?;
+        keep_alive(&stream)?;
+        limit_room(&stream, REPLIES)?;
+        Ok(Line {
+            stream,
+            patience: Patience::new(limits),
+            given: Cell::new(false),
+            last: Cell::new(0),
+            seen: Cell::new(None),
+            held: Cell::new(0),
+            replied: Cell::new(false),
+            moved: Cell::new(false),
+        })
+    }
+
+    /// The address that the client reached.
+    pub fn here(&self) -> io::Result<SocketAddr> {
+        self.stream.local_addr()
+    }
+
+    /// The client's address.
+    pub fn peer(&self) -> io::Result<SocketAddr> {
+        self.stream.peer_addr()
+    }
+
+    /// A turn begins: one reply may go, and once octets of a data connection.
+    pub fn begin_turn(&self) {
+        self.replied.set(false);
+        self.moved.set(false);
+    }
+
+    /// The next reply goes only after so many milliseconds.
+    pub fn hold(&self, millis: u64) {
+        self.held.set(monotonic_millis().saturating_add(millis));
+    }
+
+    /// A reply went.
+    pub(crate) fn reply_went(&self) {
+        self.replied.set(true);
+        self.patience.stir();
+    }
+
+    /// Octets of a data connection went.
+    pub(crate) fn data_went(&self) {
+        self.moved.set(true);
+    }
+
+    /// Whether octets of a data connection went in this turn.
+    pub(crate) fn has_moved(&self) -> bool {
+        self.moved.get()
+    }
+
+    /// Ends patience where nothing is left of it, and says whether it is over.
+    pub(crate) fn is_over(&self) -> bool {
+        match self.patience.spent() {
+            Some(over) => {
+                self.patience.end(over);
+                true
+            }
+            None => false,
+        }
+    }
+
+    /// A row of these events of the control connection.
+    pub(crate) fn row(&self, events: i16) -> pollfd {
+        asking(&self.stream, events)
+    }
+
+    /// What can be read now.
+    pub(crate) fn waiting(&self) -> Waiting {
+        let mut rows = [self.row(events_of(!self.given.get()))];
+        look(&mut rows);
+        waiting_by(rows[0].revents)
+    }
+
+    /// What can be read, by the last look where nothing was read since.
+    pub(crate) fn take_seen(&self) -> Waiting {
+        match self.seen.replace(None) {
+            Some(waiting) => waiting,
+            None => self.waiting(),
+        }
+    }
+
+    /// The urgent octet that waits is put back, or can't be: nothing more is asked of it.
+    pub(crate) fn give(&self) {
+        self.given.set(true);
+    }
+
+    /// Octets were read: an urgent one may wait after them. Says whether the one before them was put back already.
+    pub(crate) fn take_given(&self) -> bool {
+        self.given.replace(false)
+    }
+
+    /// Whether there are octets to read, or the end; an urgent octet alone counts where something was hidden before it.
+    pub(crate) fn has_octets(&self) -> Result<(), Awaits> {
+        if self.patience.spent().is_some() {
+            return Ok(());
+        }
+        if !self.replied.get() {
+            let waiting = self.waiting();
+            if waiting.has_more || (waiting.is_urgent && hidden_after(self.last.get()).is_some()) {
+                self.seen.set(Some(waiting));
+                return Ok(());
+            }
+            if waiting.is_urgent {
+                self.give();
+            }
+        }
+        Err(Awaits::one(self.row(events_of(!self.given.get()))))
+    }
+
+    /// Whether a reply may go now, and there is room for it; where patience is over, it can't go.
+    pub(crate) fn has_room(&self) -> Result<(), Awaits> {
+        let held = self.held.get();
+        if monotonic_millis() < held && !self.patience.is_spent() {
+            return Err(Awaits::until(held));
+        }
+        let mut rows = [self.row(c::POLLOUT)];
+        if !self.replied.get() {
+            look(&mut rows);
+            if rows[0].revents != 0 || self.is_over() {
+                return Ok(());
+            }
+        }
+        Err(Awaits::one(rows[0]))
+    }
+
+    /// What it has now.
+    pub(crate) fn spoken(&self) -> Spoken {
+        let mut rows = [self.row(c::POLLIN | c::POLLRDHUP)];
+        look(&mut rows);
+        spoken_by(rows[0].revents)
+    }
+
+    /// Says a reply, the last one, as far as there is room for it, and sends nothing more.
+    pub fn say_last(&self, reply: &[u8]) {
+        let _sent = send_now(&self.stream, reply);
+    }
+
+    /// Sends nothing more: the client finds the end after all replies.
+    pub(crate) fn end(&self) -> io::Result<()> {
+        self.stream.shutdown(Shutdown::Write)
+    }
+}
+
+/// The octet that urgent data hides behind another one: LF of CR LF, DM of IAC DM, and the IAC behind IAC IP, which clients send as urgent
+/// before DM and ABOR (RFC 959, section 4.1.3).
+pub(crate) fn hidden_after(last: u8) -> Option<u8>
+    ensures { result ≡ hidden last }
+{
+    match last {
+        b'\r' => Some(b'\n'),
+        255 => Some(242),
+        244 => Some(255),
+        _ => None,
+    }
+}
+
+/// The events that are asked of a control connection.
+fn events_of(asks_urgent: bool) -> i16 {
+    let urgent = if asks_urgent { c::POLLPRI } else { 0 };
+    c::POLLIN | c::POLLRDHUP | urgent
+}
+
+/// What can be read by the events of a control connection.
+fn waiting_by(events: i16) -> Waiting {
+    Waiting {
+        is_urgent: events & c::POLLPRI != 0,
+        has_more: events & (c::POLLIN | c::POLLRDHUP | c::POLLHUP | c::POLLERR) != 0,
+    }
+}

@@ -1,0 +1,277 @@
+// A data connection of a server, over which octets go where they can, and which is never waited for.
+ghost use Rattle.std.specs.Global.{Global};
+
+use crate::awaits::{Awaits, look};
+use crate::line::Line;
+use ftp_control::{Beside, For, Ready, Spoken};
+use ftp_tool_sockets::{
+    Heeds, Other, Woke, asking, drop_connection, limit_untaken, monotonic_millis, spoken_by, woken,
+};
+use libc::net as c;
+use libc::types::pollfd;
+use std::alloc::Global;
+use std::io;
+use std::io::{Error, ErrorKind, Read, Write};
+use std::net::{Shutdown, TcpStream};
+use std::rc::Rc;
+
+/// The most reads in a turn of octets that came behind the end of a transfer.
+const LAST_READS: u32 = 64;
+
+/// How long the last octets of a download wait after the end of the control connection, in milliseconds.
+const LAST_MILLIS: u64 = 30_000;
+
+/// A data connection. What would wait fails where patience is over, and is interrupted else: who looks first meets neither. Where the session is ended, or no
+/// time is left of it, its control connection has ended, and what goes after that fails. The last octets of a download go after the end of the control connection while the peer takes some within 30
+/// seconds.
+#[derive(Drop)]
+pub struct LineLink {
+    line: Rc<Line, Global>,
+    stream: TcpStream,
+    /// Until when octets wait after the end of the control connection: what goes then is no sign of life.
+    outlives: Option<u64>,
+    /// The limit of octets that nobody takes, as it was set last.
+    limit: i32,
+    /// What the last look found of the control connection and of this one, until that is asked for.
+    seen: Option<(Spoken, Other)>,
+    /// Whether patience was over where it was looked at last, and nothing was there: the next read or write says so.
+    is_late: bool,
+    /// Whether the peer's end was read, behind all that it sent.
+    has_ended: bool,
+}
+
+/// The control connection ended before, or no time is left.
+fn lost() -> Error {
+    Error::from(ErrorKind::ConnectionAborted)
+}
+
+impl LineLink {
+    /// A data connection beside its control connection.
+    pub(crate) fn new(line: Rc<Line, Global>, stream: TcpStream) -> io::Result<LineLink> {
+        stream.set_nonblocking(true)?;
+        stream.set_nodelay(true)?;
+        Ok(LineLink {
+            line,
+            stream,
+            outlives: None,
+            limit: 0,
+            seen: None,
+            is_late: false,
+            has_ended: false,
+        })
+    }
+
+    /// Fails where the last look found that nothing was there for as long as patience lasted.
+    fn check_time(&self) -> io::Result<()> {
+        if self.is_late { Err(lost()) } else { Ok(()) }
+    }
+
+    /// So many octets went over the connection.
+    fn moved(&self, count: usize) {
+        if count > 0 {
+            self.line.data_went();
+            if self.outlives.is_none() {
+                self.line.patience.stir();
+            }
+        }
+    }
+
+    /// Limits how long what is written waits for the peer to take it: octets that only the system took are no sign of life.
+    fn limit(&mut self) {
+        let limit = self.line.patience.untaken_millis();
+        if limit != self.limit {
+            self.limit = limit;
+            let _limited = limit_untaken(&self.stream, limit);
+        }
+    }
+
+    /// The row of the connection itself.
+    fn row(&self, what: For) -> pollfd {
+        match what {
+            For::Octets => asking(&self.stream, c::POLLIN),
+            For::Room => asking(&self.stream, c::POLLOUT),
+        }
+    }
+
+    /// The session is ended, or no time is left of it: its control connection has ended. So an upload is dropped, and no part of it takes a file's place; of a
+    /// download whose last octets go, these fail.
+    fn cut(&mut self, beside: Beside) {
+        match beside {
+            Beside::Nothing => self.is_late = true,
+            Beside::End | Beside::Octets => self.seen = Some((Spoken::Ended, Other::Waits)),
+        }
+    }
+
+    /// Whether octets can be read or written, or what is awaited beside is there; once in a turn octets go.
+    pub(crate) fn looks(&mut self, what: For, beside: Beside) -> Result<(), Awaits> {
+        if self.line.patience.is_spent() {
+            self.cut(beside);
+            return Ok(());
+        }
+        let mut rows = [self.line.row(events_beside(beside)), self.row(what)];
+        if let For::Room = what {
+            self.limit();
+        }
+        if self.line.has_moved() {
+            return Err(Awaits::both(rows[0], rows[1]));
+        }
+        look(&mut rows);
+        let (control, other) = (spoken_by(rows[0].revents), other_by(rows[1].revents));
+        let is_told = match (beside, control, other) {
+            (_, _, Other::Ready) => true,
+            (Beside::Nothing, _, Other::Waits) | (_, Spoken::Nothing, Other::Waits) => false,
+            (Beside::End | Beside::Octets, _, Other::Waits) => true,
+        };
+        if is_told {
+            self.seen = Some((control, other));
+            return Ok(());
+        }
+        if self.line.patience.spent().is_some() {
+            self.is_late = true;
+            return Ok(());
+        }
+        match beside {
+            Beside::Nothing => self.outlive(control, rows),
+            Beside::End | Beside::Octets => Err(Awaits::both(rows[0], rows[1])),
+        }
+    }
+
+    /// The last octets wait for room: for half a minute after the end of the control connection.
+    fn outlive(&mut self, control: Spoken, rows: [pollfd; 2]) -> Result<(), Awaits> {
+        if control != Spoken::Ended {
+            return Err(Awaits::both(rows[0], rows[1]));
+        }
+        let now = monotonic_millis();
+        let until = self.outlives.unwrap_or(now.saturating_add(LAST_MILLIS));
+        self.outlives = Some(until);
+        if now < until {
+            Err(Awaits::one(rows[1]).or_until(until))
+        } else {
+            Ok(())
+        }
+    }
+
+    /// Which connection is to be served; where `hears`, octets of the control connection go first.
+    pub(crate) fn ready(&mut self, what: For, hears: bool) -> Ready {
+        let (beside, heeds) = if hears {
+            (Beside::Octets, Heeds::OctetsFirst)
+        } else {
+            (Beside::End, Heeds::End)
+        };
+        let (control, other) = match self.seen.take() {
+            Some(seen) => seen,
+            None => self.both(what, beside),
+        };
+        match woken(control, other, heeds) {
+            Woke::Spoken => Ready::Control,
+            Woke::Ended => Ready::Lost,
+            Woke::Ready | Woke::TimeOver | Woke::Failed => Ready::Data,
+        }
+    }
+
+    /// What the control connection and this one have now.
+    fn both(&self, what: For, beside: Beside) -> (Spoken, Other) {
+        if self.line.patience.is_spent() {
+            return (Spoken::Ended, Other::Waits);
+        }
+        let mut rows = [self.line.row(events_beside(beside)), self.row(what)];
+        look(&mut rows);
+        (spoken_by(rows[0].revents), other_by(rows[1].revents))
+    }
+
+    /// What a read or a write meets that would wait.
+    fn halted(&self) -> Error {
+        let is_late = self
+            .outlives
+            .is_some_and(|until| until <= monotonic_millis());
+        if is_late || self.line.patience.spent().is_some() {
+            lost()
+        } else {
+            Error::from(ErrorKind::Interrupted)
+        }
+    }
+
+    /// Whether the peer's end was read, behind all that it sent: such a connection can be dropped, and nothing of what was sent is lost.
+    pub(crate) fn has_ended(&self) -> bool {
+        self.has_ended
+    }
+
+    /// Sends nothing more: the peer finds the end behind all that was sent.
+    pub(crate) fn end(&self) -> io::Result<()> {
+        self.stream.shutdown(Shutdown::Write)
+    }
+
+    /// Drops the connection, with what was not sent: the peer finds a reset.
+    pub(crate) fn reset(self) {
+        drop_connection(&self.stream);
+    }
+
+    /// The row of what the peer sends too much.
+    pub(crate) fn rest_row(&self) -> pollfd {
+        self.row(For::Octets)
+    }
+
+    /// Reads what the peer sent too much, since a connection that is dropped with unread octets is reset, and loses what was sent. Says whether the peer
+    /// may send more.
+    pub(crate) fn drain(&mut self) -> bool {
+        let mut rest = [0u8; 4096];
+        for _ in 0..LAST_READS {
+            match self.stream.read(&mut rest) {
+                Ok(0) => return false,
+                Ok(_) => {}
+                Err(error) => return error.kind() == ErrorKind::WouldBlock,
+            }
+        }
+        true
+    }
+}
+
+/// Whether a data connection is ready, by its events.
+fn other_by(events: i16) -> Other {
+    if events == 0 {
+        Other::Waits
+    } else {
+        Other::Ready
+    }
+}
+
+/// The events of the control connection that are awaited beside a data connection: of one whose last octets go its end, since those wait for less then.
+pub(crate) fn events_beside(beside: Beside) -> i16 {
+    match beside {
+        Beside::Nothing | Beside::End => c::POLLRDHUP,
+        Beside::Octets => c::POLLIN | c::POLLRDHUP,
+    }
+}
+
+impl Read for LineLink {
+    fn read(&mut self, room: &mut [u8]) -> io::Result<usize> {
+        self.check_time()?;
+        match self.stream.read(room) {
+            Err(error) if error.kind() == ErrorKind::WouldBlock => Err(self.halted()),
+            Ok(count) => {
+                self.moved(count);
+                self.has_ended = count == 0 && !room.is_empty();
+                Ok(count)
+            }
+            failed => failed,
+        }
+    }
+}
+
+impl Write for LineLink {
+    fn write(&mut self, octets: &[u8]) -> io::Result<usize> {
+        self.check_time()?;
+        match self.stream.write(octets) {
+            Err(error) if error.kind() == ErrorKind::WouldBlock => Err(self.halted()),
+            Ok(count) => {
+                self.moved(count);
+                Ok(count)
+            }
+            failed => failed,
+        }
+    }
+
+    fn flush(&mut self) -> io::Result<()> {
+        Ok(())
+    }
+}

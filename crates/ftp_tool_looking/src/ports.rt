@@ -1,0 +1,268 @@
+// Data connections of a server, opened by either end, none of which is waited for.
+ghost use Rattle.std.specs.Prelude.{◌≡◌, None};
+ghost use Rattle.std.specs.Global.{Global};
+ghost use Rattle.ftp_control.specs.Asking.{Closes};
+
+use crate::awaits::{Awaits, look};
+use crate::line::Line;
+use crate::link::{LineLink, events_beside};
+use crate::opening::Opening;
+use crate::passive::PassivePorts;
+use ftp_control::{Accepted, Awaited, Beside, For, Ports, Ready, Spoken, Whole};
+use ftp_endpoint::{Endpoint, Host};
+use ftp_tool_sockets::{Sockets, asking, host_of};
+use libc::net as c;
+use std::alloc::Global;
+use std::io;
+use std::io::ErrorKind;
+use std::net::{IpAddr, SocketAddr, TcpListener, TcpStream};
+use std::rc::Rc;
+
+/// The most connections from other hosts than the client's that are let go in one look.
+const FOREIGN: u32 = 16;
+
+/// What came at a port.
+#[derive(Drop)]
+enum Came {
+    /// A connection of the client's host.
+    Stream(TcpStream, Host),
+    /// The system gives none.
+    Failed,
+}
+
+/// Data connections beside one control connection, at the address that its client reached: a passive one listens at one of these ports, and no host but the
+/// client's is accepted there.
+#[derive(Drop)]
+pub struct LinePorts<'a, R: Sockets> {
+    net: &'a R,
+    line: Rc<Line, Global>,
+    passive: &'a PassivePorts,
+    /// The address of this end.
+    here: IpAddr,
+    client: Host,
+    listener: Option<TcpListener>,
+    /// What came at the port that is listened at, until it is accepted.
+    came: Option<Came>,
+    /// A connection that this end opens.
+    opening: Option<Opening>,
+    /// A connection that was ended, until what the peer sent too much is read.
+    leaving: Option<LineLink>,
+    /// What the last look that told of nothing waits for.
+    awaits: Awaits,
+}
+
+impl<'a, R: Sockets> LinePorts<'a, R> {
+    /// None is open yet.
+    pub fn new(
+        net: &'a R,
+        line: Rc<Line, Global>,
+        passive: &'a PassivePorts,
+    ) -> io::Result<LinePorts<'a, R>> {
+        let here = line.here()?.ip().to_canonical();
+        let client = host_of(line.peer()?);
+        Ok(LinePorts {
+            net,
+            line,
+            passive,
+            here,
+            client,
+            listener: None,
+            came: None,
+            opening: None,
+            leaving: None,
+            awaits: Awaits::nothing(),
+        })
+    }
+
+    /// What the last look that told of nothing waits for.
+    pub fn awaits(&self) -> Awaits {
+        self.awaits
+    }
+
+    /// The connection that was ended last, where what its peer sends too much is still to be read.
+    pub fn take_leaving(&mut self) -> Option<LineLink> {
+        self.leaving.take()
+    }
+
+    /// Whether that is there; keeps what is waited for.
+    fn kept(&mut self, looked: Result<(), Awaits>) -> bool {
+        match looked {
+            Ok(()) => true,
+            Err(awaits) => {
+                self.awaits = awaits;
+                false
+            }
+        }
+    }
+
+    /// Nothing is listened at, and nothing is opened.
+    fn stop(&mut self) {
+        self.listener = None;
+        self.came = None;
+        self.opening = None;
+    }
+
+    /// Ends a data connection; what the peer sends too much is read later. One whose peer has ended is dropped at once.
+    fn leave(&mut self, link: LineLink) {
+        self.drain();
+        if !link.has_ended() && link.end().is_ok() {
+            self.leaving = Some(link);
+        }
+    }
+
+    /// Reads what the peer of the last data connection sent too much, and drops that.
+    fn drain(&mut self) {
+        if let Some(mut link) = self.leaving.take() {
+            let _more = link.drain();
+        }
+    }
+
+    /// Listens at one of the passive ports.
+    fn bind(&mut self) -> io::Result<u16> {
+        let (listener, port) = self.passive.listen(self.net, self.here)?;
+        listener.set_nonblocking(true)?;
+        self.listener = Some(listener);
+        Ok(port)
+    }
+
+    /// Takes the next connection of the client's host that came, if one did; others are let go.
+    fn take_next(&mut self) {
+        let Some(listener) = &self.listener else {
+            self.came = Some(Came::Failed);
+            return;
+        };
+        for _ in 0..FOREIGN {
+            match listener.accept() {
+                Ok((stream, peer)) => {
+                    let host = host_of(peer);
+                    if host == self.client {
+                        self.came = Some(Came::Stream(stream, host));
+                        return;
+                    }
+                }
+                Err(error) if error.kind() == ErrorKind::WouldBlock => return,
+                Err(_) => {
+                    self.came = Some(Came::Failed);
+                    return;
+                }
+            }
+        }
+    }
+
+    /// Whether a connection came, or what is awaited beside is there.
+    fn looks_accepted(&mut self, beside: Beside) -> Result<(), Awaits> {
+        if self.came.is_none() {
+            self.take_next();
+        }
+        let Some(listener) = &self.listener else {
+            return Ok(());
+        };
+        if self.came.is_some() || self.line.patience.left() == Some(0) {
+            return Ok(());
+        }
+        let mut rows = [self.line.row(events_beside(beside))];
+        look(&mut rows);
+        if rows[0].revents != 0 {
+            return Ok(());
+        }
+        Err(Awaits::both(rows[0], asking(listener, c::POLLIN)))
+    }
+
+    /// Whether a connection to an endpoint stands or failed. It is begun at the first look.
+    fn looks_connected(&mut self, endpoint: Endpoint) -> Result<(), Awaits> {
+        if self.opening.is_none() {
+            self.listener = None;
+            self.drain();
+            self.opening = Some(Opening::begin(self.net, endpoint));
+        }
+        match &self.opening {
+            Some(opening) => opening.looks(&self.line),
+            None => Ok(()),
+        }
+    }
+
+    /// How the waiting for a connection ends that did not come: where `hears`, by octets of the control connection or its end.
+    fn unaccepted(&self, hears: bool) -> Accepted<LineLink> {
+        if !hears {
+            return Accepted::Refused;
+        }
+        match self.line.spoken() {
+            Spoken::Nothing => Accepted::Refused,
+            Spoken::Octets | Spoken::Ended => Accepted::Spoken,
+        }
+    }
+
+    /// An open connection as a link.
+    fn linked(&self, stream: TcpStream) -> Option<LineLink> {
+        let line = self.line.clone().ok()?;
+        LineLink::new(line, stream).ok()
+    }
+}
+
+impl<'a, R: Sockets> Ports for LinePorts<'a, R> {
+    type Stream = LineLink;
+
+    fn listen(&mut self) -> Option<u16> {
+        self.stop();
+        self.drain();
+        self.bind().ok()
+    }
+
+    fn accept(&mut self, hears: bool) -> Accepted<LineLink> {
+        match self.came.take() {
+            Some(Came::Stream(stream, host)) => {
+                self.listener = None;
+                match self.linked(stream) {
+                    Some(link) => Accepted::Came(link, host),
+                    None => Accepted::Refused,
+                }
+            }
+            Some(Came::Failed) => Accepted::Refused,
+            None => self.unaccepted(hears),
+        }
+    }
+
+    fn connect(&mut self, _endpoint: Endpoint) -> Option<LineLink> {
+        let stream = self.opening.take()?.stream()?;
+        self.linked(stream)
+    }
+
+    fn wait(&mut self, stream: &mut LineLink, what: For, hears: bool) -> Ready {
+        stream.ready(what, hears)
+    }
+
+    fn looks(&mut self, what: Awaited) -> bool {
+        let looked = match what {
+            Awaited::Control => self.line.has_octets(),
+            Awaited::Replies => self.line.has_room(),
+            Awaited::Accepted(beside) => self.looks_accepted(beside),
+            Awaited::Connected(endpoint) => self.looks_connected(endpoint),
+        };
+        self.kept(looked)
+    }
+
+    fn looks_at(&mut self, stream: &mut LineLink, what: For, beside: Beside) -> bool {
+        let looked = stream.looks(what, beside);
+        self.kept(looked)
+    }
+
+    fn spoken(&mut self) -> Spoken {
+        self.line.spoken()
+    }
+
+    /// What sockets are asked is not told.
+    fn close(&mut self, stream: Option<Whole<LineLink>>)
+        ensures { Closes (λ link. None) (λ link. None) stream None None }
+    {
+        self.stop();
+        if let Some(whole) = stream {
+            self.leave(whole.into_stream());
+        }
+    }
+
+    fn reset(&mut self, stream: LineLink) {
+        self.stop();
+        self.drain();
+        stream.reset();
+    }
+}

@@ -1,0 +1,356 @@
+// The rounds: one poll, and then those who leave, a turn of each session that is ready, and the clients that came.
+ghost use Rattle.std.specs.Global.{Global};
+
+use crate::door::{Caller, Door};
+use crate::house::{Full, House};
+use crate::input::Heeded;
+use crate::order::Order;
+use crate::rows::Rows;
+use crate::seat::{Course, Seat, Seats};
+use crate::table::{Table, Taken, awaits_at, spare_in};
+use ftp_control::TURNS;
+use ftp_tool_looking::{Awaits, Leaving, Over};
+use ftp_tool_sockets::monotonic_millis;
+use std::alloc::{AllocError, Global};
+use std::net::{SocketAddr, TcpListener, TcpStream};
+
+/// The most seats.
+pub(crate) const MOST_SEATS: usize = 64;
+
+/// The most connections that are kept a moment behind their last reply; others are dropped at once.
+const MOST_LEAVING: usize = 64;
+
+/// How long a round is, in milliseconds, in which a second session of an address has its turn.
+const ROUND_MILLIS: u64 = 20;
+
+/// The most clients that are taken in one round.
+const MOST_CALLERS: u32 = 16;
+
+/// Where the door and standard input stand among those who wait, and the first seat.
+const DOOR: usize = 0;
+
+const INPUT: usize = 1;
+
+const FIRST_SEAT: usize = 2;
+
+/// Serves clients at a port, as many at once as the house has seats, over one tree, until the house has had its sessions or stops. Gives whether all of
+/// them went well.
+pub fn serve_rounds<M: Seats>(
+    alloc: Global,
+    house: House,
+    listener: &TcpListener,
+    seats: &M,
+    tree: &mut M::Tree,
+) -> Result<bool, AllocError> {
+    let mut rounds = Rounds::new(alloc, house, listener, seats)?;
+    for _ in 0..TURNS {
+        if rounds.is_over() {
+            break;
+        }
+        rounds.round(tree);
+    }
+    Ok(rounds.went_well)
+}
+
+/// All that is served, and who waits to be.
+struct Rounds<'a, M: Seats> {
+    house: House,
+    seats: &'a M,
+    door: Door<'a>,
+    input: Heeded,
+    table: Table<M::Seat>,
+    order: Order<Global>,
+    leaving: Vec<Leaving, Global>,
+    rows: Rows,
+    went_well: bool,
+}
+
+impl<'a, M: Seats> Drop for Rounds<'a, M> {
+    fn drop(self) {
+        let Self {
+            house: _,
+            seats: _,
+            door: _,
+            input: _,
+            table: _,
+            order: _,
+            leaving: _,
+            rows: _,
+            went_well: _,
+        } = self;
+    }
+}
+
+impl<'a, M: Seats> Rounds<'a, M> {
+    /// Nobody is served yet.
+    fn new(
+        alloc: Global,
+        house: House,
+        listener: &'a TcpListener,
+        seats: &'a M,
+    ) -> Result<Rounds<'a, M>, AllocError> {
+        let count = house.at_once.min(MOST_SEATS);
+        let table = Table::new(alloc, count)?;
+        let order = Order::new(alloc, count)?;
+        let leaving = Vec::with_capacity(alloc, MOST_LEAVING)?;
+        let rows = Rows::new(alloc, FIRST_SEAT + MOST_SEATS + MOST_LEAVING)?;
+        Ok(Rounds {
+            house,
+            seats,
+            door: Door::new(listener),
+            input: Heeded::new(house.input),
+            table,
+            order,
+            leaving,
+            rows,
+            went_well: true,
+        })
+    }
+
+    /// Whether nobody is served, and nobody will be.
+    fn is_over(&self) -> bool {
+        self.takes_nobody() && self.table.taken() == 0 && self.leaving.is_empty()
+    }
+
+    /// Whether no client is taken any more.
+    fn takes_nobody(&self) -> bool {
+        self.input.stops().is_some() || self.house.sessions == Some(0)
+    }
+
+    /// One round.
+    fn round(&mut self, tree: &mut M::Tree) {
+        self.stop_some();
+        self.await_all();
+        self.rows.poll();
+        if self.rows.is_told(INPUT) {
+            self.input = self.input.read(self.rows.now());
+        }
+        self.let_go();
+        self.turns(tree);
+        self.welcome_all(tree);
+    }
+
+    /// Where the server stops, ends each session that does nothing, and all of them once transfers may go on no longer.
+    fn stop_some(&mut self) {
+        let Some(until) = self.input.stops() else {
+            return;
+        };
+        let is_late = until <= self.rows.now();
+        for place in 0..self.table.count() {
+            if let Some(taken) = self.table.at(place) {
+                if is_late || !taken.session.is_busy() {
+                    taken.session.patience().end(Over::Stopped);
+                }
+            }
+        }
+    }
+
+    /// Puts together what all wait for.
+    fn await_all(&mut self) {
+        let at_door = self.door_awaits();
+        self.rows.clear();
+        self.rows.add(at_door);
+        let at_input = self.input.awaits(self.rows.now());
+        self.rows.add(at_input);
+        for place in 0..self.table.count() {
+            let awaits = awaits_at(&self.table, place);
+            self.rows.add(awaits);
+        }
+        for leaving in self.leaving.iter() {
+            self.rows.add(leaving.awaits());
+        }
+    }
+
+    /// What is waited for at the door: clients that may be taken; of one who serves one at a time, beside a session, that another client waits.
+    fn door_awaits(&self) -> Awaits {
+        let is_looked_at = match self.only_one() {
+            Some(taken) => !taken.session.patience().is_waited(),
+            None => !self.takes_nobody(),
+        };
+        if is_looked_at {
+            self.door.awaits(self.rows.now())
+        } else {
+            Awaits::nothing()
+        }
+    }
+
+    /// The session beside which others wait at the door, of one who serves one at a time.
+    fn only_one(&self) -> Option<&Taken<M::Seat>> {
+        if self.house.at_once == 1 {
+            self.table.at(0)
+        } else {
+            None
+        }
+    }
+
+    /// Lets go what is over of those who leave.
+    fn let_go(&mut self) {
+        self.leaving.retain_mut(|leaving| leaving.stays());
+    }
+
+    /// A turn of one session of each address, of those that are ready; and then, while the round is short, of the others.
+    fn turns(&mut self, tree: &mut M::Tree) {
+        let mut ready = self.ready();
+        let mut first = ready;
+        for _ in 0..MOST_SEATS {
+            let Some(place) = self.order.take(&first) else {
+                break;
+            };
+            self.pass_over(place, &mut first);
+            unset(&mut ready, place);
+            self.turn(place, tree);
+        }
+        self.other_turns(ready, tree);
+    }
+
+    /// Turns of these sessions, until the round is long. Who is ready after that has a turn in the next one.
+    fn other_turns(&mut self, ready: [bool; MOST_SEATS], tree: &mut M::Tree) {
+        let mut ready = ready;
+        let until = self.rows.now().saturating_add(ROUND_MILLIS);
+        for _ in 0..MOST_SEATS {
+            if until <= monotonic_millis() {
+                return;
+            }
+            let Some(place) = self.order.take(&ready) else {
+                return;
+            };
+            unset(&mut ready, place);
+            self.turn(place, tree);
+        }
+    }
+
+    /// Who is ready.
+    fn ready(&self) -> [bool; MOST_SEATS] {
+        let mut ready = [false; MOST_SEATS];
+        for (place, is_ready) in ready.iter_mut().enumerate() {
+            *is_ready = self.is_ready(place);
+        }
+        ready
+    }
+
+    /// Passes over all sessions whose client counts as that of one place.
+    fn pass_over(&self, place: usize, ready: &mut [bool; MOST_SEATS]) {
+        let host = self.table.at(place).map(|taken| taken.host);
+        for (other, is_ready) in ready.iter_mut().enumerate() {
+            if self.table.at(other).map(|taken| taken.host) == host {
+                *is_ready = false;
+            }
+        }
+    }
+
+    /// Whether a session goes on.
+    fn is_ready(&self, place: usize) -> bool {
+        let Some(taken) = self.table.at(place) else {
+            return false;
+        };
+        if let Course::More = taken.course {
+            return true;
+        }
+        taken.session.awaits().until <= self.rows.now()
+            || self.rows.is_told(FIRST_SEAT.saturating_add(place))
+            || taken.session.patience().left() == Some(0)
+    }
+
+    /// A turn of the session in a seat; that is free where it is over.
+    fn turn(&mut self, place: usize, tree: &mut M::Tree) {
+        let Some(taken) = self.table.at_mut(place) else {
+            return;
+        };
+        taken.course = taken.session.turn(tree);
+        if let Course::Over = taken.course {
+            self.free(place);
+        }
+    }
+
+    /// Frees a seat, whose session is over.
+    fn free(&mut self, place: usize) {
+        let Some(mut taken) = self.table.free(place) else {
+            return;
+        };
+        let (leaving, went_well) = taken.session.leave();
+        self.went_well &= went_well;
+        self.keep(leaving);
+    }
+
+    /// Keeps connections a moment behind their last reply.
+    fn keep(&mut self, leaving: Leaving) {
+        if self.leaving.len() < MOST_LEAVING {
+            let _kept = self.leaving.push(leaving);
+        }
+    }
+
+    /// Takes the clients that came.
+    fn welcome_all(&mut self, tree: &mut M::Tree) {
+        if !self.rows.is_told(DOOR) {
+            return;
+        }
+        if let Some(taken) = self.only_one() {
+            taken.session.patience().others_wait();
+        }
+        for _ in 0..MOST_CALLERS {
+            if self.takes_nobody() || self.only_one().is_some() {
+                return;
+            }
+            match self.door.next() {
+                Caller::Nobody => return,
+                Caller::Failed(error) => self.seats.none_came(error),
+                Caller::Client(stream, peer) => self.welcome(stream, peer, tree),
+            }
+        }
+    }
+
+    /// A client came. Where there is no seat for it, another session is ended, if one may be.
+    fn welcome(&mut self, stream: TcpStream, peer: SocketAddr, tree: &mut M::Tree) {
+        let host = self.seats.host(peer);
+        if let Some(why) = self.full(host) {
+            self.spare(why, host, tree);
+        }
+        match self.full(host) {
+            None => self.seat(stream, peer, tree),
+            Some(why) => self.turn_away(stream, peer, why),
+        }
+    }
+
+    /// Why there is no seat for a client that counts as this one.
+    fn full(&self, host: u128) -> Option<Full> {
+        let taken = self.table.taken();
+        self.house.full(taken, self.table.of_host(host))
+    }
+
+    /// Ends the session that might be ended for another client for the longest time, if there is one: of those from its address, where that has too many.
+    fn spare(&mut self, why: Full, host: u128, tree: &mut M::Tree) {
+        let spare = match why {
+            Full::House => spare_in(&self.table, None),
+            Full::Host => spare_in(&self.table, Some(host)),
+        };
+        if let Some((place, over)) = spare {
+            if let Some(taken) = self.table.at(place) {
+                taken.session.patience().end(over);
+            }
+            self.turn(place, tree);
+        }
+    }
+
+    /// Seats a client; one that could not be seated counts as a session that failed.
+    fn seat(&mut self, stream: TcpStream, peer: SocketAddr, tree: &mut M::Tree) {
+        self.house.sessions = self.house.sessions.map(|count| count.saturating_sub(1));
+        match self.seats.seat(stream, peer, tree) {
+            Some(session) => self.table.take(session, self.seats.host(peer)),
+            None => self.went_well = false,
+        }
+    }
+
+    /// Tells a client that there is no seat.
+    fn turn_away(&mut self, stream: TcpStream, peer: SocketAddr, why: Full) {
+        if let Some(line) = self.seats.turn_away(stream, peer, why) {
+            self.keep(Leaving::new(Some(line), None));
+        }
+    }
+}
+
+/// A place is not ready.
+fn unset(ready: &mut [bool; MOST_SEATS], place: usize) {
+    if let Some(is_ready) = ready.get_mut(place) {
+        *is_ready = false;
+    }
+}

@@ -1,0 +1,61 @@
+// A session in a seat, and who seats clients, as the rounds see them.
+use crate::house::Full;
+use ftp_tool_looking::{Awaits, Leaving, Line, Patience};
+use std::alloc::Global;
+use std::io;
+use std::net::{SocketAddr, TcpStream};
+use std::rc::Rc;
+
+/// How a turn of a session ended.
+#[derive(Clone, Copy)]
+pub enum Course {
+    /// It waits.
+    Later,
+    /// It goes on at once, where others had their turn.
+    More,
+    /// It is over.
+    Over,
+}
+
+/// A session over a tree `T`, which is lent to it for each turn. None of its calls waits.
+pub trait Seat<T>: Drop {
+    /// Goes on until it waits, is over, or has had its part.
+    fn turn(&mut self, tree: &mut T) -> Course;
+
+    /// What it waits for.
+    fn awaits(&self) -> Awaits;
+
+    /// How long its client is waited for.
+    fn patience(&self) -> &Patience;
+
+    /// Whether a transfer is under way, or a reply.
+    fn is_busy(&self) -> bool;
+
+    /// It is over: says the last reply, and gives what stays of its connections, and whether all went well.
+    fn leave(&mut self) -> (Leaving, bool);
+}
+
+/// Who seats clients.
+pub trait Seats {
+    /// What they are served over.
+    type Tree;
+
+    type Seat: Seat<Self::Tree>;
+
+    /// As whom a client counts, of whom only so many are served at once.
+    fn host(&self, peer: SocketAddr) -> u128;
+
+    /// A session of a client that came now; none where it can't be had, which was told.
+    fn seat(
+        &self,
+        stream: TcpStream,
+        peer: SocketAddr,
+        tree: &Self::Tree,
+    ) -> Option<Box<Self::Seat, Global>>;
+
+    /// A client for whom there is no seat was told so, and its connection.
+    fn turn_away(&self, stream: TcpStream, peer: SocketAddr, why: Full) -> Option<Rc<Line, Global>>;
+
+    /// The system gave no connection.
+    fn none_came(&self, error: io::Error);
+}
