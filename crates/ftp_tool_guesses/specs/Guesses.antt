@@ -1,8 +1,9 @@
 -- Refused logins, counted by the address that they came from (own choice; RFC 2577, section 5, advises to slow who guesses).
-use Rattle.std.specs.Prelude.{ℕ, ◌+◌, ◌-◌, ◌==◌, ◌++◌, Bool, nat_lt, List, [], ◌∷◌, Option, Some, None, length, not, remove, if◌then◌else◌}
+use Rattle.std.specs.Prelude.{ℕ, ◌+◌, ◌-◌, ◌==◌, ◌++◌, Bool, nat_lt, min, List, [], ◌∷◌, Option, Some, None, length, not, remove, slice_get, slice_set, if◌then◌else◌}
 use Rattle.std.specs.List.{find, position}
 use Rattle.std.specs.Option.{option_map, unwrap_or}
 use Rattle.ftp_tool_guesses.specs.declared.guesses.Guess.{Guess}
+use Rattle.ftp_tool_guesses.specs.declared.guesses.Held.{Held}
 
 -- the most addresses of which logins are counted, and how many seconds the last of them counts
 abbrev pub most_addresses : ℕ
@@ -47,12 +48,50 @@ without guesses address = taken_out guesses (place_of guesses address)
 abbrev pub make_room : List Guess → List Guess
 make_room guesses = if nat_lt (length guesses) most_addresses then guesses else remove guesses 0
 
+-- the last slow answer to an address
+abbrev pub none_held : Held
+none_held = record { ready = 0; wait = 0 }
+
+abbrev pub answer_of : Guess → Held
+answer_of guess = guess.held
+
+unfoldable pub held_of : List Guess → ℕ → Held
+held_of guesses address = unwrap_or (option_map answer_of (find (is_of address) guesses)) none_held
+
 -- a login of an address was refused now
 abbrev pub after_refusal : List Guess → ℕ → ℕ → List Guess
 after_refusal guesses address now =
     make_room (without guesses address)
-    ++ record { address = address; count = one_more (refused_of guesses address now); last = now } ∷ []
+    ++ record { address = address; count = one_more (refused_of guesses address now); last = now; held = held_of guesses address } ∷ []
 
 -- answers to an address are slow
 abbrev pub is_slow : List Guess → ℕ → ℕ → Bool
 is_slow guesses address now = not (nat_lt (refused_of guesses address now) slow_from)
+
+-- how long the last slow answer to an address still waits
+abbrev pub left_of : ℕ → Guess → ℕ
+left_of now guess = guess.held.wait - (now - guess.held.ready)
+
+unfoldable pub left_to : List Guess → ℕ → ℕ → ℕ
+left_to guesses address now = unwrap_or (option_map (left_of now) (find (is_of address) guesses)) 0
+
+-- where it still waits so long, the next one goes a second after it, 30 seconds from now at most
+abbrev pub next_wait : ℕ → ℕ
+next_wait left = min left 29000 + 1000
+
+-- of a guess an answer that is ready now waits so long
+abbrev pub waiting : ℕ → ℕ → Guess → Guess
+waiting now wait guess =
+    record { address = guess.address; count = guess.count; last = guess.last; held = record { ready = now; wait = wait } }
+
+-- of an address one does
+abbrev pub wait_at : List Guess → ℕ → ℕ → ℕ → Option Guess → List Guess
+wait_at guesses place now wait None = guesses
+wait_at guesses place now wait (Some guess) = slice_set guesses place (waiting now wait guess)
+
+abbrev pub wait_in : List Guess → ℕ → ℕ → Option ℕ → List Guess
+wait_in guesses now wait None = guesses
+wait_in guesses now wait (Some place) = wait_at guesses place now wait (slice_get guesses place)
+
+abbrev pub with_wait : List Guess → ℕ → ℕ → ℕ → List Guess
+with_wait guesses address now wait = wait_in guesses now wait (place_of guesses address)

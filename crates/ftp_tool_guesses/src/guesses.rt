@@ -1,6 +1,6 @@
 // A table of refused logins.
 ghost use Rattle.std.specs.Prelude.{◌≡◌, ◌≤◌, ◌<◌, [], length, IfOk, IfSome};
-ghost use Rattle.ftp_tool_guesses.specs.Guesses.{after_refusal, counted, is_of, is_slow, make_room, one_more, place_of, refused_of, without};
+ghost use Rattle.ftp_tool_guesses.specs.Guesses.{after_refusal, counted, held_of, is_of, is_slow, left_of, left_to, make_room, next_wait, one_more, place_of, refused_of, waiting, with_wait, without};
 
 use std::alloc::{AllocError, Allocator};
 use std::marker::Model;
@@ -14,6 +14,19 @@ const SECONDS_KEPT: u64 = 600;
 /// From this refused login on answers are slow.
 const SLOW_FROM: u8 = 10;
 
+/// How much later than the slow answer before it to the same address one goes, and how long that is waited for at most, in milliseconds.
+const APART_MILLIS: u64 = 1_000;
+
+const MOST_LEFT_MILLIS: u64 = 29_000;
+
+/// A slow answer.
+#[derive(Clone, Copy)]
+pub(crate) struct Held {
+    /// When it was ready, and how long it waits from then on, in milliseconds.
+    ready: u64,
+    wait: u64,
+}
+
 /// The refused logins of one address.
 #[derive(Clone, Copy)]
 pub(crate) struct Guess {
@@ -22,6 +35,8 @@ pub(crate) struct Guess {
     count: u8,
     /// The second of the last one.
     last: u64,
+    /// The last slow answer to it.
+    held: Held,
 }
 
 impl Guess {
@@ -39,6 +54,25 @@ impl Guess {
             self.count
         } else {
             0
+        }
+    }
+
+    /// How long the last slow answer to it still waits.
+    fn left(self, now: u64) -> u64
+        ensures { result ≡ left_of now self }
+    {
+        self.held
+            .wait
+            .saturating_sub(now.saturating_sub(self.held.ready))
+    }
+
+    /// The same, of which an answer that is ready now waits so long.
+    fn waiting(self, now: u64, wait: u64) -> Guess
+        ensures { result ≡ waiting now wait self }
+    {
+        Guess {
+            held: Held { ready: now, wait },
+            ..self
         }
     }
 }
@@ -75,14 +109,54 @@ impl<A: Allocator + Copy> Guesses<A> {
         ensures { IfOk result (λ _. self.new ≡ after_refusal self.old address now) }
     {
         let count = one_more(self.refused_of(address, now));
+        let held = self.held(address);
         self.forget(address);
         self.make_room();
         self.list.push(Guess {
             address,
             count,
             last: now,
+            held,
         })?;
         Ok(())
+    }
+
+    /// How long a slow answer to an address waits that is ready now, in milliseconds of some clock: it goes a second after the one before it, 30 seconds from
+    /// now at most. So an address has one in a second, over however many connections.
+    pub fn hold(&mut self, address: u128, now: u64) -> u64
+        ensures wait { result ≡ next_wait (left_to self.old address now) }
+        ensures held { self.new ≡ with_wait self.old address now result }
+    {
+        let wait = next_wait(self.left_to(address, now));
+        if let Some(place) = self.place_of(address) {
+            let guess = self.list[place];
+            self.list[place] = guess.waiting(now, wait);
+        }
+        wait
+    }
+
+    /// The last slow answer to an address.
+    #[tactic(auto, unfolding(crate::specs::Guesses::held_of))]
+    fn held(&self, address: u128) -> Held
+        ensures { result ≡ held_of self.now address }
+    {
+        self.list
+            .iter()
+            .find(|guess| guess.is_of(address))
+            .map(|guess| guess.held)
+            .unwrap_or(Held { ready: 0, wait: 0 })
+    }
+
+    /// How long the last slow answer to an address still waits.
+    #[tactic(auto, unfolding(crate::specs::Guesses::left_to))]
+    fn left_to(&self, address: u128, now: u64) -> u64
+        ensures { result ≡ left_to self.now address now }
+    {
+        self.list
+            .iter()
+            .find(|guess| guess.is_of(address))
+            .map(|guess| guess.left(now))
+            .unwrap_or(0)
     }
 
     /// Whether answers to an address are slow: ten of its logins or more were refused, each within 10 minutes of the one before, and the last one of now.
@@ -129,6 +203,13 @@ impl<A: Allocator + Copy> Guesses<A> {
             let _oldest = self.list.remove(0);
         }
     }
+}
+
+/// How long the next slow answer to an address waits, where the last one still waits so long.
+fn next_wait(left: u64) -> u64
+    ensures { result ≡ next_wait left }
+{
+    left.min(MOST_LEFT_MILLIS) + APART_MILLIS
 }
 
 fn one_more(count: u8) -> u8
