@@ -12,6 +12,7 @@ mod part;
 mod place;
 mod reading;
 mod system;
+mod writing;
 
 pub use host::{Found, Host, Look, Stamp};
 pub use moment::moment_of;

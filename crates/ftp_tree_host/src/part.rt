@@ -25,6 +25,8 @@ const GATHERED: usize = 65_536;
 #[derive(Drop)]
 pub struct SystemPart<F: Write + Drop> {
     pub(crate) file: BufWriter<F, Global>,
+    /// What it is called by.
+    pub(crate) number: u64,
     /// Where it is, until it has the name.
     pub(crate) beside: Option<String<Global>>,
     /// The permissions of the file that had the name when this one was begun.
@@ -75,10 +77,11 @@ impl<F: Write + OpenFile + Drop> SystemPart<F> {
     }
 }
 
-/// Makes the part of a file beside a place, by its own place. Nobody else may open one that is to replace a file. None where something has its name.
+/// Makes the part of a file beside a place, by its number and its own place. Nobody else may open one that is to replace a file. None where something has its name.
 pub(crate) fn begun_at<R: Files>(
     files: &R,
     alloc: Global,
+    number: u64,
     beside: String<Global>,
     kept: Option<u32>,
 ) -> io::Result<Option<SystemPart<R::File>>>
@@ -95,6 +98,7 @@ pub(crate) fn begun_at<R: Files>(
     let file = kept_or_gone(files, beside.as_str(), made)?;
     Ok(Some(SystemPart {
         file,
+        number,
         beside: Some(beside),
         kept,
     }))

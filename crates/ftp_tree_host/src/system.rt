@@ -11,6 +11,7 @@ use crate::moving::{make_at, move_at, move_onto};
 use crate::part::{SystemPart, begun_at, discard, mode_at, name_new, name_over};
 use crate::place::{above, check_way, dir_text, found_of, place_of, sync_above};
 use crate::reading::{SystemFile, open_same};
+use crate::writing::Writing;
 use ftp_facts::Moment;
 use std::alloc::{AllocError, Global};
 use std::cell::Cell;
@@ -28,6 +29,8 @@ pub struct SystemHost<'a, R: Files + Clock + AllocGlobal> {
     dir: String<Global>,
     /// What the next part is called by. It begins with the time, so that two programs on one folder, one after the other too, call no parts alike.
     number: Cell<u64>,
+    /// The parts that are written.
+    writing: Writing,
     /// Why the last call that was blamed failed.
     reason: Cell<Option<io::Error>>,
 }
@@ -39,6 +42,7 @@ impl<'a, R: Files + Clock + AllocGlobal> Drop for SystemHost<'a, R> {
             files: _,
             dir: _,
             number: _,
+            writing: _,
             reason: _,
         } = self;
     }
@@ -54,6 +58,7 @@ impl<'a, R: Files + Clock + AllocGlobal> SystemHost<'a, R> {
             files,
             dir,
             number: Cell::new(first_number(now(files))),
+            writing: Writing::new(files.alloc()),
             reason: Cell::new(None),
         })
     }
@@ -82,11 +87,30 @@ impl<'a, R: Files + Clock + AllocGlobal> SystemHost<'a, R> {
             let number = self.number.get();
             self.number.set(number.wrapping_add(1));
             let beside = part_in(alloc, above(place), number)?;
-            if let Some(part) = begun_at(self.files, alloc, beside, kept)? {
-                return Ok(part);
+            self.writing.add(number, beside.as_str())?;
+            match begun_at(self.files, alloc, number, beside, kept) {
+                Ok(Some(part)) => return Ok(part),
+                Ok(None) => self.writing.remove(number),
+                Err(error) => {
+                    self.writing.remove(number);
+                    return Err(error);
+                }
             }
         }
         Err(Error::from(ErrorKind::AlreadyExists))
+    }
+
+    /// A part that has its name, or is gone, is written no more.
+    fn note(&self, part: &SystemPart<R::File>) {
+        if part.beside.is_none() {
+            self.writing.remove(part.number);
+        }
+    }
+
+    /// Removes a part that got no name.
+    fn discarded(&self, part: &mut SystemPart<R::File>) {
+        discard(self.files, part);
+        self.note(part);
     }
 }
 
@@ -166,7 +190,7 @@ impl<'a, R: Files + Clock + AllocGlobal> Host for SystemHost<'a, R> {
         if put.is_ok() {
             mem::swap(part, &mut fresh);
         }
-        discard(self.files, &mut fresh);
+        self.discarded(&mut fresh);
         put
     }
 
@@ -177,7 +201,9 @@ impl<'a, R: Files + Clock + AllocGlobal> Host for SystemHost<'a, R> {
         moment: Moment,
     ) -> io::Result<Look> {
         let place = self.way(below)?;
-        name_new(self.files, part, place.as_str(), moment)
+        let named = name_new(self.files, part, place.as_str(), moment);
+        self.note(part);
+        named
     }
 
     fn put_over(
@@ -187,11 +213,13 @@ impl<'a, R: Files + Clock + AllocGlobal> Host for SystemHost<'a, R> {
         moment: Moment,
     ) -> io::Result<Look> {
         let place = self.way(below)?;
-        name_over(self.files, part, place.as_str(), moment)
+        let named = name_over(self.files, part, place.as_str(), moment);
+        self.note(part);
+        named
     }
 
     fn discard(&self, part: &mut SystemPart<R::File>) {
-        discard(self.files, part);
+        self.discarded(part);
     }
 
     fn make_dir(&self, below: &str) -> io::Result<()> {
@@ -213,6 +241,12 @@ impl<'a, R: Files + Clock + AllocGlobal> Host for SystemHost<'a, R> {
     fn rename(&self, from: &str, to: &str) -> io::Result<()> {
         let from = self.way(from)?;
         let to = self.way(to)?;
+        if self.writing.is_below(from.as_str()) {
+            return Err(Error::new(
+                ErrorKind::ResourceBusy,
+                "an upload goes on below the directory",
+            ));
+        }
         move_at(self.files, from.as_str(), to.as_str())
     }
 
