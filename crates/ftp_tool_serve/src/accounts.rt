@@ -1,8 +1,10 @@
 // Who may log in.
+use crate::tells::{OfFile, Tells, Told};
 use ftp_operation::{Accounts, Rights};
 use ftp_tool_accounts::{
     AccountsFileFault, Reach, TextFault, load_accounts, load_reach, two_accounts,
 };
+use ftp_tool_log::Lines;
 use std::alloc::{AllocError, Global};
 use std::fs::Files;
 
@@ -17,6 +19,21 @@ pub fn accounts_of<R: Files + AllocGlobal>(
             Ok(accounts) => Ok(accounts),
             Err(AllocError) => Err(AccountsFileFault::Text(TextFault::Memory)),
         },
+    }
+}
+
+/// Who may log in; where that can't be had, it is told why.
+pub(crate) fn accounts_told<R: Files + Tells + AllocGlobal>(
+    rt: &R,
+    file: Option<&str>,
+    lines: &Lines,
+) -> Option<Accounts<Global>> {
+    match accounts_of(rt, file) {
+        Ok(accounts) => Some(accounts),
+        Err(fault) => {
+            rt.tell(lines, &Told("error: accounts: ", &OfFile(file, &fault)));
+            None
+        }
     }
 }
 

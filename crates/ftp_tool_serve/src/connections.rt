@@ -1,28 +1,30 @@
 // The connections of a session, of which its journal is told.
+ghost use Rattle.std.specs.Global.{Global};
 ghost use Rattle.std.specs.Prelude.{None};
 ghost use Rattle.ftp_control.specs.Asking.{Closes};
 
 use crate::journal::Journal;
 use crate::tells::{Fate, Tells};
-use ftp_control::{Accepted, For, Ports, Ready, Spoken, Whole};
+use ftp_control::{Accepted, Awaited, Beside, For, Ports, Ready, Spoken, Whole};
 use ftp_endpoint::Endpoint;
-use ftp_tool_sockets::{ControlWriter, Link, SocketPorts};
+use ftp_tool_looking::{LineLink, LinePorts, LineWriter};
+use ftp_tool_sockets::Sockets;
+use std::alloc::Global;
 use std::io;
-use std::io::{Eprint, ErrorKind, Read, Write};
-use std::net::{Net, TcpListener, TcpStream};
-use std::time::Clock;
+use std::io::{ErrorKind, Read, Write};
+use std::rc::Rc;
 
 /// The writing side of a control connection: after the last refused login nothing more is written, also to what was read before.
 #[derive(Drop)]
 pub(crate) struct SaidWriter<'a, R: Tells> {
-    inner: ControlWriter<'a>,
-    journal: &'a Journal<'a, R>,
+    inner: LineWriter,
+    journal: Rc<Journal<'a, R>, Global>,
     /// Whether the last write took a front of what it was given, whose rest is written next.
     is_amid: bool,
 }
 
 impl<'a, R: Tells> SaidWriter<'a, R> {
-    pub(crate) fn new(inner: ControlWriter<'a>, journal: &'a Journal<'a, R>) -> SaidWriter<'a, R> {
+    pub(crate) fn new(inner: LineWriter, journal: Rc<Journal<'a, R>, Global>) -> SaidWriter<'a, R> {
         SaidWriter {
             inner,
             journal,
@@ -53,8 +55,8 @@ impl<'a, R: Tells> Write for SaidWriter<'a, R> {
 /// A data connection whose octets are counted.
 #[derive(Drop)]
 pub(crate) struct CountedLink<'a, R: Tells> {
-    inner: Link<'a>,
-    journal: &'a Journal<'a, R>,
+    inner: LineLink,
+    journal: Rc<Journal<'a, R>, Global>,
 }
 
 impl<'a, R: Tells> CountedLink<'a, R> {
@@ -89,16 +91,21 @@ impl<'a, R: Tells> Write for CountedLink<'a, R> {
 
 /// Data connections whose octets are counted.
 #[derive(Drop)]
-pub(crate) struct CountedPorts<
-    'a,
-    R: Net<Listener = TcpListener, Stream = TcpStream> + Clock + Eprint,
-> {
-    pub(crate) inner: SocketPorts<'a, R>,
-    pub(crate) journal: &'a Journal<'a, R>,
+pub(crate) struct CountedPorts<'a, R: Sockets + Tells> {
+    pub(crate) inner: LinePorts<'a, R>,
+    pub(crate) journal: Rc<Journal<'a, R>, Global>,
 }
 
-impl<'a, R: Net<Listener = TcpListener, Stream = TcpStream> + Clock + Eprint> Ports
-    for CountedPorts<'a, R> {
+impl<'a, R: Sockets + Tells> CountedPorts<'a, R> {
+    /// A data connection that stands now, whose octets are counted; none where memory is refused.
+    fn counted(&self, inner: LineLink) -> Option<CountedLink<'a, R>> {
+        let journal = self.journal.clone().ok()?;
+        journal.opened();
+        Some(CountedLink { inner, journal })
+    }
+}
+
+impl<'a, R: Sockets + Tells> Ports for CountedPorts<'a, R> {
     type Stream = CountedLink<'a, R>;
 
     fn listen(&mut self) -> Option<u16> {
@@ -106,32 +113,38 @@ impl<'a, R: Net<Listener = TcpListener, Stream = TcpStream> + Clock + Eprint> Po
     }
 
     fn accept(&mut self, hears: bool) -> Accepted<CountedLink<'a, R>> {
-        let journal = self.journal;
-        match self.inner.accept(hears) {
-            Accepted::Came(inner, host) => Accepted::Came(CountedLink { inner, journal }, host),
-            Accepted::Spoken => Accepted::Spoken,
+        let (link, host) = match self.inner.accept(hears) {
+            Accepted::Came(link, host) => (link, host),
+            Accepted::Spoken => return Accepted::Spoken,
             Accepted::Refused => {
-                journal.give_up();
-                Accepted::Refused
+                self.journal.give_up();
+                return Accepted::Refused;
             }
+        };
+        match self.counted(link) {
+            Some(link) => Accepted::Came(link, host),
+            None => Accepted::Refused,
         }
     }
 
     fn connect(&mut self, endpoint: Endpoint) -> Option<CountedLink<'a, R>> {
-        let journal = self.journal;
-        let Some(inner) = self.inner.connect(endpoint) else {
-            journal.give_up();
+        let Some(link) = self.inner.connect(endpoint) else {
+            self.journal.give_up();
             return None;
         };
-        Some(CountedLink { inner, journal })
+        self.counted(link)
     }
 
-    /// Where patience is over while the control connection stands, the next read or write of the data connection says so.
     fn wait(&mut self, stream: &mut CountedLink<'a, R>, what: For, hears: bool) -> Ready {
-        match self.inner.wait(&mut stream.inner, what, hears) {
-            Ready::Lost if self.inner.spoken() != Spoken::Ended => Ready::Data,
-            ready => ready,
-        }
+        self.inner.wait(&mut stream.inner, what, hears)
+    }
+
+    fn looks(&mut self, what: Awaited) -> bool {
+        self.inner.looks(what)
+    }
+
+    fn looks_at(&mut self, stream: &mut CountedLink<'a, R>, what: For, beside: Beside) -> bool {
+        self.inner.looks_at(&mut stream.inner, what, beside)
     }
 
     fn spoken(&mut self) -> Spoken {
@@ -143,15 +156,15 @@ impl<'a, R: Net<Listener = TcpListener, Stream = TcpStream> + Clock + Eprint> Po
     {
         match stream {
             Some(whole) => {
-                self.journal.parted(Fate::Ended);
                 self.inner.close(Some(whole.map(|counted| counted.inner)));
+                self.journal.parted(Fate::Ended);
             }
             None => self.inner.close(None),
         }
     }
 
     fn reset(&mut self, stream: CountedLink<'a, R>) {
-        self.journal.parted(Fate::Reset);
         self.inner.reset(stream.inner);
+        self.journal.parted(Fate::Reset);
     }
 }

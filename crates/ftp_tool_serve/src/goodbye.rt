@@ -1,5 +1,6 @@
 // What a client is told before the server ends its session, and as whom its refused logins are counted.
-use ftp_tool_sockets::Over;
+use ftp_tool_looking::Over;
+use ftp_tool_rounds::Full;
 use std::net::IpAddr;
 
 /// The 421 that goes out before a session is ended (RFC 959, section 5.4); none after ten refused logins, of which the last was answered by 530.
@@ -10,7 +11,16 @@ pub(crate) fn last_reply(over: Over) -> Option<&'static [u8]> {
         Over::Waited => Some(b"421 Nothing was said or sent, and others wait\r\n"),
         Over::Session => Some(b"421 The time is over, since others wait\r\n"),
         Over::LoginWaited => Some(b"421 Nobody logged in, and others wait\r\n"),
+        Over::Stopped => Some(b"421 The server stops\r\n"),
         Over::Refused => None,
+    }
+}
+
+/// The 421 to a client for whom there is no seat.
+pub(crate) fn no_seat(why: Full) -> &'static [u8] {
+    match why {
+        Full::House => b"421 Too many sessions, try again later\r\n",
+        Full::Host => b"421 Too many sessions from your address, try again later\r\n",
     }
 }
 

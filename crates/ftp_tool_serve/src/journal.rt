@@ -1,25 +1,27 @@
 // What is told of a session on standard error, and how slow it is after refused logins: a function of what its server tells of each call.
-use crate::connection::Service;
 use crate::goodbye::{guessed_from, last_reply};
-use crate::line::Line;
 use crate::manner::{Manner, Pace};
+use crate::seated::Service;
 use crate::telling::Asked;
 use crate::tells::{Entry, Fate, Note, Outcome, Tells};
+use crate::text::Text;
 use ftp_command::Verb;
 use ftp_server_model::{Answered, Far};
-use ftp_tool_sockets::{Over, monotonic_seconds, pause};
+use ftp_tool_looking::{Line, Over};
+use ftp_tool_sockets::monotonic_millis;
 use ftp_tree::Tree;
 use ftp_tree_disk::Explains;
 use std::alloc::Global;
 use std::cell::Cell;
 use std::io;
 use std::net::SocketAddr;
+use std::rc::Rc;
 
 /// The code with which a transfer ends of which there is nothing to give (RFC 959, section 4.2.2).
 const COMPLETE: u16 = 226;
 
-/// How long an answer waits after refused logins, in milliseconds.
-const SLOW_MILLIS: u16 = 1_000;
+/// How long an answer waits after refused logins where none is noted, in milliseconds.
+const SLOW_MILLIS: u64 = 1_000;
 
 /// Whether sessions are told on standard error.
 #[derive(Clone, Copy)]
@@ -34,8 +36,6 @@ struct Before {
     /// How many octets it owed.
     owed: usize,
     is_transferring: bool,
-    /// How many failures of its tree's device it had counted.
-    failures: u64,
 }
 
 /// A line that is told: what it says, the code of its last reply, if it had one, and why the folder failed.
@@ -48,22 +48,30 @@ struct Closed {
 
 /// Tells of one session, a line each: the moment, the peer, the user, the verb, what it names, the octets that went over data connections for
 /// it, and the code of the last reply, after it `reset` where the data connection was, and the reason where the folder failed. A line is told
-/// before its reply is written, so whether or not that can be. What standard error refuses is dropped.
+/// before its reply is written, so whether or not that can be; one with a data connection once that is closed too and its reply is written. What
+/// standard error refuses is dropped.
 #[derive(Drop)]
 pub(crate) struct Journal<'a, R: Tells> {
     rt: &'a R,
     peer: SocketAddr,
+    line: Rc<Line, Global>,
     service: Service<'a>,
     manner: Cell<Manner>,
     /// The user who was named last.
-    named: Cell<Line>,
+    named: Cell<Text>,
     /// The user who is logged in; empty where nobody is.
-    user: Cell<Line>,
+    user: Cell<Text>,
     before: Cell<Before>,
     /// The line that was acted on and whose last reply is still to come: a transfer goes on, or a port is waited for.
     pending: Cell<Option<Asked>>,
+    /// The line that was answered for good, and is told once its data connection is closed and its reply written.
+    closed: Cell<Option<Closed>>,
+    /// Whether a data connection stands.
+    is_open: Cell<bool>,
     moved: Cell<u64>,
     fate: Cell<Fate>,
+    /// Why the folder failed last, where no line was told of that yet.
+    why: Cell<Option<io::Error>>,
     /// Whether the server owes octets that were not given to be written.
     owes: Cell<bool>,
     /// Whether what was written is whole replies.
@@ -72,25 +80,43 @@ pub(crate) struct Journal<'a, R: Tells> {
 
 impl<'a, R: Tells> Journal<'a, R> {
     /// Nobody is logged in, and nothing was said.
-    pub(crate) fn new(rt: &'a R, peer: SocketAddr, service: Service<'a>) -> Journal<'a, R> {
+    pub(crate) fn new(
+        rt: &'a R,
+        line: Rc<Line, Global>,
+        peer: SocketAddr,
+        service: Service<'a>,
+    ) -> Journal<'a, R> {
         Journal {
             rt,
             peer,
+            line,
             service,
             manner: Cell::new(Manner::new()),
-            named: Cell::new(Line::new()),
-            user: Cell::new(Line::new()),
+            named: Cell::new(Text::new()),
+            user: Cell::new(Text::new()),
             before: Cell::new(Before {
                 owed: 0,
                 is_transferring: false,
-                failures: 0,
             }),
             pending: Cell::new(None),
+            closed: Cell::new(None),
+            is_open: Cell::new(false),
             moved: Cell::new(0),
             fate: Cell::new(Fate::Ended),
+            why: Cell::new(None),
             owes: Cell::new(false),
             is_whole: Cell::new(true),
         }
+    }
+
+    /// The control connection.
+    pub(crate) fn line(&self) -> &Line {
+        &self.line
+    }
+
+    /// A share of it; none where memory is refused.
+    pub(crate) fn share_line(&self) -> Option<Rc<Line, Global>> {
+        self.line.clone().ok()
     }
 
     /// Tells how a session goes, in a word or two.
@@ -103,7 +129,7 @@ impl<'a, R: Tells> Journal<'a, R> {
 
     /// Tells how a session ended, and why it was ended where the server did that.
     pub(crate) fn end(&self, is_whole: bool) {
-        let ended = match self.service.patience.over() {
+        let ended = match self.line.patience.over() {
             None if is_whole => "ends",
             None if !self.is_whole.get() => "breaks off: its last reply was not sent whole",
             None => "breaks off",
@@ -113,6 +139,7 @@ impl<'a, R: Tells> Journal<'a, R> {
             Some(Over::Session) => "is ended: its time is over, since others wait",
             Some(Over::LoginWaited) => "is ended: nobody logged in, and others wait",
             Some(Over::Refused) => "is ended: ten logins were refused",
+            Some(Over::Stopped) => "is ended: the server stops",
         };
         self.note(ended);
     }
@@ -122,7 +149,6 @@ impl<'a, R: Tells> Journal<'a, R> {
         self.before.set(Before {
             owed: server.owed(),
             is_transferring: server.is_transferring(),
-            failures: server.counts().failures,
         });
     }
 
@@ -134,44 +160,20 @@ impl<'a, R: Tells> Journal<'a, R> {
     {
         self.owes.set(server.owes());
         let is_in = server.login().is_some();
-        let why = self.why(server);
+        if let Some(why) = server.tree().reason() {
+            self.why.set(Some(why));
+        }
         if let Some((asked, code)) = self.ended(server) {
-            self.close(
-                is_in,
-                Closed {
-                    asked,
-                    code: Some(code),
-                    why,
-                },
-            );
+            self.close(is_in, asked, code);
         }
         if let Some(answered) = server.answered() {
             let asked = self.asked(&answered);
             match last_code(&answered, server.is_transferring()) {
-                Some(code) => self.close(
-                    is_in,
-                    Closed {
-                        asked,
-                        code: Some(code),
-                        why,
-                    },
-                ),
+                Some(code) => self.close(is_in, asked, code),
                 None => self.pending.set(Some(asked)),
             }
         }
         self.begin(server);
-    }
-
-    /// Why the folder failed in the call, if it did.
-    fn why<T, F>(&self, server: &F) -> Option<io::Error>
-    where
-        T: Tree<Global> + Explains,
-        F: Far<Global, T>,
-    {
-        if server.counts().failures == self.before.get().failures {
-            return None;
-        }
-        server.tree().reason()
     }
 
     /// The line that waited for its last reply, and the code of that, where it was said in the call: the transfer ended, or the port that was
@@ -197,15 +199,33 @@ impl<'a, R: Tells> Journal<'a, R> {
     }
 
     /// A line was answered for good, and then somebody is logged in, or nobody: takes in how a login went, and tells the line, where it is one that
-    /// is told.
-    fn close(&self, is_in: bool, closed: Closed) {
+    /// is told, or keeps it while its data connection stands.
+    fn close(&self, is_in: bool, asked: Asked, code: u16) {
         self.user
-            .set(if is_in { self.named.get() } else { Line::new() });
-        let Some(code) = closed.code else {
+            .set(if is_in { self.named.get() } else { Text::new() });
+        let why = self.why.take();
+        self.judge(asked.verb, code, is_in);
+        if !asked.is_told_by(code) {
             return;
+        }
+        let closed = Closed {
+            asked,
+            code: Some(code),
+            why,
         };
-        self.judge(closed.asked.verb, code, is_in);
-        if closed.asked.is_told_by(code) {
+        if self.is_open.get() && self.closed.get().is_none() {
+            self.closed.set(Some(closed));
+        } else {
+            self.tell(closed);
+        }
+    }
+
+    /// Tells the line that was kept, once its data connection is closed and its reply written.
+    fn tell_closed(&self) {
+        if self.is_open.get() || !self.is_whole.get() {
+            return;
+        }
+        if let Some(closed) = self.closed.take() {
             self.tell(closed);
         }
     }
@@ -216,22 +236,30 @@ impl<'a, R: Tells> Journal<'a, R> {
         let manner = before.after(verb, code, is_in);
         self.manner.set(manner);
         if manner.logged_in {
-            self.service.patience.log_in();
+            self.line.patience.log_in();
         }
         let was_refused = before.refused < manner.refused;
         if was_refused {
             self.refuse();
         }
         let waits = !manner.logged_in || was_refused;
-        if waits && self.is_slow(manner) && !self.service.patience.is_spent() {
-            pause(SLOW_MILLIS);
+        if waits && self.is_slow(manner) {
+            self.line.hold(self.slow_millis());
+        }
+    }
+
+    /// How long a slow answer waits: those to one address go one after another, whatever connections they are on.
+    fn slow_millis(&self) -> u64 {
+        match self.service.guesses.try_borrow_mut() {
+            Ok(mut guesses) => guesses.hold(guessed_from(self.peer.ip()), monotonic_millis()),
+            Err(_) => SLOW_MILLIS,
         }
     }
 
     /// A login was refused: that is counted of the client's address too. Where memory is refused, it is not.
     fn refuse(&self) {
         if let Ok(mut guesses) = self.service.guesses.try_borrow_mut() {
-            let _counted = guesses.refuse(guessed_from(self.peer.ip()), monotonic_seconds());
+            let _counted = guesses.refuse(guessed_from(self.peer.ip()), monotonic_millis() / 1_000);
         }
     }
 
@@ -241,7 +269,10 @@ impl<'a, R: Tells> Journal<'a, R> {
             return true;
         }
         match self.service.guesses.try_borrow() {
-            Ok(guesses) => guesses.is_slow(guessed_from(self.peer.ip()), monotonic_seconds()),
+            Ok(guesses) => guesses.is_slow(
+                guessed_from(self.peer.ip()),
+                monotonic_millis() / 1_000,
+            ),
             Err(_) => true,
         }
     }
@@ -254,14 +285,15 @@ impl<'a, R: Tells> Journal<'a, R> {
     /// What was given was written. After the last answer nothing more is heard.
     pub(crate) fn written(&self) {
         self.is_whole.set(!self.owes.get());
+        self.tell_closed();
         if self.manner.get().pace() == Pace::Last {
-            self.service.patience.end(Over::Refused);
+            self.line.patience.end(Over::Refused);
         }
     }
 
     /// Whether the server has ended the session, or no time is left of it.
     pub(crate) fn is_over(&self) -> bool {
-        self.service.patience.is_spent()
+        self.line.patience.is_spent()
     }
 
     /// What the client is told before the server ends the session, where it does that, and where no reply was written in part.
@@ -269,12 +301,17 @@ impl<'a, R: Tells> Journal<'a, R> {
         if !self.is_whole.get() {
             return None;
         }
-        last_reply(self.service.patience.over()?)
+        last_reply(self.line.patience.over()?)
     }
 
     /// A data connection, or the wait for one, was given up.
     pub(crate) fn give_up(&self) {
-        self.service.patience.stir();
+        self.line.patience.stir();
+    }
+
+    /// A data connection stands.
+    pub(crate) fn opened(&self) {
+        self.is_open.set(true);
     }
 
     /// Octets went over a data connection.
@@ -286,10 +323,15 @@ impl<'a, R: Tells> Journal<'a, R> {
     /// A data connection was closed.
     pub(crate) fn parted(&self, fate: Fate) {
         self.fate.set(fate);
+        self.is_open.set(false);
+        self.tell_closed();
     }
 
-    /// Nothing more is said: tells of a line that was not answered, where it may have done something.
+    /// Nothing more is said: tells of the line that was kept, and of one that was not answered, where it may have done something.
     pub(crate) fn finish(&self) {
+        if let Some(closed) = self.closed.take() {
+            self.tell(closed);
+        }
         let Some(asked) = self.pending.get() else {
             return;
         };

@@ -1,27 +1,32 @@
-//! The program `serve`: a folder is served over real connections, one control connection after another (RFC 959).
+//! The program `serve`: a folder is served over real connections, several control connections at once (RFC 959).
 #![tactic(auto)]
 
 mod accounts;
-mod connection;
+mod alone;
+mod begins;
 mod connections;
 mod goodbye;
 mod journal;
-mod line;
 mod manner;
 mod named;
+mod seated;
+mod seating;
 mod serving;
 mod starting;
 mod telling;
 mod tells;
+mod text;
 mod watching;
 
 pub use accounts::accounts_of;
-pub use connection::{Service, session};
+pub use alone::session;
 pub use ftp_tool_guesses::Guesses;
 pub use ftp_tool_log::Lines;
-pub use ftp_tool_sockets::{Limits as Waits, PassivePorts, Patience};
+pub use ftp_tool_looking::{Limits as Waits, PassivePorts};
+pub use ftp_tool_rounds::Input;
 pub use ftp_tool_words::Sessions;
 pub use ftp_tree::Limits;
 pub use ftp_tree_disk::{Odd, Others};
 pub use journal::Log;
+pub use seated::Service;
 pub use serving::{Serving, serve};

@@ -3,21 +3,24 @@ ghost use Rattle.std.specs.Prelude.{◌↔◌, IsTrue};
 ghost use Rattle.ftp_tool_serve.specs.Listening.{MayListen};
 
 use crate::accounts::{accounts_of, reach_of};
-use crate::connection::{Service, session};
+use crate::begins::{Begins, Ours};
 use crate::journal::Log;
+use crate::seated::Service;
+use crate::seating::Seating;
 use crate::starting::{Unserved, dir_text, is_folder, opened, tell_roots};
-use crate::tells::{NoClient, OfFile, Told};
-use ftp_control::TURNS;
-use ftp_operation::{Accounts, Rights};
+use crate::tells::{OfFile, Tells};
+use ftp_operation::Rights;
 use ftp_tool_accounts::Reach;
 use ftp_tool_guesses::Guesses;
 use ftp_tool_log::Lines;
+use ftp_tool_looking::{Limits as Waits, PassivePorts};
+use ftp_tool_rounds::{House, Input, is_input_open, serve_rounds};
 use ftp_tool_shown::Shown;
-use ftp_tool_sockets::{Limits as Waits, PassivePorts, Patience, pause};
+use ftp_tool_sockets::Sockets;
 use ftp_tool_status::Status;
 use ftp_tool_words::Sessions;
-use ftp_tree::{Limits, Tree};
-use ftp_tree_disk::{Explains, LoadFault, Odd, Others};
+use ftp_tree::Limits;
+use ftp_tree_disk::{Explains, LoadFault, Odd, Others, Parks};
 use ftp_tree_host::{Host, SystemHost};
 use std::alloc::{AllocError, Global};
 use std::cell::RefCell;
@@ -27,9 +30,6 @@ use std::io::{Eprint, ErrorKind, Print};
 use std::net::{IpAddr, Net, SocketAddr, TcpListener, TcpStream};
 use std::time::Clock;
 use std::{fs, io};
-
-/// How long a client is waited for again where one could not be taken, in milliseconds.
-const AGAIN_MILLIS: u16 = 1_000;
 
 /// What is to be served.
 #[derive(Clone, Copy)]
@@ -41,6 +41,11 @@ pub struct Serving<'a> {
     /// The folder.
     pub dir: &'a str,
     pub sessions: Sessions,
+    /// How many of them at once, from 1 to 64, and how many of those from one address.
+    pub at_once: usize,
+    pub per_host: usize,
+    /// Whether the end of standard input stops the server.
+    pub input: Input,
     /// The file of accounts, which is read anew for each session; none: `guest` and `anonymous`, and an address of the loopback alone.
     pub accounts: Option<&'a str>,
     pub log: Log,
@@ -58,16 +63,6 @@ pub struct Serving<'a> {
     pub odd: Odd,
 }
 
-/// What stays the same over all sessions.
-#[derive(Clone, Copy)]
-struct Desk<'a> {
-    job: &'a Serving<'a>,
-    listener: &'a TcpListener,
-    passive: &'a PassivePorts,
-    lines: &'a Lines,
-    guesses: &'a RefCell<Guesses<Global>>,
-}
-
 impl<'a> Serving<'a> {
     /// Whether the address may be listened at: without a file of accounts all that is served may be changed by whoever connects.
     fn may_listen(&self) -> bool
@@ -77,8 +72,8 @@ impl<'a> Serving<'a> {
     }
 }
 
-/// Serves a folder, and gives the exit status: done; bad words where the address is none of the loopback and no file of accounts is given; or failed
-/// where the folder, the file of accounts, the port or a session failed.
+/// Serves a folder, and gives the exit status: done; bad words where the address is none of the loopback and no file of accounts is given, or the end of a
+/// standard input is to stop the server that is closed; or failed where the folder, the file of accounts, the port or a session failed.
 pub fn serve<R>(rt: &R, job: Serving<'_>) -> io::Result<Status>
 where
     R: Net<Listener = TcpListener, Stream = TcpStream>
@@ -93,6 +88,9 @@ where
     if !job.may_listen() {
         return refuse_address(rt);
     }
+    if matches!(job.input, Input::Stops(_)) && !is_input_open() {
+        return refuse_input(rt);
+    }
     match accounts_of(rt, job.accounts) {
         Ok(_) => serve_dir(rt, &job),
         Err(fault) => refuse(rt, "accounts: ", &OfFile(job.accounts, &fault)),
@@ -104,6 +102,12 @@ fn refuse_address<R: Eprint>(rt: &R) -> io::Result<Status> {
     eprintln!(rt;
         "error: without a file of accounts only an address of the loopback is listened at"
     )?;
+    Ok(Status::BadWords)
+}
+
+/// Tells that there is no standard input whose end could stop the server.
+fn refuse_input<R: Eprint>(rt: &R) -> io::Result<Status> {
+    eprintln!(rt; "error: standard input is closed: there is no end of it to wait for")?;
     Ok(Status::BadWords)
 }
 
@@ -124,20 +128,6 @@ fn tell_address<R: Print>(rt: &R, listener: &TcpListener) -> io::Result<()> {
     let address = listener.local_addr()?;
     println!(rt; "listening on {address}")?;
     Ok(())
-}
-
-/// Who may log in; where that can't be had, it is told why.
-fn accounts_told<R>(rt: &R, file: Option<&str>, lines: &Lines) -> Option<Accounts<Global>>
-where
-    R: Files + Clock + AllocGlobal,
-{
-    match accounts_of(rt, file) {
-        Ok(accounts) => Some(accounts),
-        Err(fault) => {
-            lines.tell(rt, &Told("error: accounts: ", &OfFile(file, &fault)));
-            None
-        }
-    }
 }
 
 /// Loads the folder and serves it.
@@ -230,7 +220,7 @@ where
         + Print
         + Eprint
         + AllocGlobal,
-    T: Tree<Global> + Explains,
+    T: Parks<Global> + Explains,
 {
     match listener_for(rt, job, rights) {
         Ok(Some(listener)) => Ok(serve_by(rt, tree, job, &listener, lines)),
@@ -293,82 +283,101 @@ fn serve_by<R, T>(
 ) -> Status
 where
     R: Net<Listener = TcpListener, Stream = TcpStream> + Files + Clock + Eprint + AllocGlobal,
-    T: Tree<Global> + Explains,
+    T: Parks<Global> + Explains,
 {
     let passive = PassivePorts::new(job.passive.0, job.passive.1);
     let guesses = RefCell::new(Guesses::nothing(rt.alloc()));
-    let desk = Desk {
-        job,
-        listener,
+    let service = Service {
+        log: job.log,
         passive: &passive,
+        passive_address: job.passive_address,
         lines,
         guesses: &guesses,
     };
-    serve_at(rt, tree, desk)
+    serve_ours(rt, tree, job, listener, service)
 }
 
-/// Serves control connections one after another; a session that failed counts, and makes the status a failure.
-fn serve_at<R, T>(rt: &R, tree: T, desk: Desk<'_>) -> Status
+/// Serves clients over a tree by this house's servers.
+fn serve_ours<R, T>(
+    rt: &R,
+    tree: T,
+    job: &Serving<'_>,
+    listener: &TcpListener,
+    service: Service<'_>,
+) -> Status
 where
-    R: Net<Listener = TcpListener, Stream = TcpStream> + Files + Clock + Eprint + AllocGlobal,
-    T: Tree<Global> + Explains,
+    R: ServesMany,
+    T: Parks<Global> + Explains,
+{
+    rt.serve_many(Ours, tree, job, listener, service)
+}
+
+/// Who serves clients, as one trait without types of its own: what stands on it is proved for less.
+trait ServesMany {
+    fn serve_many<T, M>(
+        &self,
+        begins: M,
+        tree: T,
+        job: &Serving<'_>,
+        listener: &TcpListener,
+        service: Service<'_>,
+    ) -> Status
+    where
+        T: Parks<Global> + Explains,
+        M: Begins<T>;
+}
+
+impl<R: Sockets + Tells + Clock + Files + AllocGlobal> ServesMany for R {
+    fn serve_many<T, M>(
+        &self,
+        begins: M,
+        tree: T,
+        job: &Serving<'_>,
+        listener: &TcpListener,
+        service: Service<'_>,
+    ) -> Status
+    where
+        T: Parks<Global> + Explains,
+        M: Begins<T>,
+    {
+        serve_over(self, begins, tree, job, listener, service)
+    }
+}
+
+/// Serves clients over a tree by servers that are begun so; a session that failed makes the status a failure.
+fn serve_over<R, T, M>(
+    rt: &R,
+    begins: M,
+    tree: T,
+    job: &Serving<'_>,
+    listener: &TcpListener,
+    service: Service<'_>,
+) -> Status
+where
+    R: Sockets + Tells + Clock + Files + AllocGlobal,
+    T: Parks<Global> + Explains,
+    M: Begins<T>,
 {
     let mut tree = tree;
-    let mut status = Status::Done;
-    for _ in 0..turns_of(desk.job.sessions) {
-        let (back, went) = next_session(rt, tree, desk);
-        tree = back;
-        if !went {
-            status = Status::Failed;
-        }
+    let seating: Seating<'_, R, T, M> = Seating::new(rt, job.accounts, job.waits, service, begins);
+    if listener.set_nonblocking(true).is_err() {
+        return Status::Failed;
     }
-    status
-}
-
-/// How many turns that is.
-fn turns_of(sessions: Sessions) -> u64 {
-    match sessions {
-        Sessions::Count(count) => u64::from(count),
-        Sessions::Forever => TURNS,
+    match serve_rounds(rt.alloc(), house_of(job), listener, &seating, &mut tree) {
+        Ok(true) => Status::Done,
+        Ok(false) | Err(AllocError) => Status::Failed,
     }
 }
 
-/// Serves the next control connection; gives the tree back, and whether all went well.
-fn next_session<R, T>(rt: &R, tree: T, desk: Desk<'_>) -> (T, bool)
-where
-    R: Net<Listener = TcpListener, Stream = TcpStream> + Files + Clock + Eprint + AllocGlobal,
-    T: Tree<Global> + Explains,
-{
-    let Some(stream) = next_client(rt, desk.listener, desk.lines) else {
-        return (tree, false);
-    };
-    let Some(accounts) = accounts_told(rt, desk.job.accounts, desk.lines) else {
-        return (tree, false);
-    };
-    let patience = Patience::new(desk.job.waits, Some(desk.listener));
-    let service = Service {
-        log: desk.job.log,
-        patience: &patience,
-        passive: desk.passive,
-        passive_address: desk.job.passive_address,
-        lines: desk.lines,
-        guesses: desk.guesses,
-    };
-    let (tree, ended) = session(rt, tree, accounts, &stream, service);
-    (tree, ended.is_ok())
-}
-
-/// Waits for the next client. Where the system refuses to give one, that is told once, and tried again each second.
-fn next_client<R: Clock>(rt: &R, listener: &TcpListener, lines: &Lines) -> Option<TcpStream> {
-    match listener.accept() {
-        Ok((stream, _)) => return Some(stream),
-        Err(error) => lines.tell(rt, &NoClient(error)),
+/// How many clients are served.
+fn house_of(job: &Serving<'_>) -> House {
+    House {
+        at_once: job.at_once,
+        per_host: job.per_host,
+        sessions: match job.sessions {
+            Sessions::Count(count) => Some(count),
+            Sessions::Forever => None,
+        },
+        input: job.input,
     }
-    for _ in 0..TURNS {
-        pause(AGAIN_MILLIS);
-        if let Ok((stream, _)) = listener.accept() {
-            return Some(stream);
-        }
-    }
-    None
 }

@@ -1,5 +1,5 @@
 // What is told of a line that a server acted on: its verb, and what it names where that is no secret.
-use crate::line::Line;
+use crate::text::Text;
 use ftp_command::Verb;
 use ftp_server_model::Answered;
 
@@ -12,15 +12,15 @@ pub(crate) struct Asked {
     /// None: no verb that is known.
     pub(crate) verb: Option<Verb>,
     /// Empty where there is nothing to be told.
-    pub(crate) names: Line,
+    pub(crate) names: Text,
 }
 
 impl Asked {
     /// A line that a server acted on; PASS is told by the user who was named before it.
-    pub(crate) fn of(answered: &Answered<'_>, named: Line) -> Asked {
+    pub(crate) fn of(answered: &Answered<'_>, named: Text) -> Asked {
         let names = match answered.verb {
             Some(Verb::Pass) => named,
-            _ => Line::front_of(answered.text),
+            _ => Text::front_of(answered.text),
         };
         Asked {
             verb: answered.verb,

@@ -1,4 +1,6 @@
 // The journal of a session looks on while its server is driven.
+ghost use Rattle.std.specs.Global.{Global};
+
 use crate::journal::Journal;
 use crate::tells::Tells;
 use ftp_server_drive::Watches;
@@ -7,17 +9,21 @@ use ftp_tree::Tree;
 use ftp_tree_disk::Explains;
 use std::alloc::Global;
 use std::marker::PhantomData;
+use std::rc::Rc;
 
 /// A journal that is told of each call of a server over a tree `T`.
 #[derive(Drop)]
 pub(crate) struct Watching<'a, R: Tells, T> {
-    journal: &'a Journal<'a, R>,
+    /// By which the journal tells: it lives as long.
+    _rt: &'a R,
+    journal: Rc<Journal<'a, R>, Global>,
     _over: PhantomData<T>,
 }
 
 impl<'a, R: Tells, T> Watching<'a, R, T> {
-    pub(crate) fn new(journal: &'a Journal<'a, R>) -> Watching<'a, R, T> {
+    pub(crate) fn new(rt: &'a R, journal: Rc<Journal<'a, R>, Global>) -> Watching<'a, R, T> {
         Watching {
+            _rt: rt,
             journal,
             _over: PhantomData,
         }
