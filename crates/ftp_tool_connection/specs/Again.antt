@@ -1,5 +1,5 @@
 -- When a further control connection may bring an answer (own choice: RFC 959, section 3.5, leaves recovery to the user).
-use Rattle.std.specs.Prelude.{Bool, false, not, Option, Some, None, Result, Ok, Err}
+use Rattle.std.specs.Prelude.{ℕ, ◌-◌, ◌/◌, ◌==◌, max, nat_lt, Bool, true, false, not, Option, Some, None, Result, Ok, Err, if◌then◌else◌}
 use Rattle.ftp_operation.specs.declared.answer.Answer.{Answer}
 use Rattle.ftp_operation.specs.declared.answer.Answer.TheVariants as Answers
 use Rattle.ftp_tool_connection.specs.declared.again.Loss.{Loss}
@@ -24,3 +24,14 @@ loss_by (Err fault) = loss_amid fault.stage
 abbrev pub gives_up : Loss → (is_heard : Bool) → Bool
 gives_up Losses.Ended is_heard = not is_heard
 gives_up Losses.Unconnected is_heard = false
+
+-- for how many seconds a server may be silent over a further control connection, where so many went by over those before: as ever; where it never said a
+-- line, what is left of them, and nothing is tried where nothing is; 0 is without a limit
+abbrev pub silence_left : (seconds spent : ℕ) → (is_heard : Bool) → Option ℕ
+silence_left seconds spent true = Some seconds
+silence_left seconds spent false =
+    if seconds == 0 then Some 0 else if nat_lt spent seconds then Some (seconds - spent) else None
+
+-- how many seconds each of so many addresses of a host has to answer: its part of those of the host, and one at least; 0 is without a limit
+abbrev pub share_of : (seconds addresses : ℕ) → ℕ
+share_of seconds addresses = if seconds == 0 then 0 else max (seconds / max addresses 1) 1

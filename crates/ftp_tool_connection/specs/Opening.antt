@@ -4,6 +4,8 @@ use Rattle.ftp_operation.specs.declared.answer.Answer.{Answer}
 use Rattle.ftp_operation.specs.declared.answer.Answer.TheVariants as Answers
 use Rattle.ftp_tool_connection.specs.declared.opening.Opening.{Opening}
 use Rattle.ftp_tool_connection.specs.declared.opening.Opening.TheVariants as Openings
+use Rattle.ftp_tool_connection.specs.declared.opening.Stranger.{Stranger}
+use Rattle.ftp_tool_connection.specs.declared.opening.Stranger.TheVariants as Strangers
 
 -- the codes of a server that does not know a command, or not with this argument (RFC 959, section 4.2.2), or not this protocol of the network (RFC 2428)
 abbrev pub means_unknown : ℕ → Bool
@@ -19,10 +21,18 @@ abbrev pub asks_extended : Opening → Bool
 asks_extended Openings.ExtendedFirst = true
 asks_extended Openings.Extended = true
 asks_extended Openings.Plain = false
+asks_extended Openings.FellBack = false
 
 -- what is asked after an operation was answered so, with a data connection or without: PASV or PORT where that was not asked for yet, no data connection
 -- was opened, and the answer says that something is not known; else the same as before
 abbrev pub opening_by : {A : Type 0} → Opening → Answer A → (is_opened : Bool) → Opening
 opening_by Openings.ExtendedFirst answer is_opened =
-    if is_opened then Openings.ExtendedFirst else if says_unknown answer then Openings.Plain else Openings.ExtendedFirst
+    if is_opened then Openings.ExtendedFirst else if says_unknown answer then Openings.FellBack else Openings.ExtendedFirst
 opening_by opening answer is_opened = opening
+
+-- how another host came to be at the other end of a data connection that was asked for so: it came where the server was to open it, and else a 227 names
+-- it, since a 229 names none (RFC 2428, section 3; RFC 2577, section 3)
+abbrev pub stranger_by : Opening → (is_active : Bool) → Stranger
+stranger_by opening true = Strangers.Came
+stranger_by Openings.FellBack false = Strangers.NamedBehind
+stranger_by opening false = Strangers.Named

@@ -1,6 +1,6 @@
 // What is asked anew where its control connection ends.
 ghost use Rattle.std.specs.Prelude.{◌≡◌};
-ghost use Rattle.ftp_tool_connection.specs.Again.{gives_up, loss_by};
+ghost use Rattle.ftp_tool_connection.specs.Again.{gives_up, loss_by, silence_left};
 
 use crate::conversing::{Converses, Logins, converse_as};
 use crate::fault::{Phase, SessionFault};
@@ -28,7 +28,7 @@ pub(crate) enum Loss {
 }
 
 /// Plays over a control connection of its own, for a user. Where one was made and ended before the answer, it is played anew, from the beginning,
-/// over at most four more; of a server that never said a line over one.
+/// over at most four more; of a server that never said a line over one, and then all of it takes no longer than the server may be silent.
 pub fn ask<R, P>(
     rt: &R,
     server: ServerAddress<'_>,
@@ -64,6 +64,10 @@ where
 {
     let mut loss = Loss::Ended;
     for seconds in WAITS {
+        let Some(timeout) = silence_left(server.timeout, noticed.spent(), noticed.is_heard()) else {
+            break;
+        };
+        let server = ServerAddress { timeout, ..server };
         tell_wait(rt, loss, seconds, noticed);
         pause(seconds.saturating_mul(SECOND_MILLIS));
         let answered = converse_as(rt, server, user, noticed, play);
@@ -93,6 +97,22 @@ fn loss_of(answered: &Result<Answer<Global>, SessionFault>) -> Option<Loss>
             Phase::Connection => Some(Loss::Unconnected),
             _ => None,
         },
+    }
+}
+
+/// For how many seconds a server may be silent over a further control connection, of which so many went by over those before; none where nothing more is
+/// tried. 0: without a limit.
+fn silence_left(seconds: u32, spent: u32, is_heard: bool) -> Option<u32>
+    ensures { result ≡ silence_left seconds spent is_heard }
+{
+    if is_heard {
+        Some(seconds)
+    } else if seconds == 0 {
+        Some(0)
+    } else if spent < seconds {
+        Some(seconds - spent)
+    } else {
+        None
     }
 }
 

@@ -70,8 +70,8 @@ impl SessionFault {
         self.stage
     }
 
-    /// Tells why on standard error, with what was refused of what was asked, and gives the exit status: that of bad words for a bad login, that of a refusal for a listing, and else that of a
-    /// failure.
+    /// Tells why on standard error, with what was refused of what was asked, and gives the exit status: that of bad words for a bad login, that of a refusal
+    /// for a listing, and else that of a failure.
     pub fn tell<R: Eprint>(&self, rt: &R, subject: Subject<'_>) -> io::Result<Status> {
         let status = match self.stage {
             Phase::Login => Status::BadWords,

@@ -27,6 +27,8 @@ pub struct LastReply {
     opened: u32,
     /// For how many seconds it was silent, where that ended the last control connection.
     silence: Option<u32>,
+    /// How many whole seconds went by over all control connections, from the first address that was tried on.
+    spent: u32,
 }
 
 impl LastReply {
@@ -38,6 +40,7 @@ impl LastReply {
             is_heard: false,
             opened: 0,
             silence: None,
+            spent: 0,
         }
     }
 
@@ -51,9 +54,24 @@ impl LastReply {
         self.opened = self.opened.saturating_add(count);
     }
 
+    /// So many seconds more went by.
+    pub(crate) fn add_spent(&mut self, seconds: u32) {
+        self.spent = self.spent.saturating_add(seconds);
+    }
+
+    /// How many whole seconds went by.
+    pub(crate) fn spent(&self) -> u32 {
+        self.spent
+    }
+
     /// Whether the server said a line, over any control connection.
     pub(crate) fn is_heard(&self) -> bool {
         self.is_heard
+    }
+
+    /// Whether the server never said a line, and its silence ended the last control connection.
+    pub fn is_mute(&self) -> bool {
+        !self.is_heard && self.silence.is_some()
     }
 
     /// How many data connections were opened.

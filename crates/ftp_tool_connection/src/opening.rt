@@ -1,6 +1,6 @@
 // By which commands data connections are asked for: what a server does not know is asked otherwise, from then on.
 ghost use Rattle.std.specs.Prelude.{◌≡◌};
-ghost use Rattle.ftp_tool_connection.specs.Opening.{asks_extended, opening_by, says_unknown};
+ghost use Rattle.ftp_tool_connection.specs.Opening.{asks_extended, opening_by, says_unknown, stranger_by};
 
 use ftp_operation::{Answer, How};
 use std::alloc::Global;
@@ -25,6 +25,36 @@ pub enum Opening {
     Extended,
     /// By PASV or PORT alone.
     Plain,
+    /// By PASV or PORT from now on, since the server says that it does not know the others.
+    FellBack,
+}
+
+/// How another host than the server's came to be at the other end of a data connection (RFC 2577, section 3): what may help depends on that.
+#[derive(Clone, Copy)]
+pub enum Stranger {
+    /// It opened the data connection, which the server was to open.
+    Came,
+    /// A 227 names it, and EPSV, which names none, was not asked for.
+    Named,
+    /// A 227 names it, and the server does not know EPSV.
+    NamedBehind,
+}
+
+impl Stranger {
+    /// A sentence with what may help.
+    pub fn sentence(self) -> &'static str {
+        match self {
+            Stranger::Came => {
+                "another host than the server's opened the data connection; without --active the server opens none"
+            }
+            Stranger::Named => {
+                "the server names another host than its own, which is not trusted; without --no-extended it names none"
+            }
+            Stranger::NamedBehind => {
+                "the server knows no EPSV, and names another host than its own, which is not trusted; --active may help"
+            }
+        }
+    }
 }
 
 impl Opening {
@@ -34,7 +64,7 @@ impl Opening {
     {
         match self {
             Opening::ExtendedFirst | Opening::Extended => true,
-            Opening::Plain => false,
+            Opening::Plain | Opening::FellBack => false,
         }
     }
 }
@@ -61,6 +91,11 @@ impl Openings {
         }
     }
 
+    /// How another host came to be at the other end of a data connection that was asked for last.
+    pub fn stranger(&self, how: How) -> Stranger {
+        stranger_of(self.now.get(), how.active)
+    }
+
     /// Takes in what was answered, with a data connection or without. Says whether the same is to be asked again, as `how` then says.
     pub fn hear(&self, answer: &Answer<Global>, is_opened: bool) -> bool {
         let before = self.now.get();
@@ -79,13 +114,14 @@ fn opening_after(opening: Opening, answer: &Answer<Global>, is_opened: bool) -> 
             if is_opened {
                 Opening::ExtendedFirst
             } else if says_unknown(answer) {
-                Opening::Plain
+                Opening::FellBack
             } else {
                 Opening::ExtendedFirst
             }
         }
         Opening::Extended => Opening::Extended,
         Opening::Plain => Opening::Plain,
+        Opening::FellBack => Opening::FellBack,
     }
 }
 
@@ -96,5 +132,18 @@ fn says_unknown(answer: &Answer<Global>) -> bool
     match answer {
         Answer::Refused(UNKNOWN | UNKNOWN_ARGUMENT | NOT_IMPLEMENTED | UNKNOWN_PROTOCOL) => true,
         _ => false,
+    }
+}
+
+/// How another host came to be at the other end of a data connection that was asked for so, and that the server was to open or not.
+fn stranger_of(opening: Opening, is_active: bool) -> Stranger
+    ensures { result ≡ stranger_by opening is_active }
+{
+    if is_active {
+        return Stranger::Came;
+    }
+    match opening {
+        Opening::FellBack => Stranger::NamedBehind,
+        Opening::ExtendedFirst | Opening::Extended | Opening::Plain => Stranger::Named,
     }
 }

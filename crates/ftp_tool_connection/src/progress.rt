@@ -62,11 +62,11 @@ where
     pub(crate) fn hearing(
         rt: &'a R,
         control: &'a TcpStream,
-        patience: &'a Patience<'a>,
+        patience: &'a Patience,
         course: &'a Course,
         server: ServerAddress<'_>,
     ) -> io::Result<MeteredPorts<'a, R>> {
-        let ports = SocketPorts::hearing(rt, control, patience)?;
+        let ports = SocketPorts::new(rt, control, patience)?;
         Ok(MeteredPorts {
             rt,
             ports,

@@ -1,4 +1,7 @@
 // A control connection to a server: how it is opened, and how it ends.
+ghost use Rattle.std.specs.Prelude.{◌≡◌};
+ghost use Rattle.ftp_tool_connection.specs.Again.{share_of};
+
 use ftp_tool_sockets::{keep_alive, say_goodbye};
 use std::io;
 use std::io::{Error, ErrorKind, Write};
@@ -30,19 +33,33 @@ where
     Ok(stream)
 }
 
-/// A connection to the first address of a server that answers in time.
+/// A connection to the first address of a server that answers in time; all of them together have the seconds of the server.
 fn opened<R>(rt: &R, server: ServerAddress<'_>) -> io::Result<TcpStream>
 where
     R: Net<Listener = TcpListener, Stream = TcpStream>,
 {
     let mut last = Error::from(ErrorKind::NotFound);
-    for address in (server.host, server.port).to_socket_addrs(rt)? {
-        match open(rt, address, server.timeout) {
+    let addresses = (server.host, server.port).to_socket_addrs(rt)?;
+    let count = u32::try_from(addresses.len()).unwrap_or(u32::MAX);
+    let seconds = share_of(server.timeout, count);
+    for address in addresses {
+        match open(rt, address, seconds) {
             Ok(stream) => return Ok(stream),
             Err(error) => last = error,
         }
     }
     Err(last)
+}
+
+/// How many seconds each of so many addresses has to answer; 0: without a limit.
+fn share_of(seconds: u32, addresses: u32) -> u32
+    ensures { result ≡ share_of seconds addresses }
+{
+    if seconds == 0 {
+        0
+    } else {
+        (seconds / addresses.max(1)).max(1)
+    }
 }
 
 /// A connection to an address, within so many seconds; 0: as long as the system tries.

@@ -18,9 +18,9 @@ use std::alloc::Global;
 use std::io;
 use std::io::{Eprint, Read, Write};
 use std::net::{Net, TcpListener, TcpStream};
-use std::time::Clock;
+use std::time::{Clock, Instant};
 
-/// Opens a control connection, plays over it by a client, says goodbye and closes it.
+/// Opens a control connection, plays over it by a client, says goodbye and closes it; notices how long that took.
 pub(crate) fn converse<R, T, P>(
     rt: &R,
     server: ServerAddress<'_>,
@@ -34,8 +34,37 @@ where
     P: SessionTask<Result<T, SessionFault>>,
 {
     let mut login = Some(login);
+    let begun = Instant::now(rt).ok();
+    let done = converse_anew(rt, server, &mut login, noticed, play);
+    noticed.add_spent(seconds_since(rt, begun));
+    done
+}
+
+/// How many whole seconds went by, where the system tells the time.
+fn seconds_since<R: Clock>(rt: &R, begun: Option<Instant>) -> u32 {
+    match (begun, Instant::now(rt)) {
+        (Some(begun), Ok(now)) => {
+            u32::try_from(now.duration_since(begun).as_secs()).unwrap_or(u32::MAX)
+        }
+        _ => 0,
+    }
+}
+
+/// Opens a control connection, plays over it, says goodbye and closes it.
+fn converse_anew<R, T, P>(
+    rt: &R,
+    server: ServerAddress<'_>,
+    login: &mut Option<Login<Global>>,
+    noticed: &mut LastReply,
+    play: &mut P,
+) -> Result<T, SessionFault>
+where
+    R: Net<Listener = TcpListener, Stream = TcpStream> + Eprint + Clock + AllocGlobal,
+    T: Drop,
+    P: SessionTask<Result<T, SessionFault>>,
+{
     let stream = at(Phase::Connection, connected(rt, server))?;
-    let done = talk(rt, server, &mut login, &stream, noticed, play);
+    let done = talk(rt, server, login, &stream, noticed, play);
     let _gone = leave(&stream);
     done
 }
@@ -54,7 +83,7 @@ where
     T: Drop,
     P: SessionTask<Result<T, SessionFault>>,
 {
-    let patience = Patience::of_client(server.timeout);
+    let patience = Patience::new(server.timeout);
     let course = Course::new();
     let ports = MeteredPorts::hearing(rt, stream, &patience, &course, server);
     let mut ports = at(Phase::Talking, ports)?;
@@ -64,7 +93,7 @@ where
         course: &course,
     };
     let done = talk_over(rt.alloc(), link, &mut ports, login, noticed, play);
-    if patience.over().is_some() {
+    if patience.is_over() {
         noticed.fell_silent(server.timeout);
     }
     done
@@ -74,7 +103,7 @@ where
 #[derive(Clone, Copy)]
 struct ControlLink<'a> {
     stream: &'a TcpStream,
-    patience: &'a Patience<'a>,
+    patience: &'a Patience,
     course: &'a Course,
 }
 

@@ -179,7 +179,7 @@ pub(crate) fn leave<R: LocalFiles + Print + Eprint>(
             keep_part(rt, job, downloading, status)
         }
         _ => {
-            let status = tell(rt, asked.place.path, answer, noticed)?;
+            let status = tell(rt, asked.place.path, asked.stranger(), answer, noticed)?;
             keep_part(rt, job, downloading, status)
         }
     }

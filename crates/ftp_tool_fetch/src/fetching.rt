@@ -102,7 +102,7 @@ where
     let answer = listed(rt, alloc, asked, noticed)?;
     at(
         Phase::Report,
-        show(rt, alloc, asked.place.path, lines, &answer, noticed),
+        show(rt, alloc, asked, lines, &answer, noticed),
     )
 }
 
@@ -141,7 +141,7 @@ pub(crate) fn says_unknown(answer: &Answer<Global>) -> bool {
 fn show<R>(
     rt: &R,
     alloc: Global,
-    path: &str,
+    asked: &Target<'_>,
     lines: Lines,
     answer: &Answer<Global>,
     noticed: &LastReply,
@@ -149,9 +149,10 @@ fn show<R>(
 where
     R: Print + Eprint,
 {
+    let path = asked.place.path;
     match listing_of(alloc, path, lines, answer)? {
         Some(listing) => write(rt, listing),
-        None => tell(rt, path, answer, noticed),
+        None => tell(rt, path, asked.stranger(), answer, noticed),
     }
 }
 

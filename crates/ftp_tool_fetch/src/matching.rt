@@ -392,7 +392,10 @@ impl<'a, R: LocalFiles + Print + Eprint> Matching<'a, R> {
                 ": no file there is of this pattern; with --no-glob it is a name",
                 Status::Refused,
             ),
-            _ => Ok(tell(self.rt, path, answer, noticed)?.worse(self.worst)),
+            _ => {
+                let stranger = self.asked.stranger();
+                Ok(tell(self.rt, path, stranger, answer, noticed)?.worse(self.worst))
+            }
         }
     }
 

@@ -30,10 +30,7 @@ where
         path: asked.place.path,
     };
     let answer = converse_as(rt, asked.server(), asked.user, noticed, &mut making)?;
-    at(
-        Phase::Report,
-        report(rt, asked.place.path, &answer, noticed),
-    )
+    at(Phase::Report, report(rt, asked, &answer, noticed))
 }
 
 /// A directory that is to stand at a path.

@@ -56,16 +56,13 @@ where
     R: Converses + Logins + Print + Eprint,
 {
     let answer = ask_once(rt, alloc, asked, simple, noticed)?;
-    at(
-        Phase::Report,
-        report(rt, asked.place.path, &answer, noticed),
-    )
+    at(Phase::Report, report(rt, asked, &answer, noticed))
 }
 
 /// Tells an answer at a path: a size on standard output, what was done not at all, and anything else as `tell` does.
 pub(crate) fn report<R: Print + Eprint>(
     rt: &R,
-    path: &str,
+    asked: &Target<'_>,
     answer: &Answer<Global>,
     noticed: &LastReply,
 ) -> io::Result<Status> {
@@ -75,6 +72,6 @@ pub(crate) fn report<R: Print + Eprint>(
             println!(rt; "{count}")?;
             Ok(Status::Done)
         }
-        _ => tell(rt, path, answer, noticed),
+        _ => tell(rt, asked.place.path, asked.stranger(), answer, noticed),
     }
 }

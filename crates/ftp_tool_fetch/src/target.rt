@@ -1,6 +1,6 @@
 // Which file of which server is meant, and who asks.
 use ftp_operation::How;
-use ftp_tool_connection::{Openings, ServerAddress, Subject};
+use ftp_tool_connection::{Openings, ServerAddress, Stranger, Subject};
 use ftp_tool_words::{Location, User};
 
 /// What is asked of which server, by whom.
@@ -31,6 +31,11 @@ impl<'a> Target<'a> {
             progress: self.progress,
             rate: self.rate,
         }
+    }
+
+    /// How another host may have come to be at the other end of its data connection.
+    pub(crate) fn stranger(&self) -> Stranger {
+        self.openings.stranger(self.how)
     }
 
     /// What a fault may be of, where this is the file of this end.

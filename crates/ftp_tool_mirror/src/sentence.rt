@@ -44,6 +44,7 @@ pub(crate) fn sentence_of(trouble: Trouble) -> Sentence {
         }
         Trouble::Lost => Sentence::Plain("the control connection ended"),
         Trouble::Memory => Sentence::Plain("out of memory"),
+        Trouble::Foreign => Sentence::Plain("another host than the server's was named, or came"),
         Trouble::Answered(text) => Sentence::Plain(text),
         Trouble::Size(came, total) => {
             Sentence::Between(came, " octets went, and the server tells a size of ", total)

@@ -16,6 +16,9 @@ const NOT_IMPLEMENTED: u16 = 502;
 /// The code of a server that has nothing there (RFC 959, section 4.2.2).
 pub(crate) const MISSING: u16 = 550;
 
+/// The code of a server that has no directory there (RFC 3659, section 7.2.1).
+pub(crate) const NO_DIRECTORY: u16 = 501;
+
 /// Asks a server to do something that has no other answer than that it is done.
 pub(crate) fn done_by<S: ClientSession>(seat: &mut S, op: Op<Text<Global>>) -> Result<(), Trouble> {
     match &seat.answer(Request::One(Some(op))) {

@@ -14,6 +14,8 @@ pub(crate) enum Trouble {
     Lost,
     /// Memory was refused.
     Memory,
+    /// Another host than the server's was at the other end of a data connection, or was named for it.
+    Foreign,
     /// Another answer than that it is done, as it is told.
     Answered(&'static str),
     /// So many octets went one way or the other of a file that has so many, as the server says.
@@ -45,6 +47,7 @@ impl Trouble {
             Answer::Refused(code) => Trouble::Refused(*code),
             Answer::Lost => Trouble::Lost,
             Answer::Memory => Trouble::Memory,
+            Answer::Foreign => Trouble::Foreign,
             other => Trouble::Answered(sentence_of(other)),
         }
     }
@@ -63,9 +66,6 @@ fn sentence_of(answer: &Answer<Global>) -> &'static str {
     match answer {
         Answer::BadOperation => "the path is no path that can be sent",
         Answer::Unopened => "no data connection was opened",
-        Answer::Foreign => {
-            "another host than the server's was named, or came; with --extended the server names none"
-        }
         Answer::Broken { got: _, mark: _ } => "the data connection broke",
         Answer::Strange => "the server says what has no place",
         _ => "the server answers what was not asked",

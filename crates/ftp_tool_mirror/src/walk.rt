@@ -6,7 +6,7 @@ use crate::folder::entries_here;
 use crate::machine::Machine;
 use crate::removals::Settled;
 use crate::sentence::reason_told;
-use crate::server::{MISSING, entries_there, stands_there};
+use crate::server::{MISSING, NO_DIRECTORY, entries_there, stands_there};
 use crate::tally::{Progress, Tally};
 use crate::telling::{deed_line, shown, tell, tell_no_text, tell_too_many, tell_trouble};
 use crate::todo::{Chore, Todo, Work};
@@ -99,12 +99,24 @@ impl<'a, R: Machine> Walk<'a, R> {
     /// Tells why something was not done; of a root by the path that was asked for.
     fn fail(&mut self, below: &str, trouble: Trouble) {
         self.tally.add_failed();
+        let trouble = self.said_of(trouble);
         let place = match trouble {
             Trouble::Here(_) if below.is_empty() => self.mirror.folder,
             Trouble::Refused(_) | Trouble::Answered(_) if below.is_empty() => self.mirror.path,
             _ => below,
         };
         let _told = tell_trouble(self.rt, self.alloc, place, trouble);
+    }
+
+    /// The same, of another host with what may help, by how the data connection was asked for.
+    fn said_of(&self, trouble: Trouble) -> Trouble {
+        match trouble {
+            Trouble::Foreign => {
+                let stranger = self.mirror.openings.stranger(self.mirror.how);
+                Trouble::Answered(stranger.sentence())
+            }
+            _ => trouble,
+        }
     }
 
     fn perform<S: ClientSession>(
@@ -528,10 +540,10 @@ impl<'a, R: Machine> Walk<'a, R> {
     }
 }
 
-/// Whether a directory is not there: of a server 550 says so (RFC 959, section 4.2.2).
+/// Whether a directory is not there: of a server 550 says so (RFC 959, section 4.2.2), or 501 (RFC 3659, section 7.2.1).
 fn is_missing(trouble: Trouble) -> bool {
     match trouble {
-        Trouble::Refused(MISSING) => true,
+        Trouble::Refused(MISSING | NO_DIRECTORY) => true,
         Trouble::Here(error) => error.kind() == ErrorKind::NotFound,
         _ => false,
     }

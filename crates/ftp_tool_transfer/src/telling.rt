@@ -1,6 +1,6 @@
 // What an answer that is none of those wished for tells, in a sentence and an exit status.
 use ftp_operation::Answer;
-use ftp_tool_connection::{LastReply, Refusal, told};
+use ftp_tool_connection::{LastReply, Refusal, Stranger, told};
 use ftp_tool_shown::Shown;
 use ftp_tool_status::Status;
 use std::alloc::Global;
@@ -8,10 +8,12 @@ use std::fmt::{Display, Formatter};
 use std::io::Eprint;
 use std::{fmt, io};
 
-/// Tells on standard error why an operation at a path was not done, and gives the exit status.
+/// Tells on standard error why an operation at a path was not done, and gives the exit status; `stranger` is how another host may have come to be at the
+/// other end of its data connection.
 pub fn tell<R: Eprint>(
     rt: &R,
     path: &str,
+    stranger: Stranger,
     answer: &Answer<Global>,
     noticed: &LastReply,
 ) -> io::Result<Status> {
@@ -28,9 +30,10 @@ pub fn tell<R: Eprint>(
             rt,
             "error: the control connection ended",
             &noticed.farewell(),
-            "; it may be done in part",
+            extent_of(noticed.is_mute()),
             status,
         ),
+        Answer::Foreign => told(rt, "error: ", &stranger.sentence(), "", status),
         Answer::Strange => told(
             rt,
             "error: the server says what has no place",
@@ -56,13 +59,19 @@ impl<'a> Display for Refused<'a> {
     }
 }
 
+/// How much may be done where a control connection ended, by whether the server said nothing at all.
+fn extent_of(is_mute: bool) -> &'static str {
+    if is_mute {
+        "; nothing is done"
+    } else {
+        "; it may be done in part"
+    }
+}
+
 fn sentence(answer: &Answer<Global>) -> &'static str {
     match answer {
         Answer::BadOperation => "the path is no path that can be sent",
         Answer::Unopened => "no data connection was opened, and nothing is done",
-        Answer::Foreign => {
-            "another host than the server's was named, or came; with --extended the server names none"
-        }
         Answer::Broken { got: _, mark: _ } => "the data connection broke; it may be done in part",
         Answer::Memory => "out of memory",
         _ => "the server answers what was not asked",

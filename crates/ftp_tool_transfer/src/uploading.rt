@@ -205,7 +205,10 @@ impl<'a, R: LocalFiles + Eprint> Uploading<'a, R> {
             (Answer::Done, None) => self.tell_tries(noticed.opened()),
             (Answer::Done, Some(Wrong::Octets(count))) => self.tell_wrong(count),
             (Answer::Done, Some(Wrong::Nothing)) => self.tell_missing(noticed),
-            _ => tell(self.rt, self.path, answer, noticed),
+            _ => {
+                let stranger = self.openings.stranger(self.how);
+                tell(self.rt, self.path, stranger, answer, noticed)
+            }
         }
     }
 
