@@ -1,20 +1,16 @@
 -- A world's server that is ahead of a drive's: how it moves with that.
-use Rattle.std.proofs.Common.{◌≡◌, ℕ, Bool, true, false, true≢false, List, [], ◌∷◌, ◌++◌, Option, refl, sym, ap, subst, ◌∙◌, append_assoc}
-use Rattle.std.specs.Prelude.{if◌then◌else◌}
-use Rattle.ftp_tree.specs.Tree.{Table}
+use Rattle.std.proofs.Common.{◌≡◌, ℕ, true, false, true≢false, List, [], ◌∷◌, ◌++◌, refl, sym, ap, ◌∙◌, append_assoc}
 use Rattle.ftp_ends.specs.Link.{same_host}
 use Rattle.ftp_endpoint.specs.declared.host.Host.{Host}
 use Rattle.ftp_server_model.specs.Calls.{clock_step, close_step, connection_of, listening_step, opened_step, opens}
 use Rattle.ftp_server_model.specs.Machine.{completed}
-use Rattle.ftp_server_model.specs.View.{Session, Transfer, View as Far}
-use Rattle.ftp_server_model.specs.declared.heard.HeardLine.{HeardLine}
-use Rattle.ftp_server_model.specs.declared.session.Life.{Life}
+use Rattle.ftp_server_model.specs.View.{Transfer, View as Far}
 use Rattle.ftp_server_model.specs.declared.session.PassiveVerb.TheVariants as Asking
 use Rattle.ftp_server_model.specs.declared.session.ServerLink.{ServerLink}
 use Rattle.ftp_server_model.specs.declared.session.ServerLink.TheVariants as Data
 use Rattle.ftp_server_model.specs.declared.session.Transfer.TheVariants as Transfers
 use Rattle.ftp_server_model.specs.declared.session.Way.TheVariants as Ways
-use Rattle.ftp_pair_data.specs.Ahead.{Ahead, Fits, Level, Listens, Opens, accepts, ahead_of, far_ahead, is_asked, is_open}
+use Rattle.ftp_pair_data.specs.Ahead.{Ahead, Fits, Level, Listens, Opens, accepts, ahead_of, far_ahead, is_asked}
 
 -- a server with this data connection, with this and with that to say
 abbrev linked : ServerLink Transfer → Far → Far

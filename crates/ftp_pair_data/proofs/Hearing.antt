@@ -1,6 +1,6 @@
 -- A server hears octets alike whether who came was accepted before them or after them; and no line makes a data connection open, or be waited for, that
 -- was not.
-use Rattle.std.proofs.Common.{◌≡◌, inl, inr, ℕ, Bool, true, false, true≢false, List, [], ◌∷◌, ◌++◌, Option, Some, None, refl, sym, ap, subst, ◌∙◌}
+use Rattle.std.proofs.Common.{◌≡◌, inl, inr, ℕ, Bool, true, false, true≢false, List, [], ◌∷◌, ◌++◌, Some, None, refl, sym, ap, subst, ◌∙◌}
 use Rattle.std.specs.Prelude.{if◌then◌else◌, ◌&&◌}
 use Rattle.std.proofs.lemmas.Bool.{and_right}
 use Rattle.ftp_ends.specs.Ear.{ear_out, ear_step}
@@ -19,6 +19,7 @@ use Rattle.ftp_server_model.specs.declared.session.Pending.TheVariants as Pendin
 use Rattle.ftp_server_model.specs.declared.session.ServerLink.{ServerLink}
 use Rattle.ftp_server_model.specs.declared.session.ServerLink.TheVariants as Data
 use Rattle.ftp_server_model.specs.declared.session.Transfer.TheVariants as Transfers
+use Rattle.ftp_server_model.specs.declared.session.Way.TheVariants as Ways
 use Rattle.ftp_pair_data.specs.Ahead.{Opens, accepts, ahead_of, is_open}
 use Rattle.ftp_pair_data.specs.Lines.{Aims, Asks, Begins, Forgets, Stays, Turned, TurnsBeside, turned_so, with_link}
 use Rattle.ftp_pair_data.proofs.Lines.{lines_go_beside}
@@ -120,10 +121,20 @@ octet_opened read octet v =
 
 -- ---- what a line makes of a data connection
 
--- it is open, or waited for, only where it was, and then it is not to be closed
+-- one is to be dialled for a transfer, or an endpoint for one is there
+abbrev pub is_dialled : ServerLink Transfer → Bool
+is_dialled (Data.Opening transfer (Ways.Connect endpoint)) = true
+is_dialled link = false
+
+abbrev pub is_aimed : ServerLink Transfer → Bool
+is_aimed (Data.Active endpoint) = true
+is_aimed link = false
+
+-- it is open, or waited for, only where it was, and then it is not to be closed; and dialled only where an endpoint was there
 pub record Turns (link : ServerLink Transfer) (v : Far) : Type 0 where
   pub opened : is_open v.session.connection ≡ true → (is_open link ≡ true) × (v.session.closing ≡ false)
   pub accepted : accepts v.session.connection ≡ true → (accepts link ≡ true) × (v.session.closing ≡ false)
+  pub dialled : is_dialled v.session.connection ≡ true → is_aimed link ≡ true
 
 -- one that stands aside while a line is acted on
 abbrev pub is_quiet : ServerLink Transfer → Bool
@@ -134,40 +145,55 @@ is_quiet Data.Ready = true
 is_quiet link = false
 
 -- it is the same
-same_turns : (link : ServerLink Transfer) (v : Far) → Turns link (at_link link false v)
-same_turns link v = record { opened = λ is. (is, refl); accepted = λ is. (is, refl) }
-
--- it is neither
-none_turns : (link now : ServerLink Transfer) (closing : Bool) (v : Far) → is_open now ≡ false → accepts now ≡ false → Turns link (at_link now closing v)
-none_turns link now closing v none_open none = record {
-  opened = λ is. absurd (true≢false (sym is ∙ none_open));
-  accepted = λ is. absurd (true≢false (sym is ∙ none));
-}
+same_turns : (link : ServerLink Transfer) → is_quiet link ≡ true → (v : Far) → Turns link (at_link link false v)
+same_turns link quiet v = record { opened = λ is. (is, refl); accepted = λ is. (is, refl); dialled = λ is. absurd (true≢false (sym is ∙ none link quiet)) }
+  where
+    none : (link : ServerLink Transfer) → is_quiet link ≡ true → is_dialled link ≡ false
+    none Data.Free quiet = refl
+    none (Data.Active endpoint) quiet = refl
+    none Data.Passive quiet = refl
+    none Data.Ready quiet = refl
+    none (Data.Asked verb) quiet = refl
+    none (Data.Opening transfer way) quiet = absurd (true≢false (sym quiet))
+    none (Data.Transferring transfer) quiet = refl
 
 -- a transfer begins over an open one
 given_turns : (transfer : Transfer) (v : Far) → Turns Data.Ready (given_out (Data.Transferring transfer) (at_link (Data.Transferring transfer) false v))
-given_turns (Transfers.Upload path keep d) v = record { opened = λ is. (refl, refl); accepted = λ is. absurd (true≢false (sym is)) }
-given_turns Transfers.OverLimit v = record { opened = λ is. (refl, refl); accepted = λ is. absurd (true≢false (sym is)) }
-given_turns (Transfers.Download []) v = record { opened = λ is. absurd (true≢false (sym is)); accepted = λ is. absurd (true≢false (sym is)) }
-given_turns (Transfers.Download (octet ∷ more)) v = record { opened = λ is. (refl, refl); accepted = λ is. absurd (true≢false (sym is)) }
-given_turns (Transfers.Listing []) v = record { opened = λ is. absurd (true≢false (sym is)); accepted = λ is. absurd (true≢false (sym is)) }
-given_turns (Transfers.Listing (octet ∷ more)) v = record { opened = λ is. (refl, refl); accepted = λ is. absurd (true≢false (sym is)) }
+given_turns (Transfers.Upload path keep d) v =
+    record { opened = λ is. (refl, refl); accepted = λ is. absurd (true≢false (sym is)); dialled = λ is. absurd (true≢false (sym is)) }
+given_turns Transfers.OverLimit v =
+    record { opened = λ is. (refl, refl); accepted = λ is. absurd (true≢false (sym is)); dialled = λ is. absurd (true≢false (sym is)) }
+given_turns (Transfers.Download []) v =
+    record { opened = λ is. absurd (true≢false (sym is)); accepted = λ is. absurd (true≢false (sym is)); dialled = λ is. absurd (true≢false (sym is)) }
+given_turns (Transfers.Download (octet ∷ more)) v =
+    record { opened = λ is. (refl, refl); accepted = λ is. absurd (true≢false (sym is)); dialled = λ is. absurd (true≢false (sym is)) }
+given_turns (Transfers.Listing []) v =
+    record { opened = λ is. absurd (true≢false (sym is)); accepted = λ is. absurd (true≢false (sym is)); dialled = λ is. absurd (true≢false (sym is)) }
+given_turns (Transfers.Listing (octet ∷ more)) v =
+    record { opened = λ is. (refl, refl); accepted = λ is. absurd (true≢false (sym is)); dialled = λ is. absurd (true≢false (sym is)) }
 
 stays_turns : (link : ServerLink Transfer) → is_quiet link ≡ true → (turn : Turn) (v : Far)
     → Turns link (completed (turned (turned_so Stays link false turn) v))
-stays_turns Data.Free is turn v = record { opened = λ e. absurd (true≢false (sym e)); accepted = λ e. absurd (true≢false (sym e)) }
-stays_turns (Data.Active endpoint) is turn v = record { opened = λ e. absurd (true≢false (sym e)); accepted = λ e. absurd (true≢false (sym e)) }
-stays_turns Data.Passive is turn v = record { opened = λ e. absurd (true≢false (sym e)); accepted = λ e. (refl, refl) }
-stays_turns Data.Ready is turn v = record { opened = λ e. (refl, refl); accepted = λ e. absurd (true≢false (sym e)) }
+stays_turns Data.Free is turn v =
+    record { opened = λ e. absurd (true≢false (sym e)); accepted = λ e. absurd (true≢false (sym e)); dialled = λ e. absurd (true≢false (sym e)) }
+stays_turns (Data.Active endpoint) is turn v =
+    record { opened = λ e. absurd (true≢false (sym e)); accepted = λ e. absurd (true≢false (sym e)); dialled = λ e. absurd (true≢false (sym e)) }
+stays_turns Data.Passive is turn v =
+    record { opened = λ e. absurd (true≢false (sym e)); accepted = λ e. (refl, refl); dialled = λ e. absurd (true≢false (sym e)) }
+stays_turns Data.Ready is turn v =
+    record { opened = λ e. (refl, refl); accepted = λ e. absurd (true≢false (sym e)); dialled = λ e. absurd (true≢false (sym e)) }
 stays_turns (Data.Asked verb) is turn v = absurd (true≢false (sym is))
 stays_turns (Data.Opening transfer way) is turn v = absurd (true≢false (sym is))
 stays_turns (Data.Transferring transfer) is turn v = absurd (true≢false (sym is))
 
 begins_turns : (link : ServerLink Transfer) → is_quiet link ≡ true → (transfer : Transfer) (turn : Turn) (v : Far)
     → Turns link (completed (turned (turned_so (Begins transfer) link false turn) v))
-begins_turns Data.Free is transfer turn v = record { opened = λ e. absurd (true≢false (sym e)); accepted = λ e. absurd (true≢false (sym e)) }
-begins_turns (Data.Active endpoint) is transfer turn v = record { opened = λ e. absurd (true≢false (sym e)); accepted = λ e. absurd (true≢false (sym e)) }
-begins_turns Data.Passive is transfer turn v = record { opened = λ e. absurd (true≢false (sym e)); accepted = λ e. (refl, refl) }
+begins_turns Data.Free is transfer turn v =
+    record { opened = λ e. absurd (true≢false (sym e)); accepted = λ e. absurd (true≢false (sym e)); dialled = λ e. absurd (true≢false (sym e)) }
+begins_turns (Data.Active endpoint) is transfer turn v =
+    record { opened = λ e. absurd (true≢false (sym e)); accepted = λ e. absurd (true≢false (sym e)); dialled = λ e. refl }
+begins_turns Data.Passive is transfer turn v =
+    record { opened = λ e. absurd (true≢false (sym e)); accepted = λ e. (refl, refl); dialled = λ e. absurd (true≢false (sym e)) }
 begins_turns Data.Ready is transfer turn v = given_turns transfer (turned (turned_so (Begins transfer) Data.Ready false turn) v)
 begins_turns (Data.Asked verb) is transfer turn v = absurd (true≢false (sym is))
 begins_turns (Data.Opening other way) is transfer turn v = absurd (true≢false (sym is))
@@ -176,9 +202,12 @@ begins_turns (Data.Transferring other) is transfer turn v = absurd (true≢false
 turn_turns : (t : Turned) (link : ServerLink Transfer) → is_quiet link ≡ true → (turn : Turn) (v : Far)
     → Turns link (completed (turned (turned_so t link false turn) v))
 turn_turns Stays link is turn v = stays_turns link is turn v
-turn_turns Forgets link is turn v = record { opened = λ e. absurd (true≢false (sym e)); accepted = λ e. absurd (true≢false (sym e)) }
-turn_turns (Asks verb) link is turn v = record { opened = λ e. absurd (true≢false (sym e)); accepted = λ e. absurd (true≢false (sym e)) }
-turn_turns (Aims endpoint) link is turn v = record { opened = λ e. absurd (true≢false (sym e)); accepted = λ e. absurd (true≢false (sym e)) }
+turn_turns Forgets link is turn v =
+    record { opened = λ e. absurd (true≢false (sym e)); accepted = λ e. absurd (true≢false (sym e)); dialled = λ e. absurd (true≢false (sym e)) }
+turn_turns (Asks verb) link is turn v =
+    record { opened = λ e. absurd (true≢false (sym e)); accepted = λ e. absurd (true≢false (sym e)); dialled = λ e. absurd (true≢false (sym e)) }
+turn_turns (Aims endpoint) link is turn v =
+    record { opened = λ e. absurd (true≢false (sym e)); accepted = λ e. absurd (true≢false (sym e)); dialled = λ e. absurd (true≢false (sym e)) }
 turn_turns (Begins transfer) link is turn v = begins_turns link is transfer turn v
 
 obeyed_turns : (heard : HeardLine (List ℕ)) (link : ServerLink Transfer) → is_quiet link ≡ true → (v : Far) → Turns link (obeyed heard (at_link link false v))
@@ -200,7 +229,7 @@ line_turns heard link is v = by_abort (is_abort heard (at_link link false v)) (a
     by_idle : (idle : Bool)
         → Turns link (if idle then obeyed heard (at_link link false (record v { waiting = None })) else at_link link false (record v { waiting = Some heard }))
     by_idle true = obeyed_turns heard link is (record v { waiting = None })
-    by_idle false = same_turns link (record v { waiting = Some heard })
+    by_idle false = same_turns link is (record v { waiting = Some heard })
 
     by_abort : (abort : Bool) → abort ≡ false
         → Turns link (if abort then aborted (at_link link false v) else later (at_link link false (record v { waiting = Some heard })))
@@ -211,7 +240,7 @@ event_turns : (read : Reading) (event : NvtEvent) (link : ServerLink Transfer) �
     → Turns link (heard_event read event (at_link link false v))
 event_turns read (line text) link is v = line_turns (read text) link is v
 event_turns read too_long link is v = line_turns TooLong link is v
-event_turns read (owed answer) link is v = same_turns link (record v { owed = v.owed ++ answer })
+event_turns read (owed answer) link is v = same_turns link is (record v { owed = v.owed ++ answer })
 
 -- nor does an octet
 pub octet_turns : (read : Reading) (octet : ℕ) (link : ServerLink Transfer) → is_quiet link ≡ true → (v : Far)
@@ -221,6 +250,6 @@ octet_turns read octet link is v =
     let w : Far = record v { ear = ear_step line_limit v.ear octet } in
     let P : List NvtEvent → Type 0 = λ events. Turns link (heard_events read events (at_link link false w)) in
     elim (out_one line_limit v.ear octet) as (λ _. P (ear_out line_limit v.ear octet)) [
-      | inl f ↦ subst P (sym f) (same_turns link w)
+      | inl f ↦ subst P (sym f) (same_turns link is w)
       | inr f ↦ subst P (sym f.1) (event_turns read f.0 link is w)
     ]

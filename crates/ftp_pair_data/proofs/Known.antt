@@ -1,6 +1,6 @@
 -- What is so of every world that a session comes to in which whole files and listings alone are fetched, nothing was left by the client alone, and no
 -- ABOR was sent.
-use Rattle.std.proofs.Common.{◌≡◌, ◌⊎◌, inl, inr, ℕ, zero, suc, Bool, true, false, true≢false, List, [], ◌∷◌, ◌++◌, Option, Some, None, refl, sym, ap, subst, ◌∙◌}
+use Rattle.std.proofs.Common.{◌≡◌, inl, inr, ℕ, Bool, true, false, true≢false, List, [], ◌∷◌, ◌++◌, Option, Some, None, refl, sym, ap, subst, ◌∙◌}
 use Rattle.std.specs.Prelude.{⊤}
 use Rattle.ftp_ends.specs.Link.{same_host}
 use Rattle.ftp_ends.specs.Reply.{Reply}
@@ -14,13 +14,13 @@ use Rattle.ftp_client_model.specs.Calls as near
 use Rattle.ftp_client_model.specs.Calls.{is_busy, is_busy_job}
 use Rattle.ftp_client_model.specs.Octets.{flow_of}
 use Rattle.ftp_client_model.specs.Plan.{how_of, offset_of}
-use Rattle.ftp_client_model.specs.View.{Flow, Job, Receiving, Sending, Transferring, View as Near}
+use Rattle.ftp_client_model.specs.View.{Flow, Job, Receiving, Sending, Transferring}
 use Rattle.ftp_client_model.specs.declared.client.Abort.TheVariants as Aborts
 use Rattle.ftp_client_model.specs.declared.client.ClientLink.TheVariants as NearData
 use Rattle.ftp_client_model.specs.declared.client.Replied.TheVariants as Replies
 use Rattle.ftp_client_model.specs.declared.client.ClientLink.{ClientLink as NearConnection}
-use Rattle.ftp_server_model.specs.Machine.{IsReading, Reading}
-use Rattle.ftp_server_model.specs.View.{Transfer, View as Far}
+use Rattle.ftp_server_model.specs.Machine.{Reading, is_transferring}
+use Rattle.ftp_server_model.specs.View.{Transfer}
 use Rattle.ftp_endpoint.specs.declared.endpoint.Endpoint.{Endpoint}
 use Rattle.ftp_path.specs.Path.{Names}
 use Rattle.ftp_server_model.specs.declared.session.Pending.{Pending}
@@ -30,23 +30,19 @@ use Rattle.ftp_server_model.specs.declared.session.ServerLink.TheVariants as Far
 use Rattle.ftp_server_model.specs.declared.session.Way.TheVariants as Ways
 use Rattle.ftp_pair_world.specs.Agreement.{Order, Single, Tries}
 use Rattle.ftp_pair_world.specs.Events.{is_closed_by_near}
-use Rattle.ftp_pair_world.specs.World.{ClosedByFar, ClosedByNear, Control, Gone, Link, Mark, Parted, Stands, World}
+use Rattle.ftp_pair_world.specs.World.{ClosedByFar, Gone, Mark, World}
 use Rattle.ftp_pair_dialogues.specs.Dialogue.{is_aside}
-use Rattle.ftp_pair_dialogues.specs.Fetches.{Ask, Direction, Down, IsAsk, Up, busy, Rise, carrying, fetching, giving_of, linked, offering}
+use Rattle.ftp_pair_dialogues.specs.Fetches.{Ask, Direction, Down, IsAsk, Up, busy, Rise, carrying, giving_of, linked, offering}
 use Rattle.ftp_pair_dialogues.specs.Stage.{Answering, Asking, Way}
 use Rattle.ftp_pair_dialogues.proofs.Fetching.{own_host}
-use Rattle.ftp_pair_agreement.specs.Cut.{Cut, Fits, PlacedAt, StandsAt, of_ends, world_at}
-use Rattle.ftp_pair_agreement.specs.Follows.{Follows, IsFree, IsLost, IsUnder}
-use Rattle.ftp_pair_agreement.specs.Over.{OverRuns}
-use Rattle.ftp_pair_agreement.specs.PeekStages.{Gave, Gives as HaltGives, Halt, Halted}
-use Rattle.ftp_pair_agreement.specs.Runs.{AtClosed, IsAsked, IsFetchingOn, IsHaltingOn, IsTrailing, Runs}
-use Rattle.ftp_pair_agreement.specs.Stages.{Answers, AtFetch, Stage, Awaits, Carries, Carry, Closed, Course, Dialled, Dials, Dismissed, Ended, Given, Giving, Holds, IsLasting, Lost, Ported, PortAsked, PortDenied, PortSaid, PortTaken, PortTold, PortWanted, Refusing, Restarts, Retrieves, Rises, Severed, Tells, Unaccepted, Unclosed, Unopened, is_passing}
+use Rattle.ftp_pair_agreement.specs.Cut.{Cut, PlacedAt, world_at}
+use Rattle.ftp_pair_agreement.specs.Stages.{Answers, AtFetch, Stage, Awaits, Carries, Closed, Course, Dialled, Dials, Dismissed, Ended, Given, Giving, Holds, IsLasting, Lost, Ported, PortAsked, PortDenied, PortSaid, PortTaken, PortTold, PortWanted, Refusing, Restarts, Retrieves, Rises, Severed, Tells, Unaccepted, Unclosed, Unopened, is_passing}
 use Rattle.ftp_pair_agreement.proofs.FetchServed.{leads_still}
 use Rattle.ftp_pair_agreement.proofs.FetchWants.{lasting_busy}
-use Rattle.ftp_pair_agreement.proofs.Rests.{far_form, near_form}
-use Rattle.ftp_pair_agreement.proofs.Still.{IsSeen, IsStill, far_wants, free_set, near_wants, no_octets, operation_on, rest_placed, seen, seen_placed, still_as, told_waits}
+use Rattle.ftp_pair_agreement.proofs.Rests.{near_form}
+use Rattle.ftp_pair_agreement.proofs.Still.{IsSeen, near_wants, no_octets, rest_placed, seen_placed}
 use Rattle.ftp_pair_data.specs.Ahead.{is_open}
-use Rattle.ftp_pair_data.specs.Honest.{IsWhole, is_unaborted}
+use Rattle.ftp_pair_data.specs.Honest.{IsWhole}
 
 -- ---- what is asked for
 
@@ -128,11 +124,17 @@ abbrev pub is_waiting : ServerLink Transfer → Bool
 is_waiting (FarData.Opening transfer Ways.Accept) = true
 is_waiting link = false
 
+-- it takes octets
+abbrev pub is_receive : Wants → Bool
+is_receive Want.Receive = true
+is_receive other = false
+
 -- no operation is under way: no link stands or is wanted
 pub record Idling (w : World) : Type 0 where
   pub link : w.link ≡ Gone
   pub to_client : w.data_to_client ≡ []
   pub wants : near.wants w.near ≡ Want.Nothing
+  pub far : is_transferring w.far.session.connection ≡ false
 
 pub record Known (w : World) : Type 0 where
   pub dials : (endpoint : Endpoint) → near.wants w.near ≡ Want.Connect endpoint → Dialling w
@@ -143,6 +145,8 @@ pub record Known (w : World) : Type 0 where
   pub to_server : w.data_to_server ≡ []
   pub ready : w.far.session.connection ≡ FarData.Ready → w.control_to_client ≡ []
   pub waits : is_waiting w.far.session.connection ≡ false
+  pub lines : is_transferring w.far.session.connection ≡ true → w.control_to_server ≡ []
+  pub still : is_receive (near.wants w.near) ≡ false → w.data_to_client ≡ []
 
 -- ---- by kinds of worlds
 
@@ -183,6 +187,16 @@ shut (FarData.Opening transfer Ways.Accept) is = absurd (true≢false (sym is))
 shut FarData.Ready is = absurd (true≢false (sym is))
 shut (FarData.Transferring transfer) is = absurd (true≢false (sym is))
 
+-- nor is a transfer under way where nothing is
+pub aside_still : (link : ServerLink Transfer) → is_aside link ≡ true → is_transferring link ≡ false
+aside_still FarData.Free is = refl
+aside_still (FarData.Active endpoint) is = refl
+aside_still FarData.Passive is = refl
+aside_still FarData.Ready is = refl
+aside_still (FarData.Asked verb) is = refl
+aside_still (FarData.Opening transfer way) is = absurd (true≢false (sym is))
+aside_still (FarData.Transferring transfer) is = absurd (true≢false (sym is))
+
 pub aside_shut : (link : ServerLink Transfer) → is_aside link ≡ true → is_shut link ≡ true
 aside_shut FarData.Free is = refl
 aside_shut (FarData.Active endpoint) is = refl
@@ -209,8 +223,8 @@ Says w = (octet : ℕ) (octets : List ℕ) → w.far.owed ≡ octet ∷ octets �
 
 -- nothing is dialled, taken or open
 pub quiet_known : (w : World) → Says w → w.data_to_server ≡ [] → is_calm (near.wants w.near) ≡ true → is_shut w.far.session.connection ≡ true
-    → (is_busy w.near ≡ false → Idling w) → Known w
-quiet_known w says to_server calm is_shut idle =
+    → (is_busy w.near ≡ false → Idling w) → (is_transferring w.far.session.connection ≡ true → w.control_to_server ≡ []) → w.data_to_client ≡ [] → Known w
+quiet_known w says to_server calm is_shut idle lines to_client =
     let far = shut w.far.session.connection is_shut in
     record {
       dials = λ endpoint e. absurd (true≢false (sym calm ∙ ap is_calm e));
@@ -221,15 +235,12 @@ quiet_known w says to_server calm is_shut idle =
       to_server = to_server;
       ready = λ e. absurd (far.ready e);
       waits = far.waits;
+      lines = lines;
+      still = λ e. to_client;
     }
 
 -- who takes octets does not dial
-is_receive : Wants → Bool
-is_receive Want.Receive = true
-is_receive other = false
-
 not_dials : {endpoint : Endpoint} → Want.Receive ≡ Want.Connect endpoint → ⊥
-unfolding is_receive
 not_dials e = true≢false (ap is_receive e)
 
 not_receives : {endpoint : Endpoint} → Want.Connect endpoint ≡ Want.Receive → ⊥
@@ -296,17 +307,30 @@ module _ (read : Reading) (state : State) (ask : Ask) (good : IsAsk ask) (is_pla
       quiet : (job : Job) (connection : NearConnection) → s.base.near ≡ busy job connection s.base.near
           → is_calm (near.wants (busy job connection w.near)) ≡ true
           → (link : ServerLink Transfer) (closing : Bool) (pending : Pending Names) → s.base.far.session ≡ linked link closing pending s.base.far.session
-          → is_shut link ≡ true → s.base.data_to_server ≡ [] → Known w
-      quiet job connection near_is calm link closing pending far_is shut_is empty =
+          → is_shut link ≡ true → s.base.data_to_server ≡ [] → (is_transferring link ≡ true → w.control_to_server ≡ []) → s.base.data_to_client ≡ [] → Known w
+      quiet job connection near_is calm link closing pending far_is shut_is empty lines none =
+          let is = link_is link closing pending far_is in
           quiet_known w (one_way At w s) (aside.1 ∙ empty) (ap (λ v. is_calm (near.wants v)) (near_form s.base w seen job connection near_is) ∙ calm)
-          (ap is_shut (link_is link closing pending far_is) ∙ shut_is) (λ free. absurd (busy_now free))
+          (ap is_shut is ∙ shut_is) (λ free. absurd (busy_now free)) (λ e. lines (sym (ap is_transferring is) ∙ e)) (aside.2 ∙ none)
+
+      -- no transfer is under way
+      no_lines : (link : ServerLink Transfer) → is_transferring link ≡ false → is_transferring link ≡ true → w.control_to_server ≡ []
+      no_lines link none e = absurd (true≢false (sym e ∙ none))
+
+      -- replies alone are on their way
+      replying : (rows : List Reply) → s.way ≡ Answering rows → w.control_to_server ≡ []
+      replying rows way = ap (λ (u : World). u.control_to_server) s.is ∙ ap (λ v. (world_at s.base v s.cut).control_to_server) way
+
+      takes_octets : (job : Job) (connection : NearConnection) → s.base.near ≡ busy job connection s.base.near
+          → near.wants (busy job connection w.near) ≡ Want.Receive → is_receive (near.wants w.near) ≡ true
+      takes_octets job connection near_is wants = ap (λ v. is_receive (near.wants v)) (near_form s.base w seen job connection near_is) ∙ ap is_receive wants
 
       -- a client that takes octets, of a server that has nothing open
       over : (job : Job) (connection : NearConnection) → s.base.near ≡ busy job connection s.base.near
           → near.wants (busy job connection w.near) ≡ Want.Receive → (link : ServerLink Transfer) (closing : Bool) (pending : Pending Names)
-          → s.base.far.session ≡ linked link closing pending s.base.far.session → is_shut link ≡ true → s.base.data_to_server ≡ []
-          → s.base.link ≡ ClosedByFar → Known w
-      over job connection near_is wants link closing pending far_is shut_is empty left =
+          → s.base.far.session ≡ linked link closing pending s.base.far.session → is_shut link ≡ true → is_transferring link ≡ false
+          → s.base.data_to_server ≡ [] → s.base.link ≡ ClosedByFar → Known w
+      over job connection near_is wants link closing pending far_is shut_is none empty left =
           let far = shut link shut_is in
           let is = link_is link closing pending far_is in
           record {
@@ -318,6 +342,8 @@ module _ (read : Reading) (state : State) (ask : Ask) (good : IsAsk ask) (is_pla
             to_server = aside.1 ∙ empty;
             ready = λ e. absurd (far.ready (sym is ∙ e));
             waits = ap is_waiting is ∙ far.waits;
+            lines = λ e. no_lines link none (sym (ap is_transferring is) ∙ e);
+            still = λ e. absurd (true≢false (sym (takes_octets job connection near_is wants) ∙ e));
           }
 
       -- the own command was sent over an open link
@@ -335,6 +361,8 @@ module _ (read : Reading) (state : State) (ask : Ask) (good : IsAsk ask) (is_pla
             to_server = aside.1 ∙ empty;
             ready = λ e. ap (λ (u : World). u.control_to_client) s.is ∙ ap (λ v. (world_at s.base v s.cut).control_to_client) way;
             waits = ap is_waiting is;
+            lines = λ e. absurd (true≢false (sym e ∙ ap is_transferring is));
+            still = λ e. absurd (true≢false (sym (takes_octets job NearData.Open near_is wants) ∙ e));
           }
 
       -- the server gives
@@ -355,6 +383,8 @@ module _ (read : Reading) (state : State) (ask : Ask) (good : IsAsk ask) (is_pla
             to_server = aside.1 ∙ empty;
             ready = λ e. absurd (true≢false (sym (ap is_carrying is) ∙ ap is_carrying e));
             waits = ap is_waiting is;
+            lines = λ e. alone;
+            still = λ e. absurd (true≢false (sym (takes_octets job NearData.Open near_is wants) ∙ e));
           }
 
       -- the client dials
@@ -379,6 +409,8 @@ module _ (read : Reading) (state : State) (ask : Ask) (good : IsAsk ask) (is_pla
             to_server = aside.1 ∙ h.to_server;
             ready = λ e. absurd ((shut w.far.session.connection (ap is_shut far)).ready e);
             waits = ap is_waiting far;
+            lines = λ e. absurd (true≢false (sym e ∙ ap is_transferring far));
+            still = λ e. aside.2 ∙ h.to_client;
           }
 
       takes_open : near.wants (busy (offering ask Replies.Nothing) NearData.Open w.near) ≡ Want.Receive
@@ -390,39 +422,55 @@ module _ (read : Reading) (state : State) (ask : Ask) (good : IsAsk ask) (is_pla
       by_course : (course : Course) (came queue : List ℕ) → Stood (carry course came queue) s.way s.base → is_passing (carry course came queue) ≡ false
           → Known w
       by_course (Giving begun octet more) came queue h lasts = giving _ h.near refl ask.listed octet more Pendings.Nothing h.session h.to_server _ h.way_is
-      by_course (Given heard true) came queue h lasts = over _ _ h.near refl FarData.Free false Pendings.Nothing h.session refl h.to_server h.link
+      by_course (Given heard true) came queue h lasts = over _ _ h.near refl FarData.Free false Pendings.Nothing h.session refl refl h.to_server h.link
       by_course (Given heard false) came queue h lasts = absurd (true≢false lasts)
-      by_course (Ended begun clean) came queue h lasts = quiet _ _ h.near refl FarData.Free false Pendings.Nothing h.session refl h.to_server
-      by_course (Severed begun) came queue h lasts = quiet _ _ h.near refl FarData.Free false Pendings.Nothing h.session refl h.to_server
+      by_course (Ended begun true) came queue h lasts =
+          quiet _ _ h.near refl FarData.Free false Pendings.Nothing h.session refl h.to_server (no_lines FarData.Free refl) (h.to_client ∙ h.fine.2)
+      by_course (Ended begun false) came queue h lasts =
+          quiet _ _ h.near refl FarData.Free false Pendings.Nothing h.session refl h.to_server (no_lines FarData.Free refl) (h.to_client ∙ h.fine.1.1)
+      by_course (Severed begun) came queue h lasts =
+          quiet _ _ h.near refl FarData.Free false Pendings.Nothing h.session refl h.to_server (no_lines FarData.Free refl) (h.to_client ∙ h.fine.1.1)
       by_course (Refusing why Unclosed) came queue h lasts = absurd (true≢false lasts)
-      by_course (Refusing why Closed) came queue h lasts = over _ _ h.near refl FarData.Free false Pendings.Nothing h.session refl h.to_server h.link
-      by_course (Refusing why (Lost clean)) came queue h lasts = quiet _ _ h.near refl FarData.Free false Pendings.Nothing h.session refl h.to_server
-      by_course Unopened came queue h lasts = quiet _ _ h.near refl FarData.Free false Pendings.Nothing h.session refl h.to_server
+      by_course (Refusing why Closed) came queue h lasts = over _ _ h.near refl FarData.Free false Pendings.Nothing h.session refl refl h.to_server h.link
+      by_course (Refusing why (Lost clean)) came queue h lasts =
+          quiet _ _ h.near refl FarData.Free false Pendings.Nothing h.session refl h.to_server (no_lines FarData.Free refl) (h.to_client ∙ h.fine.1.1)
+      by_course Unopened came queue h lasts =
+          quiet _ _ h.near refl FarData.Free false Pendings.Nothing h.session refl h.to_server (no_lines FarData.Free refl) (h.to_client ∙ h.fine.1)
 
       by_here : (here : At s.way s.base) → IsLasting state ask read own s.way s.base here → Known w
       by_here (inl l) lasts =
           let still = (leads_still read state ask good.plan own s.base w s.way seen l).0 in
           quiet_known w (one_way At w s) (aside.1 ∙ l.to_server) (ap is_calm (near_wants w.near still.near))
-          (aside_shut w.far.session.connection still.far.aside)
-          (λ free. absurd (busy_now free))
+          (aside_shut w.far.session.connection still.far.aside) (λ free. absurd (busy_now free))
+          (no_lines w.far.session.connection (aside_still w.far.session.connection still.far.aside)) (aside.2 ∙ l.to_client)
       by_here (inr (PortAsked closing, h)) lasts = absurd (true≢false lasts)
-      by_here (inr (PortTold port, h)) lasts = quiet _ _ h.near refl FarData.Passive false Pendings.Nothing h.session refl h.to_server
+      by_here (inr (PortTold port, h)) lasts =
+          quiet _ _ h.near refl FarData.Passive false Pendings.Nothing h.session refl h.to_server (no_lines FarData.Passive refl) h.to_client
       by_here (inr (Dials port, h)) lasts = dialling port h
       by_here (inr (PortWanted connection pending, h)) lasts = absurd (true≢false lasts)
       by_here (inr (PortSaid port connection pending, h)) lasts =
           quiet _ _ h.near refl connection false pending h.session (aside_shut connection h.fine.0) h.to_server
+          (no_lines connection (aside_still connection h.fine.0)) h.to_client
       by_here (inr (PortTaken port true, h)) lasts = absurd (true≢false lasts)
-      by_here (inr (PortTaken port false, h)) lasts = quiet _ _ h.near refl _ false Pendings.Nothing h.session refl h.to_server
+      by_here (inr (PortTaken port false, h)) lasts =
+          quiet _ _ h.near refl _ false Pendings.Nothing h.session refl h.to_server (λ e. absurd (true≢false (sym e))) h.to_client
       by_here (inr (PortDenied port connection, h)) lasts =
           quiet _ _ h.near refl connection false Pendings.Nothing h.session (aside_shut connection h.fine.0) h.to_server
+          (no_lines connection (aside_still connection h.fine.0)) h.to_client
       by_here (inr (Restarts at restart early, h)) lasts = absurd (no_offset at h.fine.0)
       by_here (inr (Retrieves (Dialled true), h)) lasts = asked _ h.near takes_open _ h.session h.to_server _ h.way_is
-      by_here (inr (Retrieves (Dialled false), h)) lasts = quiet _ _ h.near refl FarData.Free false _ h.session refl h.to_server
-      by_here (inr (Retrieves (Ported port), h)) lasts = quiet _ _ h.near refl _ false _ h.session refl h.to_server
-      by_here (inr (Awaits port false, h)) lasts = quiet _ _ h.near refl _ false Pendings.Nothing h.session refl h.to_server
-      by_here (inr (Awaits port true, h)) lasts = quiet _ _ h.near refl _ false Pendings.Nothing h.session refl h.to_server
-      by_here (inr (Unaccepted port, h)) lasts = quiet _ _ h.near refl FarData.Free false Pendings.Nothing h.session refl h.to_server
-      by_here (inr (Dismissed port why, h)) lasts = quiet _ _ h.near refl FarData.Free false Pendings.Nothing h.session refl h.to_server
+      by_here (inr (Retrieves (Dialled false), h)) lasts =
+          quiet _ _ h.near refl FarData.Free false _ h.session refl h.to_server (no_lines FarData.Free refl) h.to_client
+      by_here (inr (Retrieves (Ported port), h)) lasts =
+          quiet _ _ h.near refl _ false _ h.session refl h.to_server (λ e. absurd (true≢false (sym e))) h.to_client
+      by_here (inr (Awaits port false, h)) lasts =
+          quiet _ _ h.near refl _ false Pendings.Nothing h.session refl h.to_server (λ e. replying _ h.way_is) h.to_client
+      by_here (inr (Awaits port true, h)) lasts =
+          quiet _ _ h.near refl _ false Pendings.Nothing h.session refl h.to_server (λ e. replying _ h.way_is) h.to_client
+      by_here (inr (Unaccepted port, h)) lasts =
+          quiet _ _ h.near refl FarData.Free false Pendings.Nothing h.session refl h.to_server (no_lines FarData.Free refl) h.to_client
+      by_here (inr (Dismissed port why, h)) lasts =
+          quiet _ _ h.near refl FarData.Free false Pendings.Nothing h.session refl h.to_server (no_lines FarData.Free refl) h.to_client
       by_here (inr (Carries c, h)) lasts = by_course c.course c.came c.queue h lasts
       by_here (inr (Rises rise lift, h)) lasts = absurd (falls_only (sym is_plain.sends ∙ h.ready.2.sends_is))
       by_here (inr (Tells rise said after, h)) lasts = absurd (true≢false lasts)

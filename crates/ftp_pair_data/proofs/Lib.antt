@@ -7,3 +7,5 @@ pub mod Running
 pub mod Closing
 pub mod Moves
 pub mod Settling
+pub mod Faring
+pub mod Rising

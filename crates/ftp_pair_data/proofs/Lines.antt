@@ -21,15 +21,13 @@ use Rattle.ftp_server_model.specs.Ask.{has_size, or_empty, size_of, stamp_of}
 use Rattle.ftp_server_model.specs.Endpoint.{asks, epsv, forgotten, is_taken, pasv, port, takes}
 use Rattle.ftp_server_model.specs.Entries.{option_facts}
 use Rattle.ftp_server_model.specs.Listing.{entry_lines, list_lines, listing_wire, name_lines}
-use Rattle.ftp_server_model.specs.Login.{admits, checked, login_account, logs_in, open_account, pass, user_named}
+use Rattle.ftp_server_model.specs.Login.{admits, checked, login_account, open_account, pass, user_named}
 use Rattle.ftp_server_model.specs.Replies.{Turn, tells}
 use Rattle.ftp_server_model.specs.Setting.{choose, is_utf8_on}
 use Rattle.ftp_server_model.specs.Transfer.{misplaced, path_or_here, place_of, refused_to_hold, rests, retr, retr_at, sent_from, stor, stor_at, transfer_starts}
 use Rattle.ftp_server_model.specs.View.{Accounts, Footing, Session, Transfer, as_direct, direct_of, how_in_force, seen, with_seen}
 use Rattle.ftp_server_model.specs.Walk.{path_of, performs, refusal_text, refused_source, refused_target, rnto, target_seen, unless}
-use Rattle.ftp_server_model.specs.declared.heard.HeardLine.{HeardLine}
 use Rattle.ftp_server_model.specs.declared.heard.HeardLine.TheVariants.{TooLong, Bad, Asks as AsksFor}
-use Rattle.ftp_server_model.specs.declared.reply.FixedReply.{FixedReply}
 use Rattle.ftp_server_model.specs.declared.reply.FixedReply.TheVariants as Texts
 use Rattle.ftp_server_model.specs.declared.reply.ReplyKind.{ReplyKind}
 use Rattle.ftp_server_model.specs.declared.reply.ReplyKind.TheVariants as Replies
@@ -44,7 +42,7 @@ use Rattle.ftp_server_model.specs.declared.session.Pending.TheVariants as Pendin
 use Rattle.ftp_server_model.specs.declared.session.ServerLink.{ServerLink}
 use Rattle.ftp_server_model.specs.declared.session.Transfer.TheVariants as Transfers
 use Rattle.ftp_wire.specs.Decoder.{no_octets}
-use Rattle.ftp_pair_data.specs.Lines.{Aims, Asks, Begins, Forgets, LinesGoBeside, Stays, Turned, TurnsBeside, turned_so, with_link}
+use Rattle.ftp_pair_data.specs.Lines.{Aims, Asks, Begins, Forgets, LinesGoBeside, Stays, Turned, turned_so, with_link}
 
 -- whatever the link is, it is looked at so
 abbrev Beside : (ServerLink Transfer → Bool → Turn) → Type 0

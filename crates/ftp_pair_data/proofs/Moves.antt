@@ -1,21 +1,17 @@
 -- The events of a world between two ends that want nothing of it: octets are said and heard, an operation begins, a link is opened, octets go over it, and it
 -- ends.
-use Rattle.std.proofs.Common.{◌≡◌, ℕ, zero, suc, ◌==◌, ◌<◌, ◌≤◌, Bool, true, false, not, ◌&&◌, ◌||◌, nat_lt, IsTrue, List, [], ◌∷◌, ◌++◌, length, take, drop, None, refl, sym, ap, ap₂, subst, ◌∙◌, append_assoc, append-nil, arith, length-append, suc-ne-zero}
+use Rattle.std.proofs.Common.{◌≡◌, ℕ, suc, ◌==◌, ◌<◌, ◌≤◌, Bool, true, false, not, ◌&&◌, ◌||◌, nat_lt, IsTrue, List, [], ◌∷◌, ◌++◌, length, take, drop, None, refl, sym, ap, ap₂, subst, ◌∙◌, append_assoc, append-nil, arith, length-append, suc-ne-zero}
 use Rattle.std.proofs.lemmas.Bool.{and_right, le-ltb, ne_eqb, or_right}
 use Rattle.ftp_ends.specs.Octets.{has_octets}
-use Rattle.ftp_ends.specs.Link.{is_wanted}
 use Rattle.ftp_operation.specs.declared.op.Op.{Op}
 use Rattle.ftp_client_model.specs.Calls as near
-use Rattle.ftp_client_model.specs.View.{View as Near}
 use Rattle.ftp_server_model.specs.Calls as far
 use Rattle.ftp_server_model.specs.Calls.{clock_step}
 use Rattle.ftp_server_model.specs.Machine as machine
 use Rattle.ftp_server_model.specs.Machine.{Reading, waited}
-use Rattle.ftp_server_model.specs.View.{View as Far}
-use Rattle.ftp_server_model.specs.declared.session.Life.TheVariants as Lives
 use Rattle.ftp_tree.specs.Sound.{last_second}
 use Rattle.ftp_pair_world.specs.Agreement.{Single}
-use Rattle.ftp_pair_world.specs.Events.{ControlToClient, ControlToServer, DataToClient, Deliver, Delivers, DeliversBy, End, Gives, Moves, Next, Open, Takes, can_begin, can_happen, can_move, can_take, due, in_queue, is_asked_for, is_closed, is_closed_by_far, is_gone, lends_none, link_opens, operation_begins, pulled, pushed, taking, told}
+use Rattle.ftp_pair_world.specs.Events.{ControlToClient, ControlToServer, DataToClient, Deliver, Delivers, DeliversBy, End, Gives, Moves, Next, Open, Takes, can_begin, can_happen, can_move, can_take, due, is_asked_for, is_closed_by_far, is_gone, lends_none, link_opens, operation_begins, pulled, pushed, taking}
 use Rattle.ftp_pair_world.specs.Serving.{after_event}
 use Rattle.ftp_pair_world.specs.World.{ClosedByFar, Gone, World, gone}
 use Rattle.ftp_pair_drives.proofs.Worlds.{LeadsOn, leads_none, leads_then, lent_behind, one_leads, wants_owed}
@@ -36,34 +32,34 @@ far_still : (w : World) → Rested w → (owed : List ℕ) → rests (far.wants 
 far_still w r owed = far_rests (record w.far { owed = owed }) r.runs.running r.far_open r.none_asked
 
 -- a close is none
-near_closed : (w : World) → Rested w → rests (near.wants (near.data_closed w.near)) ≡ true
+pub near_closed : (w : World) → Rested w → rests (near.wants (near.data_closed w.near)) ≡ true
 near_closed w r = ap (λ c. rests (near.wants (record w.near { closing = c }))) (sym r.near_open) ∙ r.near_rests
 
 -- ---- octets that are said, one by one
 
 -- one may be given of those that are due
-one_given : (octet : ℕ) (octets due : List ℕ) → due ≡ octet ∷ octets → Gives 4096 due 1
+pub one_given : (octet : ℕ) (octets due : List ℕ) → due ≡ octet ∷ octets → Gives 4096 due 1
 one_given octet octets due is = subst (λ d. Gives 4096 d 1) (sym is) (record { within = omega arith; some = λ room has. omega arith })
 
 -- then octets can be moved
-can_say : (count : ℕ) (octet : ℕ) (octets due : List ℕ) → due ≡ octet ∷ octets → (taking : Bool)
+pub can_say : (count : ℕ) (octet : ℕ) (octets due : List ℕ) → due ≡ octet ∷ octets → (taking : Bool)
     → IsTrue ((has_octets due && ((0 == 0) || nat_lt count 0)) || taking)
 can_say count octet octets due is taking = ap (λ d. (has_octets d && ((0 == 0) || nat_lt count 0)) || taking) is
 
 -- none is due, or enough are there
-filled_enough : (due queue : List ℕ) (count : ℕ) → count ≤ length queue → (has_octets due && nat_lt (length queue) count) ≡ false
+pub filled_enough : (due queue : List ℕ) (count : ℕ) → count ≤ length queue → (has_octets due && nat_lt (length queue) count) ≡ false
 filled_enough due queue count enough = and_right (has_octets due) (nat_lt (length queue) count) (le-ltb (length queue) count enough)
 
 -- the first octets of a list, and the rest
-take_front : (xs ys : List ℕ) → take (length xs) (xs ++ ys) ≡ xs
+pub take_front : (xs ys : List ℕ) → take (length xs) (xs ++ ys) ≡ xs
 take_front [] ys = refl
 take_front (x ∷ xs) ys = ap (λ l. x ∷ l) (take_front xs ys)
 
-drop_front : (xs ys : List ℕ) → drop (length xs) (xs ++ ys) ≡ ys
+pub drop_front : (xs ys : List ℕ) → drop (length xs) (xs ++ ys) ≡ ys
 drop_front [] ys = refl
 drop_front (x ∷ xs) ys = drop_front xs ys
 
-some_there : (xs : List ℕ) → (suc (length xs) == 0) ≡ false
+pub some_there : (xs : List ℕ) → (suc (length xs) == 0) ≡ false
 some_there xs = ne_eqb (suc (length xs)) 0 (λ e. suc-ne-zero (length xs) e)
 
 -- after none was lent, none is

@@ -1,11 +1,9 @@
 -- Every world that a session comes to in which whole files and listings alone are fetched is known, while nothing was left by the client alone and no ABOR
 -- was sent.
-use Rattle.std.proofs.Common.{◌≡◌, ◌⊎◌, inl, inr, Bool, true, false, true≢false, List, [], ◌∷◌, ◌++◌, refl, sym, ap, ◌∙◌}
+use Rattle.std.proofs.Common.{◌≡◌, inl, inr, true, false, true≢false, List, [], refl, sym, ap, ◌∙◌}
 use Rattle.ftp_direct.specs.Direct.{State, answer}
-use Rattle.ftp_client_model.specs.Calls.{is_busy}
 use Rattle.ftp_client_model.specs.View.{View as Near}
-use Rattle.ftp_server_model.specs.Machine.{IsReading, Reading}
-use Rattle.ftp_server_model.specs.View.{View as Far}
+use Rattle.ftp_server_model.specs.Machine.{IsReading, Reading, is_transferring}
 use Rattle.ftp_pair_world.specs.Agreement.{Leads, Order}
 use Rattle.ftp_pair_world.specs.Claims.{AreTimed, Beginning, IsFair, state_of, world_of}
 use Rattle.ftp_pair_world.specs.Events.{Event, is_closed_by_near, is_parted}
@@ -13,17 +11,17 @@ use Rattle.ftp_pair_world.specs.World.{Mark, Stands, World}
 use Rattle.ftp_pair_dialogues.specs.Fetches.{Ask}
 use Rattle.ftp_pair_dialogues.specs.Login.{AtFree, AtOperation}
 use Rattle.ftp_pair_dialogues.specs.Stage.{Way}
-use Rattle.ftp_pair_agreement.specs.Cut.{PlacedAt, StandsAt, of_ends}
+use Rattle.ftp_pair_agreement.specs.Cut.{PlacedAt, of_ends}
 use Rattle.ftp_pair_agreement.specs.Follows.{Follows, IsFree, IsLost, IsUnder, IsUnlinked, Phase}
 use Rattle.ftp_pair_agreement.specs.Over.{OverRuns}
 use Rattle.ftp_pair_agreement.specs.PeekStages.{AtHalt, Gave, Gives, Halt, Halted, halt_abort}
-use Rattle.ftp_pair_agreement.specs.Runs.{AtClosed, IsFetchingOn, IsHaltingOn, IsTrailing, Runs}
+use Rattle.ftp_pair_agreement.specs.Runs.{IsTrailing}
 use Rattle.ftp_pair_agreement.proofs.Beginning.{begins_follow}
 use Rattle.ftp_pair_agreement.proofs.OverRunning.{over_lead}
 use Rattle.ftp_pair_agreement.proofs.Still.{IsStill, free_set, near_wants, operation_on, seen, still_as, told_waits}
 use Rattle.ftp_client_model.specs.Dialogue.{is_unsent}
 use Rattle.ftp_pair_data.specs.Honest.{is_unaborted}
-use Rattle.ftp_pair_data.proofs.Known.{AreWhole, Known, aside_shut, beside_link, is_calm, last_whole, one_way, plain, quiet_known, stage_known}
+use Rattle.ftp_pair_data.proofs.Known.{AreWhole, Known, aside_shut, aside_still, beside_link, is_calm, last_whole, one_way, plain, quiet_known, stage_known}
 
 -- the world to which events lead from a fair beginning runs with the operations begun
 pub all_runs : (read : Reading) → IsReading read → (b : Beginning) → IsFair b → (events : List Event) (begun : List Order) (w : World)
@@ -36,7 +34,11 @@ all_runs read reads b fair events begun w timed leads =
 still_known : (At : Way → World → Type 0) (w : World) → PlacedAt At w → IsUnlinked w → IsStill w → Known w
 still_known At w s none still =
     quiet_known w (one_way At w s) none.to_server (ap is_calm (near_wants w.near still.near)) (aside_shut w.far.session.connection still.far.aside)
-    (λ free. record { link = none.link; to_client = none.to_client; wants = near_wants w.near still.near })
+    (λ free. record { link = none.link; to_client = none.to_client; wants = near_wants w.near still.near; far = far })
+    (λ e. absurd (true≢false (sym e ∙ far))) none.to_client
+  where
+    far : is_transferring w.far.session.connection ≡ false
+    far = aside_still w.far.session.connection still.far.aside
 
 module _ (read : Reading) (from : State) (begun : List Order) where
   -- so it is where no operation is under way, and at one without a transfer

@@ -1,22 +1,20 @@
 -- What a world does for its ends after an event, where a close, a port and a report are all that may be due.
-use Rattle.std.proofs.Common.{◌≡◌, ℕ, Bool, true, false, true≢false, List, [], ◌++◌, None, option_to_list, refl, sym, ap, ap₂, ◌∙◌}
+use Rattle.std.proofs.Common.{◌≡◌, ℕ, Bool, true, false, true≢false, ◌++◌, None, option_to_list, refl, sym, ap, ◌∙◌}
 use Rattle.std.specs.Prelude.{if◌then◌else◌}
 use Rattle.ftp_client_model.specs.Calls as near
-use Rattle.ftp_client_model.specs.View.{View as Near}
 use Rattle.ftp_ends.specs.declared.link.Wants.{Wants}
 use Rattle.ftp_ends.specs.declared.link.Wants.TheVariants as Want
 use Rattle.ftp_server_model.specs.Calls as far
 use Rattle.ftp_server_model.specs.Calls.{close_step, listening_step, wants_of}
 use Rattle.ftp_server_model.specs.Machine.{waited}
 use Rattle.ftp_server_model.specs.View.{Transfer, View as Far}
-use Rattle.ftp_server_model.specs.declared.session.Life.{Life}
 use Rattle.ftp_server_model.specs.declared.session.Life.TheVariants as Lives
 use Rattle.ftp_server_model.specs.declared.session.PassiveVerb.TheVariants as Asking
 use Rattle.ftp_server_model.specs.declared.session.ServerLink.{ServerLink}
 use Rattle.ftp_server_model.specs.declared.session.ServerLink.TheVariants as Data
 use Rattle.ftp_server_model.specs.declared.session.Transfer.TheVariants as Transfers
 use Rattle.ftp_server_model.specs.declared.session.Way.TheVariants as Ways
-use Rattle.ftp_pair_world.specs.Serving.{after_event, collected, collected_by, far_closes, far_listens, far_served, far_served_by, link_closed_by_far, link_closed_by_near, near_closes, near_served, near_served_by}
+use Rattle.ftp_pair_world.specs.Serving.{after_event, collected, collected_by, far_served, far_served_by, link_closed_by_far, link_closed_by_near, near_closes, near_served, near_served_by}
 use Rattle.ftp_pair_world.specs.World.{ClosedByFar, ClosedByNear, Gone, Link, Opened, World, next_listen, port_at}
 use Rattle.ftp_pair_drives.proofs.Taken.{taken}
 use Rattle.ftp_pair_drives.proofs.Worlds.{collected_is}

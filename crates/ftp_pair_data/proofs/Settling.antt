@@ -1,5 +1,5 @@
 -- What a world is once it has done what is due after an event: of one that moved its client alone, and of one that moved its server alone.
-use Rattle.std.proofs.Common.{◌≡◌, ℕ, Bool, true, false, true≢false, List, [], ◌++◌, Option, Some, None, option_to_list, refl, sym, ap, subst, ◌∙◌, append-nil}
+use Rattle.std.proofs.Common.{◌≡◌, ℕ, Bool, true, false, true≢false, [], ◌++◌, Option, Some, None, option_to_list, refl, sym, ap, subst, ◌∙◌, append-nil}
 use Rattle.std.specs.Prelude.{if◌then◌else◌}
 use Rattle.ftp_operation.specs.Answer.{Said}
 use Rattle.ftp_client_model.specs.Calls.{data_closed, report_of, report_of_job}
@@ -100,7 +100,7 @@ shut_same w to_server unclosed closes = by w.near.closing refl
         by_link w.link refl unclosed done.0 done.1
 
 -- a server that wants nothing of it stays
-far_idle : (w : World) → w.far.session.closing ≡ false → is_asked w.far.session.connection ≡ false → far_told (far_shut w) ≡ w
+pub far_idle : (w : World) → w.far.session.closing ≡ false → is_asked w.far.session.connection ≡ false → far_told (far_shut w) ≡ w
 far_idle w unclosed none =
     let first : far_shut w ≡ w = ap (λ c. if c then link_closed_by_far w.link (record w { far = close_step w.far }) else w) unclosed in
     ap far_told first

@@ -103,7 +103,7 @@ as_many moment (asked ∷ before) =
     let few = as_many moment before in omega (arith, one, other, few)
 
 -- a client that has reported is not busy
-reported_free : (v : View) (answer : Said) → Some answer ≡ report_of v → is_busy (reports v) ≡ false
+pub reported_free : (v : View) (answer : Said) → Some answer ≡ report_of v → is_busy (reports v) ≡ false
 reported_free v answer e = by v.job e
   where
     by : (job : Job) → Some answer ≡ report_of_job job → is_busy (reports (record v { job = job })) ≡ false
@@ -123,38 +123,38 @@ answered_free b server (asked ∷ before) start now begins answered =
 -- ---- without the server's last deed
 
 -- all but the last deed of the server
-unturned : List Turn → List Turn
+pub unturned : List Turn → List Turn
 unturned [] = []
 unturned (Server deed ∷ before) = before
 unturned (Client deed ∷ before) = Client deed ∷ unturned before
 
 -- of its deeds
-rest_of : List (Deed server_side) → List (Deed server_side)
+abbrev pub rest_of : List (Deed server_side) → List (Deed server_side)
 rest_of [] = []
 rest_of (deed ∷ before) = before
 
 -- the last deed does nothing between the ends
-IsIdle : List (Deed server_side) → Type 0
+abbrev pub IsIdle : List (Deed server_side) → Type 0
 IsIdle [] = Unit {0}
 IsIdle (deed ∷ before) = (old new : Between) → Can Far (touch_in deed) old new → new ≡ old
 
 -- the server did the rest
-unturned_server : (turns : List Turn) → server_deeds (unturned turns) ≡ rest_of (server_deeds turns)
-unfolding unturned rest_of
+pub unturned_server : (turns : List Turn) → server_deeds (unturned turns) ≡ rest_of (server_deeds turns)
+unfolding unturned
 unturned_server [] = refl
 unturned_server (Server deed ∷ before) = refl
 unturned_server (Client deed ∷ before) = unturned_server before
 
 -- the client did the same
-unturned_client : (turns : List Turn) → client_deeds (unturned turns) ≡ client_deeds turns
+pub unturned_client : (turns : List Turn) → client_deeds (unturned turns) ≡ client_deeds turns
 unfolding unturned
 unturned_client [] = refl
 unturned_client (Server deed ∷ before) = refl
 unturned_client (Client deed ∷ before) = ap (λ l. deed ∷ l) (unturned_client before)
 
 -- where it did nothing between, they happened without it
-unturned_happened : (turns : List Turn) (between : Between) → IsIdle (server_deeds turns) → Happened turns between → Happened (unturned turns) between
-unfolding unturned IsIdle
+pub unturned_happened : (turns : List Turn) (between : Between) → IsIdle (server_deeds turns) → Happened turns between → Happened (unturned turns) between
+unfolding unturned
 unturned_happened [] between idle happened = happened
 unturned_happened (Server deed ∷ before) between idle happened = subst (Happened before) (sym (idle happened.0 between happened.2)) happened.1
 unturned_happened (Client deed ∷ before) between idle happened = (happened.0, unturned_happened before happened.0 idle happened.1, happened.2)
@@ -173,7 +173,6 @@ pub record Served (deeds : List (Deed server_side)) (turns : List Turn) (between
 -- its end is left out of the order
 pub served_before : (deeds : List (Deed server_side)) (turns : List Turn) (between : Between) (start now : Stand server_side) (led : Led deeds start now)
     → ServedToItsEnd deeds start now led → server_deeds turns ≡ deeds → Happened turns between → Served deeds turns between start now
-unfolding unturned rest_of IsIdle
 served_before (Other (Left Shut) ∷ Ended ∷ before) turns between start now led alone is happened =
     let one = unturned turns in
     let left : IsIdle (Other (Left Shut) ∷ Ended ∷ before) = λ old new can. can in

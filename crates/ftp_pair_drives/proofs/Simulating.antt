@@ -29,7 +29,7 @@ ends_so Is Keeps Stands [] start now led held = held
 ends_so Is Keeps Stands (deed ∷ before) start now led held = held.3
 
 -- what a client reports in a deed
-reported_is : (said : Option Said) → reported_by (Other (Aside (Reporting said))) ≡ option_to_list said
+pub reported_is : (said : Option Said) → reported_by (Other (Aside (Reporting said))) ≡ option_to_list said
 reported_is None = refl
 reported_is (Some said) = refl
 

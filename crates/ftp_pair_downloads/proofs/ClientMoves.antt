@@ -1,0 +1,163 @@
+-- Deeds of a client over its control connection that are events of a world: octets are said and heard, and an operation begins.
+use Rattle.std.proofs.Common.{◌≡◌, ℕ, ◌≤◌, true, false, List, [], ◌∷◌, ◌++◌, length, take, drop, option_to_list, refl, sym, ap, ap₂, subst, ◌∙◌, append_assoc, append-nil, take-append-drop}
+use Rattle.std.proofs.lemmas.Bool.{and_right}
+use Rattle.ftp_control.specs.Deeds.{Calls, Says as SaysNext, Stand}
+use Rattle.ftp_control.specs.Lane.{Lane}
+use Rattle.ftp_control.specs.Machine.{Aside}
+use Rattle.ftp_client_drive.specs.Side.{Starting, client_side, is_under_way}
+use Rattle.ftp_client_model.specs.Calls as near
+use Rattle.ftp_client_model.specs.Calls.{data_closed, is_busy, report_of, starts}
+use Rattle.ftp_client_model.specs.View.{Job, Told, View as Near}
+use Rattle.ftp_ends.specs.Link.{is_wanted}
+use Rattle.ftp_operation.specs.Answer.{Said}
+use Rattle.ftp_operation.specs.declared.op.Op.{Op}
+use Rattle.ftp_server_drive.specs.Side.{server_side}
+use Rattle.ftp_server_model.specs.Calls as far
+use Rattle.ftp_server_model.specs.Calls.{clock_step}
+use Rattle.ftp_server_model.specs.Machine.{Reading}
+use Rattle.ftp_tree.specs.Sound.{last_second}
+use Rattle.ftp_pair_world.specs.Agreement.{Single}
+use Rattle.ftp_pair_world.specs.Claims.{AreUnmarked}
+use Rattle.ftp_pair_world.specs.Events.{is_asked_for, is_gone}
+use Rattle.ftp_pair_world.specs.World.{Mark, World}
+use Rattle.ftp_pair_agreement.proofs.Chunks.{both_empty}
+use Rattle.ftp_pair_drives.specs.Alone.{ClientIsCalm}
+use Rattle.ftp_pair_drives.specs.Between.{Between, Near as TheClient, sent}
+use Rattle.ftp_pair_drives.proofs.Taken.{free_none, free_same, idle_of, taken}
+use Rattle.ftp_pair_data.specs.Ahead.{Ahead, Listened}
+use Rattle.ftp_pair_data.specs.Honest.{is_unaborted}
+use Rattle.ftp_pair_data.proofs.Known.{Known}
+use Rattle.ftp_pair_data.proofs.Moves.{Rested, begins, near_says}
+use Rattle.ftp_pair_data.proofs.Served.{rests, settled}
+use Rattle.ftp_pair_data.proofs.Settling.{NearSettles, near_settles}
+use Rattle.ftp_pair_downloads.proofs.Stands.{ClientFetches, ServerServes}
+use Rattle.ftp_pair_downloads.proofs.Beside.{Gives, Goes, Holds, Owes, Takes, Together, both, rested, unclosed}
+use Rattle.ftp_pair_downloads.proofs.NearForms.{starts_closing, wants_rest}
+
+-- the first octets of a list are its beginning, and the others the rest
+take_front : (xs ys : List ℕ) → take (length xs) (xs ++ ys) ≡ xs
+take_front [] ys = refl
+take_front (x ∷ xs) ys = ap (λ l. x ∷ l) (take_front xs ys)
+
+drop_front : (xs ys : List ℕ) → drop (length xs) (xs ++ ys) ≡ ys
+drop_front [] ys = refl
+drop_front (x ∷ xs) ys = drop_front xs ys
+
+-- an operation that begins has no mark
+more_unmarked : (marks : List (List Mark)) → AreUnmarked marks → AreUnmarked (marks ++ [] ∷ [])
+more_unmarked [] unmarked = (refl, tt)
+more_unmarked (mark ∷ marks) unmarked = (unmarked.0, more_unmarked marks unmarked.1)
+
+-- where the reports are taken, the same is of the job
+pub is_unaborted_same : (n : Near) → is_unaborted (taken n).job ≡ is_unaborted n.job
+is_unaborted_same n = by n.job
+  where
+    by : (job : Job) → is_unaborted (idle_of job) ≡ is_unaborted job
+    by (Told said) = refl
+    by job = refl
+
+module _ (read : Reading) (server : Stand server_side) (old new : Stand client_side) (reports : List Said) (w : World)
+    (calm : ClientIsCalm old.owner new.owner) (serves : ServerServes server.owner) (before : ClientFetches old.owner) (after : ClientFetches new.owner)
+    (known : Known w) where
+  abbrev v : Near
+  v = old.owner.end.view
+
+  abbrev u : Near
+  u = new.owner.end.view
+
+  -- octets are said
+  pub client_said : (octets : List ℕ) (moment : ℕ) (ahead : Ahead) (between next : Between) (told : ℕ) → Together moment ahead between told server old reports w
+      → SaysNext octets old new → next ≡ record between { control = sent TheClient octets between.control }
+      → Goes read [] next told server new (reports ++ []) w
+  client_said octets moment ahead between next told t says can =
+      let b = t.beside in
+      let count = says.gives.count in
+      let rest : List ℕ = drop count v.owed in
+      let is : u ≡ near.gives_control count v = says.gives.gave.0 in
+      let owed : w.near.owed ≡ octets ++ rest =
+      ap (λ (n : Near). n.owed) b.near ∙ sym (take-append-drop count v.owed) ∙ ap (λ o. o ++ rest) (sym says.gives.owed) in
+      let lane : new.owner.lane ≡ old.owner.lane = says.gives.lane in
+      record {
+        world = _;
+        leads = near_says read octets rest w (rested moment ahead between told server old reports w b serves before) owed;
+        moment = moment;
+        ahead = ahead;
+        together = record {
+          beside = record {
+            fits = b.fits;
+            near = ap (λ (n : Near). record n { owed = rest }) b.near ∙ ap (λ n. data_closed (taken n)) (sym is);
+            far = b.far;
+            to_server = ap (λ q. q ++ octets) b.to_server ∙ append_assoc server.unheard between.control.to_server octets
+                ∙ ap (λ (m : Between). server.unheard ++ m.control.to_server) (sym can);
+            to_client = b.to_client ∙ ap₂ (λ a (m : Between). a ++ m.control.to_client) (sym says.unheard) (sym can);
+            falling = b.falling ∙ ap₂ (λ (m : Between) (l : Lane). l.untold ++ (m.data_ways.to_client ++ server.owner.lane.unwritten)) (sym can) (sym lane);
+            listens = b.listens;
+            reported = b.reported ∙ ap (λ n. reports ++ option_to_list (report_of n)) (sym is)
+                ∙ ap (λ r. r ++ option_to_list (report_of u)) (sym (append-nil reports));
+            control = b.control;
+            link = b.link;
+            marks = b.marks;
+            cutoff = b.cutoff;
+          };
+          holds = subst (λ (m : Between). Holds ahead m.far server.owner.end.server.view.session) (sym can) t.holds;
+          gives = subst (λ (m : Between). Gives m.far server.owner.lane) (sym can) t.gives;
+          owes = subst (λ (m : Between). Owes m.far server.owner.end.server.view.session server.owner.lane) (sym can) t.owes;
+          takes = subst Takes (sym lane) t.takes;
+          closes = λ e.
+              let c = t.closes (ap (λ (n : Near). n.closing) (sym is) ∙ e) in
+              let none = both_empty octets rest (sym owed ∙ c.1.near_owes) in (
+                ap (λ (n : Near). is_under_way n.job) is ∙ c.0,
+                record { to_server = ap₂ (λ q o. q ++ o) c.1.to_server none.0; to_client = c.1.to_client; near_owes = none.1; far_owes = c.1.far_owes },
+              );
+        };
+      }
+
+  -- ---- an operation begins
+
+  pub client_begins : (op : Op (List ℕ)) (at : ℕ) → at ≤ last_second → (moment : ℕ) (ahead : Ahead) (between : Between) (told : ℕ)
+      → Together moment ahead between told server old reports w → v.closing ≡ false → Calls {side = client_side} (Aside (Starting op)) old new
+      → Goes read (Single op at ∷ []) between told server new (reports ++ []) w
+  client_begins op at timed moment ahead between told t open_now did =
+      let b = t.beside in
+      let r : Rested w = rested moment ahead between told server old reports w b serves before in
+      let free : is_busy v ≡ false = did.0.0.0 in
+      let is : u ≡ starts op v = did.0.0.1.0.0 calm in
+      let near_is : w.near ≡ v = b.near ∙ ap data_closed (free_same v free) ∙ unclosed v open_now in
+      let begun : starts op w.near ≡ u = ap (starts op) near_is ∙ sym is in
+      let idle = known.idle (ap is_busy near_is ∙ free) in
+      let closing : u.closing ≡ false = ap (λ (n : Near). n.closing) is ∙ starts_closing op v ∙ open_now in
+      let asks : is_asked_for w ≡ false = and_right (is_gone w.link) _ (ap (λ q. is_wanted q (far.wants w.far)) idle.wants) in
+      let wants : rests (near.wants (data_closed (starts op w.near))) ≡ true =
+      ap (λ n. rests (near.wants (data_closed n))) begun ∙ wants_rest (data_closed u) after.sound after.dials refl in
+      let now : World = record w { near = starts op w.near; far = clock_step at w.far; marks = w.marks ++ [] ∷ []; taken = [] } in
+      let s : NearSettles now (settled now) =
+      near_settles now r.far_open r.none_asked known.to_server b.link (λ e. absurd (both e (ap (λ (n : Near). n.closing) begun ∙ closing))) in
+      let lane : new.owner.lane ≡ old.owner.lane = did.0.1 in
+      record {
+        world = settled now;
+        leads = begins read op at timed w r idle.link (ap is_busy near_is ∙ free) asks wants;
+        moment = at;
+        ahead = ahead;
+        together = record {
+          beside = record {
+            fits = b.fits;
+            near = s.near ∙ ap (λ n. data_closed (taken n)) begun;
+            far = s.far ∙ ap (clock_step at) b.far;
+            to_server = s.same.to_server ∙ b.to_server;
+            to_client = s.same.to_client ∙ b.to_client ∙ ap (λ (x : Stand client_side). x.unheard ++ between.control.to_client) (sym did.1);
+            falling = s.same.data_to_client ∙ b.falling
+                ∙ ap (λ (l : Lane). l.untold ++ (between.data_ways.to_client ++ server.owner.lane.unwritten)) (sym lane);
+            listens = subst (Listened ahead told) (sym s.listens) b.listens;
+            reported = s.reports ∙ ap₂ (λ r n. r ++ option_to_list (report_of n)) (b.reported ∙ ap (λ o. reports ++ option_to_list o) (free_none v free)) begun;
+            control = s.same.control ∙ b.control;
+            link = s.same.link;
+            marks = subst AreUnmarked (sym s.same.marks) (more_unmarked w.marks b.marks);
+            cutoff = s.same.cutoff ∙ b.cutoff;
+          };
+          holds = t.holds;
+          gives = t.gives;
+          owes = t.owes;
+          takes = subst Takes (sym lane) t.takes;
+          closes = λ e. absurd (both e closing);
+        };
+      }
