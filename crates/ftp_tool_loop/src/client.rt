@@ -1,75 +1,126 @@
-// A client as an end.
-ghost use Rattle.std.specs.Prelude.{◌≤◌, length};
-
-use crate::end::{Connection, End, Event};
+// The seat of a client: its connections, and the report of its operation.
+use crate::joining::Joins;
+use crate::ports::LoopPorts;
+use crate::socket::{Line, Socket};
+use ftp_client_drive::{Control, Data, Driven, Turned, drive_some};
 use ftp_client_model::{Busy, Near};
-use ftp_ends::Wants;
 use ftp_facts::Text;
 use ftp_operation::{Answer, How, Op};
-use std::alloc::Allocator;
-use std::marker::PhantomData;
+use std::alloc::Global;
 
-/// A client, and what its operations grow by.
+/// Where an operation stands.
 #[derive(Drop)]
-pub(crate) struct ClientEnd<A, N: Drop> {
-    client: N,
-    growth: PhantomData<A>,
+enum Asked {
+    /// None was begun, or its report was given.
+    Nothing,
+    UnderWay,
+    Reported(Answer<Global>),
 }
 
-impl<A: Allocator + Copy, N: Near<A>> ClientEnd<A, N> {
-    pub(crate) fn new(client: N) -> ClientEnd<A, N> {
-        ClientEnd {
+/// A client, beside its connections.
+pub(crate) struct ClientSeat<'h, J: Joins, N: Near<Global>> {
+    client: N,
+    line: &'h Socket,
+    control: Control<Line<'h>, Line<'h>>,
+    ports: LoopPorts<'h, J>,
+    data: Data<Socket>,
+    asked: Asked,
+}
+
+/// Its data connection is closed, if one stands.
+impl<'h, J: Joins, N: Near<Global>> Drop for ClientSeat<'h, J, N> {
+    fn drop(self) {
+        let Self {
+            client: _,
+            line: _,
+            control: _,
+            ports,
+            data,
+            asked: _,
+        } = self;
+        let mut ports = ports;
+        data.finish(&mut ports);
+    }
+}
+
+impl<'h, J: Joins, N: Near<Global>> ClientSeat<'h, J, N> {
+    /// A client at its control connection.
+    pub(crate) fn new(
+        client: N,
+        line: &'h Socket,
+        ports: LoopPorts<'h, J>,
+    ) -> ClientSeat<'h, J, N> {
+        ClientSeat {
             client,
-            growth: PhantomData,
+            line,
+            control: Control::new(Line::new(line), Line::new(line)),
+            ports,
+            data: Data::new(),
+            asked: Asked::Nothing,
         }
     }
 
     /// Begins an operation, if no other is under way.
-    pub(crate) fn start(&mut self, op: Op<Text<A>>) -> Result<(), Busy<Op<Text<A>>>> {
-        self.client.start(op)
+    pub(crate) fn start(&mut self, op: Op<Text<Global>>) -> Result<(), Busy<Op<Text<Global>>>> {
+        self.client.start(op)?;
+        self.asked = Asked::UnderWay;
+        Ok(())
     }
 
     /// Begins an upload that goes on after breaks, if no other operation is under way.
     pub(crate) fn upload(
         &mut self,
-        path: Text<A>,
-        octets: Text<A>,
+        path: Text<Global>,
+        octets: Text<Global>,
         how: How,
-    ) -> Result<(), Busy<(Text<A>, Text<A>)>> {
-        self.client.upload(path, octets, how)
+    ) -> Result<(), Busy<(Text<Global>, Text<Global>)>> {
+        self.client.upload(path, octets, how)?;
+        self.asked = Asked::UnderWay;
+        Ok(())
     }
 
-    /// The report, if it is there.
-    pub(crate) fn report(&mut self) -> Option<Answer<A>> {
-        self.client.report()
-    }
-}
-
-impl<A: Allocator + Copy, N: Near<A>> End for ClientEnd<A, N> {
-    fn give(&mut self, over: Connection, room: &mut [u8]) -> usize {
-        match over {
-            Connection::Control => self.client.control_out(room),
-            Connection::Data => self.client.data_out(room),
+    /// The report, if it is there; it is given once.
+    pub(crate) fn report(&mut self) -> Option<Answer<Global>> {
+        match std::mem::replace(&mut self.asked, Asked::Nothing) {
+            Asked::Reported(answer) => Some(answer),
+            Asked::Nothing | Asked::UnderWay => None,
         }
     }
 
-    fn take(&mut self, over: Connection, piece: &[u8]) -> usize {
-        match over {
-            Connection::Control => self.client.hear(piece),
-            Connection::Data => self.client.data_hear(piece),
+    /// A turn of the drive of its operation, where that would not wait; says whether one was made. One that breaks off says nothing more.
+    pub(crate) fn turn(&mut self) -> bool {
+        let Asked::UnderWay = &self.asked else {
+            return false;
+        };
+        match self.drive() {
+            Turned::Later => false,
+            Turned::More => true,
+            Turned::Over(driven) => {
+                self.answered(driven);
+                true
+            }
         }
     }
 
-    fn tell(&mut self, event: Event) {
-        match event {
-            Event::Listening(port) => self.client.listening(port),
-            Event::Opened(host) => self.client.data_opened(host),
-            Event::Ended => self.client.data_end(),
-            Event::Closed => self.client.data_closed(),
+    /// The drive is over.
+    fn answered(&mut self, driven: Driven<Global>) {
+        let Driven { report, off } = driven;
+        self.asked = match report {
+            Some(answer) => Asked::Reported(answer),
+            None => Asked::Nothing,
+        };
+        if off.is_some() {
+            self.line.end();
         }
     }
 
-    fn wants(&self) -> Wants {
-        self.client.wants()
+    fn drive(&mut self) -> Turned<Driven<Global>> {
+        drive_some::<Global, N, Line<'h>, Line<'h>, LoopPorts<'h, J>>(
+            &mut self.client,
+            &mut self.control,
+            &mut self.ports,
+            &mut self.data,
+            1,
+        )
     }
 }

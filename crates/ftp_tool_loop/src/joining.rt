@@ -34,18 +34,10 @@ where
     }
 
     fn joined(&self, listener: &TcpListener) -> io::Result<(Socket, Socket)> {
-        joined(self, listener)
+        let stream = TcpStream::connect(self, listener.local_addr()?)?;
+        let came = accepted(listener, stream.local_addr()?)?;
+        Socket::both(self.alloc(), stream, came)
     }
-}
-
-/// Connects to a port that this process listens at: the socket that connects, and the one that comes.
-fn joined<R>(net: &R, listener: &TcpListener) -> io::Result<(Socket, Socket)>
-where
-    R: Net<Listener = TcpListener, Stream = TcpStream>,
-{
-    let stream = TcpStream::connect(net, listener.local_addr()?)?;
-    let came = accepted(listener, stream.local_addr()?)?;
-    Ok((Socket::new(stream)?, Socket::new(came)?))
 }
 
 /// The connection that comes from an address; another process that connected before is let go.

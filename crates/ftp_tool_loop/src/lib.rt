@@ -1,15 +1,16 @@
 //! Scripts of operations over loopback sockets, with a client and a server in one thread (RFC 959).
 #![tactic(auto)]
 
-mod carrying;
+mod between;
 mod client;
-mod end;
+mod door;
 mod joining;
 mod orders;
 mod pair;
 mod playing;
+mod ports;
 mod server;
-mod side;
 mod socket;
+mod way;
 
 pub use playing::play;

@@ -1,9 +1,8 @@
 // The orders of a script, one after another, and the report of each.
-use crate::client::ClientEnd;
-use crate::end::End;
+use crate::client::ClientSeat;
 use crate::joining::Joins;
 use crate::pair::Pair;
-use crate::server::ServerEnd;
+use crate::server::ServerSeat;
 use ftp_client_model::Near;
 use ftp_facts::Text;
 use ftp_server_model::Far;
@@ -15,14 +14,14 @@ use std::io;
 use std::io::{Error, ErrorKind, Write};
 
 /// Does orders, each once all that the one before moved has settled, and writes their reports; gives the worst of their statuses.
-pub(crate) fn obey<R, N, S, W>(
-    net: &R,
-    pair: &mut Pair<ClientEnd<Global, N>, ServerEnd<Global, S>>,
+pub(crate) fn obey<J, N, S, W>(
+    alloc: Global,
+    pair: &mut Pair<'_, J, N, S>,
     orders: Vec<Order<Text<Global>>>,
     out: &mut W,
 ) -> io::Result<Status>
 where
-    R: Joins,
+    J: Joins,
     N: Near<Global>,
     S: Far<Global, MemTree<Global>>,
     W: Write,
@@ -30,25 +29,30 @@ where
     let mut worst = Status::Done;
     let mut number = 0u64;
     for order in orders {
-        tell_time(pair.server(), number);
-        begin(pair.client(), order)?;
-        pair.settle(net)?;
-        worst = worst.worse(report(net.heap(), pair.client(), out)?);
+        tell_time(&mut pair.server, number);
+        begin(&mut pair.client, order)?;
+        pair.settle()?;
+        worst = worst.worse(report(alloc, &mut pair.client, out)?);
         number = number.saturating_add(1);
     }
     Ok(worst)
 }
 
 /// The server's clock is at the moment of the order with this number; behind the year 9999 it stands.
-fn tell_time<S: Far<Global, MemTree<Global>>>(server: &mut ServerEnd<Global, S>, number: u64) {
+fn tell_time<J, S>(server: &mut ServerSeat<'_, J, S>, number: u64)
+where
+    J: Joins,
+    S: Far<Global, MemTree<Global>>,
+{
     if let Some(moment) = moment_of(number) {
-        server.clock(moment);
+        server.set_clock(moment);
     }
 }
 
 /// A client begins what is ordered; each order before it has its report.
-fn begin<N>(client: &mut ClientEnd<Global, N>, order: Order<Text<Global>>) -> io::Result<()>
+fn begin<J, N>(client: &mut ClientSeat<'_, J, N>, order: Order<Text<Global>>) -> io::Result<()>
 where
+    J: Joins,
     N: Near<Global>,
 {
     match order.into_parts() {
@@ -63,8 +67,13 @@ fn busy() -> Error {
 }
 
 /// Writes the report of a client; gives its status.
-fn report<N, W>(alloc: Global, client: &mut ClientEnd<Global, N>, out: &mut W) -> io::Result<Status>
+fn report<J, N, W>(
+    alloc: Global,
+    client: &mut ClientSeat<'_, J, N>,
+    out: &mut W,
+) -> io::Result<Status>
 where
+    J: Joins,
     N: Near<Global>,
     W: Write,
 {

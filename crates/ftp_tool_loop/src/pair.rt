@@ -1,19 +1,33 @@
-// A client and a server, and the connections between them: turns, until nothing moves any more.
-use crate::end::End;
+// A client and a server in one thread: turns of both, one after the other, until nothing moves any more.
+use crate::client::ClientSeat;
 use crate::joining::Joins;
-use crate::side::{Side, part, serve, speak, transfer};
+use crate::server::ServerSeat;
+use ftp_client_model::Near;
 use ftp_control::TURNS;
+use ftp_server_model::Far;
+use ftp_tree_memory::MemTree;
+use std::alloc::Global;
 use std::io;
 use std::io::{Error, ErrorKind};
 
-/// Both ends of a session.
-pub(crate) struct Pair<C: Drop, S: Drop> {
-    client: Side<C>,
-    server: Side<S>,
+/// Both ends of a session, in their seats.
+pub(crate) struct Pair<'h, J, N, S>
+where
+    J: Joins,
+    N: Near<Global>,
+    S: Far<Global, MemTree<Global>>,
+{
+    pub(crate) client: ClientSeat<'h, J, N>,
+    pub(crate) server: ServerSeat<'h, J, S>,
 }
 
 /// By hand: a derived drop is proved again, part by part, wherever a pair is let go.
-impl<C: Drop, S: Drop> Drop for Pair<C, S> {
+impl<'h, J, N, S> Drop for Pair<'h, J, N, S>
+where
+    J: Joins,
+    N: Near<Global>,
+    S: Far<Global, MemTree<Global>>,
+{
     fn drop(self) {
         let Self {
             client: _,
@@ -22,73 +36,29 @@ impl<C: Drop, S: Drop> Drop for Pair<C, S> {
     }
 }
 
-impl<C: End, S: End> Pair<C, S> {
-    /// Both ends at a control connection that is opened for them.
-    pub(crate) fn new<R>(net: &R, client: C, server: S) -> io::Result<Pair<C, S>>
-    where
-        R: Joins,
-    {
-        let listener = net.bound()?;
-        let (own, came) = net.joined(&listener)?;
-        Ok(Pair {
-            client: Side::new(client, own),
-            server: Side::new(server, came),
-        })
-    }
-
-    pub(crate) fn client(&mut self) -> &mut C {
-        &mut self.client.end
-    }
-
-    pub(crate) fn server(&mut self) -> &mut S {
-        &mut self.server.end
-    }
-
-    /// Turns until nothing moves any more, or 1,099,511,627,776 of them.
-    pub(crate) fn settle<R>(&mut self, net: &R) -> io::Result<()>
-    where
-        R: Joins,
-    {
+impl<'h, J, N, S> Pair<'h, J, N, S>
+where
+    J: Joins,
+    N: Near<Global>,
+    S: Far<Global, MemTree<Global>>,
+{
+    /// Rounds until two of them had no turn, since a reply that was owed may go in the first; or 1,099,511,627,776 of them.
+    pub(crate) fn settle(&mut self) -> io::Result<()> {
+        let mut was_quiet = false;
         for _ in 0..TURNS {
-            if !self.turn(net)? {
+            let is_quiet = !self.round();
+            if is_quiet && was_quiet {
                 return Ok(());
             }
+            was_quiet = is_quiet;
         }
         Err(Error::from(ErrorKind::TimedOut))
     }
 
-    /// One turn: octets of the control connection, octets of the data connection, what is wanted of the sockets, and the end of a data connection;
-    /// says whether anything moved.
-    fn turn<R>(&mut self, net: &R) -> io::Result<bool>
-    where
-        R: Joins,
-    {
-        let spoke = self.speak()?;
-        let moved = self.transfer()?;
-        let served = self.serve(net)?;
-        let parted = part(&mut self.client, &mut self.server)
-            || part(&mut self.server, &mut self.client);
-        Ok(spoke || moved || served || parted)
-    }
-
-    fn speak(&mut self) -> io::Result<bool> {
-        let asked = speak(&mut self.client, &mut self.server)?;
-        let answered = speak(&mut self.server, &mut self.client)?;
-        Ok(asked || answered)
-    }
-
-    fn transfer(&mut self) -> io::Result<bool> {
-        let up = transfer(&mut self.client, &mut self.server)?;
-        let down = transfer(&mut self.server, &mut self.client)?;
-        Ok(up || down)
-    }
-
-    fn serve<R>(&mut self, net: &R) -> io::Result<bool>
-    where
-        R: Joins,
-    {
-        let one = serve(net, &mut self.client, &mut self.server)?;
-        let other = serve(net, &mut self.server, &mut self.client)?;
-        Ok(one || other)
+    /// One round: a turn of the server, and one of the client; says whether any was made.
+    fn round(&mut self) -> bool {
+        let served = self.server.turn();
+        let asked = self.client.turn();
+        served || asked
     }
 }

@@ -1,10 +1,11 @@
 // A script between standard input and standard output.
-use crate::client::ClientEnd;
+use crate::between::Between;
+use crate::client::ClientSeat;
 use crate::joining::Joins;
 use crate::orders::obey;
 use crate::pair::Pair;
-use crate::server::ServerEnd;
-use crate::side::HERE;
+use crate::ports::HERE;
+use crate::server::ServerSeat;
 use ftp_client::Client;
 use ftp_client_model::Near;
 use ftp_client_steps::ClientTransfer;
@@ -100,7 +101,7 @@ where
     }
 }
 
-/// Plays orders between a client and a server.
+/// Plays orders between a client and a server, at a control connection that is opened for them.
 fn play_between<R, N, S>(
     rt: &R,
     client: N,
@@ -112,6 +113,26 @@ where
     N: Near<Global>,
     S: Far<Global, MemTree<Global>>,
 {
-    let mut pair = Pair::new(rt, ClientEnd::new(client), ServerEnd::new(server))?;
-    obey(rt, &mut pair, orders, &mut io::writer(rt))
+    let between = Between::new(rt)?;
+    play_seated(rt, &between, client, server, orders)
+}
+
+/// Plays them with both in their seats.
+fn play_seated<'h, R, N, S>(
+    rt: &'h R,
+    between: &'h Between,
+    client: N,
+    server: S,
+    orders: Vec<Order<Text<Global>>>,
+) -> io::Result<Status>
+where
+    R: Joins + Print,
+    N: Near<Global>,
+    S: Far<Global, MemTree<Global>>,
+{
+    let mut pair = Pair {
+        client: ClientSeat::new(client, &between.asks, between.client_ports(rt)),
+        server: ServerSeat::new(server, &between.serves, between.server_ports(rt)),
+    };
+    obey(rt.heap(), &mut pair, orders, &mut io::writer(rt))
 }

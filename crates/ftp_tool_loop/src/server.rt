@@ -1,60 +1,128 @@
-// A server as an end.
-ghost use Rattle.std.specs.Prelude.{◌≤◌, length};
-
-use crate::end::{Connection, End, Event};
-use ftp_ends::Wants;
+// The seat of a server: its connections, and the moment that it is for it.
+use crate::joining::Joins;
+use crate::ports::LoopPorts;
+use crate::socket::{Line, Socket};
+use ftp_control::{Cause, Watch};
 use ftp_facts::Moment;
+use ftp_server_drive::{Clocked, Control, Data, Turned, drive_some};
 use ftp_server_model::Far;
 use ftp_tree_memory::MemTree;
-use std::alloc::Allocator;
-use std::marker::PhantomData;
+use std::alloc::Global;
 
-/// A server over a tree in memory, and what that grows by.
+/// A clock that stands until it is set; at first at the start of 1970.
 #[derive(Drop)]
-pub(crate) struct ServerEnd<A, S: Drop> {
-    server: S,
-    growth: PhantomData<A>,
+pub(crate) struct OrderWatch {
+    moment: Moment,
 }
 
-impl<A: Allocator + Copy, S: Far<A, MemTree<A>>> ServerEnd<A, S> {
-    pub(crate) fn new(server: S) -> ServerEnd<A, S> {
-        ServerEnd {
-            server,
-            growth: PhantomData,
-        }
-    }
-
-    /// The moment in force from now on.
-    pub(crate) fn clock(&mut self, moment: Moment) {
-        self.server.clock(moment);
+impl Watch for OrderWatch {
+    fn moment(&mut self) -> Moment {
+        self.moment
     }
 }
 
-impl<A: Allocator + Copy, S: Far<A, MemTree<A>>> End for ServerEnd<A, S> {
-    fn give(&mut self, over: Connection, room: &mut [u8]) -> usize {
-        match over {
-            Connection::Control => self.server.control_out(room),
-            Connection::Data => self.server.data_out(room),
+/// A server over a tree in memory, beside its connections.
+pub(crate) struct ServerSeat<'h, J, S>
+where
+    J: Joins,
+    S: Far<Global, MemTree<Global>>,
+{
+    clocked: Clocked<S, OrderWatch, ()>,
+    line: &'h Socket,
+    control: Control<Line<'h>, Line<'h>>,
+    ports: LoopPorts<'h, J>,
+    data: Data<Socket>,
+    is_over: bool,
+}
+
+/// Its data connection is closed, if one stands.
+impl<'h, J, S> Drop for ServerSeat<'h, J, S>
+where
+    J: Joins,
+    S: Far<Global, MemTree<Global>>,
+{
+    fn drop(self) {
+        let Self {
+            clocked: _,
+            line: _,
+            control: _,
+            ports,
+            data,
+            is_over: _,
+        } = self;
+        let mut ports = ports;
+        data.finish(&mut ports);
+    }
+}
+
+impl<'h, J, S> ServerSeat<'h, J, S>
+where
+    J: Joins,
+    S: Far<Global, MemTree<Global>>,
+{
+    /// A server at its control connection.
+    pub(crate) fn new(
+        server: S,
+        line: &'h Socket,
+        ports: LoopPorts<'h, J>,
+    ) -> ServerSeat<'h, J, S> {
+        ServerSeat {
+            clocked: Clocked {
+                server,
+                watch: OrderWatch {
+                    moment: Moment { seconds: 0 },
+                },
+                watcher: (),
+            },
+            line,
+            control: Control::new(Line::new(line), Line::new(line)),
+            ports,
+            data: Data::new(),
+            is_over: false,
         }
     }
 
-    fn take(&mut self, over: Connection, piece: &[u8]) -> usize {
-        match over {
-            Connection::Control => self.server.hear(piece),
-            Connection::Data => self.server.data_hear(piece),
+    /// The moment that it is from now on.
+    pub(crate) fn set_clock(&mut self, moment: Moment) {
+        self.clocked.watch.moment = moment;
+    }
+
+    /// A turn of its drive, where that would not wait; says whether one was made. Behind the last one it says nothing more.
+    pub(crate) fn turn(&mut self) -> bool {
+        if self.is_over {
+            return false;
+        }
+        match self.drive() {
+            Ok(Turned::Later) => false,
+            Ok(Turned::More) => true,
+            Ok(Turned::Over(())) => self.end(),
+            Err(_) => self.end(),
         }
     }
 
-    fn tell(&mut self, event: Event) {
-        match event {
-            Event::Listening(port) => self.server.listening(port),
-            Event::Opened(host) => self.server.data_opened(host),
-            Event::Ended => self.server.data_end(),
-            Event::Closed => self.server.data_closed(),
-        }
+    /// The drive is over, behind a turn.
+    fn end(&mut self) -> bool {
+        self.is_over = true;
+        self.line.end();
+        true
     }
 
-    fn wants(&self) -> Wants {
-        self.server.wants()
+    fn drive(&mut self) -> Result<Turned<()>, Cause> {
+        drive_some::<
+            Global,
+            MemTree<Global>,
+            S,
+            Line<'h>,
+            Line<'h>,
+            LoopPorts<'h, J>,
+            OrderWatch,
+            (),
+        >(
+            &mut self.clocked,
+            &mut self.control,
+            &mut self.ports,
+            &mut self.data,
+            1,
+        )
     }
 }

@@ -1,27 +1,24 @@
-// A socket of one end: what is on its way to it, and what was read of it that its end has not taken yet.
-ghost use Rattle.std.specs.Prelude.{◌≡◌, ◌≤◌, ◌+◌, length};
+// A socket of a connection of the process with itself: it reads only what is on its way, and writes only what there is room for.
+ghost use Rattle.std.specs.Prelude.{◌≤◌, IfOk, length};
+ghost use Rattle.std.specs.Global.{Global};
 
+use crate::way::{Flow, Way};
+use ftp_control::{For, Spoken};
+use std::alloc::Global;
 use std::io;
-use std::io::{Read, Write};
+use std::io::{Error, ErrorKind, Read, Write};
 use std::net::{Shutdown, TcpStream};
+use std::rc::Rc;
 
-/// The most octets that are on their way to a socket.
-pub(crate) const LIMIT: usize = 4096;
+/// The most octets that an end owes at once over a control connection.
+const REPLIES: usize = 3072;
 
-/// One of the two sockets of a connection.
+/// One of the two sockets of a connection. What would wait fails as `WouldBlock`: who looks first does not meet that.
 pub(crate) struct Socket {
     stream: TcpStream,
-    /// How many octets were written into the other socket that are not read here yet.
-    outstanding: usize,
-    /// What was read last. Its octets from `at` to `end` are not taken yet.
-    inbox: [u8; LIMIT],
-    at: usize,
-    end: usize,
-    /// Whether its end has closed it: it writes nothing more, and takes nothing.
-    is_closed: bool,
-    ghost some: { outstanding ≤ 4096 },
-    ghost order: { at ≤ end },
-    ghost within: { end ≤ 4096 },
+    /// What comes to it, and what goes from it.
+    coming: Rc<Way, Global>,
+    going: Rc<Way, Global>,
 }
 
 /// By hand: a derived drop is proved again, part by part, wherever a socket is let go.
@@ -29,83 +26,162 @@ impl Drop for Socket {
     fn drop(self) {
         let Self {
             stream: _,
-            outstanding: _,
-            inbox: _,
-            at: _,
-            end: _,
-            is_closed: _,
+            coming: _,
+            going: _,
         } = self;
     }
 }
 
 impl Socket {
-    /// A socket to which nothing is on its way; each write goes out at once.
-    pub(crate) fn new(stream: TcpStream) -> io::Result<Socket> {
-        stream.set_nodelay(true)?;
-        Ok(Socket {
-            stream,
-            outstanding: 0,
-            inbox: [0; LIMIT],
-            at: 0,
-            end: 0,
-            is_closed: false,
-        })
+    /// The two sockets of a connection over which nothing went yet; each write goes out at once.
+    pub(crate) fn both(
+        alloc: Global,
+        one: TcpStream,
+        other: TcpStream,
+    ) -> io::Result<(Socket, Socket)> {
+        one.set_nodelay(true)?;
+        other.set_nodelay(true)?;
+        let up = Rc::new(alloc, Way::new())?;
+        let down = Rc::new(alloc, Way::new())?;
+        let near = Socket {
+            stream: one,
+            coming: down.clone()?,
+            going: up.clone()?,
+        };
+        let far = Socket {
+            stream: other,
+            coming: up,
+            going: down,
+        };
+        Ok((near, far))
     }
 
-    /// How many octets more may be on their way here.
-    pub(crate) fn room(&self) -> usize
-        ensures { result ≤ 4096 }
-    {
-        LIMIT.saturating_sub(self.outstanding)
+    /// Whether a read ends at once.
+    pub(crate) fn has_octets(&self) -> bool {
+        self.coming.has_octets() || self.coming.flow() != Flow::Open
     }
 
-    /// Writes octets, which are then on their way to the other socket; no more than it has room for.
-    pub(crate) fn send(&mut self, octets: &[u8], other: &mut Socket) -> io::Result<()> {
-        self.stream.write_all(octets)?;
-        other.outstanding = LIMIT.min(other.outstanding.saturating_add(octets.len()));
-        Ok(())
+    /// Whether a write ends at once.
+    pub(crate) fn has_room(&self) -> bool {
+        self.going.room() > 0 || self.going.flow() != Flow::Open
     }
 
-    /// Reads all that is on its way, where all that was read before is taken.
-    pub(crate) fn fetch(&mut self) -> io::Result<()> {
-        if self.at < self.end {
-            return Ok(());
+    /// Whether there is room for what an end owes at once over a control connection, or nobody takes it.
+    pub(crate) fn has_room_for_replies(&self) -> bool {
+        self.going.room() >= REPLIES || self.going.flow() != Flow::Open
+    }
+
+    /// Whether what is waited for is there.
+    pub(crate) fn is_ready(&self, what: For) -> bool {
+        match what {
+            For::Octets => self.has_octets(),
+            For::Room => self.has_room(),
         }
-        let count = self.outstanding;
-        let (room, _) = self.inbox.split_at_mut(count);
-        self.stream.read_exact(room)?;
-        self.outstanding = 0;
-        self.at = 0;
-        self.end = count;
+    }
+
+    /// What it has, as a control connection.
+    pub(crate) fn spoken(&self) -> Spoken {
+        match self.coming.flow() {
+            Flow::Ended | Flow::Broken => Spoken::Ended,
+            Flow::Open if self.coming.has_octets() => Spoken::Octets,
+            Flow::Open => Spoken::Nothing,
+        }
+    }
+
+    /// Reads what is on its way; none is the end behind it.
+    pub(crate) fn receive(&self, room: &mut [u8]) -> io::Result<usize>
+        ensures within { IfOk result (λ count. count ≤ length room.new) }
+    {
+        match self.coming.flow() {
+            Flow::Broken => return Err(Error::from(ErrorKind::ConnectionReset)),
+            Flow::Open if !self.coming.has_octets() => {
+                return Err(Error::from(ErrorKind::WouldBlock));
+            }
+            Flow::Open | Flow::Ended => {}
+        }
+        let mut stream = &self.stream;
+        let count = stream.read(room)?;
+        self.coming.came(count);
+        Ok(count)
+    }
+
+    /// Writes as many octets as there is room for.
+    pub(crate) fn send(&self, octets: &[u8]) -> io::Result<usize>
+        ensures within { IfOk result (λ count. count ≤ length octets.now) }
+    {
+        if self.going.flow() != Flow::Open {
+            return Err(Error::from(ErrorKind::BrokenPipe));
+        }
+        let room = self.going.room();
+        if room == 0 {
+            return Err(Error::from(ErrorKind::WouldBlock));
+        }
+        let (front, _) = octets.split_at(room.min(octets.len()));
+        let mut stream = &self.stream;
+        let count = stream.write(front)?;
+        self.going.went(count);
+        Ok(count)
+    }
+
+    /// Its end sends nothing more: the other socket finds the end behind all that was written.
+    pub(crate) fn end(&self) {
+        self.going.end();
+        let _ended = self.stream.shutdown(Shutdown::Write);
+    }
+
+    /// Its end sends nothing more, and takes nothing.
+    pub(crate) fn close(self) {
+        self.end();
+        self.coming.cut();
+    }
+
+    /// Nothing more goes over the connection, and what is on its way is lost.
+    pub(crate) fn reset(self) {
+        self.coming.cut();
+        self.going.cut();
+    }
+}
+
+impl Read for Socket {
+    fn read(&mut self, room: &mut [u8]) -> io::Result<usize> {
+        self.receive(room)
+    }
+}
+
+impl Write for Socket {
+    fn write(&mut self, octets: &[u8]) -> io::Result<usize> {
+        self.send(octets)
+    }
+
+    fn flush(&mut self) -> io::Result<()> {
         Ok(())
     }
+}
 
-    /// What was read and is not taken yet.
-    pub(crate) fn untaken(&self) -> &[u8]
-        ensures { length result.now + self.now.at ≡ self.now.end }
-    {
-        let (octets, _) = self.inbox.split_at(self.end);
-        let (_, untaken) = octets.split_at(self.at);
-        untaken
+/// A control connection, as its reader and as its writer.
+#[derive(Drop)]
+pub(crate) struct Line<'h> {
+    socket: &'h Socket,
+}
+
+impl<'h> Line<'h> {
+    pub(crate) fn new(socket: &'h Socket) -> Line<'h> {
+        Line { socket }
+    }
+}
+
+impl<'h> Read for Line<'h> {
+    fn read(&mut self, room: &mut [u8]) -> io::Result<usize> {
+        self.socket.receive(room)
+    }
+}
+
+impl<'h> Write for Line<'h> {
+    fn write(&mut self, octets: &[u8]) -> io::Result<usize> {
+        self.socket.send(octets)
     }
 
-    /// So many of these octets were taken.
-    pub(crate) fn taken(&mut self, count: usize) {
-        self.at = self.end.min(self.at.saturating_add(count));
-    }
-
-    /// Whether all that was written into the other socket is taken.
-    pub(crate) fn is_through(&self) -> bool {
-        self.outstanding == 0 && self.at == self.end
-    }
-
-    /// Its end writes nothing more: the other socket finds the end behind all that was written.
-    pub(crate) fn close(&mut self) -> io::Result<()> {
-        self.is_closed = true;
-        self.stream.shutdown(Shutdown::Write)
-    }
-
-    pub(crate) fn is_closed(&self) -> bool {
-        self.is_closed
+    fn flush(&mut self) -> io::Result<()> {
+        Ok(())
     }
 }

@@ -1,0 +1,50 @@
+// What stands between both ends: their control connection, and where each awaits data connections.
+use crate::door::Door;
+use crate::joining::Joins;
+use crate::ports::LoopPorts;
+use crate::socket::Socket;
+use std::io;
+
+/// The two sockets of a control connection, the client's and the server's, and the door of each.
+pub(crate) struct Between {
+    pub(crate) asks: Socket,
+    pub(crate) serves: Socket,
+    near: Door,
+    far: Door,
+}
+
+/// By hand, as that of a door.
+impl Drop for Between {
+    fn drop(self) {
+        let Self {
+            asks: _,
+            serves: _,
+            near: _,
+            far: _,
+        } = self;
+    }
+}
+
+impl Between {
+    /// A control connection that is opened for both.
+    pub(crate) fn new<J: Joins>(net: &J) -> io::Result<Between> {
+        let listener = net.bound()?;
+        let (asks, serves) = net.joined(&listener)?;
+        Ok(Between {
+            asks,
+            serves,
+            near: Door::new(),
+            far: Door::new(),
+        })
+    }
+
+    /// The data connections of the client.
+    pub(crate) fn client_ports<'h, J: Joins>(&'h self, net: &'h J) -> LoopPorts<'h, J> {
+        LoopPorts::new(net, &self.asks, &self.near, &self.far)
+    }
+
+    /// The data connections of the server.
+    pub(crate) fn server_ports<'h, J: Joins>(&'h self, net: &'h J) -> LoopPorts<'h, J> {
+        LoopPorts::new(net, &self.serves, &self.far, &self.near)
+    }
+}
