@@ -15,7 +15,7 @@ _ftp_tool_options() {
         mv) echo "$place" ;;
         mirror) echo "--delete --delete-any --dry-run --json --checksum --exclude --user --password-file --limit --limit-rate --active --extended --no-extended --no-flush --progress --quiet --timeout --help" ;;
         run) echo "--host --port --user --password-file --timeout --help" ;;
-        serve) echo "--port --dir --sessions --host --accounts --log --keep --login --idle --idle-while-waited --session-while-waited --login-while-waited --passive-ports --passive-address --skip --most-octets --most-of-a-file --most-files --any --help" ;;
+        serve) echo "--port --dir --sessions --at-once --at-once-per-host --until-input-ends --finish --host --accounts --log --keep --login --idle --idle-while-waited --session-while-waited --login-while-waited --passive-ports --passive-address --skip --most-octets --most-of-a-file --most-files --any --help" ;;
         password) echo "--rounds --help" ;;
         dialogue) echo "--piece --help" ;;
         facts) echo "--help" ;;

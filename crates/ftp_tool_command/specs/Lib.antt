@@ -1,3 +1,3 @@
--- What the values of `serve` ask to be served, and which amounts words say.
 pub mod Amount
+pub mod Crowd
 pub mod Serving

@@ -3,13 +3,14 @@ use Rattle.std.specs.Prelude.{◌≡◌, ◌^◌, ◌-◌, ⊤, ℕ, List, Optio
 use Rattle.std.specs.Net.Grammar.{IsIpText}
 use Rattle.std.specs.declared.net.IpAddr.{IpAddr}
 use Rattle.ftp_tool_command.specs.Amount.{SaysMost}
+use Rattle.ftp_tool_command.specs.Crowd.{SaysAtOnce, SaysInput, SaysPerHost}
 use Rattle.ftp_tool_command.specs.declared.serving.LimitWords.{LimitWords}
 use Rattle.ftp_tool_command.specs.declared.serving.Scope.{Scope}
 use Rattle.ftp_tool_command.specs.declared.serving.Scope.TheVariants.{Any, Usual}
 use Rattle.ftp_tool_command.specs.declared.serving.ServeWords.{ServeWords}
 use Rattle.ftp_tool_command.specs.declared.serving.WaitWords.{WaitWords}
 use Rattle.ftp_tool_serve.specs.declared.serving.Serving.{Serving}
-use Rattle.ftp_tool_sockets.specs.declared.patience.Limits.{Limits as Waits}
+use Rattle.ftp_tool_looking.specs.declared.patience.Limits.{Limits as Waits}
 use Rattle.ftp_tool_words.specs.Words.{SaysBelow, SaysPort, SaysPorts, SaysSessions}
 use Rattle.ftp_tree.specs.Tree.{default_limits}
 use Rattle.ftp_tree.specs.declared.limits.Limits.{Limits}
@@ -58,6 +59,9 @@ pub record Asks (words : ServeWords) (serving : Serving) : Type 0 where
   pub port : SaysPort words.port.now serving.port
   pub dir : serving.dir ≡ words.dir
   pub sessions : SaysSessions words.sessions.now serving.sessions
+  pub at_once : SaysAtOnce (option_map (λ word. word.now) words.at_once) serving.sessions serving.at_once
+  pub per_host : SaysPerHost (option_map (λ word. word.now) words.per_host) serving.at_once serving.per_host
+  pub input : SaysInput words.stop words.finish.now serving.input
   pub accounts : serving.accounts ≡ words.accounts
   pub log : serving.log ≡ words.log
   pub others : serving.others ≡ words.others

@@ -28,7 +28,7 @@ Example:
   printf 'a\\nb' | ftp_tool frame --type I --stru R --mode B | od -An -tx1";
 
 pub const SERVE: &str = "\
-Reads the names of the folder, and serves control connections one after another; what clients change is changed in the folder first.
+Reads the names of the folder, and serves control connections, several at once; what clients change is changed in the folder first.
 Who may log in: those of the file of accounts, each below its root; it is read anew for each session. Without one guest with the password
 secret and anonymous, who may change all that is served, and then an address of the loopback alone is listened at. Everything goes in
 cleartext, passwords too.
@@ -44,7 +44,11 @@ What can't be served is refused at the start, or with --skip left out with a not
 and 16,384 files and directories are served below each account's root, unless --most-octets, --most-of-a-file and --most-files say
 another number, as 20G, or any; --any says any for each, and --skip. A client is told 421 and ended that says and sends nothing for the
 seconds of --idle, or of --idle-while-waited where another client waits; that is not logged in after those of --login; and, whatever it
-says or sends, once another client waits for those of --session-while-waited, before a login of --login-while-waited. From the third
+says or sends, once another client waits for those of --session-while-waited, before a login of --login-while-waited. Of more than one at
+once nobody waits: where all seats are taken, the session that said and sent nothing for the longest is ended for who comes, where that is
+longer than --idle-while-waited, or one that is not logged in after --login-while-waited; else who comes is told 421, and so is whose address
+has as many seats as --at-once-per-host says. With --until-input-ends the end of standard input stops the server: nobody more is taken, a
+session that does nothing is told 421, and transfers may go on for the seconds of --finish. From the third
 refused login on answers wait a second, and the tenth ends the connection; so do answers to an address from its tenth one on, over all
 connections, until ten minutes after the last.
 Status: 0 done; 2 bad command line; 3 the folder, the accounts, the port or a session failed, or memory was refused.
@@ -126,10 +130,12 @@ terminal, it tells how far a transfer is that takes more than a second, each sec
 MiB 1,024 KiB. With --quiet standard error has errors alone, the lines that begin with error: - no progress and no notes, whatever
 --progress says; status and files are the same. With --limit-rate no more octets a second go over a data connection.
 Where the control connection ends, another one is made, at most four times, behind 1, 2, 4 and 8 seconds, but once alone where the server
-never said a line; each is told on standard error. The download goes on there where size and moment are those of before, and else begins
-anew. A server that says, takes and sends nothing for the seconds of --timeout counts as one that ended it.
+never said a line, and then both have the seconds of --timeout together; each is told on standard error. The download goes on there where
+size and moment are those of before, and else begins anew. A server that says, takes and sends nothing for the seconds of --timeout counts
+as one that ended it; the addresses of a name share them, until one answers.
 Over IPv4 too a data connection is asked for by EPSV, with --active by EPRT, and from the first answer 500, 501, 502 or 522 on by PASV or
-PORT; with --extended by EPSV or EPRT alone, with --no-extended by PASV or PORT alone.
+PORT; with --extended by EPSV or EPRT alone, with --no-extended by PASV or PORT alone. Another host than the server's is never at its other
+end: where PASV is answered with one, that is refused, and what is told says what may help.
 Who logs in is the user of --user, else that of a URL, else that of the first entry that .netrc has for HOST, else anonymous. The password
 of anonymous is none; that of another user is the first of: that of a URL that names the same user or where --user names none; the file that
 --password-file names; the first entry that .netrc has for HOST and the user; FTP_PASSWORD in the environment, which is not sent for a user

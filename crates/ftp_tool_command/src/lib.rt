@@ -3,6 +3,7 @@
 
 mod amount;
 mod command_line;
+mod crowd;
 mod fetching;
 mod help;
 mod laws;

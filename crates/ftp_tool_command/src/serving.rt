@@ -3,13 +3,14 @@ ghost use Rattle.std.specs.Prelude.{◌≡◌, ℕ, Option, IfOk, IfSome, IfNone
 ghost use Rattle.std.specs.Net.Grammar.{IsIpText};
 ghost use Rattle.std.specs.declared.net.IpAddr.{IpAddr};
 ghost use Rattle.ftp_tool_serve.specs.declared.serving.Serving.{Serving};
-ghost use Rattle.ftp_tool_sockets.specs.declared.patience.Limits.{Limits as Waits};
+ghost use Rattle.ftp_tool_looking.specs.declared.patience.Limits.{Limits as Waits};
 ghost use Rattle.ftp_tool_words.specs.Words.{SaysPorts, SaysSessions};
 ghost use Rattle.ftp_tool_words.specs.declared.words.Sessions.{Sessions};
 ghost use Rattle.ftp_tree.specs.declared.limits.Limits.{Limits};
 ghost use Rattle.ftp_tool_command.specs.Serving.{AreLimits, AreWaits, Asks, SaysAddress, SaysLimit, odd_of, unsaid_limits};
 
 use crate::amount::most_of;
+use crate::crowd::{Stop, at_once_by, input_by, per_host_by};
 use crate::help;
 use crate::refusal::Refusal;
 use crate::words::{Form, MOST, Subcommand, Value, Word, chosen, text_in};
@@ -45,7 +46,7 @@ pub const SERVE: Subcommand<'static> = Subcommand {
         Word {
             name: "sessions",
             form: Form::Else(Value::Text("K|forever"), "1"),
-            help: "how many control connections are served, one after another",
+            help: "how many control connections are served; who is told that all seats are taken is none",
         },
         Word {
             name: "host",
@@ -66,6 +67,26 @@ pub fn serve_options() -> &'static [Word<'static>] {
 }
 
 const OPTIONS: &[Word<'static>] = &[
+    Word {
+        name: "at-once",
+        form: Form::Given(Value::Number("N", 1, 64)),
+        help: "how many of them at once; else 1 where --sessions is a number, 32 where it is forever",
+    },
+    Word {
+        name: "at-once-per-host",
+        form: Form::Given(Value::Number("M", 1, 64)),
+        help: "how many of these from one address; else one less, but one at least",
+    },
+    Word {
+        name: "until-input-ends",
+        form: Form::Flag,
+        help: "stops where standard input ends: nobody more is taken, and transfers are finished",
+    },
+    Word {
+        name: "finish",
+        form: Form::Else(SECONDS, "30"),
+        help: "how long transfers may go on then",
+    },
     Word {
         name: "log",
         form: Form::Flag,
@@ -145,6 +166,10 @@ pub(crate) struct ServeWords<'a> {
     port: &'a str,
     dir: &'a str,
     sessions: &'a str,
+    at_once: Option<&'a str>,
+    per_host: Option<&'a str>,
+    stop: Stop,
+    finish: &'a str,
     accounts: Option<&'a str>,
     log: Log,
     others: Others,
@@ -190,6 +215,10 @@ pub fn serving_of<'a>(words: &'a ArgMatches<'_>) -> Result<Serving<'a>, Refusal<
         port: text_in(words, "port"),
         dir: text_in(words, "dir"),
         sessions: text_in(words, "sessions"),
+        at_once: words.get_str("at-once"),
+        per_host: words.get_str("at-once-per-host"),
+        stop: chosen(words, "until-input-ends", Stop::InputEnd, Stop::Signal),
+        finish: text_in(words, "finish"),
         accounts: words.get_str("accounts"),
         log: chosen(words, "log", Log::Told, Log::Silent),
         others: chosen(words, "keep", Others::Keep, Others::Change),
@@ -227,6 +256,9 @@ fn serving_by<'a>(words: ServeWords<'a>) -> Result<Serving<'a>, Refusal<'a>>
 {
     let host = host_by(words.host)?;
     let sessions = sessions_by(words.sessions)?;
+    let at_once = at_once_by(words.at_once, sessions)?;
+    let per_host = per_host_by(words.per_host, at_once)?;
+    let input = input_by(words.stop, words.finish)?;
     let passive = passive_by(words.passive)?;
     let passive_address = passive_address_by(words.passive_address)?;
     let Some(port) = port_of(words.port) else {
@@ -241,6 +273,9 @@ fn serving_by<'a>(words: ServeWords<'a>) -> Result<Serving<'a>, Refusal<'a>>
         port,
         dir: words.dir,
         sessions,
+        at_once,
+        per_host,
+        input,
         accounts: words.accounts,
         log: words.log,
         waits,
