@@ -51,6 +51,8 @@ pub enum Try {
     Moves(usize),
     /// The call with that number fails, counted from 0.
     Fails(Call, u32),
+    /// A server is driven between others, some turns at a time: each look of so many finds that it would wait.
+    Waits(u64),
 }
 
 /// Who makes the calls of an end.
@@ -94,7 +96,7 @@ fn value(text: &[u8], name: &[u8]) -> Option<u64> {
 /// The most octets of a call, and the read and the write that fail.
 fn limits(drive: Drive, tried: Try) -> (usize, u32, u32) {
     match tried {
-        Try::Whole => (drive.moves, NEVER, NEVER),
+        Try::Whole | Try::Waits(_) => (drive.moves, NEVER, NEVER),
         Try::Moves(moves) => (moves, NEVER, NEVER),
         Try::Fails(Call::Read, at) => (drive.moves, at, NEVER),
         Try::Fails(Call::Write, at) => (drive.moves, NEVER, at),
@@ -114,6 +116,9 @@ fn run_by<P: Plays>(drive: Drive, end: &mut P, desk: &mut Desk, owner: Owner<'_>
     let (moves, read, write) = limits(drive, desk.tried);
     let writer = FailingWriter::new(desk.alloc, moves, write);
     let mut peer = Peer::new(desk.alloc, drive);
+    if let Try::Waits(each) = desk.tried {
+        peer.wait_at_each(each);
+    }
     let mut told = Paper::new(desk.alloc);
     let reader = FailingReader::new(desk.octets.as_slice(), moves, read);
     let writer = end.drive(desk.alloc, owner, (reader, writer), &mut peer, &mut told);
@@ -162,11 +167,32 @@ fn outcome_of(is_broken: bool, text: &[u8], whole: &[u8]) -> Outcome {
     }
 }
 
-/// Drives a row again as it says: in calls of each size behind `also`, and with so many reads and writes failed in turn.
+/// Drives a row again: a server between others; and as the row says, in calls of each size behind `also`, and with so many reads and writes failed in
+/// turn.
 pub fn again(turn: Turn<'_>, whole: &[u8], paper: &mut Paper) {
+    each_wait(turn, whole, paper);
     each_size(turn, whole, paper);
     each_failed(turn, whole, (Call::Read, b"reads"), paper);
     each_failed(turn, whole, (Call::Write, b"writes"), paper);
+}
+
+/// Where a server that is driven would wait at each third look, and at each seventh, all is as where it never would.
+fn each_wait(turn: Turn<'_>, whole: &[u8], paper: &mut Paper) {
+    if turn.side.is_client || said(turn.row, b"drive").is_none() {
+        return;
+    }
+    for each in [3, 7] {
+        let seen = played(
+            turn,
+            Manner {
+                tried: Try::Waits(each),
+                ..turn.side.whole()
+            },
+        );
+        if seen.paper.text() != whole {
+            paper.line(b"= otherwise between others");
+        }
+    }
 }
 
 fn each_size(turn: Turn<'_>, whole: &[u8], paper: &mut Paper) {

@@ -14,6 +14,7 @@ mod plays;
 mod programs;
 mod row;
 mod server;
+mod several;
 mod stage;
 mod transfers;
 mod turn;
@@ -30,6 +31,7 @@ enum On {
     End(Side),
     Program,
     Transfer,
+    Several,
 }
 
 /// Plays each row of a script. Rows are paragraphs; they are a server's at first.
@@ -59,6 +61,8 @@ fn divider(row: &[u8]) -> Option<On> {
         Some(On::Program)
     } else if row == b"== on a transfer".as_slice() {
         Some(On::Transfer)
+    } else if row == b"== on several".as_slice() {
+        Some(On::Several)
     } else {
         None
     }
@@ -69,5 +73,6 @@ fn play(alloc: Global, on: On, row: &[u8], paper: &mut Paper) {
         On::End(side) => row::play_row(alloc, side, row, paper),
         On::Program => programs::play_row(alloc, row, paper),
         On::Transfer => transfers::play_row(alloc, row, paper),
+        On::Several => several::play_row(alloc, row, paper),
     }
 }

@@ -8,10 +8,13 @@ use crate::driven::Drive;
 use crate::embedded::sockets::Sockets;
 use crate::event::YEAR_2000;
 use crate::history::{Deed, History};
-use ftp_control::{Accepted, Failed, For, Ports, Ready, Spoken, Watch, Whole, get, put};
+use ftp_control::{
+    Accepted, Awaited, Beside, Failed, For, Ports, Ready, Spoken, Watch, Whole, get, put,
+};
 use ftp_endpoint::{Endpoint, Host};
 use ftp_ends::Wants;
 use ftp_facts::Moment;
+use ftp_server_drive::Data;
 use rows_base::{Paper, Tally, fixed};
 use std::alloc::Global;
 use std::io;
@@ -119,6 +122,10 @@ pub struct Peer {
     resets: u64,
     /// The one that is open for the program of a page.
     opened: Option<Link>,
+    /// Where turns are made between those of others: how many looks find what they look for before one that doesn't.
+    finds: Option<u64>,
+    /// How many looks were made since.
+    looks: u64,
     history: History,
 }
 
@@ -130,8 +137,41 @@ impl Peer {
             taken: Tally::new(),
             resets: 0,
             opened: None,
+            finds: None,
+            looks: 0,
             history: History::new(alloc),
         }
+    }
+
+    /// Each of so many looks finds that it would wait.
+    pub fn wait_at_each(&mut self, looks: u64) {
+        self.finds = Some(looks);
+    }
+
+    /// Whether turns are made between those of others.
+    pub fn is_among_others(&self) -> bool {
+        self.finds.is_some()
+    }
+
+    /// A data connection that is closed is let go, and nothing of it is noted.
+    pub fn let_go(&self, data: Data<Link>) {
+        let mut nobody = Peer::new(self.alloc, self.drive);
+        data.finish(&mut nobody);
+    }
+
+    /// Counts a look, and says whether it finds what it looks for.
+    fn finds(&mut self) -> bool
+        ensures { self.new.history ≡ self.old.history }
+    {
+        let Some(each) = self.finds else {
+            return true;
+        };
+        self.looks = self.looks.wrapping_add(1);
+        if self.looks < each {
+            return true;
+        }
+        self.looks = 0;
+        false
     }
 
     /// Writes what came over the data connections, how many were reset, and what was asked, where the row wants that.
@@ -212,6 +252,14 @@ impl Ports for Peer {
         }
         self.drive.silent -= 1;
         Ready::Data
+    }
+
+    fn looks(&mut self, _what: Awaited) -> bool {
+        self.finds()
+    }
+
+    fn looks_at(&mut self, _stream: &mut Link, _what: For, _beside: Beside) -> bool {
+        self.finds()
     }
 
     fn spoken(&mut self) -> Spoken {

@@ -1,6 +1,6 @@
 //! A server on which rows are played.
-mod begun;
-mod cued;
+pub mod begun;
+pub mod cued;
 mod played;
 mod playing;
 mod told;

@@ -2,11 +2,9 @@
 use crate::handle::Handle;
 use crate::made::file;
 use ftp_operation::Accounts;
-use ftp_tool_serve::{
-    Guesses, Lines, Log, PassivePorts, Patience, Service, Waits, accounts_of, session,
-};
-use ftp_tree::{Limits, Tree};
-use ftp_tree_disk::{DiskTree, Explains, Odd, Others, Unknown, open};
+use ftp_tool_serve::{Guesses, Lines, Log, PassivePorts, Service, Waits, accounts_of, session};
+use ftp_tree::Limits;
+use ftp_tree_disk::{DiskTree, Explains, Odd, Others, Parks, Unknown, open};
 use ftp_tree_host::{Host, SystemHost};
 use rows_base::{Paper, cut};
 use std::alloc::Global;
@@ -100,22 +98,21 @@ pub(crate) fn opened<'a, H: Host>(host: &'a H) -> io::Result<DiskTree<'a, H, Unk
 }
 
 /// Serves a control connection over a folder; gives whether all went well.
-fn served(rt: &HostRuntime, stream: &TcpStream, over: Over<'_>) -> io::Result<bool> {
+fn served(rt: &HostRuntime, stream: TcpStream, over: Over<'_>) -> io::Result<bool> {
     let host = SystemHost::new(rt, over.dir)?;
-    let tree = opened(&host)?;
-    let (_tree, ended) = served_over(rt, stream, tree, over.accounts)?;
-    Ok(ended)
+    let mut tree = opened(&host)?;
+    served_over(rt, stream, &mut tree, over.accounts)
 }
 
-/// Serves a control connection over a tree; gives that back, and whether all went well.
+/// Serves a control connection over a tree; gives whether all went well.
 pub(crate) fn served_over<T>(
     rt: &HostRuntime,
-    stream: &TcpStream,
-    tree: T,
+    stream: TcpStream,
+    tree: &mut T,
     accounts: Option<&str>,
-) -> io::Result<(T, bool)>
+) -> io::Result<bool>
 where
-    T: Tree<Global> + Explains,
+    T: Parks<Global> + Explains,
 {
     match accounts_of(rt, accounts) {
         Ok(accounts) => Ok(served_accounts(rt, stream, tree, accounts)),
@@ -123,30 +120,28 @@ where
     }
 }
 
-/// Serves a control connection of these accounts over a tree; gives that back, and whether all went well.
+/// Serves a control connection of these accounts over a tree; gives whether all went well.
 fn served_accounts<T>(
     rt: &HostRuntime,
-    stream: &TcpStream,
-    tree: T,
+    stream: TcpStream,
+    tree: &mut T,
     accounts: Accounts<Global>,
-) -> (T, bool)
+) -> bool
 where
-    T: Tree<Global> + Explains,
+    T: Parks<Global> + Explains,
 {
-    let patience = Patience::new(WAITS, None);
     let passive = PassivePorts::new(0, 0);
     let lines = Lines::new();
     let guesses = RefCell::new(Guesses::nothing(rt.alloc()));
     let service = Service {
         log: Log::Told,
-        patience: &patience,
         passive: &passive,
         passive_address: None,
         lines: &lines,
         guesses: &guesses,
     };
-    let (tree, ended) = session(&Handle::meeting(rt), tree, accounts, stream, service);
-    (tree, ended.is_ok())
+    let handle = Handle::meeting(rt);
+    session(&handle, tree, accounts, stream, WAITS, service).is_ok()
 }
 
 /// Puts what a client is answered that says these lines before it is served.
@@ -159,8 +154,7 @@ pub(crate) fn answers(
 ) -> io::Result<()> {
     let mut speaks = &client;
     speaks.write_all(said)?;
-    paper.holds("a session", served(rt, &stream, over)?);
-    drop(stream);
+    paper.holds("a session", served(rt, stream, over)?);
     let replies = io::read_to_string(rt.alloc(), client)?;
     put_replies(paper, replies.as_bytes());
     Ok(())

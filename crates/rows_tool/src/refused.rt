@@ -2,7 +2,9 @@
 use crate::handle::Handle;
 use crate::made::{deep, file};
 use crate::statuses::put;
-use ftp_tool_serve::{Limits, Log, Odd, Others, Serving, Sessions, Waits, accounts_of, serve};
+use ftp_tool_serve::{
+    Input, Limits, Log, Odd, Others, Serving, Sessions, Waits, accounts_of, serve,
+};
 use ftp_tree_disk::{DiskTree, LeftOut, LoadFault, Unknown, open};
 use ftp_tree_host::SystemHost;
 use rows_base::Paper;
@@ -97,6 +99,9 @@ pub(crate) fn nobody<'a>(dir: &'a str) -> Serving<'a> {
         port: PORT,
         dir,
         sessions: Sessions::Count(0),
+        at_once: 1,
+        per_host: 1,
+        input: Input::Unread,
         accounts: None,
         log: Log::Silent,
         waits: Waits {

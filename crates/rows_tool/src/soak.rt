@@ -2,8 +2,7 @@
 // takes away what came between them.
 use crate::handle::SENT;
 use crate::loopback::{join, opened, served_over};
-use ftp_tree::Tree;
-use ftp_tree_disk::Explains;
+use ftp_tree_disk::{Explains, Parks};
 use ftp_tree_host::SystemHost;
 use rows_base::Paper;
 use std::alloc::Global;
@@ -63,15 +62,13 @@ fn said(rt: &HostRuntime, lines: &[u8], ends: Ends) -> io::Result<(TcpStream, Tc
 }
 
 /// Puts what is there after each client.
-fn put_clients<T>(rt: &HostRuntime, paper: &mut Paper, tree: T) -> io::Result<()>
+fn put_clients<T>(rt: &HostRuntime, paper: &mut Paper, tree: &mut T) -> io::Result<()>
 where
-    T: Tree<Global> + Explains,
+    T: Parks<Global> + Explains,
 {
-    let mut tree = tree;
     for (name, lines, ends) in CLIENTS {
         let (_client, stream) = said(rt, *lines, *ends)?;
-        let (back, _ended) = served_over(rt, &stream, tree, None)?;
-        tree = back;
+        let _ended = served_over(rt, stream, tree, None)?;
         paper.holds(*name, taken(rt)? == matches!(ends, Ends::Whole));
     }
     Ok(())
@@ -82,6 +79,7 @@ pub(crate) fn row(rt: &HostRuntime) -> io::Result<()> {
     fs::create_dir(rt, DIR)?;
     let mut paper = Paper::new(rt.alloc());
     let host = SystemHost::new(rt, DIR)?;
-    put_clients(rt, &mut paper, opened(&host)?)?;
+    let mut tree = opened(&host)?;
+    put_clients(rt, &mut paper, &mut tree)?;
     rt.write_all(paper.text())
 }

@@ -21,9 +21,18 @@ const MORE_THAN_NODES: u64 = 20_000;
 
 /// `guest` with the password `secret`, and `anonymous` without one, both at this root.
 pub fn accounts<A: Allocator + Copy>(heap: A, root: &[u8]) -> Result<Accounts<A>, AllocError> {
+    accounts_with(heap, root, Rights::all())
+}
+
+/// The same, with these rights.
+pub fn accounts_with<A: Allocator + Copy>(
+    heap: A,
+    root: &[u8],
+    rights: Rights,
+) -> Result<Accounts<A>, AllocError> {
     let mut list = Vec::new(heap);
-    list.push(account(heap, b"guest", Some(Secret::plain(b"secret")), root)?)?;
-    list.push(account(heap, b"anonymous", None, root)?)?;
+    list.push(account(heap, b"guest", Some(Secret::plain(b"secret")), root, rights)?)?;
+    list.push(account(heap, b"anonymous", None, root, rights)?)?;
     match Accounts::new(list) {
         Ok(accounts) => Ok(accounts),
         Err(_) => Err(AllocError),
@@ -35,6 +44,7 @@ fn account<A: Allocator + Copy>(
     user: &[u8],
     pass: Option<Secret>,
     root: &[u8],
+    rights: Rights,
 ) -> Result<Account<Text<A>, Path<A>>, AllocError> {
     let user = Text::copy_of(heap, user)?;
     let Ok(root) = place(heap, root) else {
@@ -44,7 +54,7 @@ fn account<A: Allocator + Copy>(
         user,
         pass,
         root,
-        rights: Rights::all(),
+        rights,
     })
 }
 

@@ -32,7 +32,12 @@ pub fn cues_of<A: Allocator + Copy>(heap: A, turn: Turn<'_>) -> Result<Vec<Cue<A
     Ok(cues)
 }
 
-fn cue_of<A: Allocator + Copy>(heap: A, turn: Turn<'_>, call: &[u8]) -> Result<Cue<A>, AllocError> {
+/// The call that a line says.
+pub fn cue_of<A: Allocator + Copy>(
+    heap: A,
+    turn: Turn<'_>,
+    call: &[u8],
+) -> Result<Cue<A>, AllocError> {
     let (word, rest) = split(call);
     match verb_of(word) {
         Verb::Says => Ok(Cue::Hear(copied(heap, turn.alloc, rest, b"\r\n")?)),
@@ -122,7 +127,7 @@ fn show_nth<A: Allocator + Copy>(
 }
 
 /// Writes what a call gave.
-fn show<A: Allocator + Copy>(gift: &Gift<A>, paper: &mut Paper) {
+pub fn show<A: Allocator + Copy>(gift: &Gift<A>, paper: &mut Paper) {
     match gift {
         Gift::Nothing => {}
         Gift::Took(count) => {

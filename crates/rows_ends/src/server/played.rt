@@ -2,16 +2,21 @@
 use crate::driven::Owner;
 use crate::embedded::server::serve;
 use crate::event::{Event, Told};
-use crate::peer::{Clock, Peer};
+use crate::peer::{Clock, Link, Peer};
 use crate::plays::{Holds, Plays};
 use crate::server::told::{Was, put_line};
+use ftp_control::{Cause, TURNS};
 use ftp_ends::Wants;
-use ftp_server_drive::{Clocked, Control, drive_server};
+use ftp_server_drive::{Clocked, Control, Data, Turned, drive_server, drive_some};
 use ftp_server_model::Far;
 use rows_base::{FailingReader, FailingWriter, Paper};
 use rows_tree::{FailingTree, show_tree};
 use std::alloc::{Allocator, Global};
+use std::io::Write;
 use std::marker::PhantomData;
+
+/// How many turns are made at a time between those of others.
+const SOME: u64 = 2;
 
 /// A server beside its clock, and how its tree grows.
 #[derive(Drop)]
@@ -107,7 +112,11 @@ impl<A: Allocator + Copy, S: Far<A, FailingTree<A>> + Holds> Plays for Played<A,
             Owner::Drive => {
                 let mut control = Control::new(reader, &mut writer);
                 self.clocked.watch = peer.clock();
-                drive_server(&mut self.clocked, &mut control, peer).is_ok()
+                if peer.is_among_others() {
+                    among_others(&mut self.clocked, &mut control, peer).is_ok()
+                } else {
+                    drive_server(&mut self.clocked, &mut control, peer).is_ok()
+                }
             }
             Owner::Page(_) => serve(
                 &mut self.clocked.server,
@@ -120,4 +129,44 @@ impl<A: Allocator + Copy, S: Far<A, FailingTree<A>> + Holds> Plays for Played<A,
         }
         writer
     }
+}
+
+/// Drives a server as one among others: some turns at a time, with whatever else between.
+fn among_others<A, S, W>(
+    clocked: &mut Clocked<S, Clock, ()>,
+    control: &mut Control<FailingReader<'_>, W>,
+    peer: &mut Peer,
+) -> Result<(), Cause>
+where
+    A: Allocator + Copy,
+    S: Far<A, FailingTree<A>>,
+    W: Write + Drop,
+{
+    let mut data = Data::new();
+    let ended = until_over::<A, S, W>(clocked, control, peer, &mut data);
+    peer.let_go(data);
+    ended
+}
+
+/// Turns until the drive is over, or breaks off: then no data connection stands.
+fn until_over<A, S, W>(
+    clocked: &mut Clocked<S, Clock, ()>,
+    control: &mut Control<FailingReader<'_>, W>,
+    peer: &mut Peer,
+    data: &mut Data<Link>,
+) -> Result<(), Cause>
+where
+    A: Allocator + Copy,
+    S: Far<A, FailingTree<A>>,
+    W: Write + Drop,
+{
+    for _ in 0..TURNS {
+        match drive_some::<A, FailingTree<A>, S, _, _, _, _, _>(
+            clocked, control, peer, data, SOME,
+        )? {
+            Turned::Over(()) => return Ok(()),
+            Turned::Later | Turned::More => {}
+        }
+    }
+    Ok(())
 }
