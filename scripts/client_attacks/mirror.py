@@ -11,6 +11,7 @@ import subprocess
 import time
 
 from hostile import TOOL, FakeServer, OwnServer, Rows
+from shelf import Shelf
 
 RANDOM = random.Random(7)
 
@@ -231,6 +232,7 @@ def hostile(rows):
     tree = Tree({"": [file("same"), "type=dir; same"]})
     status, _, told = rows.tool_in(above, None, "mirror", tree.place, "./twice")
     rows.row("a name twice, as file and directory: told, status 1", status == 1 and tree_at(above / "twice") == {"same": b"abc"}, (status, told))
+    made(rows, above)
     deep(rows, above)
     drops(rows, above)
     listings(rows, above)
@@ -244,6 +246,27 @@ def fails_at(name):
             session.send(b"abc")
 
     return retr
+
+
+def made(rows, above):
+    """A place that is not there is made, by whichever code the server says so (RFC 3659, section 7.2.1)."""
+    (above / "new").mkdir()
+    (above / "new/a").write_bytes(b"abc")
+    for code in ("550", "501"):
+        shelf = Shelf({"x": b"x"})
+        listed = shelf.mlsd
+
+        def mlsd(session, argument):
+            path = argument.strip("/")
+            if path and path not in shelf.tree:
+                session.reply(f"{code} no such directory")
+            else:
+                listed(session, argument)
+
+        shelf.server.says["MLSD"] = mlsd
+        status, _, told = rows.tool_in(above, None, "mirror", "./new", shelf.place + "t")
+        shelf.server.close()
+        rows.row(f"up to a place that is not there, MLSD {code}: it is made", (status, shelf.tree.get("t/a")) == (0, b"abc"), (status, told))
 
 
 def deep(rows, above):

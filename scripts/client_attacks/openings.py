@@ -15,13 +15,13 @@ FOREIGN = "227 here (10,9,8,7,200,1)"
 
 
 class Outward:
-    """A data connection that the server opens, where a session would accept one."""
+    """A data connection that the server opens, where a session would accept one, from this host."""
 
-    def __init__(self, port):
-        self.port = port
+    def __init__(self, port, host="127.0.0.1"):
+        self.port, self.host = port, host
 
     def accept(self):
-        return socket.create_connection(("127.0.0.1", self.port)), None
+        return socket.create_connection(("127.0.0.1", self.port), source_address=(self.host, 0)), None
 
     def close(self):
         pass
@@ -35,6 +35,12 @@ def port(session, argument):
 
 def eprt(session, argument):
     session.data = Outward(int(argument.split("|")[3]))
+    session.reply("200 ok")
+
+
+def eprt_elsewhere(session, argument):
+    """Another host of the loopback opens the data connection."""
+    session.data = Outward(int(argument.split("|")[3]), "127.0.0.2")
     session.reply("200 ok")
 
 
@@ -127,11 +133,21 @@ def known(rows):
 
 
 def foreign(rows):
-    """A 227 of another host, as behind a network address translation."""
-    for words, says in ((["cat", "AT/a", "--no-extended"], {}), (["cat", "AT/a"], {"EPSV": "502 no"}), (["mirror", "AT/", "./foreign"], {"EPSV": "502 no"})):
+    """A 227 of another host, as behind a network address translation, and one that comes: what is told names what helps, by how it was asked for."""
+    cases = (
+        (["cat", "AT/a", "--no-extended"], {}, "without --no-extended it names none"),
+        (["mirror", "AT/", "./foreign", "--no-extended"], {}, "without --no-extended it names none"),
+        (["cat", "AT/a"], {"EPSV": "502 no"}, "knows no EPSV"),
+        (["put", "up", "AT/new"], {"EPSV": "500 what"}, "knows no EPSV"),
+        (["ls", "AT/"], {"EPSV": "522 no"}, "knows no EPSV"),
+        (["mirror", "AT/", "./foreign"], {"EPSV": "502 no"}, "knows no EPSV"),
+    )
+    for words, says, help in cases:
         status, out, told, asked, _ = run(rows, words, {"PASV": FOREIGN, **says})
-        holds = (status, out, asked.get("PASV")) == (1, b"", 1) and b"--extended" in told
-        rows.row(f"{' '.join(words)}: a 227 of another host is refused, and --extended is named", holds, (status, out, told, asked))
+        holds = (status, out, asked.get("PASV")) == (1, b"", 1) and help.encode() in told
+        rows.row(f"{' '.join(words)}: a 227 of another host is refused: {help}", holds, (status, out, told, asked))
+    status, out, told, asked, _ = run(rows, ["cat", "AT/a", "--active"], {"EPRT": eprt_elsewhere})
+    rows.row("cat --active: another host opens it: refused", (status, out) == (1, b"") and b"without --active" in told, (status, out, told, asked))
     status, out, told, asked, _ = run(rows, ["cat", "AT/a"], {"PASV": FOREIGN})
     rows.row("EPSV is known: whoever a 227 would name", (status, out, asked) == (0, OCTETS, {"EPSV": 1}), (status, told, asked))
 

@@ -94,7 +94,7 @@ def tells(rows):
     server = FakeServer({"PASV": "227 Entering Passive Mode (10,9,8,7,200,1)", "EPSV": "500 no"})
     found = asks(rows, ["cat", f"127.0.0.1:{server.port}/a"])
     server.close()
-    rows.row("a 227 of another host: --extended is named", b"--extended" in found[2], (found, server.commands))
+    rows.row("a 227 of another host, behind a refused EPSV: both are named", b"knows no EPSV" in found[2], (found, server.commands))
     told = asks(rows, ["cat", "127.0.0.1:1/a"], around={"NETRC": "none"})[2]
     rows.row("NETRC names no file", b"NETRC" in told and told.endswith(b" none\n"), told)
     for text, mode in (("machine 127.0.0.1 login night password q\n", 0o644), ('machine 127.0.0.1 login "night\n', 0o600)):

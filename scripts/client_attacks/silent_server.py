@@ -2,7 +2,8 @@
 """A server that falls silent, at whatever step, holds no program of a client: with --timeout 1 each try ends, and nothing that stood is lost.
 
 What the server said finally stands, though its data connection stays open. All rows run side by side, since a program that finds silence asks
-anew over four more control connections, behind 1, 2, 4 and 8 seconds; where the server never said a line, over one.
+anew over four more control connections, behind 1, 2, 4 and 8 seconds; where the server never said a line, over one at most, and all of that within the
+seconds of --timeout.
 """
 import socket
 import tempfile
@@ -63,16 +64,20 @@ def refused_open(session, _):
     session.reply("552 full")
 
 
-def no_greeting():
-    """Accepts connections, and says nothing on them."""
+def no_greeting(seconds=None):
+    """Accepts connections, and says nothing on them; closes each behind so many seconds."""
     listener = socket.create_server(("127.0.0.1", 0))
     port = listener.getsockname()[1]
     ACCEPTED[port] = 0
 
     def accept():
         while True:
-            KEPT.append(listener.accept()[0])
+            connection = listener.accept()[0]
+            KEPT.append(connection)
             ACCEPTED[port] += 1
+            if seconds is not None:
+                time.sleep(seconds)
+                connection.close()
 
     threading.Thread(target=accept, daemon=True).start()
     return port
@@ -108,6 +113,22 @@ def row(rows, what, port, words, wanted, told=b"", script=None):
     return what, holds, (status, round(took), len(octets), error[-300:])
 
 
+def together(rows):
+    """A server that never says a line: two tries at most, in the seconds of --timeout together, and the second between both."""
+    cases = (
+        ("no greeting", no_greeting(), 1, b"silent for 4 s; nothing is done"),
+        ("closed behind a second without a greeting", no_greeting(1), 2, b"error: "),
+        ("closed at once without a greeting", no_greeting(0), 2, b"error: "),
+        ("no connection comes", no_answer(), 0, b"error: "),
+    )
+    for what, port, accepted, says in cases:
+        begun = time.monotonic()
+        status, _, told = rows.tool("ls", f"127.0.0.1:{port}/", "--timeout", "4", seconds=LIMIT)
+        took = time.monotonic() - begun
+        holds = (status, ACCEPTED.get(port, 0)) == (3, accepted) and took < 8 and says in told
+        rows.row(f"ls, {what}: {accepted} accepted, within the seconds of --timeout", holds, (status, ACCEPTED.get(port), round(took, 1), told[-300:]))
+
+
 def main():
     rows = Rows()
     size = f"213 {len(WHOLE)}"
@@ -139,7 +160,8 @@ def main():
         tried = [pool.submit(row, rows, what, port, words, wanted, told, script if words is run else None) for what, port, words, wanted, told in cases]
     for it in tried:
         rows.row(*it.result())
-    rows.row("get, no greeting: tried twice in all", ACCEPTED[unsaid] == 2, ACCEPTED[unsaid])
+    rows.row("get, no greeting: tried once, since no second is left", ACCEPTED[unsaid] == 1, ACCEPTED[unsaid])
+    together(rows)
     rows.finish()
 
 
