@@ -1,0 +1,5 @@
+pub mod Fetching
+pub mod FetchMoves
+pub mod FetchEnding
+pub mod FetchPlayed
+pub mod FetchFair
