@@ -1,5 +1,6 @@
 -- How a drive of a server ends, made at once or in several calls.
 use Rattle.std.proofs.Common.{◌≡◌, ◌∙◌, [], ◌∷◌, ap, refl, subst, sym, Result, Ok, Err}
+use Rattle.std.specs.Prelude.{⊤}
 use Rattle.ftp_control.proofs.Leading.{fails_then, leads_then}
 use Rattle.ftp_control.specs.Asking.{Asked}
 use Rattle.ftp_control.specs.Deeds.{Other, Stand, with_owner}
@@ -10,7 +11,7 @@ use Rattle.ftp_control.specs.declared.cause.Cause.{Cause}
 use Rattle.ftp_control_drive.proofs.Driven.{did, leaves_done, may_when_done}
 use Rattle.ftp_control_drive.specs.Calling.{Ends}
 use Rattle.ftp_server_model.specs.Calls.{wants}
-use Rattle.ftp_server_drive.specs.Driving.{Drove, IsDone, IsOver}
+use Rattle.ftp_server_drive.specs.Driving.{Drove, Finishes, IsDone, IsOver}
 use Rattle.ftp_server_drive.specs.Side.{server_machine, server_side}
 
 -- one that came to its end
@@ -40,3 +41,22 @@ pub ends_from : {T : Type 0} (start old off : Stand server_side) (r : Result T C
     → Ends server_machine (λ (over : T) old new. IsDone old new) start off r
 ends_from start old off (Ok over) first ends = (ends.0, leads_then start old ends.0 first ends.1, ends.2, ends.3)
 ends_from start old off (Err cause) first ends = fails_then cause start old off first ends
+
+-- one that is over, and whose data connection is left then
+pub finishes : (old off : Stand server_side) (lane : Lane) (over : ⊤) (asked : Asked)
+    → Ends server_machine (λ (over : ⊤) old new. IsDone old new) old off (Ok over)
+    → IsLeft asked off.owner.lane lane → IsFairEnd off.owner.lane asked → Finishes old (with_owner (held off.owner.end lane) off)
+finishes old off lane over asked ends left fair =
+    let mid = ends.0 in
+    let done : IsDone mid.owner.end off.owner.end = ends.2 in
+    let still : off ≡ mid = ends.3 ∙ ap (λ e. with_owner (held e mid.owner.lane) mid) done.0 in
+    let leads : Leads old off = subst (λ s. Leads old s) (sym still) ends.1 in
+    let is_over : IsOver off = subst (λ s. IsOver s) (sym still) done.1 in
+    let may = may_when_done (IsOver off) (wants off.owner.end.server.view) off.owner.lane.fate is_over in
+    let flushed = leaves_done server_machine off.owner.end asked is_over in
+    record {
+      deeds = leads.deeds;
+      asked = asked;
+      led = (off, leads.led, ((refl, left, (may, fair, flushed)), refl));
+      over = is_over;
+    }

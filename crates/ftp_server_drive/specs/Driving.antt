@@ -1,11 +1,12 @@
 -- What a drive of a server beside its control connection did, whole or until it broke off.
-use Rattle.std.specs.Prelude.{◌≡◌, ℕ, Bool, true, [], ◌∷◌}
+use Rattle.std.specs.Prelude.{◌≡◌, ⊤, ℕ, Bool, true, List, [], ◌∷◌}
 use Rattle.std.specs.declared.result.Result.{Result}
 use Rattle.std.specs.declared.result.Result.TheVariants.{Ok, Err}
 use Rattle.ftp_ends.specs.declared.link.Wants.TheVariants.{CloseAll}
 use Rattle.ftp_control.specs.Asking.{Asked}
-use Rattle.ftp_control.specs.Deeds.{Other, Stand, with_owner}
-use Rattle.ftp_control.specs.Driving.{Leads, LeadsFar}
+use Rattle.ftp_control.specs.Cause.{IsCause}
+use Rattle.ftp_control.specs.Deeds.{Deed, Led, Other, Stand, with_owner}
+use Rattle.ftp_control.specs.Driving.{Fails, Leads, LeadsFar}
 use Rattle.ftp_control.specs.Lane.{IsLeft}
 use Rattle.ftp_control.specs.Machine.{Held, IsCut, IsFairEnd, Left}
 use Rattle.ftp_control.specs.declared.cause.Cause.{Cause}
@@ -13,6 +14,7 @@ use Rattle.ftp_control_drive.specs.Driven.{BreaksOff, Did}
 use Rattle.ftp_control_drive.specs.declared.drive.Turned.{Turned}
 use Rattle.ftp_control_drive.specs.declared.drive.Turned.TheVariants as Turns
 use Rattle.ftp_server_model.specs.Calls.{wants}
+use Rattle.ftp_server_model.specs.Machine.{may_hear}
 use Rattle.ftp_server_drive.specs.Side.{Timed, server_machine, server_side}
 
 -- the server is done with the control connection
@@ -48,6 +50,33 @@ pub record BrokeOff (cause : Cause) (failed : Bool) (start now : Stand server_si
 abbrev pub Drives : {T : Type 0} → (failed : Bool) → (start now : Stand server_side) → Result T Cause → Type 0
 Drives failed start now (Ok value) = Drove start now
 Drives failed start now (Err cause) = BrokeOff cause failed start now
+
+-- some turns led from here to where the server is done with the control connection, and its data connection was left last
+pub record Finishes (old now : Stand server_side) : Type 0 where
+  pub deeds : List (Deed server_side)
+  pub asked : Asked
+  pub led : Led (Other (Left asked) ∷ deeds) old now
+  pub over : IsOver now
+
+-- they led from here to where the drive broke off, for this cause; then it was told that the control connection ended, and its data connection was left
+pub record GivesUp (cause : Cause) (failed : Bool) (old now : Stand server_side) : Type 0 where
+  pub off : Stand server_side
+  pub fails : Fails cause old off
+  pub why : IsCause cause failed off.owner.lane.asked off.unheard (wants off.owner.end.server.view) (may_hear off.owner.end.server.view) true
+  pub stays : now ≡ with_owner now.owner off
+  pub cut : Held Timed
+  pub is_cut : IsCut server_machine off.owner cut
+  pub end : now.owner.end ≡ cut.end
+  pub asked : Asked
+  pub left : IsLeft asked cut.lane now.owner.lane
+  pub fair : IsFairEnd cut.lane asked
+
+-- so many turns at most, whatever was done before: the drive goes on, it is over, or it breaks off
+abbrev pub MakesTurns : (most : ℕ) → (failed : Bool) → (old now : Stand server_side) → Result (Turned ⊤) Cause → Type 0
+MakesTurns most failed old now (Ok (Turns.Over over)) = Finishes old now
+MakesTurns most failed old now (Ok Turns.Later) = Leads old now
+MakesTurns most failed old now (Ok Turns.More) = LeadsFar most old now
+MakesTurns most failed old now (Err cause) = GivesUp cause failed old now
 
 -- so it is of a drive that began where no octets of a data connection were on their way or in hand, and led here
 abbrev pub FromAny : (old : Stand server_side) → (EndsSo : Stand server_side → Type 0) → Type 0

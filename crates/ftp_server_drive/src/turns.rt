@@ -3,7 +3,7 @@ ghost use Rattle.std.specs.Prelude.{[]};
 ghost use Rattle.ftp_control.specs.Machine.{held};
 ghost use Rattle.ftp_control_drive.specs.Calling.{IsLater};
 ghost use Rattle.ftp_control_drive.specs.Standing.{lane_at};
-ghost use Rattle.ftp_server_drive.specs.Driving.{DrivesOn};
+ghost use Rattle.ftp_server_drive.specs.Driving.{DrivesOn, MakesTurns};
 ghost use Rattle.ftp_server_drive.specs.Side.{beside, timed};
 
 use crate::clocked::{Clocked, Watches};
@@ -38,6 +38,7 @@ where
     C: Watch,
     O: Watches<F>,
     ensures drives { DrivesOn most control.new.failed (beside R.remaining W.contents (held (timed F.server C.told clocked.old) (lane_at P.Stream.remaining P.Stream.contents (P.history ports.old) data.old [])) control.old) (beside R.remaining W.contents (held (timed F.server C.told clocked.new) (lane_at P.Stream.remaining P.Stream.contents (P.history ports.new) data.new [])) control.new) result }
+    ensures made { MakesTurns most control.new.failed (beside R.remaining W.contents (held (timed F.server C.told clocked.old) (lane_at P.Stream.remaining P.Stream.contents (P.history ports.old) data.old [])) control.old) (beside R.remaining W.contents (held (timed F.server C.told clocked.new) (lane_at P.Stream.remaining P.Stream.contents (P.history ports.new) data.new [])) control.new) result }
     ensures later { IsLater (P.waits ports.new) result }
 {
     let turned = drive_on::<Serves<A, T>, Clocked<F, C, O>, R, W, P>(

@@ -1,39 +1,13 @@
--- How some turns end: the drive is over, and its data connection is left; and what a turn with a tree that is lent comes to.
-use Rattle.std.proofs.Common.{◌≡◌, ◌∙◌, Ok, refl, sym, ap, subst}
-use Rattle.std.specs.Prelude.{⊤}
-use Rattle.ftp_control.specs.Asking.{Asked}
+-- What a turn with a tree that is lent comes to.
+use Rattle.std.proofs.Common.{◌≡◌, ◌∙◌, ap, subst}
 use Rattle.ftp_control.specs.Deeds.{Stand, with_owner}
-use Rattle.ftp_control.specs.Driving.{Leads}
-use Rattle.ftp_control.specs.Lane.{IsLeft, Lane}
-use Rattle.ftp_control.specs.Machine.{IsFairEnd, held}
-use Rattle.ftp_control_drive.proofs.Driven.{leaves_done, may_when_done}
-use Rattle.ftp_control_drive.specs.Calling.{Ends}
-use Rattle.ftp_server_model.specs.Calls.{wants}
+use Rattle.ftp_control.specs.Machine.{held}
+use Rattle.ftp_server_drive.specs.Driving.{MakesTurns}
+use Rattle.ftp_server_drive.specs.Side.{server_side}
 use Rattle.ftp_server_model.specs.Far.{Server}
-use Rattle.ftp_server_drive.specs.Driving.{IsDone, IsOver}
-use Rattle.ftp_server_drive.specs.Side.{server_machine, server_side}
 use Rattle.ftp_server_several.specs.Swapping.{swapped}
 use Rattle.ftp_server_lent.specs.Lending.{Holding, tree_of, with_tree_at}
-use Rattle.ftp_server_lent.specs.Turning.{Finishes, MakesTurns, TakesTurn, Turn}
-
--- one that is over, and whose data connection is left then
-pub finishes : (old off : Stand server_side) (lane : Lane) (over : ⊤) (asked : Asked)
-    → Ends server_machine (λ (over : ⊤) old new. IsDone old new) old off (Ok over)
-    → IsLeft asked off.owner.lane lane → IsFairEnd off.owner.lane asked → Finishes old (with_owner (held off.owner.end lane) off)
-finishes old off lane over asked ends left fair =
-    let mid = ends.0 in
-    let done : IsDone mid.owner.end off.owner.end = ends.2 in
-    let still : off ≡ mid = ends.3 ∙ ap (λ e. with_owner (held e mid.owner.lane) mid) done.0 in
-    let leads : Leads old off = subst (λ s. Leads old s) (sym still) ends.1 in
-    let is_over : IsOver off = subst (λ s. IsOver s) (sym still) done.1 in
-    let may = may_when_done (IsOver off) (wants off.owner.end.server.view) off.owner.lane.fate is_over in
-    let flushed = leaves_done server_machine off.owner.end asked is_over in
-    record {
-      deeds = leads.deeds;
-      asked = asked;
-      led = (off, leads.led, ((refl, left, (may, fair, flushed)), refl));
-      over = is_over;
-    }
+use Rattle.ftp_server_lent.specs.Turning.{TakesTurn, Turn}
 
 -- the same stand, but for its server
 abbrev served_at : Server → Stand server_side → Stand server_side

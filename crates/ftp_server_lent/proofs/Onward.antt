@@ -8,11 +8,12 @@ use Rattle.ftp_control.specs.Machine.{Aside}
 use Rattle.ftp_control.specs.declared.cause.Cause.{Cause}
 use Rattle.ftp_control_drive.specs.declared.drive.Turned.{Turned}
 use Rattle.ftp_control_drive.specs.declared.drive.Turned.TheVariants as Turns
+use Rattle.ftp_server_drive.specs.Driving.{MakesTurns}
 use Rattle.ftp_server_drive.specs.Side.{server_side}
 use Rattle.ftp_server_lent.proofs.Raising.{Raised, raised, up_deed}
 use Rattle.ftp_server_lent.specs.Among.{LeadsAmong}
 use Rattle.ftp_server_lent.specs.Lending.{Exchanged, Holding, lent_at, lent_side, tree_by, tree_of, trees_in, with_tree_at}
-use Rattle.ftp_server_lent.specs.Turning.{AllGoOn, AreTurns, MakesTurns, TakesTurn, Turn, goes_on, trees_of}
+use Rattle.ftp_server_lent.specs.Turning.{AllGoOn, AreTurns, TakesTurn, Turn, goes_on, trees_of}
 
 -- deeds and then others
 pub led_append : (later before : List (Deed lent_side)) (a b c : Stand lent_side) → Led before a b → Led later b c → Led (later ++ before) a c

@@ -10,12 +10,13 @@ use Rattle.ftp_control.specs.Machine.{Left, move_of}
 use Rattle.ftp_control.specs.declared.cause.Cause.{Cause}
 use Rattle.ftp_control_drive.specs.declared.drive.Turned.{Turned}
 use Rattle.ftp_control_drive.specs.declared.drive.Turned.TheVariants as Turns
+use Rattle.ftp_server_drive.specs.Driving.{Finishes, GivesUp, MakesTurns}
 use Rattle.ftp_server_drive.specs.Side.{server_side}
 use Rattle.ftp_server_lent.proofs.Onward.{Goes, among_deeds, among_exchange, goes, led_append, steps_append, trees_append}
 use Rattle.ftp_server_lent.proofs.Raising.{Raised, raised, up_breaks, up_deed, up_left}
 use Rattle.ftp_server_lent.specs.Among.{BrokeOffAmong, DrivesAmong, DroveAmong, IsOneDrive, LeadsAmong}
 use Rattle.ftp_server_lent.specs.Lending.{Holding, lent_at, lent_machine, lent_side, tree_of, trees_in, with_tree_at}
-use Rattle.ftp_server_lent.specs.Turning.{AllGoOn, AreTurns, Finishes, GivesUp, MakesTurns, TakesTurn, Turn, trees_of}
+use Rattle.ftp_server_lent.specs.Turning.{AllGoOn, AreTurns, TakesTurn, Turn, trees_of}
 
 module _ (trees : List Holding) (start : Stand lent_side) (unwritten : start.owner.lane.unwritten ≡ []) (untold : start.owner.lane.untold ≡ []) where
   -- it is over

@@ -3,7 +3,6 @@
 #![tactic(auto)]
 
 pub mod laws;
-mod serves;
 mod turns;
 
 pub use turns::lent_turns;

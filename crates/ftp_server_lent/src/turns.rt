@@ -5,13 +5,11 @@ ghost use Rattle.ftp_control_drive.specs.Calling.{IsLater};
 ghost use Rattle.ftp_control_drive.specs.Standing.{lane_at};
 ghost use Rattle.ftp_server_drive.specs.Side.{beside, timed};
 ghost use Rattle.ftp_server_lent.specs.Lending.{holding};
-ghost use Rattle.ftp_server_lent.specs.Turning.{MakesTurns, TakesTurn};
+ghost use Rattle.ftp_server_lent.specs.Turning.{TakesTurn};
 
-use crate::serves::Serves;
 use ftp_control::{Cause, Control, Ports, Watch};
-use ftp_control_drive::{Data, Turned, drive_on};
-use ftp_server_drive::{Clocked, Watches};
-use ftp_server_model::Far;
+use ftp_control_drive::{Data, Turned};
+use ftp_server_drive::{Clocked, Watches, drive_some};
 use ftp_server_several::Lends;
 use ftp_tree::Tree;
 use std::alloc::Allocator;
@@ -44,47 +42,7 @@ where
     ensures later { IsLater (P.waits ports.new) result }
 {
     clocked.server.exchange(tree);
-    let turned = some_turns::<A, T, F, R, W, P, C, O>(clocked, control, ports, data, most);
+    let turned = drive_some::<A, T, F, R, W, P, C, O>(clocked, control, ports, data, most);
     clocked.server.exchange(tree);
     turned
-}
-
-/// The same with the tree that the server has.
-fn some_turns<A, T, F, R, W, P, C, O>(
-    clocked: &mut Clocked<F, C, O>,
-    control: &mut Control<R, W>,
-    ports: &mut P,
-    data: &mut Data<P::Stream>,
-    most: u64,
-) -> Result<Turned<()>, Cause>
-where
-    A: Allocator + Copy,
-    T: Tree<A>,
-    F: Far<A, T>,
-    R: Read + Drop,
-    W: Write + Drop,
-    P: Ports,
-    C: Watch,
-    O: Watches<F>,
-    ensures turned { MakesTurns most control.new.failed (beside R.remaining W.contents (held (timed F.server C.told clocked.old) (lane_at P.Stream.remaining P.Stream.contents (P.history ports.old) data.old [])) control.old) (beside R.remaining W.contents (held (timed F.server C.told clocked.new) (lane_at P.Stream.remaining P.Stream.contents (P.history ports.new) data.new [])) control.new) result }
-    ensures later { IsLater (P.waits ports.new) result }
-{
-    let turned = drive_on::<Serves<A, T>, Clocked<F, C, O>, R, W, P>(
-        clocked, control, ports, data, most,
-    );
-    match turned {
-        Ok(turned) => match turned {
-            Turned::Over(over) => {
-                data.leave(ports);
-                Ok(Turned::Over(over))
-            }
-            Turned::Later => Ok(Turned::Later),
-            Turned::More => Ok(Turned::More),
-        },
-        Err(cause) => {
-            data.cut::<Serves<A, T>, Clocked<F, C, O>>(clocked);
-            data.leave(ports);
-            Err(cause)
-        }
-    }
 }

@@ -8,7 +8,7 @@ use Rattle.ftp_server_lent.proofs.turns.lent_turns.Goals as goal
 
 pub returns-clause-turn : goal.returns-clause-turn
 returns-clause-turn g c =
-    let made = c.some_turns-turned in
+    let made = c.drive_some-turned in
     let server = g.F.Far.server in
     let here = timed server g.C.Watch.told in
     let lane = lane_at g.P.Stream.Read.remaining g.P.Stream.Write.contents in
@@ -16,5 +16,5 @@ returns-clause-turn g c =
     let old = stand (held (here c.args.clocked.now) (lane (g.P.Ports.history c.args.ports.now) c.args.data.now [])) c.args.control.now in
     let mid = stand (held (here made.new.clocked) (lane (g.P.Ports.history made.new.ports) made.new.data [])) made.new.control in
     let back = holding (g.T.Tree.table c.exchange.new.tree) (g.T.Tree.failures c.exchange.new.tree) in
-    takes _ old mid (server c.exchange.new.self) (server c.exchange-2.new.self) back c.exchange.ensures.taken made.ensures.turned c.exchange.ensures.left
+    takes _ old mid (server c.exchange.new.self) (server c.exchange-2.new.self) back c.exchange.ensures.taken made.ensures.made c.exchange.ensures.left
     c.exchange.ensures.failures c.exchange-2.ensures.left c.exchange-2.ensures.failures c.exchange-2.ensures.taken
