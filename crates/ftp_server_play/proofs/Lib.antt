@@ -1,3 +1,4 @@
 pub mod CallLemmas
 pub mod CountLemmas
+pub mod OrderLemmas
 pub mod PlayLemmas

@@ -1,9 +1,7 @@
 -- Calls one after another.
-use Rattle.std.proofs.Common.{◌≡◌, ◌≢◌, ◌≤◌, Bool, true, false, ◌==◌, ◌&&◌, nat_lt, ◌<◌, ℕ, zero, suc, ◌+◌, List, [], ◌∷◌, ◌++◌, get_or, length, take, length-append, length-take-le, refl, sym, ap, subst, ◌∙◌, arith}
-use Rattle.std.specs.Prelude.{map}
+use Rattle.std.proofs.Common.{◌≡◌, ◌≢◌, ◌≤◌, Bool, true, false, ◌==◌, ◌&&◌, ℕ, zero, suc, ◌+◌, List, [], ◌∷◌, ◌++◌, length, take, length-append, refl, sym, ap, subst, ◌∙◌, arith}
 use Rattle.std.proofs.lemmas.Bool.{eq-eqb}
-use Rattle.std.proofs.lemmas.Bool.Decides.{nat_tests}
-use Rattle.std.proofs.lemmas.List.{length-map, map-append, take-map, take_all, take_more}
+use Rattle.std.proofs.lemmas.List.{length-map, map-append, take-map, take_all}
 use Rattle.ftp_tree.specs.Tree.{Table, node_at}
 use Rattle.ftp_server_model.specs.Failing.{KeepsCourse}
 use Rattle.ftp_server_model.specs.Far.{Server, counts_told}
@@ -17,85 +15,12 @@ use Rattle.ftp_server_laws.proofs.LookLosses.{far_leaves_the_map}
 use Rattle.ftp_server_laws.proofs.RootTheorems.{roots_are_apart}
 use Rattle.ftp_server_play.proofs.CallLemmas.{makes_gives}
 use Rattle.ftp_server_play.proofs.CountLemmas.{calm_all, first_course}
+use Rattle.ftp_server_play.proofs.OrderLemmas.{are_made}
 use Rattle.ftp_server_play.specs.Cues.{cue_of, cues_of, gift_of, gifts_of}
 use Rattle.ftp_server_play.specs.declared.cue.Cue.{Cue as Held}
 use Rattle.ftp_server_play.specs.declared.cue.Gift.{Gift as Given}
-use Rattle.ftp_server_play.specs.Making.{AreMade, ArePlayed, Makes, MakesNext}
+use Rattle.ftp_server_play.specs.Making.{AreMade, ArePlayed, IsCalm, Makes}
 use Rattle.ftp_server_play.specs.Playing.{KeepsApart, KeepsTheMap, PlaysAs, PlaysSome}
-
--- ---- one more call
-
-made_more : (cues : List Cue) (cue : Cue) (gifts : List Gift) (gift : Gift) (old mid new : Server) → AreMade cues gifts old mid → Makes cue gift mid new
-    → AreMade (cues ++ cue ∷ []) (gifts ++ gift ∷ []) old new
-made_more [] cue [] gift old mid new made next = (new, subst (λ s. Makes cue gift s new) made next, refl)
-made_more [] cue (given ∷ gifts) gift old mid new made next = absurd made
-made_more (first ∷ cues) cue [] gift old mid new made next = absurd made
-made_more (first ∷ cues) cue (given ∷ gifts) gift old mid new made next = (made.0, made.1, made_more cues cue gifts gift made.0 mid new made.2 next)
-
--- behind calm calls alone, another calm one
-calm_more : (calm : ℕ) (cues : List Cue) (cue : Cue) (gifts : List Gift) (gift : Gift) (old mid new : Server) → calm ≡ length cues → ArePlayed calm cues gifts old mid → Makes cue gift mid new
-    → new.counts ≡ mid.counts → ArePlayed (suc calm) (cues ++ cue ∷ []) (gifts ++ gift ∷ []) old new
-calm_more zero [] cue [] gift old mid new all made next same = (new, subst (λ s. Makes cue gift s new) made next, same ∙ ap (λ s. s.counts) made, refl)
-calm_more zero [] cue (given ∷ gifts) gift old mid new all made next same = absurd made
-calm_more zero (first ∷ cues) cue gifts gift old mid new all made next same = absurd (omega (arith, all))
-calm_more (suc calm) [] cue gifts gift old mid new all made next same = absurd made
-calm_more (suc calm) (first ∷ cues) cue [] gift old mid new all made next same = absurd made
-calm_more (suc calm) (first ∷ cues) cue (given ∷ gifts) gift old mid new all made next same =
-    (made.0, made.1, made.2, calm_more calm cues cue gifts gift made.0 mid new (omega (arith, all)) made.3 next same)
-
--- behind calm calls alone, one in which a count moved
-moved_more : (calm : ℕ) (cues : List Cue) (cue : Cue) (gifts : List Gift) (gift : Gift) (old mid new : Server) → calm ≡ length cues → ArePlayed calm cues gifts old mid → Makes cue gift mid new
-    → new.counts ≢ mid.counts → ArePlayed calm (cues ++ cue ∷ []) (gifts ++ gift ∷ []) old new
-moved_more zero [] cue [] gift old mid new all made next moved =
-    (new, subst (λ s. Makes cue gift s new) made next, (λ same. moved (same ∙ sym (ap (λ s. s.counts) made))), refl)
-moved_more zero [] cue (given ∷ gifts) gift old mid new all made next moved = absurd made
-moved_more zero (first ∷ cues) cue gifts gift old mid new all made next moved = absurd (omega (arith, all))
-moved_more (suc calm) [] cue gifts gift old mid new all made next moved = absurd made
-moved_more (suc calm) (first ∷ cues) cue [] gift old mid new all made next moved = absurd made
-moved_more (suc calm) (first ∷ cues) cue (given ∷ gifts) gift old mid new all made next moved =
-    (made.0, made.1, made.2, moved_more calm cues cue gifts gift made.0 mid new (omega (arith, all)) made.3 next moved)
-
--- behind one in which a count moved, any
-any_more : (calm : ℕ) (cues : List Cue) (cue : Cue) (gifts : List Gift) (gift : Gift) (old mid new : Server) → calm < length cues → ArePlayed calm cues gifts old mid → Makes cue gift mid new
-    → ArePlayed calm (cues ++ cue ∷ []) (gifts ++ gift ∷ []) old new
-any_more zero [] cue gifts gift old mid new less made next = absurd (omega (arith, less))
-any_more zero (first ∷ cues) cue [] gift old mid new less made next = absurd made
-any_more zero (first ∷ cues) cue (given ∷ gifts) gift old mid new less made next =
-    (made.0, made.1, made.2, made_more cues cue gifts gift made.0 mid new made.3 next)
-any_more (suc calm) [] cue gifts gift old mid new less made next = absurd made
-any_more (suc calm) (first ∷ cues) cue [] gift old mid new less made next = absurd made
-any_more (suc calm) (first ∷ cues) cue (given ∷ gifts) gift old mid new less made next =
-    (made.0, made.1, made.2, any_more calm cues cue gifts gift made.0 mid new (omega (arith, less)) made.3 next)
-
--- the calm ones are among them
-calm_few : (calm : ℕ) (cues : List Cue) (gifts : List Gift) (old new : Server) → ArePlayed calm cues gifts old new → calm ≤ length cues
-calm_few zero cues gifts old new made = omega arith
-calm_few (suc calm) [] gifts old new made = absurd made
-calm_few (suc calm) (first ∷ cues) [] old new made = absurd made
-calm_few (suc calm) (first ∷ cues) (given ∷ gifts) old new made = omega (arith, calm_few calm cues gifts made.0 new made.3)
-
--- one more, and how many were calm then
-played_more : (is_calm : Bool) (calm after : ℕ) (cues : List Cue) (cue : Cue) (gifts more : List Gift) (old mid new : Server) → ArePlayed calm cues gifts old mid
-    → MakesNext is_calm cue gifts more mid new → (is_calm ≡ true → calm ≡ length cues → after ≡ calm + 1) → (is_calm ≡ false → after ≡ calm)
-    → (calm < length cues → after ≡ calm) → ArePlayed after (cues ++ cue ∷ []) more old new
-played_more is_calm calm after cues cue gifts more old mid new made next on off past =
-    subst (λ l. ArePlayed after (cues ++ cue ∷ []) l old new) (sym next.kept) (by_place (nat_lt calm (length cues)) refl)
-  where
-    all_calm : (b : Bool) → is_calm ≡ b → calm ≡ length cues → ArePlayed after (cues ++ cue ∷ []) (gifts ++ next.gift ∷ []) old new
-    all_calm true is all =
-        subst (λ n. ArePlayed n (cues ++ cue ∷ []) (gifts ++ next.gift ∷ []) old new) (let e : suc calm ≡ after = omega (arith, on is all) in e)
-        (calm_more calm cues cue gifts next.gift old mid new all made next.makes (next.calm is))
-    all_calm false is all =
-        subst (λ n. ArePlayed n (cues ++ cue ∷ []) (gifts ++ next.gift ∷ []) old new) (sym (off is))
-        (moved_more calm cues cue gifts next.gift old mid new all made next.makes (next.moved is))
-
-    by_place : (b : Bool) → nat_lt calm (length cues) ≡ b → ArePlayed after (cues ++ cue ∷ []) (gifts ++ next.gift ∷ []) old new
-    by_place true is =
-        let less : calm < length cues = grind (arith, nat_tests) in
-        subst (λ n. ArePlayed n (cues ++ cue ∷ []) (gifts ++ next.gift ∷ []) old new) (sym (past less)) (any_more calm cues cue gifts next.gift old mid new less made next.makes)
-    by_place false is =
-        let few = calm_few calm cues gifts old mid made in
-        let all : calm ≡ length cues = grind (arith, nat_tests) in all_calm is_calm refl all
 
 -- ---- lists
 
@@ -105,27 +30,9 @@ pub kept_on : {A : Type 0} (items before after : List (Given A)) (gift : Given A
 kept_on items before after gift same more =
     ap gifts_of more ∙ map-append gift_of before (gift ∷ []) ∙ ap (λ l. gifts_of l ++ gift_of gift ∷ []) same
 
--- the first of them are one more with the next
-taken_on : {X Y : Type 0} (f : X → Y) (items : List X) (i : ℕ) (item other : X) → i < length items → item ≡ get_or items i other
-    → map f (take (i + 1) items) ≡ map f (take i items) ++ f item ∷ []
-taken_on f items i item other inside is =
-    ap (map f) (take_more items i other inside) ∙ map-append f (take i items) (get_or items i other ∷ []) ∙ ap (λ x. map f (take i items) ++ f x ∷ []) (sym is)
-
 -- none was made
 pub none_made : {A : Type 0} (gifts : List (Given A)) (old new : Server) → gifts ≡ [] → new ≡ old → ArePlayed 0 [] (gifts_of gifts) old new
 none_made gifts old new none same = subst (λ l. ArePlayed 0 [] (gifts_of l) old new) (sym none) same
-
--- the next of a list of calls was made
-pub one_more : {A : Type 0} (cues : List (Held A)) (i : ℕ) (cue other : Held A) (is_calm : Bool) (calm after : ℕ) (gifts more : List Gift) (old mid new : Server) → i < length cues
-    → cue ≡ get_or cues i other → ArePlayed calm (cues_of (take i cues)) gifts old mid → MakesNext is_calm (cue_of cue) gifts more mid new
-    → (is_calm ≡ true → calm ≡ i → after ≡ calm + 1) → (is_calm ≡ false → after ≡ calm) → (calm < i → after ≡ calm) → ArePlayed after (cues_of (take (i + 1) cues)) more old new
-one_more cues i cue other is_calm calm after gifts more old mid new inside is made next on off past =
-    subst (λ l. ArePlayed after l more old new) (sym (taken_on cue_of cues i cue other inside is))
-    (played_more is_calm calm after (cues_of (take i cues)) (cue_of cue) gifts more old mid new made next
-    (λ calmly all. on calmly (all ∙ long)) off (λ less. past (subst (λ n. calm < n) long less)))
-  where
-    long : length (cues_of (take i cues)) ≡ i
-    long = length-map (take i cues) cue_of ∙ length-take-le i cues (omega (arith, inside))
 
 -- and one gift more is kept
 pub long_more : {A : Type 0} (items more : List (Given A)) (gift : Gift) (i : ℕ) → gifts_of more ≡ gifts_of items ++ gift ∷ [] → length items ≡ i → length more ≡ i + 1
@@ -245,20 +152,10 @@ made_looks table (cue ∷ cues) [] old new none made k = absurd made
 made_looks table (cue ∷ cues) (gift ∷ gifts) old new none made k =
     made_looks table cues gifts made.0 new none made.2 (call_looks table cue gift old made.0 (first_course cue gift cues gifts old made.0 new made.1 made.2 none) made.1 k)
 
--- those that `play` tells of were made
-are_made : (calm : ℕ) (cues : List Cue) (gifts : List Gift) (old new : Server) → ArePlayed calm cues gifts old new → AreMade cues gifts old new
-are_made zero [] [] old new made = made
-are_made zero [] (gift ∷ gifts) old new made = made
-are_made zero (cue ∷ cues) [] old new made = made
-are_made zero (cue ∷ cues) (gift ∷ gifts) old new made = (made.0, made.1, made.3)
-are_made (suc calm) [] gifts old new made = absurd made
-are_made (suc calm) (cue ∷ cues) [] old new made = made
-are_made (suc calm) (cue ∷ cues) (gift ∷ gifts) old new made = (made.0, made.1, are_made calm cues gifts made.0 new made.3)
-
 -- so the map stays
 pub keeps_the_map : (calm : ℕ) (cues : List Cue) (gifts : List Gift) (old new : Server) → new.counts.failures.strays ≡ 0 → ArePlayed calm cues gifts old new → KeepsTheMap old new
 keeps_the_map calm cues gifts old new none made =
-    let played = are_made calm cues gifts old new made in
+    let played = are_made Makes IsCalm calm cues gifts old new made in
     record {
       began = λ table accounts here peer starts lookers.
           (made_looks table cues gifts old new none played (subst (OnlyLooks table) (sym starts) (starts_look table accounts here peer lookers))).session.same;

@@ -1,3 +1,4 @@
 pub mod Cues
+pub mod Order
 pub mod Making
 pub mod Playing

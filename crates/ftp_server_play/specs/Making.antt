@@ -1,12 +1,13 @@
 -- What a call of a server gives and leaves whether or not memory or the device fails in it: what the clauses of that call in the trait
 -- `Far` say. Calls by a list are a chain of these.
-use Rattle.std.specs.Prelude.{◌≡◌, ◌≢◌, ◌<◌, ◌≤◌, ◌++◌, ℕ, zero, suc, Bool, true, false, List, [], ◌∷◌, IsTrue, length, take}
+use Rattle.std.specs.Prelude.{◌≡◌, ◌<◌, ◌≤◌, ℕ, Bool, List, IsTrue, length, take}
 use Rattle.ftp_server_model.specs.Calls.{break_step, clock_step, close_step, control_end, control_step, end_step, given_step, listening_step, may_receive, no_port_step, opened_step, refused_step, to_give, wants}
 use Rattle.ftp_server_model.specs.Failing.{EndFails, GiveFails, KeepsCourse}
 use Rattle.ftp_server_model.specs.Far.{Acts, Hears, Receives, Server, Steps}
 use Rattle.ftp_server_model.specs.Machine.{may_hear}
 use Rattle.ftp_server_model.specs.Most.{IsMostHeard, IsMostReceived}
 use Rattle.ftp_server_model.specs.Play.{Cue, Gift, Clock, Hear, ControlOut, ControlEnd, Listening, ListenRefused, DataOpened, DataRefused, DataHear, DataOut, DataEnd, DataFault, DataClosed, AsksWants, Nothing, Took, Octets, Wanted, most_given}
+use Rattle.ftp_server_play.specs.Order.{CalmFirst, InOrder, OneMore}
 
 -- so many octets of a piece of the control connection were taken
 pub record TakesHeard (count : ℕ) (octets : List ℕ) (old new : Server) : Type 0 where
@@ -49,29 +50,18 @@ Makes AsksWants gift old new = (gift ≡ Wanted (wants old.view)) × (new ≡ ol
 abbrev pub MakesOnCourse : Cue → Gift → (old new : Server) → Type 0
 MakesOnCourse cue gift old new = KeepsCourse old.counts new.counts → Makes cue gift old new
 
+-- neither count moved in a call
+abbrev pub IsCalm : Cue → (old new : Server) → Type 0
+IsCalm cue old new = new.counts ≡ old.counts
+
 -- one more was made, and what it gave stands after what was given before; neither count moved in it, or one did
-pub record MakesNext (is_calm : Bool) (cue : Cue) (before after : List Gift) (old new : Server) : Type 0 where
-  pub gift : Gift
-  pub kept : after ≡ before ++ gift ∷ []
-  pub makes : Makes cue gift old new
-  pub calm : is_calm ≡ true → new.counts ≡ old.counts
-  pub moved : is_calm ≡ false → new.counts ≢ old.counts
+abbrev pub MakesNext : (is_calm : Bool) → Cue → (before after : List Gift) → (old new : Server) → Type 0
+MakesNext = OneMore Makes IsCalm
 
--- ---- calls in order
-
--- each was made, and gave its gift
+-- each of these calls was made in order, and gave its gift
 abbrev pub AreMade : List Cue → List Gift → (old new : Server) → Type 0
-AreMade [] [] old new = new ≡ old
-AreMade [] (gift ∷ gifts) old new = ⊥
-AreMade (cue ∷ cues) [] old new = ⊥
-AreMade (cue ∷ cues) (gift ∷ gifts) old new = (mid : Server) × Makes cue gift old mid × AreMade cues gifts mid new
+AreMade = InOrder Makes
 
 -- each was made: in the first `calm` of them neither count moved, and in the next, if there is one, a count did
 abbrev pub ArePlayed : (calm : ℕ) → List Cue → List Gift → (old new : Server) → Type 0
-ArePlayed zero [] [] old new = new ≡ old
-ArePlayed zero [] (gift ∷ gifts) old new = ⊥
-ArePlayed zero (cue ∷ cues) [] old new = ⊥
-ArePlayed zero (cue ∷ cues) (gift ∷ gifts) old new = (mid : Server) × Makes cue gift old mid × (mid.counts ≢ old.counts) × AreMade cues gifts mid new
-ArePlayed (suc calm) [] gifts old new = ⊥
-ArePlayed (suc calm) (cue ∷ cues) [] old new = ⊥
-ArePlayed (suc calm) (cue ∷ cues) (gift ∷ gifts) old new = (mid : Server) × Makes cue gift old mid × (mid.counts ≡ old.counts) × ArePlayed calm cues gifts mid new
+ArePlayed = CalmFirst Makes IsCalm

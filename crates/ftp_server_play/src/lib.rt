@@ -7,4 +7,4 @@ mod playing;
 
 pub use calling::make;
 pub use cue::{Cue, Gift, Played};
-pub use playing::Plays;
+pub use playing::{Plays, calm_after, is_same, keep};

@@ -77,7 +77,7 @@ fn play_one<A: Allocator + Copy, T: Tree<A>, S: SureFar<A, T>>(
 }
 
 /// How many of the first calls were calm, after one more: `calm` of those `made` before it were.
-fn calm_after(calm: usize, made: usize, is_calm: bool) -> usize
+pub fn calm_after(calm: usize, made: usize, is_calm: bool) -> usize
     requires { made < 2 ^ 63 }
     ensures on { is_calm ≡ true → calm ≡ made → result ≡ calm + 1 }
     ensures off { is_calm ≡ false → result ≡ calm }
@@ -91,7 +91,7 @@ fn calm_after(calm: usize, made: usize, is_calm: bool) -> usize
 }
 
 /// Adds what a call gave, for which there is room.
-fn keep<A: Allocator + Copy>(gifts: &mut Vec<Gift<A>, A>, gift: Gift<A>)
+pub fn keep<A: Allocator + Copy>(gifts: &mut Vec<Gift<A>, A>, gift: Gift<A>)
     requires { vec_len gifts.old < vec_capacity gifts.old }
     ensures { gifts.new.items ≡ gifts.old.items ++ gift ∷ [] }
 {
@@ -101,7 +101,7 @@ fn keep<A: Allocator + Copy>(gifts: &mut Vec<Gift<A>, A>, gift: Gift<A>)
 }
 
 /// Whether neither count has moved.
-fn is_same(old: Counts, new: Counts) -> bool
+pub fn is_same(old: Counts, new: Counts) -> bool
     ensures same { result ≡ true → new ≡ old }
     ensures moved { result ≡ false → new ≢ old }
 {

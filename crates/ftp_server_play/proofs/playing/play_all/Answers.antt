@@ -1,6 +1,8 @@
 use Rattle.std.proofs.Common.{◌≡◌, ◌∙◌, [], arith, length, refl, rules, sym, take}
-use Rattle.ftp_server_play.proofs.PlayLemmas.{keeps_the_map, long_more, none_made, one_more, some_keep, some_made}
-use Rattle.ftp_server_play.specs.Cues.{cues_of, gifts_of}
+use Rattle.ftp_server_play.proofs.OrderLemmas.{one_more}
+use Rattle.ftp_server_play.proofs.PlayLemmas.{keeps_the_map, long_more, none_made, some_keep, some_made}
+use Rattle.ftp_server_play.specs.Cues.{cue_of, cues_of, gifts_of}
+use Rattle.ftp_server_play.specs.Making.{IsCalm, Makes}
 use Rattle.ftp_server_play.proofs.playing.play_all.Goals as goal
 
 pub loop-cue-init : goal.loop-cue-init
@@ -15,7 +17,7 @@ loop-cue-preserved g c =
     let whole : length c.loop-cue.gifts.items ≡ c.loop-cue.gifts.len = search rules in
     let made : c.len-made.result ≡ c.loop-cue.cue-index = c.len-made.ensures ∙ sym whole ∙ c.loop-cue.invariant.long in
     record {
-      made = one_more c.args.cues.now c.loop-cue.cue-index c.cue-item.result c.cue-item.result c.in-Ok.is_calm c.loop-cue.calm c.calm_after-calm.result
+      made = one_more Makes IsCalm cue_of c.args.cues.now c.loop-cue.cue-index c.cue-item.result c.cue-item.result c.in-Ok.is_calm c.loop-cue.calm c.calm_after-calm.result
           (gifts_of c.loop-cue.gifts.items) (gifts_of c.play_one.new.gifts.items) (server c.args.server.now) (server c.loop-cue.server) (server c.play_one.new.server)
           c.loop-cue-test.true c.cue-item.is c.loop-cue.invariant.made next
           (λ calmly all. c.calm_after-calm.ensures.on calmly (all ∙ sym made)) c.calm_after-calm.ensures.off (λ less. c.calm_after-calm.ensures.past (omega (arith, less, made)));
