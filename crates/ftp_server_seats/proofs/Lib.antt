@@ -1,1 +1,2 @@
 pub mod LentLemmas
+pub mod PlayLemmas

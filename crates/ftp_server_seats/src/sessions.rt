@@ -12,9 +12,9 @@ use std::alloc::{AllocError, Allocator};
 /// has the tree that it came with, which no call of `Sessions` reads or changes.
 #[derive(Drop)]
 pub struct Sessions<A: Allocator + Copy, T: Drop, F: Drop> {
-    tree: T,
-    seats: Vec<F, A>,
-    alloc: A,
+    pub(crate) tree: T,
+    pub(crate) seats: Vec<F, A>,
+    pub(crate) alloc: A,
 }
 
 impl<A: Allocator + Copy, T: Tree<A>, F: Lends<A, T>> Sessions<A, T, F> {

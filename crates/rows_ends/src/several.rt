@@ -5,13 +5,13 @@ use crate::turn::{SERVER, Turn};
 use ftp_operation::Rights;
 use ftp_server::Server;
 use ftp_server_parts::ServerTransfer;
-use ftp_server_seats::Sessions;
+use ftp_server_seats::{Played, Sessions, Turn as Seated};
 use ftp_server_several::Lends;
 use ftp_server_transfer::TreeTransfer;
 use ftp_tree_memory::MemTree;
 use rows_base::{Paper, cut, number, split};
 use rows_tree::show_tree;
-use std::alloc::Global;
+use std::alloc::{AllocError, Global};
 
 /// The tree of all, and each session's own while it is not called: an empty one of memory, which nobody reads or changes.
 type Trees = MemTree<Global>;
@@ -81,58 +81,122 @@ fn seat<J: ServerTransfer<Global, Trees>>(
     }
 }
 
-/// Plays the lines of a row in order.
+/// Plays the lines of a row in order. Calls that stand together are made as a list, and one that stands alone by itself.
 fn play<F: Lends<Global, Trees>>(
     sessions: &mut Sessions<Global, Trees, F>,
     turn: Turn<'_>,
     paper: &mut Paper,
 ) {
     let mut rest = turn.row;
+    let mut calls = rest;
+    let mut count = 0usize;
     for _ in 0..turn.row.len() {
         let (line, after) = cut(rest, b'\n');
+        if !is_call(line) {
+            make(sessions, turn, calls, count, paper);
+            show_line(sessions, turn, line, paper);
+            calls = after;
+            count = 0;
+        } else {
+            count = count.saturating_add(1);
+        }
         if line.is_empty() {
             break;
         }
-        paper.line(line);
-        play_line(sessions, turn, line, paper);
         rest = after;
     }
 }
 
-/// A line that begins with a seat is a call; `tree` shows the tree of all.
-fn play_line<F: Lends<Global, Trees>>(
-    sessions: &mut Sessions<Global, Trees, F>,
+/// Whether a line begins with a seat.
+fn is_call(line: &[u8]) -> bool {
+    matches!(split(line).0.first(), Some(b'0'..=b'9'))
+}
+
+/// A line that is no call; `tree` shows the tree of all.
+fn show_line<F: Lends<Global, Trees>>(
+    sessions: &Sessions<Global, Trees, F>,
     turn: Turn<'_>,
     line: &[u8],
     paper: &mut Paper,
 ) {
-    let (word, call) = split(line);
-    if word == b"tree".as_slice() {
+    if line.is_empty() {
+        return;
+    }
+    paper.line(line);
+    if split(line).0 == b"tree".as_slice() {
         show_tree(turn.alloc, sessions.tree(), paper);
-    } else if let Some(b'0'..=b'9') = word.first() {
-        call_seat(sessions, turn, number(word), call, paper);
     }
 }
 
-/// Makes a call of the session in a seat, and shows what it gave.
-fn call_seat<F: Lends<Global, Trees>>(
+/// Makes the first of these calls, so many.
+fn make<F: Lends<Global, Trees>>(
     sessions: &mut Sessions<Global, Trees, F>,
     turn: Turn<'_>,
-    seat: u64,
-    call: &[u8],
+    calls: &[u8],
+    count: usize,
     paper: &mut Paper,
 ) {
-    let seat = seat as usize;
-    if seat >= sessions.len() {
-        paper.line(b"! no such seat");
+    if count == 0 {
         return;
     }
-    let Ok(cue) = cue_of(turn.alloc, turn, call) else {
+    let Ok(turns) = turns_of(turn, calls, count) else {
         paper.fill();
         return;
     };
-    match sessions.call(seat, &cue) {
-        Ok(gift) => show(&gift, paper),
-        Err(_) => paper.fill(),
+    match turns.as_slice() {
+        [lone] if lone.seat < sessions.len() => {
+            paper.line(cut(calls, b'\n').0);
+            match sessions.call(lone.seat, &lone.cue) {
+                Ok(gift) => show(&gift, paper),
+                Err(_) => paper.fill(),
+            }
+        }
+        _ => show_all(&sessions.play(turns.as_slice()), calls, count, paper),
+    }
+}
+
+/// The first of these calls, so many.
+fn turns_of(
+    turn: Turn<'_>,
+    calls: &[u8],
+    count: usize,
+) -> Result<Vec<Seated<Global>, Global>, AllocError> {
+    let mut turns = Vec::new(turn.alloc);
+    let mut rest = calls;
+    for _ in 0..count {
+        let (line, after) = cut(rest, b'\n');
+        let (seat, call) = split(line);
+        turns.push(Seated {
+            seat: number(seat) as usize,
+            cue: cue_of(turn.alloc, turn, call)?,
+        })?;
+        rest = after;
+    }
+    Ok(turns)
+}
+
+/// Shows calls, each with what it gave, and the first in which something failed.
+fn show_all(
+    played: &Result<Played<Global>, AllocError>,
+    calls: &[u8],
+    count: usize,
+    paper: &mut Paper,
+) {
+    let Ok(played) = played else {
+        paper.fill();
+        return;
+    };
+    let mut rest = calls;
+    for place in 0..count {
+        let (line, after) = cut(rest, b'\n');
+        paper.line(line);
+        match played.gifts.get(place) {
+            Some(gift) => show(gift, paper),
+            None => paper.line(b"! not made"),
+        }
+        if place == played.calm {
+            paper.line(b"! something failed");
+        }
+        rest = after;
     }
 }

@@ -1,6 +1,4 @@
 use Rattle.std.proofs.Common.{◌≡◌, ◌∙◌, ap}
-use Rattle.ftp_tree.specs.Change.{Failures}
-use Rattle.ftp_tree.specs.Tree.{Table}
 use Rattle.ftp_server_model.specs.Far.{Server}
 use Rattle.ftp_server_play.specs.Cues.{cue_of, gift_of}
 use Rattle.ftp_server_play.specs.Making.{MakesOnCourse}

@@ -1,7 +1,6 @@
 use Rattle.std.proofs.Common.{◌≡◌, ◌<◌, Some, refl, sym, ap, ◌∙◌, slice_get, length, map, vec_len, arith, rules}
 use Rattle.std.proofs.lemmas.Option.{slice_get-get_or}
 use Rattle.std.specs.Vec.{with_item}
-use Rattle.ftp_server_model.specs.Far.{Server}
 use Rattle.ftp_server_play.specs.Cues.{cue_of, gift_of}
 use Rattle.ftp_server_seats.proofs.LentLemmas.{err_both, ok_goes, seat-at, seat-same, seat-set, turned_gives}
 use Rattle.ftp_server_seats.specs.Lent.{Lent}

@@ -1,0 +1,27 @@
+use Rattle.std.proofs.Common.{◌≡◌, ◌≤◌, ◌∙◌, ap, length, option_map, vec_len, arith, rules}
+use Rattle.std.proofs.lemmas.Option.{slice_get-map, slice_get_past}
+use Rattle.ftp_server_play.proofs.PlayLemmas.{kept_on}
+use Rattle.ftp_server_play.specs.Cues.{gift_of, gifts_of}
+use Rattle.ftp_server_play.specs.declared.cue.Gift.TheVariants as Gifts
+use Rattle.ftp_server_seats.proofs.PlayLemmas.{nobody_takes, somebody_takes}
+use Rattle.ftp_server_seats.specs.Playing.{turn_of}
+use Rattle.ftp_server_seats.specs.Seats.{seats_of}
+use Rattle.ftp_server_seats.proofs.sessions.Sessions.take_turn.Goals as goal
+
+pub returns-then-turn-len-clause-next : goal.returns-then-turn-len-clause-next
+returns-then-turn-len-clause-next g c =
+    let server = g.F.Far.server in let table = g.T.Tree.table in let failures = g.T.Tree.failures in
+    let old = c.args.self.now in
+    let long : length old.seats.items ≡ vec_len old.seats = search rules in
+    let past : length old.seats.items ≤ c.args.turn.now.seat = omega (arith, long, c.len.ensures, c.if-turn-len.true) in
+    nobody_takes (turn_of c.args.turn.now) (seats_of table failures server old) (gifts_of c.args.gifts.now.items) (gifts_of c.keep.new.gifts.items)
+    (slice_get-map server old.seats.items c.args.turn.now.seat ∙ ap (option_map server) (slice_get_past old.seats.items c.args.turn.now.seat past))
+    (kept_on c.args.gifts.now.items c.reserve.new.self.items c.keep.new.gifts.items Gifts.Nothing c.reserve.ensures.items c.keep.ensures)
+
+pub returns-clause-next : goal.returns-clause-next
+returns-clause-next g c =
+    let server = g.F.Far.server in let table = g.T.Tree.table in let failures = g.T.Tree.failures in
+    somebody_takes (turn_of c.args.turn.now) (gift_of c.in_ok-gift.gift) (seats_of table failures server c.args.self.now) (seats_of table failures server c.call.new.self)
+    (gifts_of c.args.gifts.now.items) (gifts_of c.keep-2.new.gifts.items) c.told-before.result c.told.result c.is_same.result c.in_ok-gift.ensures.turned
+    (kept_on c.args.gifts.now.items c.reserve.new.self.items c.keep-2.new.gifts.items c.in_ok-gift.gift c.reserve.ensures.items c.keep-2.ensures)
+    c.told-before.ensures c.told.ensures (g.met.T.SureTree.never c.args.self.now.tree) (g.met.T.SureTree.never c.call.new.self.tree) c.is_same.ensures.same c.is_same.ensures.moved
