@@ -14,8 +14,8 @@ use Rattle.ftp_tool_looking.specs.declared.patience.Limits.{Limits as Waits}
 use Rattle.ftp_tool_words.specs.Words.{SaysBelow, SaysPort, SaysPorts, SaysSessions}
 use Rattle.ftp_tree.specs.Tree.{default_limits}
 use Rattle.ftp_tree.specs.declared.limits.Limits.{Limits}
-use Rattle.ftp_tree_disk.specs.declared.fault.Odd.{Odd}
-use Rattle.ftp_tree_disk.specs.declared.fault.Odd.TheVariants.{LeaveOut}
+use Rattle.ftp_tree_walk.specs.declared.fault.Odd.{Odd}
+use Rattle.ftp_tree_walk.specs.declared.fault.Odd.TheVariants.{LeaveOut}
 
 -- each is a number of seconds below 2 ^ 32
 pub record AreWaits (words : WaitWords) (waits : Waits) : Type 0 where

@@ -1,3 +1,2 @@
-pub mod PlaceLemmas
 pub mod PutLemmas
 pub mod StrayLemmas

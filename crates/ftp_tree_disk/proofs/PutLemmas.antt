@@ -17,8 +17,10 @@ use Rattle.ftp_tree.proofs.TableLemmas.{both-none}
 use Rattle.ftp_tree_nodes.proofs.PlacingLemmas.{IsHad}
 use Rattle.ftp_tree_disk.specs.declared.answer.Front.{Front}
 use Rattle.ftp_tree_disk.specs.Put.{IsPut}
-use Rattle.ftp_tree_disk.specs.Stray.{differ, fit, front_of}
-use Rattle.ftp_tree_disk.proofs.StrayLemmas.{held-same, length_fit}
+use Rattle.ftp_tree_disk.specs.Stray.{differ, front_of}
+use Rattle.ftp_tree_walk.specs.Held.{fit}
+use Rattle.ftp_tree_disk.proofs.StrayLemmas.{held-same}
+use Rattle.ftp_tree_walk.proofs.HeldLemmas.{length_fit}
 
 -- ---- what a call that did not fail says
 

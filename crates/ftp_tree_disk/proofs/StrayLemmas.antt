@@ -1,17 +1,13 @@
 -- What a device answered is what it holds, where it did not stray.
-use Rattle.std.proofs.Common.{◌≡◌, ◌≤◌, ◌<◌, ℕ, ◌+◌, Bool, true, false, List, [], ◌∷◌, ◌++◌, length, min, take, drop, replicate, refl, sym, ap, ap₂, ◌∙◌, arith}
+use Rattle.std.proofs.Common.{◌≡◌, ◌≤◌, ◌<◌, ℕ, ◌+◌, Bool, true, false, List, [], ◌∷◌, ◌++◌, length, take, drop, refl, sym, ap, ap₂, ◌∙◌, arith}
 use Rattle.std.specs.Prelude.{if◌then◌else◌, bytes_eq}
-use Rattle.std.proofs.lemmas.List.{length-append, length-take, length-replicate}
 use Rattle.std.proofs.lemmas.Slice.Eq.{bytes_eq-Decides}
 use Rattle.ftp_tree_disk.specs.declared.answer.Answer.TheVariants.{Took, Read, Put, Changed}
 use Rattle.ftp_tree_disk.specs.declared.answer.Putting.{Putting}
 use Rattle.ftp_tree_disk.specs.declared.answer.Reading.{Reading}
 use Rattle.ftp_tree_disk.specs.Note.{Event, event_of, taken}
-use Rattle.ftp_tree_disk.specs.Stray.{differ, fit, front_of, strays_in, strays_of}
-
-pub length_fit : (len : ℕ) (octets : List ℕ) → length (fit len octets) ≡ len
-unfolding fit
-length_fit len octets = omega (arith, length-take len (octets ++ replicate len 0), length-append octets (replicate len 0), length-replicate {A = ℕ} len 0)
+use Rattle.ftp_tree_disk.specs.Stray.{differ, front_of, strays_in, strays_of}
+use Rattle.ftp_tree_walk.specs.Held.{fit}
 
 -- no stray, so they are the same
 pub held-same : (held octets : List ℕ) → differ held octets ≡ 0 → held ≡ octets

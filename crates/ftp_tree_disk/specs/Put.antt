@@ -3,7 +3,8 @@ use Rattle.std.specs.Prelude.{◌≡◌, ℕ, ◌+◌, List, length}
 use Rattle.ftp_path.specs.Path.{Names}
 use Rattle.ftp_tree.specs.Change.{Failures}
 use Rattle.ftp_tree.specs.Tree.{Table, installed, under, with_part}
-use Rattle.ftp_tree_disk.specs.Stray.{differ, fit}
+use Rattle.ftp_tree_disk.specs.Stray.{differ}
+use Rattle.ftp_tree_walk.specs.Held.{fit}
 
 -- A file stands at a path that has as many octets as were put, those that are held of its version: a stray, where they are others. No failure was told.
 pub record IsPut (holds : ℕ → List ℕ) (version : ℕ) (old new : Table) (root path : Names) (octets : List ℕ) (moment : ℕ)

@@ -1,13 +1,10 @@
 -- Which answers of a device stray from what it holds, as a function from versions of files to octets, which nobody can read.
-use Rattle.std.specs.Prelude.{ℕ, ◌+◌, List, [], ◌∷◌, ◌++◌, length, take, drop, replicate, bytes_eq, if◌then◌else◌}
+use Rattle.std.specs.Prelude.{ℕ, ◌+◌, List, [], ◌∷◌, ◌++◌, length, take, drop, bytes_eq, if◌then◌else◌}
 use Rattle.ftp_tree_disk.specs.declared.answer.Answer.{Answer}
 use Rattle.ftp_tree_disk.specs.declared.answer.Answer.TheVariants.{Took, Read, Put, Changed}
 use Rattle.ftp_tree_disk.specs.declared.answer.Front.{Front}
 use Rattle.ftp_tree_disk.specs.Note.{Event}
-
--- so many octets of those that are held, and zeros where fewer are
-unfoldable pub fit : ℕ → List ℕ → List ℕ
-fit len octets = take len (octets ++ replicate len 0)
+use Rattle.ftp_tree_walk.specs.Held.{fit}
 
 -- the octets that are kept of a version
 abbrev pub front_of : (ℕ → List ℕ) → Front → List ℕ

@@ -1,8 +1,7 @@
 // What is asked of a host at a path, and which directories are listed anew after it.
-use crate::dirs::Dirs;
-use crate::place::{above, below_of};
 use ftp_path::Path;
 use ftp_tree_host::{Host, Look};
+use ftp_tree_walk::{Dirs, above, below_of};
 use std::alloc::Allocator;
 use std::io;
 

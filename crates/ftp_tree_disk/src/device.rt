@@ -2,16 +2,17 @@
 ghost use Rattle.std.specs.Prelude.{◌≡◌, ◌≤◌, ◌<◌, ◌+◌, ◌++◌, IfOk, OnErr, OnOk, drop, length, take};
 ghost use Rattle.ftp_tree.specs.Change.{NoStray, never_strayed, one_more};
 ghost use Rattle.ftp_tree_disk.specs.Note.{taken};
-ghost use Rattle.ftp_tree_disk.specs.Stray.{differ, fit, front_of, strays_of};
+ghost use Rattle.ftp_tree_disk.specs.Stray.{differ, front_of, strays_of};
+ghost use Rattle.ftp_tree_walk.specs.Held.{fit};
 
 use crate::answer::{Answer, Putting, Reading};
 use crate::draft::{DiskDraft, State};
 use crate::opened::DiskOpen;
 use crate::record::Record;
-use crate::version::Held;
 use ftp_facts::Moment;
 use ftp_tree::Broken;
 use ftp_tree_host::{Host, Look};
+use ftp_tree_walk::Held;
 use std::io;
 use std::marker::{Model, PhantomData};
 

@@ -4,23 +4,22 @@ ghost use Rattle.ftp_tree.specs.Change.{IsDone, IsRefused, IsSteady, NoStray, Te
 ghost use Rattle.ftp_tree.specs.Tree.{install_refusal, installed, octets_or_none, under, with_part};
 ghost use Rattle.ftp_tree_disk.specs.Note.{taken};
 ghost use Rattle.ftp_tree_disk.specs.Put.{IsPut};
-ghost use Rattle.ftp_tree_disk.specs.Stray.{differ, fit};
+ghost use Rattle.ftp_tree_disk.specs.Stray.{differ};
+ghost use Rattle.ftp_tree_walk.specs.Held.{fit};
 
 use crate::changing::{
     begin_at, delete_at, make_at, open_at, remove_at, rename_at, rename_onto_at,
 };
 use crate::device::Device;
-use crate::dirs::Dirs;
 use crate::draft::DiskDraft;
-use crate::looking::look_at;
 use crate::opened::DiskOpen;
-use crate::taking::take_up;
-use crate::version::{Held, Version};
 use ftp_facts::Moment;
 use ftp_path::{Name, Path};
 use ftp_tree::{Broken, DirEntries, Draft, Limits, NodeKind, Sight, Tree, TreeFault};
 use ftp_tree_host::Host;
+use ftp_tree_look::look_at;
 use ftp_tree_nodes::Nodes;
+use ftp_tree_walk::{Dirs, Held, Version, take_up};
 use std::alloc::{AllocError, Allocator, Global};
 use std::io;
 
@@ -205,12 +204,12 @@ impl<'a, H: Host, K: Held> Tree<Global> for DiskTree<'a, H, K> {
         }
     }
 
-    #[tactic(auto, using(crate::proofs::StrayLemmas::length_fit))]
+    #[tactic(auto, using(ftp_tree_walk::proofs::HeldLemmas::length_fit))]
     fn open_len(file: &DiskOpen<H>) -> u64 {
         file.len
     }
 
-    #[tactic(auto, using(crate::proofs::StrayLemmas::length_fit))]
+    #[tactic(auto, using(ftp_tree_walk::proofs::HeldLemmas::length_fit))]
     fn read(&mut self, file: &mut DiskOpen<H>, at: u64, room: &mut [u8]) -> Result<usize, Broken>
         ensures octets { NoStray self.old.device self.new.device →
             IfOk result (λ count. take count room.new ≡ take count (drop at (fit file.old.len (K.holds file.old.version)))) }

@@ -3,34 +3,19 @@
 #![tactic(auto)]
 
 mod answer;
-mod beside;
 mod changing;
-mod counting;
 mod device;
-mod dirs;
 mod disk;
 mod draft;
-mod fault;
-mod here;
-mod loading;
-mod looking;
-mod names;
 mod opened;
+mod opening;
 mod parked;
-mod place;
 mod putting;
 mod record;
-mod roots;
-mod sighting;
-mod taking;
-mod version;
-mod walking;
-mod within;
 
 pub use disk::{DiskTree, Explains, Others};
 pub use draft::DiskDraft;
-pub use fault::{LeftOut, LoadFault, Odd, Reason};
-pub use loading::open;
+pub use ftp_tree_walk::{Held, LeftOut, LoadFault, Odd, Reason, Unknown, Version};
 pub use opened::DiskOpen;
+pub use opening::open;
 pub use parked::Parks;
-pub use version::{Held, Unknown, Version};

@@ -2,12 +2,11 @@
 ghost use Rattle.std.specs.Prelude.{◌≡◌};
 ghost use Rattle.ftp_tree_disk.specs.Parked.{bare_table};
 
-use crate::dirs::Dirs;
 use crate::disk::{DiskTree, Others};
-use crate::version::Held;
 use ftp_tree::{Limits, Tree};
 use ftp_tree_host::Host;
 use ftp_tree_nodes::Nodes;
+use ftp_tree_walk::{Dirs, Held};
 use std::alloc::{Allocator, Global};
 
 /// A tree beside which a bare one of its kind can stand.

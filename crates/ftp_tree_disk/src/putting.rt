@@ -5,17 +5,17 @@ ghost use Rattle.ftp_tree.specs.Change.{IsRefused, next_count, one_more};
 ghost use Rattle.ftp_tree.specs.Tree.{delete_refusal, install_refusal, node_at, octets_or_none, remove_refusal, under};
 ghost use Rattle.ftp_tree_disk.specs.Note.{taken};
 ghost use Rattle.ftp_tree_disk.specs.Put.{IsPut};
-ghost use Rattle.ftp_tree_disk.specs.Stray.{differ, fit, front_of};
+ghost use Rattle.ftp_tree_disk.specs.Stray.{differ, front_of};
+ghost use Rattle.ftp_tree_walk.specs.Held.{fit};
 
 use crate::answer::{Front, Putting};
 use crate::disk::DiskTree;
 use crate::draft::DiskDraft;
-use crate::place::{above, below_of};
-use crate::version::{Held, Version};
 use ftp_facts::Moment;
 use ftp_path::Path;
 use ftp_tree::{Broken, TreeFault};
 use ftp_tree_host::{Host, Look};
+use ftp_tree_walk::{Held, Version, above, below_of};
 use std::alloc::Allocator;
 
 /// The file in whose place another is put: how it looked, and which octets of it are kept.

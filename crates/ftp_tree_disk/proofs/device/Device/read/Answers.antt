@@ -1,5 +1,5 @@
 use Rattle.std.proofs.Common.{ap, arith, drop, sym, take}
-use Rattle.ftp_tree_disk.specs.Stray.{fit}
+use Rattle.ftp_tree_walk.specs.Held.{fit}
 use Rattle.ftp_tree_disk.proofs.StrayLemmas.{held-same}
 use Rattle.ftp_tree_disk.proofs.device.Device.read.Goals as goal
 

@@ -1,8 +1,8 @@
 use Rattle.std.proofs.Common.{◌≡◌, ℕ, arith}
 use Rattle.ftp_tree.specs.Tree.{octets_or_none, under}
-use Rattle.ftp_tree_disk.specs.Stray.{fit}
+use Rattle.ftp_tree_walk.specs.Held.{fit}
 use Rattle.ftp_tree_disk.proofs.PutLemmas.{file-deleted, kept-front, no-file}
-use Rattle.ftp_tree_disk.proofs.StrayLemmas.{length_fit}
+use Rattle.ftp_tree_walk.proofs.HeldLemmas.{length_fit}
 use Rattle.ftp_tree_disk.proofs.disk.DiskTree.old_file.Goals as goal
 
 pub returns-in-Ok : goal.returns-in-Ok

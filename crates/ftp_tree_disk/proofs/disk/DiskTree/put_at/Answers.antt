@@ -1,9 +1,10 @@
 use Rattle.std.proofs.Common.{◌≡◌, ◌++◌, ap, length, refl, arith, ◌∙◌}
 use Rattle.ftp_tree.specs.Tree.{octets_in}
 use Rattle.ftp_tree_disk.specs.Note.{taken}
-use Rattle.ftp_tree_disk.specs.Stray.{fit, front_of}
+use Rattle.ftp_tree_disk.specs.Stray.{front_of}
+use Rattle.ftp_tree_walk.specs.Held.{fit}
 use Rattle.ftp_tree_disk.proofs.PutLemmas.{put-is, put-len}
-use Rattle.ftp_tree_disk.proofs.StrayLemmas.{length_fit}
+use Rattle.ftp_tree_walk.proofs.HeldLemmas.{length_fit}
 use Rattle.ftp_tree_disk.proofs.disk.DiskTree.put_at.Goals as goal
 
 pub put_over-requires-clause-octets : goal.put_over-requires-clause-octets

@@ -1,8 +1,9 @@
 use Rattle.std.proofs.Common.{◌≤◌, arith, length, drop}
 use Rattle.std.proofs.lemmas.Result.{IfOk-weaker}
-use Rattle.ftp_tree_disk.specs.Stray.{fit}
+use Rattle.ftp_tree_walk.specs.Held.{fit}
 use Rattle.ftp_tree_disk.proofs.PutLemmas.{within_left}
-use Rattle.ftp_tree_disk.proofs.StrayLemmas.{length_fit, none-differ}
+use Rattle.ftp_tree_disk.proofs.StrayLemmas.{none-differ}
+use Rattle.ftp_tree_walk.proofs.HeldLemmas.{length_fit}
 use Rattle.ftp_tree_disk.proofs.disk.DiskTreeTreeGlobal.read.Goals as goal
 
 pub returns-then-want-eq0-clause-strays : goal.returns-then-want-eq0-clause-strays

@@ -5,7 +5,7 @@ use Rattle.ftp_path.specs.Path.{Names, is_component, joined}
 use Rattle.ftp_path.specs.Kept.{IsKept, names_of}
 use Rattle.ftp_path.proofs.PathLemmas.{joined-append}
 use Rattle.ftp_path.proofs.KeyLemmas.{components-append}
-use Rattle.ftp_tree_disk.specs.Place.{IsBelow}
+use Rattle.ftp_tree_walk.specs.Place.{IsBelow}
 
 -- a kept text is its names joined, each of which names something
 pub kept-text : (key : List ℕ) (names : Names) → IsKept key → names_of key ≡ names → key ≡ joined names

@@ -1,15 +1,8 @@
 // What stands on a disk, held against what a tree has there.
-use crate::version::{Held, Version};
 use ftp_tree_host::{Found, Look};
 use ftp_tree_nodes::{Holder, Standing};
+use ftp_tree_walk::{Changes, Held, Thing, Version};
 use std::alloc::{AllocError, Global};
-
-/// A file or a directory on the disk, and how it looks.
-#[derive(Clone, Copy)]
-pub(crate) enum Thing {
-    File(Look),
-    Dir(Look),
-}
 
 /// How what stands at a place on the disk differs from what the tree has there.
 #[derive(Clone, Copy)]
@@ -91,88 +84,22 @@ fn is_as_it_was(look: Look, before: Look) -> bool {
         && look.modified == before.modified
 }
 
-/// What stands somewhere on the disk.
-pub(crate) struct Stands {
-    pub(crate) place: String<Global>,
-    pub(crate) thing: Thing,
-}
-
-/// By hand, as that of a tree.
-impl Drop for Stands {
-    fn drop(self) {
-        let Self { place: _, thing: _ } = self;
-    }
-}
-
-/// What others changed, as it is taken up: first what is gone, then what takes no more room than before.
-pub(crate) struct Changes {
-    /// What the tree has and the disk has not, or not of this kind.
-    pub(crate) gone: Vec<String<Global>, Global>,
-    pub(crate) shorter: Vec<Stands, Global>,
-    /// Longer files, and what the tree has not.
-    pub(crate) more: Vec<Stands, Global>,
-}
-
-/// By hand, as that of a tree.
-impl Drop for Changes {
-    fn drop(self) {
-        let Self {
-            gone: _,
-            shorter: _,
-            more: _,
-        } = self;
-    }
-}
-
-impl Changes {
-    pub(crate) fn none(alloc: Global) -> Changes {
-        Changes {
-            gone: Vec::new(alloc),
-            shorter: Vec::new(alloc),
-            more: Vec::new(alloc),
+/// Adds what was seen at a place, where that is a change.
+pub(crate) fn add(
+    changes: &mut Changes,
+    alloc: Global,
+    place: &str,
+    sighting: Sighting,
+) -> Result<(), AllocError> {
+    match sighting {
+        Sighting::Nothing | Sighting::SameFile | Sighting::SameDir(_) | Sighting::Odd => Ok(()),
+        Sighting::Gone | Sighting::TurnedOdd => changes.add_gone(alloc, place),
+        Sighting::Shorter(look) => changes.add_shorter(alloc, place, look),
+        Sighting::Longer(look) => changes.add_more(alloc, place, Thing::File(look)),
+        Sighting::New(thing) => changes.add_more(alloc, place, thing),
+        Sighting::Replaced(thing) => {
+            changes.add_gone(alloc, place)?;
+            changes.add_more(alloc, place, thing)
         }
-    }
-
-    pub(crate) fn is_empty(&self) -> bool {
-        self.gone.is_empty() && self.shorter.is_empty() && self.more.is_empty()
-    }
-
-    /// Adds what was seen at a place, where that is a change.
-    pub(crate) fn add(
-        &mut self,
-        alloc: Global,
-        place: &str,
-        sighting: Sighting,
-    ) -> Result<(), AllocError> {
-        match sighting {
-            Sighting::Nothing | Sighting::SameFile | Sighting::SameDir(_) | Sighting::Odd => Ok(()),
-            Sighting::Gone | Sighting::TurnedOdd => self.add_gone(alloc, place),
-            Sighting::Shorter(look) => self.add_shorter(alloc, place, look),
-            Sighting::Longer(look) => self.add_more(alloc, place, Thing::File(look)),
-            Sighting::New(thing) => self.add_more(alloc, place, thing),
-            Sighting::Replaced(thing) => {
-                self.add_gone(alloc, place)?;
-                self.add_more(alloc, place, thing)
-            }
-        }
-    }
-
-    pub(crate) fn add_gone(&mut self, alloc: Global, place: &str) -> Result<(), AllocError> {
-        let place = String::from_str(alloc, place)?;
-        self.gone.push(place)?;
-        Ok(())
-    }
-
-    fn add_shorter(&mut self, alloc: Global, place: &str, look: Look) -> Result<(), AllocError> {
-        let place = String::from_str(alloc, place)?;
-        let thing = Thing::File(look);
-        self.shorter.push(Stands { place, thing })?;
-        Ok(())
-    }
-
-    fn add_more(&mut self, alloc: Global, place: &str, thing: Thing) -> Result<(), AllocError> {
-        let place = String::from_str(alloc, place)?;
-        self.more.push(Stands { place, thing })?;
-        Ok(())
     }
 }

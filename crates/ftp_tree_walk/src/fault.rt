@@ -29,7 +29,7 @@ pub enum Reason {
 
 impl Reason {
     /// What stands at the place that was asked for, as a look tells of it.
-    pub(crate) fn error(self) -> io::Error {
+    pub fn error(self) -> io::Error {
         match self {
             Reason::Name => Error::new(ErrorKind::InvalidFilename, "its name is no name of a tree"),
             Reason::Kind => Error::new(ErrorKind::Unsupported, "neither a file nor a directory"),

@@ -4,7 +4,7 @@ use ftp_path::Path;
 use std::alloc::{AllocError, Global};
 
 /// The roots of accounts, and the root of the tree.
-pub(crate) struct Roots {
+pub struct Roots {
     top: Path<Global>,
     /// In the order of their octets, none of them twice.
     others: Vec<Path<Global>, Global>,

@@ -4,10 +4,10 @@ use ftp_path::{Path, PathFault};
 use std::alloc::{AllocError, Global};
 
 /// A directory: its place on the disk, and its path below the deepest root that is at it or above it.
-pub(crate) struct Here {
-    pub(crate) below: String<Global>,
-    pub(crate) root: Path<Global>,
-    pub(crate) path: Path<Global>,
+pub struct Here {
+    pub below: String<Global>,
+    pub root: Path<Global>,
+    pub path: Path<Global>,
 }
 
 /// By hand, as that of a tree.
@@ -32,7 +32,7 @@ impl Here {
     }
 
     /// The directory at a place.
-    pub(crate) fn at(alloc: Global, roots: &Roots, below: &str) -> Result<Here, PathFault> {
+    pub fn at(alloc: Global, roots: &Roots, below: &str) -> Result<Here, PathFault> {
         let root = roots.at(below.as_bytes());
         let rest = below.as_bytes().strip_prefix(root.key()).unwrap_or(&[]);
         let path = path_of(alloc, rest)?;
@@ -43,16 +43,12 @@ impl Here {
     }
 
     /// The path of a name in it.
-    pub(crate) fn child(&self, alloc: Global, name: &str) -> Result<Path<Global>, PathFault> {
+    pub fn child(&self, alloc: Global, name: &str) -> Result<Path<Global>, PathFault> {
         self.path.resolve(alloc, name.as_bytes())
     }
 
     /// Writes the place of a name in it.
-    pub(crate) fn put_place(
-        &self,
-        name: &str,
-        place: &mut String<Global>,
-    ) -> Result<(), AllocError> {
+    pub fn put_place(&self, name: &str, place: &mut String<Global>) -> Result<(), AllocError> {
         place.clear();
         place.push_str(self.below.as_str())?;
         place.push_str("/")?;

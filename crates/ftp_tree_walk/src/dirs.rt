@@ -28,19 +28,19 @@ pub(crate) enum Taken {
 
 /// How a directory looked, and how it was taken in then.
 #[derive(Clone, Copy)]
-pub(crate) struct Seen {
+pub struct Seen {
     look: Look,
     taken: Taken,
     /// When it was, in nanoseconds since 1970, and how many that took.
     at: i64,
     took: i64,
     /// How often this tree changed a name in it since.
-    pub(crate) changes: u32,
+    pub changes: u32,
 }
 
 impl Seen {
     /// A directory that looked so before its names were listed, at a time.
-    pub(crate) fn of(look: Look, now: Stamp) -> Seen {
+    pub fn of(look: Look, now: Stamp) -> Seen {
         let is_fresh = is_fresh(look.modified, now) || is_fresh(look.touched, now);
         let taken = if is_fresh { Taken::Fresh } else { Taken::Whole };
         Seen {
@@ -53,7 +53,7 @@ impl Seen {
     }
 
     /// The same, where its names were taken in by a time.
-    pub(crate) fn by(self, now: Stamp) -> Seen {
+    pub fn by(self, now: Stamp) -> Seen {
         Seen {
             took: nanos(now).saturating_sub(self.at),
             ..self
@@ -70,7 +70,7 @@ impl Seen {
     }
 
     /// Whether so long went by since then that its names may be listed for want of room; also where the clock was set back.
-    pub(crate) fn has_rested(self, now: Stamp) -> bool {
+    pub fn has_rested(self, now: Stamp) -> bool {
         let age = nanos(now).saturating_sub(self.at);
         age < 0 || age >= self.took.saturating_mul(REST)
     }
@@ -107,8 +107,8 @@ fn nanos(stamp: Stamp) -> i64 {
 
 /// The directories whose names were taken in, by their names joined, and below which roots limits are counted. Nothing is wrong where one is forgotten:
 /// its names are listed again.
-pub(crate) struct Dirs {
-    pub(crate) roots: Roots,
+pub struct Dirs {
+    pub roots: Roots,
     alloc: Global,
     seen: BTreeMap<Vec<u8, Global>, Seen, Global>,
 }
@@ -126,7 +126,7 @@ impl Drop for Dirs {
 
 impl Dirs {
     /// None, and no root but the tree's.
-    pub(crate) fn new(alloc: Global) -> Dirs {
+    pub fn new(alloc: Global) -> Dirs {
         Dirs {
             roots: Roots::none(alloc),
             alloc,
@@ -145,7 +145,7 @@ impl Dirs {
     }
 
     /// Whether the names of a directory that looks so need not be listed.
-    pub(crate) fn has(&self, key: &[u8], look: Look, sight: Sight) -> bool {
+    pub fn has(&self, key: &[u8], look: Look, sight: Sight) -> bool {
         match self.seen.get(key) {
             Some(seen) => seen.holds(look, sight),
             None => false,
@@ -153,7 +153,7 @@ impl Dirs {
     }
 
     /// How a directory was taken in; none where that is not known.
-    pub(crate) fn seen(&self, key: &[u8]) -> Option<Seen> {
+    pub fn seen(&self, key: &[u8]) -> Option<Seen> {
         match self.seen.get(key) {
             Some(seen) => Some(*seen),
             None => None,
@@ -161,7 +161,7 @@ impl Dirs {
     }
 
     /// The names of a directory were taken in. Refused memory, it is not noted.
-    pub(crate) fn note(&mut self, key: &[u8], seen: Seen) -> Result<(), AllocError> {
+    pub fn note(&mut self, key: &[u8], seen: Seen) -> Result<(), AllocError> {
         if let Some(before) = self.seen.get_mut(key) {
             *before = seen;
             return Ok(());
@@ -174,14 +174,14 @@ impl Dirs {
     }
 
     /// This tree changed a name in a directory, whose names are listed at the next look at it.
-    pub(crate) fn changed(&mut self, key: &[u8]) {
+    pub fn changed(&mut self, key: &[u8]) {
         if let Some(seen) = self.seen.get_mut(key) {
             seen.changes = seen.changes.saturating_add(1);
         }
     }
 
     /// The names of a directory are listed at the next look, and those of each that stands below it.
-    pub(crate) fn forget(&mut self, key: &[u8]) {
+    pub fn forget(&mut self, key: &[u8]) {
         self.forget_one(key);
         if self.forget_below(key).is_err() {
             self.seen.clear();
@@ -189,7 +189,7 @@ impl Dirs {
     }
 
     /// The names of a directory are listed at the next look.
-    pub(crate) fn forget_one(&mut self, key: &[u8]) {
+    pub fn forget_one(&mut self, key: &[u8]) {
         let _seen = self.seen.remove(key);
     }
 

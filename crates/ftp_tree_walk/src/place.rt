@@ -1,7 +1,7 @@
 // Where a path of a tree lies below the folder of a disk.
 ghost use Rattle.std.specs.Prelude.{◌≡◌, ◌++◌, IfOk, OnOk, string_bytes};
 ghost use Rattle.ftp_path.specs.Path.{joined};
-ghost use Rattle.ftp_tree_disk.specs.Place.{IsBelow};
+ghost use Rattle.ftp_tree_walk.specs.Place.{IsBelow};
 
 use ftp_path::Path;
 use std::alloc::{Allocator, Global};
@@ -9,7 +9,7 @@ use std::io;
 use std::io::{Error, ErrorKind};
 
 /// Where the path below a root lies: a `/` before each name. No name of a path is `..`, so it is below the folder.
-pub(crate) fn below_of<B: Allocator + Copy, C: Allocator + Copy>(
+pub fn below_of<B: Allocator + Copy, C: Allocator + Copy>(
     alloc: Global,
     root: &Path<B>,
     path: &Path<C>,
@@ -34,7 +34,7 @@ fn push_names(below: &mut String<Global>, names: &[u8]) -> io::Result<()>
 }
 
 /// Where the directory lies that a place is in.
-pub(crate) fn above(below: &str) -> &str {
+pub fn above(below: &str) -> &str {
     match below.rsplit_once('/') {
         Some((above, _)) => above,
         None => "",

@@ -1,17 +1,14 @@
 // The names beside what is asked for. What others took away from there counts for limits, and stays in memory, until they are listed.
 ghost use Rattle.std.specs.Prelude.{◌≡◌, Some, length, true};
 ghost use Rattle.ftp_tree.specs.Tree.{children, kind_at, room_refusal, under};
-ghost use Rattle.ftp_tree_disk.specs.Beside.{are_many_changed};
+ghost use Rattle.ftp_tree_look.specs.Beside.{are_many_changed};
 
-use crate::dirs::Dirs;
-use crate::here::Here;
-use crate::place::above;
-use crate::version::{Held, Version};
 use crate::within::{Within, look_in};
 use ftp_path::Path;
 use ftp_tree::{NodeKind, Sight, TreeFault};
 use ftp_tree_host::{Found, Host};
 use ftp_tree_nodes::Nodes;
+use ftp_tree_walk::{Dirs, Held, Here, Version, above};
 use std::alloc::{Allocator, Global};
 
 /// Looks at the names in the directory that a path is in, where that is due. Where they can't be listed, nothing is found.

@@ -1,10 +1,10 @@
 // Taking files and directories of a disk into a tree. No file is opened.
+use crate::changes::Thing;
 use crate::counting::Own;
 use crate::dirs::{Dirs, Seen};
 use crate::fault::{LoadFault, Odds, Reason};
 use crate::here::Here;
 use crate::names::sorted;
-use crate::sighting::Thing;
 use crate::version::{Held, Version};
 use ftp_path::{Name, Path, PathFault};
 use ftp_tree::{Limits, NodeKind, TreeFault};

@@ -4,7 +4,7 @@ use ftp_tree_host::Host;
 use std::alloc::{AllocError, Global};
 
 /// Names with a NUL after each, in the order of their octets.
-pub(crate) fn sorted(alloc: Global, octets: &[u8]) -> Result<Vec<&[u8], Global>, AllocError> {
+pub fn sorted(alloc: Global, octets: &[u8]) -> Result<Vec<&[u8], Global>, AllocError> {
     let mut names = Vec::new(alloc);
     for name in octets.split(|octet| *octet == 0) {
         if !name.is_empty() {
@@ -16,7 +16,7 @@ pub(crate) fn sorted(alloc: Global, octets: &[u8]) -> Result<Vec<&[u8], Global>,
 }
 
 /// A name that a tree has, where these octets are one, and none that a part has.
-pub(crate) fn served<'a, H: Host>(host: &H, octets: &'a [u8]) -> Option<&'a str> {
+pub fn served<'a, H: Host>(host: &H, octets: &'a [u8]) -> Option<&'a str> {
     let Ok(name) = std::str::from_utf8(octets) else {
         return None;
     };

@@ -1,11 +1,9 @@
-// The tree of a disk as it begins: the files and directories below its folder. No file is opened.
+// What a tree of a disk begins with: the files and directories below its folder. No file is opened.
 ghost use Rattle.std.specs.Prelude.{◌≡◌, IfOk};
-ghost use Rattle.ftp_tree.specs.Change.{never_strayed};
 
 use crate::dirs::Dirs;
-use crate::disk::{DiskTree, Others};
 use crate::fault::{LeftOut, LoadFault, Odd, Odds, Reason};
-use crate::version::Held;
+use crate::version::{Held, Version};
 use crate::walking::{Kept, Walk, reason_of};
 use ftp_path::Path;
 use ftp_tree::Limits;
@@ -14,7 +12,8 @@ use ftp_tree_nodes::Nodes;
 use std::alloc::Global;
 use std::io::{Error, ErrorKind};
 
-/// The files and directories below the folder of a host, as a tree, each file with its moment.
+/// The files and directories below the folder of a host, as nodes, each file with its moment; how directories looked, the number of the last version of
+/// a file, and what is left out.
 ///
 /// Below each of the roots limits are counted as sessions at that root count them: what they leave can be loaded. What is below none of them is
 /// counted together, as one root. What is below two of them is counted at the lower one alone: who has the upper one may only look, so below that
@@ -24,15 +23,13 @@ use std::io::{Error, ErrorKind};
 ///
 /// What is neither a file nor a directory, has a name that is none of a tree, passes a limit, or can't be looked at or listed: the first of it is the
 /// fault, in the order of the octets of names in each directory, or all of it is left out. A directory that can't be listed is there then, and empty.
-pub fn open<'a, H: Host, K: Held>(
-    host: &'a H,
+pub fn load<H: Host, K: Held>(
+    host: &H,
     roots: &[Path<Global>],
     limits: Limits,
     odd: Odd,
-    others: Others,
-) -> Result<(DiskTree<'a, H, K>, LeftOut), LoadFault>
-    ensures limits { IfOk result (λ opened. opened.0.nodes.limits ≡ limits) }
-    ensures device { IfOk result (λ opened. opened.0.device ≡ never_strayed 0) }
+) -> Result<(Nodes<Global, Version<K>>, Dirs, u64, LeftOut), LoadFault>
+    ensures { IfOk result (λ loaded. loaded.0.limits ≡ limits) }
 {
     let alloc = host.memory();
     let Ok(dirs) = Dirs::below(alloc, roots) else {
@@ -43,15 +40,14 @@ pub fn open<'a, H: Host, K: Held>(
         dirs,
         version: 0,
     };
-    let (kept, left) = load(host, kept, odd)?;
+    let (kept, left) = load_all(host, kept, odd)?;
     let (mut nodes, dirs, version) = kept.into_parts();
     nodes.limit(limits);
-    let tree = DiskTree::over(host, nodes, dirs, others, version);
-    Ok((tree, left))
+    Ok((nodes, dirs, version, left))
 }
 
 /// Takes in all that is below the folder.
-fn load<H: Host, K: Held>(
+fn load_all<H: Host, K: Held>(
     host: &H,
     kept: Kept<K>,
     odd: Odd,

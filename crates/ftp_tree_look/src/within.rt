@@ -1,13 +1,10 @@
 // What others changed in a directory: its names, held against those that the tree has.
-use crate::dirs::{Dirs, Seen};
-use crate::here::Here;
-use crate::names::{served, sorted};
-use crate::sighting::{Changes, Sighting};
-use crate::version::{Held, Version};
+use crate::sighting::{Sighting, add};
 use ftp_path::PathFault;
 use ftp_tree::Sight;
 use ftp_tree_host::{Host, Look};
 use ftp_tree_nodes::Nodes;
+use ftp_tree_walk::{Changes, Dirs, Held, Here, Seen, Version, served, sorted};
 use std::alloc::Global;
 use std::io;
 use std::io::{Error, ErrorKind};
@@ -133,7 +130,7 @@ impl<'a, H: Host, K: Held> Looking<'a, H, K> {
         }
         self.here.put_place(name, place)?;
         let found = self.host.found(place.as_str())?;
-        changes.add(alloc, place.as_str(), Sighting::of_new(found))?;
+        add(changes, alloc, place.as_str(), Sighting::of_new(found))?;
         Ok(())
     }
 
@@ -176,7 +173,7 @@ impl<'a, H: Host, K: Held> Looking<'a, H, K> {
         };
         let found = self.host.found(place)?;
         let sighting = Sighting::of(found, self.nodes.standing(&self.here.root, &path));
-        changes.add(alloc, place, sighting)?;
+        add(changes, alloc, place, sighting)?;
         Ok(())
     }
 

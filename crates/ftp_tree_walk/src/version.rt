@@ -1,6 +1,6 @@
 // What the tree of a disk knows of a file: which version of it was found, and how that looked.
 ghost use Rattle.std.specs.Prelude.{◌≡◌, ℕ, List, []};
-ghost use Rattle.ftp_tree_disk.specs.Stray.{fit};
+ghost use Rattle.ftp_tree_walk.specs.Held.{fit};
 
 use ftp_tree_host::Look;
 use ftp_tree_nodes::Holder;
@@ -39,7 +39,7 @@ impl<K: Held> Drop for Version<K> {
 impl<K: Held> Holder for Version<K> {
     ghost octets = { λ version. fit version.look.len (K.holds version.number) };
 
-    #[tactic(auto, using(crate::proofs::StrayLemmas::length_fit))]
+    #[tactic(auto, using(crate::proofs::HeldLemmas::length_fit))]
     fn len(&self) -> u64 {
         self.look.len
     }
@@ -47,7 +47,7 @@ impl<K: Held> Holder for Version<K> {
 
 impl<K: Held> Version<K> {
     /// The version of this number, which looked so.
-    pub(crate) fn new(number: u64, look: Look) -> Version<K>
+    pub fn new(number: u64, look: Look) -> Version<K>
         ensures number { result.number ≡ number }
         ensures look { result.look ≡ look }
     {

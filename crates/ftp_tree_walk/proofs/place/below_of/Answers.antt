@@ -1,7 +1,7 @@
 use Rattle.std.proofs.Common.{rules, ◌≡◌, ◌++◌, string_bytes}
 use Rattle.ftp_path.specs.Path.{joined}
-use Rattle.ftp_tree_disk.proofs.PlaceLemmas.{below-of, kept-components, kept-text}
-use Rattle.ftp_tree_disk.proofs.place.below_of.Goals as goal
+use Rattle.ftp_tree_walk.proofs.PlaceLemmas.{below-of, kept-components, kept-text}
+use Rattle.ftp_tree_walk.proofs.place.below_of.Goals as goal
 
 pub returns-clause-below : goal.returns-clause-below
 returns-clause-below g c =

@@ -1,10 +1,9 @@
 // What others changed is taken up.
 ghost use Rattle.std.specs.Prelude.{◌≡◌};
 
+use crate::changes::{Changes, Findings, Stands};
 use crate::dirs::{Dirs, Seen};
 use crate::fault::{LoadFault, Odds, Reason};
-use crate::looking::Findings;
-use crate::sighting::{Changes, Stands};
 use crate::version::{Held, Version};
 use crate::walking::{Kept, Walk};
 use ftp_tree_host::Host;
@@ -16,7 +15,7 @@ use std::{io, mem};
 /// comes too. What passes a limit, counted by roots, or can't be served is left out; where that is what was asked for, or above it, this fails.
 ///
 /// Where it fails otherwise, a part may be taken up; the next look finds the rest.
-pub(crate) fn take_up<H: Host, K: Held>(
+pub fn take_up<H: Host, K: Held>(
     host: &H,
     nodes: &mut Nodes<Global, Version<K>>,
     dirs: &mut Dirs,

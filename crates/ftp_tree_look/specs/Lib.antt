@@ -1,0 +1,2 @@
+-- When the names beside a path are listed.
+pub mod Beside

@@ -1,0 +1,10 @@
+//! What others changed of a folder: what stands on the disk, held against what the nodes of a tree have there. It is found alone; nothing of the tree is
+//! changed, and no octet of a file is read.
+#![tactic(auto)]
+
+mod beside;
+mod looking;
+mod sighting;
+mod within;
+
+pub use looking::look_at;
