@@ -34,9 +34,11 @@ pub enum Found {
 }
 
 /// Who has the files of a folder. A place `below` it is a `/` before each of its names, and empty for the folder itself; no name of it is `.` or `..`.
-/// No link on the way to a place is followed: such a call fails. `found` and `names` alone look at no directory on the way: who asks them comes from the
-/// folder down, and has found each of them. Where a call fails, what stood at its place stands there still, unless it says else.
+/// No link on the way to a place is followed: such a call fails. `found` alone looks at no directory on the way: who asks it comes from the folder down,
+/// and has found each of them. Where a call fails, what stood at its place stands there still, unless it says else.
 pub trait Host {
+    /// A directory that is open, whose names are told whatever becomes of its own name.
+    type Folder: Drop;
     /// A file that is open.
     type File: Drop;
     /// A file that is written beside a name, and has that once it is whole. Let go of by `discard`, it is gone.
@@ -51,8 +53,14 @@ pub trait Host {
     /// What stands at a place. Nothing does below a file, and by a name that is too long for the system.
     fn found(&self, below: &str) -> io::Result<Found>;
 
-    /// The names in a directory, a NUL after each, in the order in which the system lists them; without `.` and `..`.
-    fn names(&self, below: &str) -> io::Result<Vec<u8, Global>>;
+    /// Opens a directory.
+    fn folder(&self, below: &str) -> io::Result<Self::Folder>;
+
+    /// The names in it, a NUL after each, in the order in which the system lists them; without `.` and `..`. They are told once.
+    fn names(&self, folder: &Self::Folder) -> io::Result<Vec<u8, Global>>;
+
+    /// What stands in it by a name, in which no `/` is. Nothing does by one that is too long for the system.
+    fn found_in(&self, folder: &Self::Folder, name: &str) -> io::Result<Found>;
 
     /// Opens the file that looked so, and no other that has come in its place: the same inode, with as many octets, changed at the same time. That its
     /// inode was touched since is no change.

@@ -1,7 +1,9 @@
-//! What a tree of a disk asks of a system, and the folder of a system that gives it, by `std::fs`: written beside and moved, flushed, and no link followed
+//! What a tree of a disk asks of a system, and the folder of a system that gives it, by `std::fs` and directories
+//! that are open: written beside and moved, flushed, and no link followed
 //! (own choice).
 #![tactic(auto)]
 
+mod folder;
 mod front;
 mod host;
 mod left;
@@ -14,6 +16,7 @@ mod reading;
 mod system;
 mod writing;
 
+pub use folder::SystemFolder;
 pub use host::{Found, Host, Look, Stamp};
 pub use moment::moment_of;
 pub use part::SystemPart;

@@ -2,27 +2,22 @@
 ghost use Rattle.std.specs.Prelude.{◌≡◌, ◌++◌, OnOk};
 ghost use Rattle.ftp_tree_host.specs.Names.{is_dots, listed};
 
+use crate::folder::SystemFolder;
 use std::alloc::{AllocError, Global};
-use std::fs::Files;
 use std::io;
-use std::io::{Error, ErrorKind, Read};
+use std::io::{Error, ErrorKind};
 
 /// How many octets of names are read at once: a name has 255 at most.
 const ROOM: usize = 32_768;
 
-/// The names in the directory at a place, a NUL after each, in the order in which the system lists them; without `.` and `..`.
-pub(crate) fn names_in<R: Files>(
-    files: &R,
-    alloc: Global,
-    place: &str,
-) -> io::Result<Vec<u8, Global>> {
-    let mut dir = files.open_dir(place)?;
+/// The names in a directory, a NUL after each, in the order in which the system lists them; without `.` and `..`.
+pub(crate) fn names_in(alloc: Global, folder: &SystemFolder) -> io::Result<Vec<u8, Global>> {
     let mut room = vec![in alloc; 0u8; ROOM]?;
     let mut names = Vec::new(alloc);
     for _ in 0..u64::MAX {
-        match dir.read(room.as_mut_slice()) {
+        match folder.read_names(room.as_mut_slice()) {
             Ok(0) => return Ok(names),
-            Ok(count) => put_names(&mut names, &room[..count])?,
+            Ok(count) => put_names(&mut names, room.get(..count).unwrap_or(&[]))?,
             Err(error) if error.kind() == ErrorKind::Interrupted => {}
             Err(error) => return Err(error),
         }

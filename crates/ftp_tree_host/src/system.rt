@@ -2,6 +2,7 @@
 ghost use Rattle.std.specs.Prelude.{◌≡◌, ◌≤◌, ◌<◌, ◌++◌, IfOk, length, string_bytes};
 ghost use Rattle.ftp_tree_host.specs.Place.{folder_text};
 
+use crate::folder::SystemFolder;
 use crate::front::put_front;
 use crate::host::{Found, Host, Look, Stamp};
 use crate::left::{is_left, leave_at, part_in};
@@ -123,6 +124,8 @@ fn first_number(now: Stamp) -> u64 {
 }
 
 impl<'a, R: Files + Clock + AllocGlobal> Host for SystemHost<'a, R> {
+    type Folder = SystemFolder;
+
     type File = SystemFile<R::File>;
 
     type Part = SystemPart<R::File>;
@@ -144,12 +147,22 @@ impl<'a, R: Files + Clock + AllocGlobal> Host for SystemHost<'a, R> {
         })
     }
 
-    fn names(&self, below: &str) -> io::Result<Vec<u8, Global>> {
-        let mut place = self.place(below)?;
-        if below.is_empty() {
-            place.push_str("/")?;
+    fn folder(&self, below: &str) -> io::Result<SystemFolder> {
+        match SystemFolder::reach(self.files.alloc(), self.dir.as_str(), below) {
+            Err(error) if error.kind() == ErrorKind::PermissionDenied && !below.is_empty() => {
+                SystemFolder::at(self.way(below)?)
+            }
+            reached => reached,
         }
-        names_in(self.files, self.files.alloc(), place.as_str())
+    }
+
+    fn names(&self, folder: &SystemFolder) -> io::Result<Vec<u8, Global>> {
+        names_in(self.files.alloc(), folder)
+    }
+
+    fn found_in(&self, folder: &SystemFolder, name: &str) -> io::Result<Found> {
+        let place = folder.place_of(self.files.alloc(), name)?;
+        found_of(self.files.symlink_metadata(place.as_str()))
     }
 
     fn open(&self, below: &str, look: Look) -> io::Result<SystemFile<R::File>> {

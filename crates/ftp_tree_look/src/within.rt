@@ -51,11 +51,20 @@ pub(crate) fn look_in<H: Host, K: Held>(
     look: Look,
     sight: Sight,
 ) -> io::Result<Within> {
-    let looking = Looking { host, nodes, here };
-    let place = looking.here.below.as_bytes();
+    let are_known = dirs.has(here.below.as_bytes(), look, sight);
+    if are_known && sight == Sight::Path {
+        return Ok(Within::none(host.memory()));
+    }
+    let folder = host.folder(here.below.as_str())?;
+    let looking = Looking {
+        host,
+        nodes,
+        here,
+        folder,
+    };
     let mut changes = Changes::none(host.memory());
     let mut listed = None;
-    if !dirs.has(place, look, sight) {
+    if !are_known {
         listed = Some(Seen::of(look, host.now()));
         looking.look_at_names(sight, &mut changes)?;
     }
@@ -65,17 +74,19 @@ pub(crate) fn look_in<H: Host, K: Held>(
     if let Some(seen) = listed {
         if changes.is_empty() {
             // Refused memory, its names are listed again at the next look.
+            let place = looking.here.below.as_bytes();
             let _noted = dirs.note(place, seen.by(host.now()));
         }
     }
     Ok(Within { changes, listed })
 }
 
-/// A directory that is looked at.
+/// A directory that is looked at, and open.
 struct Looking<'a, H: Host, K: Held> {
     host: &'a H,
     nodes: &'a Nodes<Global, Version<K>>,
     here: Here,
+    folder: H::Folder,
 }
 
 /// By hand, as that of a tree.
@@ -85,6 +96,7 @@ impl<'a, H: Host, K: Held> Drop for Looking<'a, H, K> {
             host: _,
             nodes: _,
             here: _,
+            folder: _,
         } = self;
     }
 }
@@ -92,7 +104,7 @@ impl<'a, H: Host, K: Held> Drop for Looking<'a, H, K> {
 impl<'a, H: Host, K: Held> Looking<'a, H, K> {
     /// Lists the names in it, and holds them against those that the tree has. Which of these are gone is seen by a look at each file as well.
     fn look_at_names(&self, sight: Sight, changes: &mut Changes) -> io::Result<()> {
-        let octets = self.host.names(self.here.below.as_str())?;
+        let octets = self.host.names(&self.folder)?;
         let names = sorted(self.host.memory(), octets.as_slice())?;
         self.find_new(names.as_slice(), changes)?;
         match sight {
@@ -103,24 +115,17 @@ impl<'a, H: Host, K: Held> Looking<'a, H, K> {
 
     /// What of some names the tree has not.
     fn find_new(&self, names: &[&[u8]], changes: &mut Changes) -> io::Result<()> {
-        let mut place = String::new(self.host.memory());
         for octets in names {
             if let Some(name) = served(self.host, octets) {
-                self.look_at_name(name, &mut place, changes)?;
+                self.look_at_name(name, changes)?;
             }
         }
         Ok(())
     }
 
     /// Looks at a name, unless the tree has it. A path past its limits can't be served.
-    fn look_at_name(
-        &self,
-        name: &str,
-        place: &mut String<Global>,
-        changes: &mut Changes,
-    ) -> io::Result<()> {
-        let alloc = self.host.memory();
-        let path = match self.here.child(alloc, name) {
+    fn look_at_name(&self, name: &str, changes: &mut Changes) -> io::Result<()> {
+        let path = match self.here.child(self.host.memory(), name) {
             Ok(path) => path,
             Err(PathFault::Memory) => return Err(error_of(PathFault::Memory)),
             Err(_) => return Ok(()),
@@ -128,61 +133,62 @@ impl<'a, H: Host, K: Held> Looking<'a, H, K> {
         if self.nodes.kind(&self.here.root, &path).is_some() {
             return Ok(());
         }
-        self.here.put_place(name, place)?;
-        let found = self.host.found(place.as_str())?;
-        add(changes, alloc, place.as_str(), Sighting::of_new(found))?;
-        Ok(())
+        let found = self.host.found_in(&self.folder, name)?;
+        self.put(name, Sighting::of_new(found), changes)
     }
 
     /// What the tree has and is none of some names, which are in order.
     fn find_gone(&self, names: &[&[u8]], changes: &mut Changes) -> io::Result<()> {
-        let alloc = self.host.memory();
-        let mut place = String::new(alloc);
         for at in 0..usize::MAX {
             let Some(name) = self.nodes.nth_name(&self.here.root, &self.here.path, at) else {
                 return Ok(());
             };
-            if is_among(name.octets(), names) {
-                continue;
+            if !is_among(name.octets(), names) {
+                self.put(text_of(name.octets())?, Sighting::Gone, changes)?;
             }
-            self.put_place(name.octets(), &mut place)?;
-            changes.add_gone(alloc, place.as_str())?;
         }
         Ok(())
     }
 
     /// Looks at each name that the tree has.
     fn look_at_children(&self, changes: &mut Changes) -> io::Result<()> {
-        let mut place = String::new(self.host.memory());
         for at in 0..usize::MAX {
             let Some(name) = self.nodes.nth_name(&self.here.root, &self.here.path, at) else {
                 return Ok(());
             };
-            self.put_place(name.octets(), &mut place)?;
-            self.look_at_child(name.octets(), place.as_str(), changes)?;
+            self.look_at_child(text_of(name.octets())?, changes)?;
         }
         Ok(())
     }
 
     /// Looks at a name that the tree has.
-    fn look_at_child(&self, name: &[u8], place: &str, changes: &mut Changes) -> io::Result<()> {
-        let alloc = self.host.memory();
-        let path = match self.here.path.resolve(alloc, name) {
+    fn look_at_child(&self, name: &str, changes: &mut Changes) -> io::Result<()> {
+        let path = match self.here.child(self.host.memory(), name) {
             Ok(path) => path,
             Err(fault) => return Err(error_of(fault)),
         };
-        let found = self.host.found(place)?;
+        let found = self.host.found_in(&self.folder, name)?;
         let sighting = Sighting::of(found, self.nodes.standing(&self.here.root, &path));
-        add(changes, alloc, place, sighting)?;
-        Ok(())
+        self.put(name, sighting, changes)
     }
 
-    /// Writes the place of a name that the tree has.
-    fn put_place(&self, name: &[u8], place: &mut String<Global>) -> io::Result<()> {
-        match std::str::from_utf8(name) {
-            Ok(name) => Ok(self.here.put_place(name, place)?),
-            Err(_) => Err(Error::from(ErrorKind::InvalidFilename)),
+    /// Puts what was seen by a name, where that is a change: its place is written for that alone.
+    fn put(&self, name: &str, sighting: Sighting, changes: &mut Changes) -> io::Result<()> {
+        if let Sighting::SameFile | Sighting::SameDir(_) = sighting {
+            return Ok(());
         }
+        let alloc = self.host.memory();
+        let mut place = String::new(alloc);
+        self.here.put_place(name, &mut place)?;
+        Ok(add(changes, alloc, place.as_str(), sighting)?)
+    }
+}
+
+/// A name that a tree has, as a text.
+fn text_of(name: &[u8]) -> io::Result<&str> {
+    match std::str::from_utf8(name) {
+        Ok(name) => Ok(name),
+        Err(_) => Err(Error::from(ErrorKind::InvalidFilename)),
     }
 }
 

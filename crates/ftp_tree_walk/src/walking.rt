@@ -167,15 +167,15 @@ impl<'a, H: Host, K: Held> Walk<'a, H, K> {
         let alloc = self.host.memory();
         self.enter(dir.below.as_str())?;
         let seen = Seen::of(dir.look, self.host.now());
-        let octets = match self.host.names(dir.below.as_str()) {
-            Ok(octets) => octets,
+        let (folder, octets) = match opened(self.host, dir.below.as_str()) {
+            Ok(opened) => opened,
             Err(error) => return self.meet(dir.below.as_bytes(), reason_of(error)?),
         };
         let Ok(names) = sorted(alloc, octets.as_slice()) else {
             return Err(LoadFault::Memory);
         };
         for name in &names {
-            self.load(name)?;
+            self.load(&folder, name)?;
         }
         self.note(seen)
     }
@@ -213,18 +213,18 @@ impl<'a, H: Host, K: Held> Walk<'a, H, K> {
     }
 
     /// Takes in what stands in the directory by a name.
-    fn load(&mut self, octets: &[u8]) -> Result<(), LoadFault> {
+    fn load(&mut self, folder: &H::Folder, octets: &[u8]) -> Result<(), LoadFault> {
         match std::str::from_utf8(octets) {
-            Ok(name) => self.load_name(name),
+            Ok(name) => self.load_name(folder, name),
             Err(_) => self.meet_name(octets),
         }
     }
 
-    fn load_name(&mut self, name: &str) -> Result<(), LoadFault> {
+    fn load_name(&mut self, folder: &H::Folder, name: &str) -> Result<(), LoadFault> {
         if self.here.put_place(name, &mut self.place).is_err() {
             return Err(LoadFault::Memory);
         }
-        let found = match self.host.found(self.place.as_str()) {
+        let found = match self.host.found_in(folder, name) {
             Ok(found) => found,
             Err(error) => return self.leave_out(reason_of(error)?),
         };
@@ -381,6 +381,13 @@ impl<'a, H: Host, K: Held> Walk<'a, H, K> {
             Err(AllocError) => Err(LoadFault::Memory),
         }
     }
+}
+
+/// The directory at a place, opened, and the names in it.
+fn opened<H: Host>(host: &H, below: &str) -> io::Result<(H::Folder, Vec<u8, Global>)> {
+    let folder = host.folder(below)?;
+    let names = host.names(&folder)?;
+    Ok((folder, names))
 }
 
 /// The place of a name that is no text.

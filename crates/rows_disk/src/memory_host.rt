@@ -33,6 +33,12 @@ pub struct MemoryHost {
     reason: Cell<Option<io::Error>>,
 }
 
+/// An open directory, by its place.
+#[derive(Drop)]
+pub struct MemoryFolder {
+    place: String<Global>,
+}
+
 /// An open file: it is read where its octets are, whatever becomes of its name.
 #[derive(Drop)]
 pub struct MemoryFile {
@@ -230,6 +236,8 @@ fn is_same(look: Look, before: Look) -> bool {
 }
 
 impl Host for MemoryHost {
+    type Folder = MemoryFolder;
+
     type File = MemoryFile;
 
     type Part = MemoryPart;
@@ -252,8 +260,20 @@ impl Host for MemoryHost {
         self.begins()?.found(below)
     }
 
-    fn names(&self, below: &str) -> io::Result<Vec<u8, Global>> {
-        self.begins()?.names(below)
+    /// It is not counted: where a directory can't be opened, that is seen as where its names can't be listed.
+    fn folder(&self, below: &str) -> io::Result<MemoryFolder> {
+        let place = String::from_str(self.alloc, below)?;
+        Ok(MemoryFolder { place })
+    }
+
+    fn names(&self, folder: &MemoryFolder) -> io::Result<Vec<u8, Global>> {
+        self.begins()?.names(folder.place.as_str())
+    }
+
+    fn found_in(&self, folder: &MemoryFolder, name: &str) -> io::Result<Found> {
+        let dir = folder.place.as_str();
+        let place = format!(in self.alloc; "{dir}/{name}")?;
+        self.begins()?.found(place.as_str())
     }
 
     fn open(&self, below: &str, look: Look) -> io::Result<MemoryFile> {
