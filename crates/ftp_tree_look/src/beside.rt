@@ -1,7 +1,7 @@
 // The names beside what is asked for. What others took away from there counts for limits, and stays in memory, until they are listed.
 ghost use Rattle.std.specs.Prelude.{◌≡◌, Some, length, true};
 ghost use Rattle.ftp_tree.specs.Tree.{children, kind_at, room_refusal, under};
-ghost use Rattle.ftp_tree_look.specs.Beside.{are_many_changed};
+ghost use Rattle.ftp_tree_look.specs.Beside.{are_few, are_many_changed};
 
 use crate::within::{Within, look_in};
 use ftp_path::Path;
@@ -10,6 +10,9 @@ use ftp_tree_host::{Found, Host};
 use ftp_tree_nodes::Nodes;
 use ftp_tree_walk::{Dirs, Held, Here, Version, above};
 use std::alloc::{Allocator, Global};
+
+/// The most names that are listed again without a rest, where room is short (own choice).
+const MOST_FEW: usize = 64;
 
 /// Looks at the names in the directory that a path is in, where that is due. Where they can't be listed, nothing is found.
 pub(crate) fn look_beside<H: Host, K: Held, B: Allocator + Copy, C: Allocator + Copy>(
@@ -50,7 +53,7 @@ fn look_there<H: Host, K: Held>(
 }
 
 /// Whether names are listed beside a path: those of a directory of the tree, where they never were; where this tree changed many of them since; where by
-/// what the tree has nothing comes to that path any more; and, where room is short, after a rest.
+/// what the tree has nothing comes to that path any more; and, where room is short, those of a directory that has few, and of each other after a rest.
 fn is_due<H: Host, K: Held, B: Allocator + Copy, C: Allocator + Copy>(
     host: &H,
     nodes: &Nodes<Global, Version<K>>,
@@ -72,7 +75,9 @@ fn is_due<H: Host, K: Held, B: Allocator + Copy, C: Allocator + Copy>(
         return true;
     }
     match nodes.room(root, path) {
-        Ok(room) => is_short(nodes, room) && seen.has_rested(host.now()),
+        Ok(room) => {
+            is_short(nodes, room) && (are_few(nodes, here) || seen.has_rested(host.now()))
+        }
         Err(TreeFault::Full) => true,
         Err(_) => false,
     }
@@ -88,6 +93,14 @@ fn are_many_changed<K: Held>(nodes: &Nodes<Global, Version<K>>, here: &Here, cha
         return false;
     };
     nodes.nth_name(&here.root, &here.path, last).is_none()
+}
+
+/// Whether a directory has so few names that they are listed without a rest: that costs no more than a few looks.
+#[tactic(auto, using(std::proofs::lemmas::Option::slice_get_past, std::proofs::lemmas::Option::slice_get_within))]
+fn are_few<K: Held>(nodes: &Nodes<Global, Version<K>>, here: &Here) -> bool
+    ensures { result ≡ are_few (length (children (under nodes.now here.now.root) here.now.path)) }
+{
+    nodes.nth_name(&here.root, &here.path, MOST_FEW).is_none()
 }
 
 /// Whether so many octets are less than half of all that limits allow, and less than the longest file may have.

@@ -19,6 +19,7 @@ enum Deed {
     Odd,
     Move,
     Pass,
+    Slow,
     Fails,
     FailsLate,
     Strays,
@@ -36,6 +37,7 @@ const DEEDS: &[(&'static [u8], Deed)] = &[
     (b"odd", Deed::Odd),
     (b"move", Deed::Move),
     (b"pass", Deed::Pass),
+    (b"slow", Deed::Slow),
     (b"fails", Deed::Fails),
     (b"fails-late", Deed::FailsLate),
     (b"strays", Deed::Strays),
@@ -90,6 +92,10 @@ fn done(alloc: Global, host: &MemoryHost, deed: Deed, rest: &[u8]) -> io::Result
         Deed::Move => host.move_to(place, text_of(rest)?),
         Deed::Pass => {
             host.pass(number(place.as_bytes()));
+            Ok(())
+        }
+        Deed::Slow => {
+            host.slow(number(place.as_bytes()));
             Ok(())
         }
         Deed::Fails | Deed::FailsLate | Deed::Strays | Deed::GoesWell | Deed::Unknown => Err(

@@ -30,6 +30,8 @@ pub struct MemoryHost {
     trouble: Cell<Trouble>,
     calls: Cell<u64>,
     parts: Cell<u64>,
+    /// How many milliseconds it takes to list names.
+    slow: Cell<u64>,
     reason: Cell<Option<io::Error>>,
 }
 
@@ -63,6 +65,7 @@ impl MemoryHost {
             trouble: Cell::new(Trouble::Nothing),
             calls: Cell::new(0),
             parts: Cell::new(0),
+            slow: Cell::new(0),
             reason: Cell::new(None),
         })
     }
@@ -83,6 +86,11 @@ impl MemoryHost {
         if let Ok(mut shelf) = self.shelf() {
             shelf.pass(millis);
         }
+    }
+
+    /// From here on the clock goes on by so many milliseconds where names are listed.
+    pub fn slow(&self, millis: u64) {
+        self.slow.set(millis);
     }
 
     /// Another hand writes a file: in the one that stands there, or a new one.
@@ -267,7 +275,9 @@ impl Host for MemoryHost {
     }
 
     fn names(&self, folder: &MemoryFolder) -> io::Result<Vec<u8, Global>> {
-        self.begins()?.names(folder.place.as_str())
+        let mut shelf = self.begins()?;
+        shelf.pass(self.slow.get());
+        shelf.names(folder.place.as_str())
     }
 
     fn found_in(&self, folder: &MemoryFolder, name: &str) -> io::Result<Found> {
