@@ -125,7 +125,6 @@ pub(crate) fn name_new<R: Files>(
     ensures handed { OnOk result (writer_buffer part.new.file ≡ []) }
     ensures kept { Keeps (writer_contents R.File.Write.contents part.old.file) (writer_contents R.File.Write.contents part.new.file) }
 {
-    check_free(files, place)?;
     part.settle(part.kept, moment)?;
     move_new(files, part.beside()?, place)?;
     part.beside = None;
