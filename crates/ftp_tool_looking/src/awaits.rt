@@ -1,6 +1,7 @@
 // What one waits for who does not wait: the round of all sessions polls it.
 use libc::net as c;
 use libc::types::pollfd;
+use std::os::fd::AsRawFd;
 
 /// A row of which nothing is asked.
 const NOTHING: pollfd = pollfd {
@@ -49,6 +50,19 @@ impl Awaits {
     /// Events of these, or the moment, whichever comes first.
     pub(crate) fn or_until(self, until: u64) -> Awaits {
         Awaits { until, ..self }
+    }
+
+    /// What a poll of these told of a socket; from then on nothing is known of it.
+    pub(crate) fn take<S: AsRawFd>(&mut self, socket: &S) -> i16 {
+        let fd = socket.as_raw_fd();
+        let mut told = 0;
+        for row in self.rows.iter_mut() {
+            if row.fd == fd {
+                told = row.revents;
+                row.revents = 0;
+            }
+        }
+        told
     }
 }
 

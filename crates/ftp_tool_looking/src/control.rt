@@ -34,16 +34,13 @@ impl LineReader {
         let mut stream = &line.stream;
         let count = stream.read(room)?;
         let given = line.take_given();
-        let after = line.waiting();
-        let passed = before.is_urgent && !after.is_urgent && !given;
-        let hidden = if passed {
-            hidden_after(line.last.get())
-        } else {
-            None
-        };
+        let front = line.last.get();
         if let Some(last) = room.get(..count).unwrap_or(&[]).last() {
             line.last.set(*last);
         }
+        let after = line.left_behind(before);
+        let passed = before.is_urgent && !after.is_urgent && !given;
+        let hidden = if passed { hidden_after(front) } else { None };
         Ok(Behind {
             hidden,
             count,
@@ -140,7 +137,7 @@ impl LineWriter {
 impl Write for LineWriter {
     fn write(&mut self, octets: &[u8]) -> io::Result<usize> {
         let count = send_now(&self.line.stream, octets)?;
-        self.line.reply_went();
+        self.line.reply_went(octets, count);
         Ok(count)
     }
 

@@ -13,9 +13,22 @@ use libc::types::pollfd;
 use std::cell::Cell;
 use std::io;
 use std::net::{Shutdown, SocketAddr, TcpStream};
+use std::os::fd::AsRawFd;
 
 /// The most octets of replies that wait in the system for a client to take them.
 const REPLIES: i32 = 65_536;
+
+/// The room that is there where a look tells of some: a third of twice `REPLIES`, as the system counts.
+const TOLD_ROOM: usize = 43_690;
+
+/// What the system counts of a write beside its octets, at most.
+const WRITE_ROOM: usize = 2_304;
+
+/// The room for all replies that may be owed at once: 8,192 octets in eight writes.
+const OWED_ROOM: usize = 8 * (1_024 + WRITE_ROOM);
+
+/// So many octets of data connections are the part of a turn.
+const MOVED: usize = 32_768;
 
 /// A control connection; how long its client is waited for; and what it has had of a turn. Who reads, writes and looks at it has a share of it each.
 #[derive(Drop)]
@@ -30,9 +43,14 @@ pub struct Line {
     seen: Cell<Option<Waiting>>,
     /// Until when no reply goes.
     held: Cell<u64>,
-    /// Whether a reply went in this turn, and whether octets of a data connection did.
+    /// How much room for replies is left of that which the last look told of.
+    room: Cell<usize>,
+    /// What the round's poll told of what the last turn waited for, as far as it was not asked for yet.
+    told: Cell<Awaits>,
+    /// Whether a reply went in this turn, whether one that no other follows, and how many octets of data connections did.
+    spoke: Cell<bool>,
     replied: Cell<bool>,
-    moved: Cell<bool>,
+    moved: Cell<usize>,
 }
 
 /// What of a control connection can be read.
@@ -58,8 +76,11 @@ impl Line {
             last: Cell::new(0),
             seen: Cell::new(None),
             held: Cell::new(0),
+            room: Cell::new(TOLD_ROOM),
+            told: Cell::new(Awaits::nothing()),
+            spoke: Cell::new(false),
             replied: Cell::new(false),
-            moved: Cell::new(false),
+            moved: Cell::new(0),
         })
     }
 
@@ -73,10 +94,25 @@ impl Line {
         self.stream.peer_addr()
     }
 
-    /// A turn begins: one reply may go, and once octets of a data connection.
-    pub fn begin_turn(&self) {
+    /// A turn begins, in which a reply may go, and octets of a data connection; `told` is what the round's poll found of what the last turn waited for.
+    pub fn begin_turn(&self, told: Awaits) {
+        self.told.set(told);
+        self.spoke.set(false);
         self.replied.set(false);
-        self.moved.set(false);
+        self.moved.set(0);
+    }
+
+    /// What the round's poll told of a socket that it was asked for; once in a turn.
+    pub(crate) fn take_told<S: AsRawFd>(&self, socket: &S) -> i16 {
+        let mut told = self.told.get();
+        let events = told.take(socket);
+        self.told.set(told);
+        events
+    }
+
+    /// The same of the control connection.
+    pub(crate) fn take_told_of_line(&self) -> i16 {
+        self.take_told(&self.stream)
     }
 
     /// The next reply goes only after so many milliseconds.
@@ -84,20 +120,35 @@ impl Line {
         self.held.set(monotonic_millis().saturating_add(millis));
     }
 
-    /// A reply went.
-    pub(crate) fn reply_went(&self) {
-        self.replied.set(true);
+    /// So many octets of replies went; one whose code begins with 1 is followed by another one (RFC 959, section 4.2.1).
+    pub(crate) fn reply_went(&self, octets: &[u8], count: usize) {
+        let taken = count.saturating_add(WRITE_ROOM);
+        self.room.set(self.room.get().saturating_sub(taken));
+        self.spoke.set(true);
+        if octets.first() != Some(&b'1') {
+            self.replied.set(true);
+        }
         self.patience.stir();
     }
 
-    /// Octets of a data connection went.
-    pub(crate) fn data_went(&self) {
-        self.moved.set(true);
+    /// Whether a reply went in this turn.
+    pub(crate) fn has_spoken(&self) -> bool {
+        self.spoke.get()
     }
 
-    /// Whether octets of a data connection went in this turn.
+    /// Whether one went that no other follows.
+    pub(crate) fn has_replied(&self) -> bool {
+        self.replied.get()
+    }
+
+    /// So many octets of a data connection went.
+    pub(crate) fn data_went(&self, count: usize) {
+        self.moved.set(self.moved.get().saturating_add(count));
+    }
+
+    /// Whether as many octets of data connections went in this turn as are its part.
     pub(crate) fn has_moved(&self) -> bool {
-        self.moved.get()
+        self.moved.get() >= MOVED
     }
 
     /// Ends patience where nothing is left of it, and says whether it is over.
@@ -121,6 +172,18 @@ impl Line {
         let mut rows = [self.row(events_of(!self.given.get()))];
         look(&mut rows);
         waiting_by(rows[0].revents)
+    }
+
+    /// What can be read after octets that were read, before which this could: asked only where an urgent octet stood before them, or may be hidden behind the
+    /// last one.
+    pub(crate) fn left_behind(&self, before: Waiting) -> Waiting {
+        if before.is_urgent || hidden_after(self.last.get()).is_some() {
+            return self.waiting();
+        }
+        Waiting {
+            is_urgent: false,
+            has_more: false,
+        }
     }
 
     /// What can be read, by the last look where nothing was read since.
@@ -147,7 +210,7 @@ impl Line {
             return Ok(());
         }
         if !self.replied.get() {
-            let waiting = self.waiting();
+            let waiting = self.looked();
             if waiting.has_more || (waiting.is_urgent && hidden_after(self.last.get()).is_some()) {
                 self.seen.set(Some(waiting));
                 return Ok(());
@@ -159,6 +222,16 @@ impl Line {
         Err(Awaits::one(self.row(events_of(!self.given.get()))))
     }
 
+    /// What can be read: as the round's poll told, where there are octets and nothing is hidden before them, else by a look.
+    fn looked(&self) -> Waiting {
+        let told = waiting_by(self.take_told_of_line());
+        if told.has_more && hidden_after(self.last.get()).is_none() {
+            told
+        } else {
+            self.waiting()
+        }
+    }
+
     /// Whether a reply may go now, and there is room for it; where patience is over, it can't go.
     pub(crate) fn has_room(&self) -> Result<(), Awaits> {
         let held = self.held.get();
@@ -167,7 +240,13 @@ impl Line {
         }
         let mut rows = [self.row(c::POLLOUT)];
         if !self.replied.get() {
+            if self.room.get() >= OWED_ROOM {
+                return Ok(());
+            }
             look(&mut rows);
+            if rows[0].revents & c::POLLOUT != 0 {
+                self.room.set(TOLD_ROOM);
+            }
             if rows[0].revents != 0 || self.is_over() {
                 return Ok(());
             }

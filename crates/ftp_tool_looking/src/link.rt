@@ -22,8 +22,8 @@ const LAST_READS: u32 = 64;
 const LAST_MILLIS: u64 = 30_000;
 
 /// A data connection. What would wait fails where patience is over, and is interrupted else: who looks first meets neither. Where the session is ended, or no
-/// time is left of it, its control connection has ended, and what goes after that fails. The last octets of a download go after the end of the control connection while the peer takes some within 30
-/// seconds.
+/// time is left of it, its control connection has ended, and what goes after that fails. The last octets of a download go after the end of the control
+/// connection while the peer takes some within 30 seconds.
 #[derive(Drop)]
 pub struct LineLink {
     line: Rc<Line, Global>,
@@ -36,8 +36,21 @@ pub struct LineLink {
     seen: Option<(Spoken, Other)>,
     /// Whether patience was over where it was looked at last, and nothing was there: the next read or write says so.
     is_late: bool,
-    /// Whether the peer's end was read, behind all that it sent.
+    /// Whether the peer's end was told of, and whether it was read, behind all that it sent.
+    is_ending: bool,
     has_ended: bool,
+    /// Whether nothing was looked for yet.
+    is_new: bool,
+    /// How many writes were made; from the second one on what is written goes at once.
+    writes: Writes,
+}
+
+/// The writes of a data connection so far.
+#[derive(Clone, Copy)]
+enum Writes {
+    Nothing,
+    One,
+    More,
 }
 
 /// The control connection ended before, or no time is left.
@@ -49,7 +62,6 @@ impl LineLink {
     /// A data connection beside its control connection.
     pub(crate) fn new(line: Rc<Line, Global>, stream: TcpStream) -> io::Result<LineLink> {
         stream.set_nonblocking(true)?;
-        stream.set_nodelay(true)?;
         Ok(LineLink {
             line,
             stream,
@@ -57,7 +69,10 @@ impl LineLink {
             limit: 0,
             seen: None,
             is_late: false,
+            is_ending: false,
             has_ended: false,
+            is_new: true,
+            writes: Writes::Nothing,
         })
     }
 
@@ -69,14 +84,27 @@ impl LineLink {
     /// So many octets went over the connection.
     fn moved(&self, count: usize) {
         if count > 0 {
-            self.line.data_went();
+            self.line.data_went(count);
             if self.outlives.is_none() {
                 self.line.patience.stir();
             }
         }
     }
 
-    /// Limits how long what is written waits for the peer to take it: octets that only the system took are no sign of life.
+    /// One more write is made. The first one goes at once in any case; of what is written after it the system would keep a small rest back.
+    fn hurry(&mut self) -> io::Result<()> {
+        self.writes = match self.writes {
+            Writes::Nothing => Writes::One,
+            Writes::One => {
+                self.stream.set_nodelay(true)?;
+                Writes::More
+            }
+            Writes::More => Writes::More,
+        };
+        Ok(())
+    }
+
+    /// Limits how long what is written waits for the peer to take it, where there is no room for more: octets that only the system took are no sign of life.
     fn limit(&mut self) {
         let limit = self.line.patience.untaken_millis();
         if limit != self.limit {
@@ -88,7 +116,7 @@ impl LineLink {
     /// The row of the connection itself.
     fn row(&self, what: For) -> pollfd {
         match what {
-            For::Octets => asking(&self.stream, c::POLLIN),
+            For::Octets => asking(&self.stream, c::POLLIN | c::POLLRDHUP),
             For::Room => asking(&self.stream, c::POLLOUT),
         }
     }
@@ -102,29 +130,29 @@ impl LineLink {
         }
     }
 
-    /// Whether octets can be read or written, or what is awaited beside is there; once in a turn octets go.
+    /// Whether octets can be read or written, or what is awaited beside is there; so many go in a turn.
     pub(crate) fn looks(&mut self, what: For, beside: Beside) -> Result<(), Awaits> {
         if self.line.patience.is_spent() {
             self.cut(beside);
             return Ok(());
         }
         let mut rows = [self.line.row(events_beside(beside)), self.row(what)];
-        if let For::Room = what {
-            self.limit();
-        }
-        if self.line.has_moved() {
+        if self.line.has_moved() || self.comes_later(what) {
             return Err(Awaits::both(rows[0], rows[1]));
         }
-        look(&mut rows);
+        if self.is_there(what) {
+            self.seen = Some((Spoken::Nothing, Other::Ready));
+            return Ok(());
+        }
+        self.ask(&mut rows);
         let (control, other) = (spoken_by(rows[0].revents), other_by(rows[1].revents));
-        let is_told = match (beside, control, other) {
-            (_, _, Other::Ready) => true,
-            (Beside::Nothing, _, Other::Waits) | (_, Spoken::Nothing, Other::Waits) => false,
-            (Beside::End | Beside::Octets, _, Other::Waits) => true,
-        };
-        if is_told {
+        if is_told(beside, control, other) {
+            self.is_ending = is_end(what, rows[1].revents);
             self.seen = Some((control, other));
             return Ok(());
+        }
+        if let For::Room = what {
+            self.limit();
         }
         if self.line.patience.spent().is_some() {
             self.is_late = true;
@@ -134,6 +162,33 @@ impl LineLink {
             Beside::Nothing => self.outlive(control, rows),
             Beside::End | Beside::Octets => Err(Awaits::both(rows[0], rows[1])),
         }
+    }
+
+    /// Whether what is waited for is surely there: room for the first write, and the peer's end that was told of.
+    fn is_there(&self, what: For) -> bool {
+        match (what, self.writes) {
+            (For::Room, Writes::Nothing) => true,
+            (For::Room, Writes::One | Writes::More) => false,
+            (For::Octets, _) => self.is_ending,
+        }
+    }
+
+    /// Whether octets are not looked for in this turn: the first ones, for which a reply asked that went in it.
+    fn comes_later(&mut self, what: For) -> bool {
+        let comes_later = self.is_new && matches!(what, For::Octets) && self.line.has_spoken();
+        self.is_new = false;
+        comes_later
+    }
+
+    /// Asks what of the control connection and this one is there, where the round's poll did not tell of this one.
+    fn ask(&self, rows: &mut [pollfd; 2]) {
+        let told = self.line.take_told(&self.stream) & rows[1].events;
+        if told == 0 {
+            look(rows);
+            return;
+        }
+        rows[0].revents = self.line.take_told_of_line() & rows[0].events;
+        rows[1].revents = told;
     }
 
     /// The last octets wait for room: for half a minute after the end of the control connection.
@@ -226,6 +281,23 @@ impl LineLink {
     }
 }
 
+/// Whether a waiting is over, by what is there.
+fn is_told(beside: Beside, control: Spoken, other: Other) -> bool {
+    match (beside, control, other) {
+        (_, _, Other::Ready) => true,
+        (Beside::Nothing, _, Other::Waits) | (_, Spoken::Nothing, Other::Waits) => false,
+        (Beside::End | Beside::Octets, _, Other::Waits) => true,
+    }
+}
+
+/// Whether the peer's end is there, behind octets that are not read yet or none.
+fn is_end(what: For, events: i16) -> bool {
+    match what {
+        For::Octets => events & c::POLLRDHUP != 0,
+        For::Room => false,
+    }
+}
+
 /// Whether a data connection is ready, by its events.
 fn other_by(events: i16) -> Other {
     if events == 0 {
@@ -261,9 +333,13 @@ impl Read for LineLink {
 impl Write for LineLink {
     fn write(&mut self, octets: &[u8]) -> io::Result<usize> {
         self.check_time()?;
+        self.hurry()?;
         match self.stream.write(octets) {
             Err(error) if error.kind() == ErrorKind::WouldBlock => Err(self.halted()),
             Ok(count) => {
+                if count < octets.len() {
+                    self.limit();
+                }
                 self.moved(count);
                 Ok(count)
             }

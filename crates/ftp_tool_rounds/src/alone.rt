@@ -16,7 +16,7 @@ pub fn serve_alone<T, S: Seat<T>>(
 ) -> Result<bool, AllocError> {
     let mut rows = Rows::new(alloc, 1)?;
     for _ in 0..TURNS {
-        match session.turn(tree) {
+        match session.turn(rows.take(0), tree) {
             Course::Over => break,
             Course::More => {}
             Course::Later => await_session(&mut rows, session),

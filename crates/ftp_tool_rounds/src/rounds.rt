@@ -222,7 +222,8 @@ impl<'a, M: Seats> Rounds<'a, M> {
     /// Who is ready.
     fn ready(&self) -> [bool; MOST_SEATS] {
         let mut ready = [false; MOST_SEATS];
-        for (place, is_ready) in ready.iter_mut().enumerate() {
+        let seats = self.table.count();
+        for (place, is_ready) in ready.iter_mut().enumerate().take(seats) {
             *is_ready = self.is_ready(place);
         }
         ready
@@ -232,7 +233,7 @@ impl<'a, M: Seats> Rounds<'a, M> {
     fn pass_over(&self, place: usize, ready: &mut [bool; MOST_SEATS]) {
         let host = self.table.at(place).map(|taken| taken.host);
         for (other, is_ready) in ready.iter_mut().enumerate() {
-            if self.table.at(other).map(|taken| taken.host) == host {
+            if *is_ready && self.table.at(other).map(|taken| taken.host) == host {
                 *is_ready = false;
             }
         }
@@ -253,10 +254,11 @@ impl<'a, M: Seats> Rounds<'a, M> {
 
     /// A turn of the session in a seat; that is free where it is over.
     fn turn(&mut self, place: usize, tree: &mut M::Tree) {
+        let told = self.rows.take(FIRST_SEAT.saturating_add(place));
         let Some(taken) = self.table.at_mut(place) else {
             return;
         };
-        taken.course = taken.session.turn(tree);
+        taken.course = taken.session.turn(told, tree);
         if let Course::Over = taken.course {
             self.free(place);
         }

@@ -88,15 +88,34 @@ impl Rows {
 
     /// Whether something is there for which the one at this place waited.
     pub(crate) fn is_told(&self, place: usize) -> bool {
-        let Some(begin) = self.begins.get(place) else {
-            return false;
-        };
-        let end = self.begins.get(place.saturating_add(1));
-        let end = end.copied().unwrap_or(self.rows.len());
+        let (begin, end) = self.span(place);
         self.rows
             .iter()
             .take(end)
-            .skip(*begin)
+            .skip(begin)
             .any(|row| row.revents != 0)
+    }
+
+    /// What the last poll told the one at this place; that is told once.
+    pub(crate) fn take(&mut self, place: usize) -> Awaits {
+        let (begin, end) = self.span(place);
+        let mut told = Awaits::nothing();
+        for (at, row) in told.rows.iter_mut().enumerate() {
+            let at = begin.saturating_add(at);
+            if let Some(found) = self.rows.get_mut(at).filter(|_| at < end) {
+                *row = *found;
+                found.revents = 0;
+            }
+        }
+        told
+    }
+
+    /// Where the rows of the one at this place begin and end.
+    fn span(&self, place: usize) -> (usize, usize) {
+        let Some(begin) = self.begins.get(place) else {
+            return (0, 0);
+        };
+        let end = self.begins.get(place.saturating_add(1));
+        (*begin, end.copied().unwrap_or(self.rows.len()))
     }
 }

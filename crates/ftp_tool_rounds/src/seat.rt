@@ -19,8 +19,8 @@ pub enum Course {
 
 /// A session over a tree `T`, which is lent to it for each turn. None of its calls waits.
 pub trait Seat<T>: Drop {
-    /// Goes on until it waits, is over, or has had its part.
-    fn turn(&mut self, tree: &mut T) -> Course;
+    /// Goes on until it waits, is over, or has had its part; `told` is what the last poll told of what it waited for.
+    fn turn(&mut self, told: Awaits, tree: &mut T) -> Course;
 
     /// What it waits for.
     fn awaits(&self) -> Awaits;

@@ -131,8 +131,8 @@ where
     T: Tree<Global> + Explains,
     F: Lends<Global, T>,
 {
-    fn turn(&mut self, tree: &mut T) -> Course {
-        self.journal.line().begin_turn();
+    fn turn(&mut self, told: Awaits, tree: &mut T) -> Course {
+        self.journal.line().begin_turn(told);
         self.journal.begin(&self.clocked.server);
         let turned = some_turns(
             &mut self.clocked,
