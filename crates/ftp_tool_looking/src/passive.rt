@@ -1,58 +1,133 @@
 // The ports that passive data connections are listened at.
 ghost use Rattle.std.specs.Prelude.{◌≡◌};
+ghost use Rattle.std.specs.Global.{Global};
 ghost use Rattle.ftp_tool_looking.specs.Looking.{next_port};
 
 use ftp_tool_sockets::Sockets;
-use std::cell::Cell;
+use std::alloc::Global;
+use std::cell::{Cell, RefCell};
 use std::io;
 use std::io::ErrorKind;
 use std::net::{IpAddr, SocketAddr, TcpListener};
 
-/// The ports from `first` to `last`, each tried in turn after the one that was listened at last; 0 to 0 is a port that the system chooses.
+/// The most ports that rest: they are listened at, and nobody waits there.
+const RESTING: usize = 16;
+
+/// The most connections that are let go which came at a port while it rested; where more did, it rests no longer.
+const STRANGERS: u32 = 16;
+
+/// A port that is listened at, on an address.
+#[derive(Drop)]
+pub(crate) struct Listening {
+    pub(crate) listener: TcpListener,
+    here: IpAddr,
+    pub(crate) port: u16,
+}
+
+impl Listening {
+    /// Lets go the connections that came, and says whether none is left.
+    fn is_clear(&self) -> bool {
+        for _ in 0..STRANGERS {
+            match self.listener.accept() {
+                Ok(_) => {}
+                Err(error) => return error.kind() == ErrorKind::WouldBlock,
+            }
+        }
+        false
+    }
+
+    /// Whether it is a port of this address.
+    fn is_at(&self, here: IpAddr) -> bool {
+        self.here == here
+    }
+}
+
+/// The ports from `first` to `last`, each tried in turn after the one that was listened at last; 0 to 0 is a port that the system chooses. A port that is done
+/// with rests: it stays listened at, and is used again where it is the next one, or where as many rest as may, the one that rests the longest first. What came
+/// there meanwhile is let go before.
 #[derive(Drop)]
 pub struct PassivePorts {
     first: u16,
     last: u16,
     /// The port that is tried next.
     next: Cell<u16>,
+    /// The ports that rest, the one that rests the longest first.
+    resting: RefCell<Vec<Listening, Global>>,
 }
 
 impl PassivePorts {
     /// These ports, from the first one on. Where `last` is before `first`, the first alone.
-    pub fn new(first: u16, last: u16) -> PassivePorts {
+    pub fn new(alloc: Global, first: u16, last: u16) -> PassivePorts {
         PassivePorts {
             first,
             last: first.max(last),
             next: Cell::new(first),
+            resting: RefCell::new(Vec::new(alloc)),
         }
     }
 
-    /// Listens at the next of the ports that is free, and says which.
-    pub(crate) fn listen<R: Sockets>(
-        &self,
-        net: &R,
-        here: IpAddr,
-    ) -> io::Result<(TcpListener, u16)> {
+    /// Listens at the next of the ports that is free.
+    pub(crate) fn listen<R: Sockets>(&self, net: &R, here: IpAddr) -> io::Result<Listening> {
+        if let Some(rested) = self.longest(here) {
+            return Ok(rested);
+        }
         for _ in self.first..=self.last {
             let port = self.next.get();
             self.next.set(port_after(self.first, self.last, port));
-            match listen_at(net, here, port) {
+            if let Some(rested) = self.rested(here, port) {
+                return Ok(rested);
+            }
+            match bind(net, here, port) {
                 Err(error) if error.kind() == ErrorKind::AddrInUse => {}
                 other => return other,
             }
         }
         Err(io::Error::from(ErrorKind::AddrInUse))
     }
+
+    /// A port is done with. It rests, where there is room; else it is listened at no longer.
+    pub(crate) fn rest(&self, listening: Listening) {
+        if let Ok(mut resting) = self.resting.try_borrow_mut() {
+            if resting.len() < RESTING {
+                let _kept = resting.push(listening);
+            }
+        }
+    }
+
+    /// The port of this address that rests the longest, where as many rest as may; none where more came there than is let go.
+    fn longest(&self, here: IpAddr) -> Option<Listening> {
+        let mut resting = self.resting.try_borrow_mut().ok()?;
+        if resting.len() < RESTING {
+            return None;
+        }
+        let at = resting.iter().position(|it| it.is_at(here))?;
+        Some(resting.remove(at)).filter(|it| it.is_clear())
+    }
+
+    /// This port, where it rests; none where more came there than is let go.
+    fn rested(&self, here: IpAddr, port: u16) -> Option<Listening> {
+        let mut resting = self.resting.try_borrow_mut().ok()?;
+        let at = resting
+            .iter()
+            .position(|it| it.port == port && it.is_at(here))?;
+        Some(resting.remove(at)).filter(|it| it.is_clear())
+    }
 }
 
-/// Listens at a port, and says which: the system is asked only where it chooses one, as of port 0.
-fn listen_at<R: Sockets>(net: &R, here: IpAddr, port: u16) -> io::Result<(TcpListener, u16)> {
+/// Listens at a port: the system is asked which only where it chooses one, as of port 0.
+fn bind<R: Sockets>(net: &R, here: IpAddr, port: u16) -> io::Result<Listening> {
     let listener = net.listener(SocketAddr::new(here, port))?;
-    if port != 0 {
-        return Ok((listener, port));
-    }
-    let chosen = listener.local_addr()?.port();
-    Ok((listener, chosen))
+    listener.set_nonblocking(true)?;
+    let port = if port == 0 {
+        listener.local_addr()?.port()
+    } else {
+        port
+    };
+    Ok(Listening {
+        listener,
+        here,
+        port,
+    })
 }
 
 /// The port after one, in turn among those from `first` to `last`.

@@ -7,7 +7,7 @@ use crate::awaits::{Awaits, look};
 use crate::line::Line;
 use crate::link::{LineLink, events_beside};
 use crate::opening::Opening;
-use crate::passive::PassivePorts;
+use crate::passive::{Listening, PassivePorts};
 use ftp_control::{Accepted, Awaited, Beside, For, Ports, Ready, Spoken, Whole};
 use ftp_endpoint::{Endpoint, Host};
 use ftp_tool_sockets::{Sockets, asking, host_of};
@@ -15,7 +15,7 @@ use libc::net as c;
 use std::alloc::Global;
 use std::io;
 use std::io::ErrorKind;
-use std::net::{IpAddr, SocketAddr, TcpListener, TcpStream};
+use std::net::{IpAddr, TcpStream};
 use std::rc::Rc;
 
 /// The most connections from other hosts than the client's that are let go in one look.
@@ -40,7 +40,9 @@ pub struct LinePorts<'a, R: Sockets> {
     /// The address of this end.
     here: IpAddr,
     client: Host,
-    listener: Option<TcpListener>,
+    listening: Option<Listening>,
+    /// Whether nobody was looked for there yet.
+    is_new: bool,
     /// What came at the port that is listened at, until it is accepted.
     came: Option<Came>,
     /// A connection that this end opens.
@@ -66,7 +68,8 @@ impl<'a, R: Sockets> LinePorts<'a, R> {
             passive,
             here,
             client,
-            listener: None,
+            listening: None,
+            is_new: false,
             came: None,
             opening: None,
             leaving: None,
@@ -97,9 +100,16 @@ impl<'a, R: Sockets> LinePorts<'a, R> {
 
     /// Nothing is listened at, and nothing is opened.
     fn stop(&mut self) {
-        self.listener = None;
+        self.rest();
         self.came = None;
         self.opening = None;
+    }
+
+    /// Nobody waits any longer at the port that is listened at.
+    fn rest(&mut self) {
+        if let Some(listening) = self.listening.take() {
+            self.passive.rest(listening);
+        }
     }
 
     /// Ends a data connection; what the peer sends too much is read later. One whose peer has ended is dropped at once.
@@ -118,21 +128,22 @@ impl<'a, R: Sockets> LinePorts<'a, R> {
     }
 
     /// Listens at one of the passive ports.
-    fn bind(&mut self) -> io::Result<u16> {
-        let (listener, port) = self.passive.listen(self.net, self.here)?;
-        listener.set_nonblocking(true)?;
-        self.listener = Some(listener);
+    fn begin(&mut self) -> io::Result<u16> {
+        let listening = self.passive.listen(self.net, self.here)?;
+        let port = listening.port;
+        self.listening = Some(listening);
+        self.is_new = true;
         Ok(port)
     }
 
     /// Takes the next connection of the client's host that came, if one did; others are let go.
     fn take_next(&mut self) {
-        let Some(listener) = &self.listener else {
+        let Some(listening) = &self.listening else {
             self.came = Some(Came::Failed);
             return;
         };
         for _ in 0..FOREIGN {
-            match listener.accept() {
+            match listening.listener.accept() {
                 Ok((stream, peer)) => {
                     let host = host_of(peer);
                     if host == self.client {
@@ -149,29 +160,33 @@ impl<'a, R: Sockets> LinePorts<'a, R> {
         }
     }
 
-    /// Whether a connection came, or what is awaited beside is there.
+    /// Whether a connection came, or what is awaited beside is there. Where the reply that names the port went in this turn, it comes later.
     fn looks_accepted(&mut self, beside: Beside) -> Result<(), Awaits> {
-        if self.came.is_none() {
+        let comes_later = self.is_new && self.line.has_replied();
+        self.is_new = false;
+        if self.came.is_none() && !comes_later {
             self.take_next();
         }
-        let Some(listener) = &self.listener else {
+        let Some(listening) = &self.listening else {
             return Ok(());
         };
         if self.came.is_some() || self.line.patience.left() == Some(0) {
             return Ok(());
         }
         let mut rows = [self.line.row(events_beside(beside))];
-        look(&mut rows);
+        if !comes_later {
+            look(&mut rows);
+        }
         if rows[0].revents != 0 {
             return Ok(());
         }
-        Err(Awaits::both(rows[0], asking(listener, c::POLLIN)))
+        Err(Awaits::both(rows[0], asking(&listening.listener, c::POLLIN)))
     }
 
     /// Whether a connection to an endpoint stands or failed. It is begun at the first look.
     fn looks_connected(&mut self, endpoint: Endpoint) -> Result<(), Awaits> {
         if self.opening.is_none() {
-            self.listener = None;
+            self.rest();
             self.drain();
             self.opening = Some(Opening::begin(self.net, endpoint));
         }
@@ -205,13 +220,13 @@ impl<'a, R: Sockets> Ports for LinePorts<'a, R> {
     fn listen(&mut self) -> Option<u16> {
         self.stop();
         self.drain();
-        self.bind().ok()
+        self.begin().ok()
     }
 
     fn accept(&mut self, hears: bool) -> Accepted<LineLink> {
         match self.came.take() {
             Some(Came::Stream(stream, host)) => {
-                self.listener = None;
+                self.rest();
                 match self.linked(stream) {
                     Some(link) => Accepted::Came(link, host),
                     None => Accepted::Refused,

@@ -285,7 +285,7 @@ where
     R: Net<Listener = TcpListener, Stream = TcpStream> + Files + Clock + Eprint + AllocGlobal,
     T: Parks<Global> + Explains,
 {
-    let passive = PassivePorts::new(job.passive.0, job.passive.1);
+    let passive = PassivePorts::new(rt.alloc(), job.passive.0, job.passive.1);
     let guesses = RefCell::new(Guesses::nothing(rt.alloc()));
     let service = Service {
         log: job.log,

@@ -130,7 +130,7 @@ fn served_accounts<T>(
 where
     T: Parks<Global> + Explains,
 {
-    let passive = PassivePorts::new(0, 0);
+    let passive = PassivePorts::new(rt.alloc(), 0, 0);
     let lines = Lines::new();
     let guesses = RefCell::new(Guesses::nothing(rt.alloc()));
     let service = Service {
