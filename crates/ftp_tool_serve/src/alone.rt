@@ -2,103 +2,60 @@
 ghost use Rattle.std.specs.Global.{Global};
 
 use crate::begins::{Begins, Ours};
-use crate::seated::{Service, Session};
+use crate::seated::{Guest, Session};
 use crate::seating::session_of;
 use crate::tells::Tells;
 use ftp_control::Failed;
-use ftp_operation::Accounts;
-use ftp_tool_looking::Limits;
 use ftp_tool_rounds::serve_alone;
 use ftp_tool_sockets::Sockets;
 use ftp_tree_disk::{Explains, Parks};
 use std::alloc::Global;
-use std::net::TcpStream;
 use std::time::Clock;
 
 /// Serves one control connection over a tree; fails where a read, a write or a growth outside of the server did.
-pub fn session<R, T>(
-    rt: &R,
-    tree: &mut T,
-    accounts: Accounts<Global>,
-    stream: TcpStream,
-    waits: Limits,
-    service: Service<'_>,
-) -> Result<(), Failed>
+pub fn session<R, T>(rt: &R, tree: &mut T, guest: Guest<'_>) -> Result<(), Failed>
 where
     R: Sockets + Tells + Clock + AllocGlobal,
     T: Parks<Global> + Explains,
 {
-    session_of_ours(rt, tree, accounts, stream, waits, service)
+    session_of_ours(rt, tree, guest)
 }
 
 /// The same of whoever serves one.
-fn session_of_ours<R, T>(
-    rt: &R,
-    tree: &mut T,
-    accounts: Accounts<Global>,
-    stream: TcpStream,
-    waits: Limits,
-    service: Service<'_>,
-) -> Result<(), Failed>
+fn session_of_ours<R, T>(rt: &R, tree: &mut T, guest: Guest<'_>) -> Result<(), Failed>
 where
     R: ServesOne,
     T: Parks<Global> + Explains,
 {
-    rt.serve_one(&Ours, tree, accounts, stream, waits, service)
+    rt.serve_one(&Ours, tree, guest)
 }
 
 /// Who serves one control connection, as one trait without types of its own: what stands on it is proved for less.
 trait ServesOne {
-    fn serve_one<T, M>(
-        &self,
-        begins: &M,
-        tree: &mut T,
-        accounts: Accounts<Global>,
-        stream: TcpStream,
-        waits: Limits,
-        service: Service<'_>,
-    ) -> Result<(), Failed>
+    fn serve_one<T, M>(&self, begins: &M, tree: &mut T, guest: Guest<'_>) -> Result<(), Failed>
     where
         T: Parks<Global> + Explains,
         M: Begins<T>;
 }
 
 impl<R: Sockets + Tells + Clock + AllocGlobal> ServesOne for R {
-    fn serve_one<T, M>(
-        &self,
-        begins: &M,
-        tree: &mut T,
-        accounts: Accounts<Global>,
-        stream: TcpStream,
-        waits: Limits,
-        service: Service<'_>,
-    ) -> Result<(), Failed>
+    fn serve_one<T, M>(&self, begins: &M, tree: &mut T, guest: Guest<'_>) -> Result<(), Failed>
     where
         T: Parks<Global> + Explains,
         M: Begins<T>,
     {
-        session_by(self, begins, tree, accounts, stream, waits, service)
+        session_by(self, begins, tree, guest)
     }
 }
 
 /// The same by a server that is begun so.
-fn session_by<R, T, M>(
-    rt: &R,
-    begins: &M,
-    tree: &mut T,
-    accounts: Accounts<Global>,
-    stream: TcpStream,
-    waits: Limits,
-    service: Service<'_>,
-) -> Result<(), Failed>
+fn session_by<R, T, M>(rt: &R, begins: &M, tree: &mut T, guest: Guest<'_>) -> Result<(), Failed>
 where
     R: Sockets + Tells + Clock + AllocGlobal,
     T: Parks<Global> + Explains,
     M: Begins<T>,
 {
-    let session: Option<Session<'_, R, T, M::Server>> = session_of(
-        rt, begins, tree, accounts, stream, waits, service,
-    );
+    let session: Option<Session<'_, R, T, M::Server>> = session_of(rt, begins, tree, guest);
     let Some(mut session) = session else {
         return Err(Failed);
     };

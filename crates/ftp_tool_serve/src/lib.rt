@@ -28,5 +28,5 @@ pub use ftp_tool_words::Sessions;
 pub use ftp_tree::Limits;
 pub use ftp_tree_disk::{Odd, Others};
 pub use journal::Log;
-pub use seated::Service;
+pub use seated::{Guest, Service};
 pub use serving::{Serving, serve};

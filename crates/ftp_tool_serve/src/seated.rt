@@ -7,19 +7,20 @@ use crate::journal::{Journal, Log};
 use crate::tells::Tells;
 use crate::watching::Watching;
 use ftp_control::{Cause, Ports};
+use ftp_operation::Accounts;
 use ftp_server_drive::{Clocked, Control, Data, Turned};
 use ftp_server_lent::lent_turns;
 use ftp_server_several::Lends;
 use ftp_tool_guesses::Guesses;
 use ftp_tool_log::Lines;
-use ftp_tool_looking::{Awaits, Leaving, LineReader, PassivePorts, Patience};
+use ftp_tool_looking::{Awaits, Leaving, Limits, LineReader, PassivePorts, Patience};
 use ftp_tool_rounds::{Course, Seat};
 use ftp_tool_sockets::{Sockets, SystemWatch};
 use ftp_tree::Tree;
 use ftp_tree_disk::Explains;
 use std::alloc::Global;
 use std::cell::RefCell;
-use std::net::IpAddr;
+use std::net::{IpAddr, TcpStream};
 use std::rc::Rc;
 use std::time::Clock;
 
@@ -37,6 +38,15 @@ pub struct Service<'a> {
     pub lines: &'a Lines,
     /// The logins that were refused, over all sessions.
     pub guesses: &'a RefCell<Guesses<Global>>,
+}
+
+/// A client that came: who may log in, its control connection, how long it is waited for, and what its session needs.
+#[derive(Drop)]
+pub struct Guest<'a> {
+    pub accounts: Accounts<Global>,
+    pub stream: TcpStream,
+    pub waits: Limits,
+    pub service: Service<'a>,
 }
 
 /// How a session went.

@@ -8,11 +8,10 @@ use crate::begins::Begins;
 use crate::connections::{CountedPorts, SaidWriter};
 use crate::goodbye::{guessed_from, no_seat};
 use crate::journal::{Journal, Log};
-use crate::seated::{Connected, Service, Session};
+use crate::seated::{Connected, Guest, Service, Session};
 use crate::tells::{NoClient, Note, Tells};
 use crate::watching::Watching;
 use ftp_endpoint::Host;
-use ftp_operation::Accounts;
 use ftp_server_drive::Control;
 use ftp_tool_looking::{Limits, Line, LinePorts, LineReader, LineWriter};
 use ftp_tool_rounds::{Full, Seats};
@@ -79,15 +78,13 @@ where
         tree: &T,
     ) -> Option<Box<Session<'a, R, T, M::Server>, Global>> {
         let accounts = accounts_told(self.rt, self.accounts, self.service.lines)?;
-        let session = session_of(
-            self.rt,
-            &self.begins,
-            tree,
+        let guest = Guest {
             accounts,
             stream,
-            self.waits,
-            self.service,
-        )?;
+            waits: self.waits,
+            service: self.service,
+        };
+        let session = session_of(self.rt, &self.begins, tree, guest)?;
         Box::new(self.rt.alloc(), session).ok()
     }
 
@@ -130,16 +127,19 @@ pub(crate) fn session_of<'a, R, T, M>(
     rt: &'a R,
     begins: &M,
     tree: &T,
-    accounts: Accounts<Global>,
-    stream: TcpStream,
-    waits: Limits,
-    service: Service<'a>,
+    guest: Guest<'a>,
 ) -> Option<Session<'a, R, T, M::Server>>
 where
     R: Sockets + Tells + Clock + AllocGlobal,
     T: Parks<Global> + Explains,
     M: Begins<T>,
 {
+    let Guest {
+        accounts,
+        stream,
+        waits,
+        service,
+    } = guest;
     let line = Line::new(stream, waits).ok()?;
     let here = told_host(service.passive_address, host_of(line.here().ok()?));
     let peer = line.peer().ok()?;

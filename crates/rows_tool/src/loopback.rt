@@ -2,7 +2,9 @@
 use crate::handle::Handle;
 use crate::made::file;
 use ftp_operation::Accounts;
-use ftp_tool_serve::{Guesses, Lines, Log, PassivePorts, Service, Waits, accounts_of, session};
+use ftp_tool_serve::{
+    Guesses, Guest, Lines, Log, PassivePorts, Service, Waits, accounts_of, session,
+};
 use ftp_tree::Limits;
 use ftp_tree_disk::{DiskTree, Explains, Odd, Others, Parks, Unknown, open};
 use ftp_tree_host::{Host, SystemHost};
@@ -141,7 +143,13 @@ where
         guesses: &guesses,
     };
     let handle = Handle::meeting(rt);
-    session(&handle, tree, accounts, stream, WAITS, service).is_ok()
+    let guest = Guest {
+        accounts,
+        stream,
+        waits: WAITS,
+        service,
+    };
+    session(&handle, tree, guest).is_ok()
 }
 
 /// Puts what a client is answered that says these lines before it is served.
