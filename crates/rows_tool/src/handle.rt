@@ -36,6 +36,41 @@ impl<'a> Guests<'a> {
     }
 }
 
+/// Two clients at once, which have said all their lines as they come.
+#[derive(Drop)]
+pub(crate) struct Company<'a> {
+    pub(crate) first: &'a [u8],
+    pub(crate) second: &'a [u8],
+    /// The two, once they came.
+    pub(crate) seats: RefCell<Option<(TcpStream, TcpStream)>>,
+    /// The last data connection that one of them opened, which sends nothing and does not end.
+    pub(crate) link: RefCell<Option<TcpStream>>,
+}
+
+impl<'a> Company<'a> {
+    /// Connects both to the first port that is listened at, and says their lines; to a later one a data connection.
+    fn come(&self, rt: &HostRuntime, port: SocketAddr) -> io::Result<()> {
+        if self.is_there() {
+            drop(self.link.try_replace(Some(rt.connect(port)?)));
+            return Ok(());
+        }
+        let mut first = rt.connect(port)?;
+        first.write_all(self.first)?;
+        let mut second = rt.connect(port)?;
+        second.write_all(self.second)?;
+        drop(self.seats.try_replace(Some((first, second))));
+        Ok(())
+    }
+
+    /// Whether they came.
+    fn is_there(&self) -> bool {
+        match self.seats.try_borrow() {
+            Ok(seats) => seats.is_some(),
+            Err(_) => false,
+        }
+    }
+}
+
 /// Who connects to a port as soon as it is listened at.
 #[derive(Clone, Copy)]
 enum Meets<'a> {
@@ -43,6 +78,7 @@ enum Meets<'a> {
     /// A client that has sent its octets and ended.
     Sender,
     Guests(&'a Guests<'a>),
+    Company(&'a Company<'a>),
 }
 
 /// Gives what another handle gives.
@@ -69,6 +105,15 @@ impl<'a> Handle<'a> {
             rt,
             text: b"",
             meets: Meets::Sender,
+        }
+    }
+
+    /// A handle to whose ports these two come.
+    pub(crate) fn joining(rt: &'a HostRuntime, company: &'a Company<'a>) -> Handle<'a> {
+        Handle {
+            rt,
+            text: b"",
+            meets: Meets::Company(company),
         }
     }
 
@@ -110,6 +155,7 @@ impl<'a> Net for Handle<'a> {
             Meets::Nobody => {}
             Meets::Sender => self.rt.connect(port)?.write_all(SENT.as_bytes())?,
             Meets::Guests(guests) => guests.come(self.rt, port)?,
+            Meets::Company(company) => company.come(self.rt, port)?,
         }
         Ok(listener)
     }

@@ -16,6 +16,7 @@ mod refused;
 mod rights;
 mod scripts;
 mod seat;
+mod several;
 mod soak;
 mod statuses;
 mod tries;
@@ -104,13 +105,15 @@ fn served(rt: &HostRuntime) -> io::Result<()> {
     let lettered = letters::row(rt);
     let inbox = soak::row(rt);
     let failing = failing::rows(rt);
+    let several = several::rows(rt);
     fs::remove_dir_all(rt, PLACE)?;
     refused?;
     served?;
     shared?;
     lettered?;
     inbox?;
-    failing
+    failing?;
+    several
 }
 
 /// The rows of places, and those of `run`, `get`, `put` and `ls`.
