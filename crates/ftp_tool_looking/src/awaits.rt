@@ -52,17 +52,26 @@ impl Awaits {
         Awaits { until, ..self }
     }
 
-    /// What a poll of these told of a socket; from then on nothing is known of it.
-    pub(crate) fn take<S: AsRawFd>(&mut self, socket: &S) -> i16 {
+    /// What a poll of these told of a socket.
+    pub(crate) fn told<S: AsRawFd>(&self, socket: &S) -> i16 {
         let fd = socket.as_raw_fd();
         let mut told = 0;
-        for row in self.rows.iter_mut() {
+        for row in self.rows.iter() {
             if row.fd == fd {
                 told = row.revents;
-                row.revents = 0;
             }
         }
         told
+    }
+
+    /// From now on nothing is known of a socket.
+    pub(crate) fn forget<S: AsRawFd>(&mut self, socket: &S) {
+        let fd = socket.as_raw_fd();
+        for row in self.rows.iter_mut() {
+            if row.fd == fd {
+                row.revents = 0;
+            }
+        }
     }
 }
 

@@ -108,6 +108,7 @@ impl Read for LineReader {
             return Ok(0);
         }
         if room.len() < 3 {
+            self.line.forget();
             let mut stream = &self.line.stream;
             return stream.read(room);
         }

@@ -102,17 +102,26 @@ impl Line {
         self.moved.set(0);
     }
 
-    /// What the round's poll told of a socket that it was asked for; once in a turn.
-    pub(crate) fn take_told<S: AsRawFd>(&self, socket: &S) -> i16 {
+    /// What of the control connection and of another socket is there, in rows of both: as the round's poll told, once, where that told of the other one, else by a
+    /// look.
+    pub(crate) fn ask<S: AsRawFd>(&self, other: &S, rows: &mut [pollfd; 2]) {
         let mut told = self.told.get();
-        let events = told.take(socket);
+        let of_other = told.told(other) & rows[1].events;
+        told.forget(other);
         self.told.set(told);
-        events
+        if of_other == 0 {
+            look(rows);
+            return;
+        }
+        rows[0].revents = told.told(&self.stream) & rows[0].events;
+        rows[1].revents = of_other;
     }
 
-    /// The same of the control connection.
-    pub(crate) fn take_told_of_line(&self) -> i16 {
-        self.take_told(&self.stream)
+    /// Nothing is known of the control connection but by a look.
+    pub(crate) fn forget(&self) {
+        let mut told = self.told.get();
+        told.forget(&self.stream);
+        self.told.set(told);
     }
 
     /// The next reply goes only after so many milliseconds.
@@ -186,8 +195,9 @@ impl Line {
         }
     }
 
-    /// What can be read, by the last look where nothing was read since.
+    /// What can be read, by the last look where nothing was read since; it is read now.
     pub(crate) fn take_seen(&self) -> Waiting {
+        self.forget();
         match self.seen.replace(None) {
             Some(waiting) => waiting,
             None => self.waiting(),
@@ -224,7 +234,7 @@ impl Line {
 
     /// What can be read: as the round's poll told, where there are octets and nothing is hidden before them, else by a look.
     fn looked(&self) -> Waiting {
-        let told = waiting_by(self.take_told_of_line());
+        let told = waiting_by(self.told.get().told(&self.stream));
         if told.has_more && hidden_after(self.last.get()).is_none() {
             told
         } else {

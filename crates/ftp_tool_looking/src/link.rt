@@ -144,7 +144,7 @@ impl LineLink {
             self.seen = Some((Spoken::Nothing, Other::Ready));
             return Ok(());
         }
-        self.ask(&mut rows);
+        self.line.ask(&self.stream, &mut rows);
         let (control, other) = (spoken_by(rows[0].revents), other_by(rows[1].revents));
         if is_told(beside, control, other) {
             self.is_ending = is_end(what, rows[1].revents);
@@ -178,17 +178,6 @@ impl LineLink {
         let comes_later = self.is_new && matches!(what, For::Octets) && self.line.has_spoken();
         self.is_new = false;
         comes_later
-    }
-
-    /// Asks what of the control connection and this one is there, where the round's poll did not tell of this one.
-    fn ask(&self, rows: &mut [pollfd; 2]) {
-        let told = self.line.take_told(&self.stream) & rows[1].events;
-        if told == 0 {
-            look(rows);
-            return;
-        }
-        rows[0].revents = self.line.take_told_of_line() & rows[0].events;
-        rows[1].revents = told;
     }
 
     /// The last octets wait for room: for half a minute after the end of the control connection.

@@ -3,7 +3,9 @@ ghost use Rattle.std.specs.Prelude.{◌≡◌};
 ghost use Rattle.std.specs.Global.{Global};
 ghost use Rattle.ftp_tool_looking.specs.Looking.{next_port};
 
-use ftp_tool_sockets::Sockets;
+use crate::awaits::look;
+use ftp_tool_sockets::{Sockets, asking};
+use libc::net as c;
 use std::alloc::Global;
 use std::cell::{Cell, RefCell};
 use std::io;
@@ -25,8 +27,15 @@ pub(crate) struct Listening {
 }
 
 impl Listening {
-    /// Lets go the connections that came, and says whether none is left.
+    /// Whether no connection is left there: those that came are let go.
     fn is_clear(&self) -> bool {
+        let mut rows = [asking(&self.listener, c::POLLIN)];
+        look(&mut rows);
+        rows[0].revents == 0 || self.lets_go()
+    }
+
+    /// Lets go the connections that came, and says whether none is left.
+    fn lets_go(&self) -> bool {
         for _ in 0..STRANGERS {
             match self.listener.accept() {
                 Ok(_) => {}

@@ -3,7 +3,7 @@ ghost use Rattle.std.specs.Prelude.{◌≡◌, None};
 ghost use Rattle.std.specs.Global.{Global};
 ghost use Rattle.ftp_control.specs.Asking.{Closes};
 
-use crate::awaits::{Awaits, look};
+use crate::awaits::Awaits;
 use crate::line::Line;
 use crate::link::{LineLink, events_beside};
 use crate::opening::Opening;
@@ -162,25 +162,27 @@ impl<'a, R: Sockets> LinePorts<'a, R> {
 
     /// Whether a connection came, or what is awaited beside is there. Where the reply that names the port went in this turn, it comes later.
     fn looks_accepted(&mut self, beside: Beside) -> Result<(), Awaits> {
+        let is_over = self.came.is_some() || self.line.patience.left() == Some(0);
         let comes_later = self.is_new && self.line.has_replied();
         self.is_new = false;
-        if self.came.is_none() && !comes_later {
-            self.take_next();
-        }
         let Some(listening) = &self.listening else {
             return Ok(());
         };
-        if self.came.is_some() || self.line.patience.left() == Some(0) {
+        let mut rows = [
+            self.line.row(events_beside(beside)),
+            asking(&listening.listener, c::POLLIN),
+        ];
+        if comes_later && !is_over {
+            return Err(Awaits::both(rows[0], rows[1]));
+        }
+        self.line.ask(&listening.listener, &mut rows);
+        if self.came.is_none() && rows[1].revents != 0 {
+            self.take_next();
+        }
+        if is_over || self.came.is_some() || rows[0].revents != 0 {
             return Ok(());
         }
-        let mut rows = [self.line.row(events_beside(beside))];
-        if !comes_later {
-            look(&mut rows);
-        }
-        if rows[0].revents != 0 {
-            return Ok(());
-        }
-        Err(Awaits::both(rows[0], asking(&listening.listener, c::POLLIN)))
+        Err(Awaits::both(rows[0], rows[1]))
     }
 
     /// Whether a connection to an endpoint stands or failed. It is begun at the first look.
