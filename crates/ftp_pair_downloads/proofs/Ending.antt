@@ -27,7 +27,7 @@ use Rattle.ftp_pair_downloads.proofs.Concluding.{fetches_are_the_direct_run}
 
 module _ {side : Side} (Is : Deed side → (old new : side.End) → Type 0) where
   -- deeds led from here to there, and so it was along them
-  abbrev Went : (deeds : List (Deed side)) (start now : Stand side) → Type 0
+  abbrev pub Went : (deeds : List (Deed side)) (start now : Stand side) → Type 0
   Went deeds start now = (led : Led deeds start now) × Along Is deeds start now led
 
   -- one list after another
@@ -44,7 +44,7 @@ none_to_close [] start now fetched none = ap (λ (s : Stand client_side). s.owne
 none_to_close (asked ∷ before) start now fetched none = ap (λ v. v.closing) fetched.2.drove.did.sums.led.2.0.0.0
 
 -- the deeds of a client's drives
-answers_go : (asked : List (Op (List ℕ) × Said)) (start now : Stand client_side) (fetched : AreFetched asked start now) → start.owner.end.view.closing ≡ false
+pub answers_go : (asked : List (Op (List ℕ) × Said)) (start now : Stand client_side) (fetched : AreFetched asked start now) → start.owner.end.view.closing ≡ false
     → Went ClientTakes (deeds_in asked start now fetched) start now
 answers_go [] start now fetched none = (fetched, tt)
 answers_go (asked ∷ before) start now fetched none =
@@ -78,7 +78,7 @@ midst_reports (deed ∷ deeds) before midst =
     ap (λ l. reports_in (deeds ++ before) ++ l) (midst_said deed midst.1) ∙ append-nil _ ∙ midst_reports deeds before midst.0
 
 -- so the drives begin the operations
-orders_are : (moment : ℕ) (asked : List (Op (List ℕ) × Said)) (start now : Stand client_side) (fetched : AreFetched asked start now)
+pub orders_are : (moment : ℕ) (asked : List (Op (List ℕ) × Said)) (start now : Stand client_side) (fetched : AreFetched asked start now)
     → begun_in moment (deeds_in asked start now fetched) ≡ orders_of moment asked
 orders_are moment [] start now fetched = refl
 orders_are moment (asked ∷ before) start now fetched =
@@ -87,7 +87,7 @@ orders_are moment (asked ∷ before) start now fetched =
     ∙ ap (λ l. l ++ Single asked.0 moment ∷ []) (orders_are moment before start fetched.0 fetched.1)
 
 -- and report their answers
-answers_are : (asked : List (Op (List ℕ) × Said)) (start now : Stand client_side) (fetched : AreFetched asked start now)
+pub answers_are : (asked : List (Op (List ℕ) × Said)) (start now : Stand client_side) (fetched : AreFetched asked start now)
     → reports_in (deeds_in asked start now fetched) ≡ answers_of asked
 answers_are [] start now fetched = refl
 answers_are (asked ∷ before) start now fetched =
@@ -96,7 +96,7 @@ answers_are (asked ∷ before) start now fetched =
     ∙ ap (λ l. l ++ asked.1 ∷ []) (answers_are before start fetched.0 fetched.1)
 
 -- a client whose drives are over is not busy
-fetched_free : (b : Beginning) (server : Stand server_side) (asked : List (Op (List ℕ) × Said)) (start now : Stand client_side) → Begins b server start
+pub fetched_free : (b : Beginning) (server : Stand server_side) (asked : List (Op (List ℕ) × Said)) (start now : Stand client_side) → Begins b server start
     → AreFetched asked start now → is_busy now.owner.end.view ≡ false
 fetched_free b server [] start now begins fetched = ap (λ (s : Stand client_side). is_busy s.owner.end.view) fetched ∙ ap is_busy begins.client_view
 fetched_free b server (asked ∷ before) start now begins fetched =

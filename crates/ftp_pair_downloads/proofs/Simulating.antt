@@ -73,16 +73,16 @@ in_whole moment (deed ∷ before) start now led takes =
 
 module _ (read : Reading) (reads : IsReading read) (moment : ℕ) (timed : moment ≤ last_second) (b : Beginning) (fair : IsFair b) where
   -- after deeds, a world is beside both drives
-  record Reached (begun : List Order) (between : Between) (told : ℕ) (server : Stand server_side) (client : Stand client_side)
+  pub record Reached (begun : List Order) (between : Between) (told : ℕ) (server : Stand server_side) (client : Stand client_side)
       (reports : List Said) : Type 0 where
-    world : World
-    leads : LeadsOn read begun (world_of b) world
-    last : ℕ
-    ahead : Ahead
-    together : Together last ahead between told server client reports world
-    serves : ServerServes server.owner
-    plain : IsPlainly client.owner.end.view
-    sound : is_sound client.owner.end.view.standing ≡ true
+    pub world : World
+    pub leads : LeadsOn read begun (world_of b) world
+    pub last : ℕ
+    pub ahead : Ahead
+    pub together : Together last ahead between told server client reports world
+    pub serves : ServerServes server.owner
+    pub plain : IsPlainly client.owner.end.view
+    pub sound : is_sound client.owner.end.view.standing ≡ true
 
   -- how a client stands
   fetches : (client : Stand client_side) → IsPlainly client.owner.end.view → is_sound client.owner.end.view.standing ≡ true → ClientFetches client.owner
@@ -313,7 +313,7 @@ module _ (read : Reading) (reads : IsReading read) (moment : ℕ) (timed : momen
   }
 
   -- deed by deed
-  reaches : (turns : List Turn) (between : Between) → Happened turns between
+  pub reaches : (turns : List Turn) (between : Between) → Happened turns between
       → (server_start server : Stand server_side) (client_start client : Stand client_side) → Begins b server_start client_start
       → server_start.owner.lane.unwritten ≡ [] → client_start.owner.lane.untold ≡ []
       → (server_led : Led (server_deeds turns) server_start server) (client_led : Led (client_deeds turns) client_start client)

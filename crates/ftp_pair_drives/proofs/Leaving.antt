@@ -44,7 +44,7 @@ one_more : (orders : List Order) (order : Order) → length (orders ++ order ∷
 one_more orders order = omega (arith, length-append orders (order ∷ []))
 
 -- orders that all have their reports are not some and one more
-not_more : (count : ℕ) (begun orders : List Order) (order : Order) → begun ≡ orders ++ order ∷ [] → count ≡ length orders → count ≡ length begun → ⊥
+pub not_more : (count : ℕ) (begun orders : List Order) (order : Order) → begun ≡ orders ++ order ∷ [] → count ≡ length orders → count ≡ length begun → ⊥
 not_more count begun orders order is few all =
     let more : length begun ≡ suc (length orders) = ap length is ∙ one_more orders order in omega (arith, few, all, more)
 
@@ -90,12 +90,12 @@ free_by read from begun w single link stands all (inr (inr t)) =
 -- ---- nothing is on its way
 
 -- a client that is logged in
-is_entered : Standing → Bool
+unfoldable pub is_entered : Standing → Bool
 is_entered Standings.Entered = true
 is_entered standing = false
 
 -- is not in the midst of the login
-not_logging : (place : Place) → is_entered (standing_of place) ≡ false
+pub not_logging : (place : Place) → is_entered (standing_of place) ≡ false
 unfolding is_entered
 not_logging Greets = refl
 not_logging AsksUser = refl
@@ -133,7 +133,7 @@ free_idle from begun w f entered = by f.stands.here
 -- ---- drives that end by QUIT
 
 -- the map of a server that heard QUIT
-quits_table : (table : Table) (stand : Stand server_side) (between : Between) → Quits table stand between
+pub quits_table : (table : Table) (stand : Stand server_side) (between : Between) → Quits table stand between
     → stand.owner.end.server.view.session.table ≡ table
 quits_table table stand between (inl h) = ap (λ (v : Far). v.session.table) h.view ∙ h.at.map
 quits_table table stand between (inr h) = h.map

@@ -172,13 +172,13 @@ module _ (read : Reading) (reads : IsReading read) (table : Table) where
           })
 
   -- no line waits
-  none_waits : (stand : Stand server_side) (between : Between) → Quits table stand between → stand.owner.end.server.view.waiting ≡ None
+  pub none_waits : (stand : Stand server_side) (between : Between) → Quits table stand between → stand.owner.end.server.view.waiting ≡ None
   none_waits stand between (inl hearing) = ap (λ (v : View). v.waiting) hearing.view ∙ hearing.at.waiting
   none_waits stand between (inr heard) = heard.waiting
 
   module _ (old new : Stand server_side) (calm : ServerIsCalm old.owner new.owner) where
     -- nothing is heard but, maybe, the moment, and nothing of it comes or goes
-    keeps_at : (moment : ℕ) (a b : Between) → new.owner.end.server.view ≡ clock_step moment old.owner.end.server.view
+    pub keeps_at : (moment : ℕ) (a b : Between) → new.owner.end.server.view ≡ clock_step moment old.owner.end.server.view
         → new.unheard ++ b.control.to_server ≡ old.unheard ++ a.control.to_server → Quits table old a → Quits table new b
     keeps_at moment a b view coming (inl h) = inl (record {
       line = clock_step moment h.line;
@@ -246,7 +246,7 @@ module _ (read : Reading) (reads : IsReading read) (table : Table) where
         too_many octets few = omega (arith, few)
 
     -- a deed
-    deed_keeps : (deed : Deed server_side) → IsServing deed → Done deed old new → (a b : Between) → Can TheServer (touch_in deed) a b → Quits table old a
+    pub deed_keeps : (deed : Deed server_side) → IsServing deed → Done deed old new → (a b : Between) → Can TheServer (touch_in deed) a b → Quits table old a
         → Quits table new b
     deed_keeps (Heard octets) is did a b can h = subst (Quits table new) (sym can) (heard_next octets a did h)
     deed_keeps (Says octets) is did a b can h = says octets a b did (ap (λ (m : Between). m.control.to_server) can) h

@@ -1,0 +1,3 @@
+pub mod Resting
+pub mod Closing
+pub mod Concluding
