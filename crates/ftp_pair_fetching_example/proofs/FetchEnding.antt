@@ -33,11 +33,11 @@ module _ (b : Beginning) (first : Far) (op : Op (List ℕ)) (said : Said) (clien
     (some : near.report_of n ≡ Some said) (reported_none : (near.reports n).owed ≡ []) (free : is_under_way (near.reports n).job ≡ false)
     (p : Fetches (far_in none_yet first []) (near_in none_yet begun []) op 1 (lies [] [] [] Has Has_ended) (far_in none_yet v []) (near_in one_over n [])) where
   -- what the client holds as its drive is over
-  near_done : Stand client_side
+  unfoldable pub near_done : Stand client_side
   near_done = near_in none_yet (near.data_closed (near.reports n)) []
 
   -- all that its drive did led there
-  near_led : Led (Other Closed ∷ Other (Left (EndedBy None None)) ∷ Other (Report (Some said)) ∷ p.midst) (near_in none_yet begun []) near_done
+  pub near_led : Led (Other Closed ∷ Other (Left (EndedBy None None)) ∷ Other (Report (Some said)) ∷ p.midst) (near_in none_yet begun []) near_done
   unfolding near_done
   near_led = (
     near_in none_yet (near.reports n) [],
@@ -50,7 +50,7 @@ module _ (b : Beginning) (first : Far) (op : Op (List ℕ)) (said : Said) (clien
   )
 
   -- so it was over
-  near_drove : ClientDrove (near_in none_yet begun []) near_done (Some said)
+  unfoldable pub near_drove : ClientDrove (near_in none_yet begun []) near_done (Some said)
   near_drove =
       let all : List (Deed client_side) = Other Closed ∷ Other (Left (EndedBy None None)) ∷ Other (Report (Some said)) ∷ p.midst in
       let totals = sums all (near_in none_yet begun []) near_done near_led in
@@ -66,16 +66,16 @@ module _ (b : Beginning) (first : Far) (op : Op (List ℕ)) (said : Said) (clien
       }
 
   -- the operation was begun and answered
-  near_answers : Answers op said (near_in none_yet client_first []) near_done
+  unfoldable pub near_answers : Answers op said (near_in none_yet client_first []) near_done
   near_answers = record { begun = near_in none_yet begun []; begins = does; drove = near_drove }
 
   -- by such deeds
-  near_fetched : AnswersByFetching near_answers
+  pub near_fetched : AnswersByFetching near_answers
   unfolding near_answers near_drove near_led near_done
   near_fetched = record { fetched = is; calm = refl; takes = (((p.takes, (tt, refl)), (tt, refl)), (tt, refl)); midst = p.are }
 
   -- and that is all that was asked
-  all_fetched : AreFetched ((op, said) ∷ []) (near_in none_yet client_first []) near_done
+  unfoldable pub all_fetched : AreFetched ((op, said) ∷ []) (near_in none_yet client_first []) near_done
   all_fetched = (near_in none_yet client_first [], refl, near_answers, near_fetched)
 
   -- the server as it was told that the client left

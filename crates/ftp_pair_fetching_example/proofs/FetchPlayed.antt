@@ -17,7 +17,7 @@ use Rattle.ftp_client_model.specs.declared.client.Replied.TheVariants as Replies
 use Rattle.ftp_client_model.specs.declared.client.Standing.TheVariants as Standings
 use Rattle.ftp_client_model.specs.declared.client.Step.TheVariants as Steps
 use Rattle.ftp_control.specs.Asking.{Came, Connected, Ended as EndedBy}
-use Rattle.ftp_control.specs.Deeds.{Other, Stand}
+use Rattle.ftp_control.specs.Deeds.{Heard, Other, Read, Said as Says, Stand}
 use Rattle.ftp_control.specs.Machine.{Closed, End, Gave, Got, Left, Listening, Opened, Received, Wrote}
 use Rattle.ftp_control.specs.declared.whole.Rest.TheVariants as Rests
 use Rattle.ftp_endpoint.specs.declared.endpoint.Endpoint.{Endpoint}
@@ -35,7 +35,8 @@ use Rattle.ftp_server_drive.specs.Side.{server_side}
 use Rattle.ftp_settings.specs.Representation.{defaults}
 use Rattle.ftp_server_model.specs.Calls as far
 use Rattle.ftp_server_model.specs.Calls.{start}
-use Rattle.ftp_server_model.specs.Machine.{obeyed}
+use Rattle.ftp_server_model.specs.Machine.{heard_line, obeyed}
+use Rattle.ftp_server_model.specs.declared.heard.HeardLine.TheVariants.{Asks}
 use Rattle.ftp_server_model.specs.Replies.{fixed_reply, reply_octets, reply_of}
 use Rattle.ftp_server_model.specs.View.{View as Far}
 use Rattle.ftp_server_model.specs.declared.reply.FixedReply.TheVariants as Texts
@@ -48,14 +49,17 @@ use Rattle.ftp_tree.specs.Map.{Dir, File}
 use Rattle.ftp_tree.specs.Tree.{Table, node_at, octets_at, under}
 use Rattle.ftp_tree.proofs.LawLemmas.{under-stands}
 use Rattle.ftp_pair_world.specs.World.{next_listen, port_at}
-use Rattle.ftp_pair_drives.specs.Between.{Awaits, Between, Client, Has, Has_ended, Has_not, Is_called, Server, nothing_yet}
+use Rattle.ftp_pair_drives.specs.Between.{Awaits, Between, Client, Has, Has_ended, Has_not, Is_called, Server, nothing_yet, server_deeds}
 use Rattle.ftp_pair_drives.specs.Claims.{Begins}
 use Rattle.ftp_pair_drives.specs.Example.{example}
-use Rattle.ftp_pair_drives.proofs.Playing.{Attends, ear_after, is_silent, no_events}
+use Rattle.ftp_pair_drives.specs.Quitting.{quit_octets}
+use Rattle.ftp_pair_drives.proofs.Playing.{Attends, ear_after, far_ending, far_hears, far_reading, far_saying, is_silent, no_events}
 use Rattle.ftp_pair_downloads.specs.Over.{AreOver}
-use Rattle.ftp_pair_fetching_example.specs.FetchExample.{FetchIsOver, example_how, example_name, example_octets, fetch_asked}
+use Rattle.ftp_pair_fetching_example.specs.FetchExample.{FetchHasQuit, FetchIsOver, example_how, example_name, example_octets, fetch_asked}
 use Rattle.ftp_pair_fetching_example.proofs.Fetching.{Fetches, can_take, far_in, far_obeys, far_says, far_turn, lies, near_in, near_is_told, near_says, near_turn, none_yet, one_stands, takes_only}
+use Rattle.ftp_pair_quitting.specs.Quitting.{HaveQuit}
 use Rattle.ftp_pair_fetching_example.proofs.FetchEnding.{fetch_ends}
+use Rattle.ftp_pair_fetching_example.proofs.FetchQuit.{Quitted, fetch_quits, quit_first, quit_turn}
 use Rattle.ftp_pair_fetching_example.proofs.FetchMoves.{accepts, dials, ends, far_closes, far_leaves, gets, gives, listens, one_over, takes_one, writes}
 
 -- the text of its port
@@ -113,6 +117,10 @@ module _ (table : Table) where
 
   abbrev far_done : Far
   far_done = record far_ready { session = record far_ready.session { connection = Data.Free } }
+
+  -- it heard QUIT
+  abbrev far_bye : Far
+  far_bye = heard_line (Asks command.Quit) far_done
 
   -- ---- the client: before the operation, with it, as it heard each reply, as it dialled, and as it has the octets
   abbrev client_first : Near
@@ -348,6 +356,34 @@ module _ (table : Table) where
         (((refl, (((λ calm. refl), (λ moved. absurd (moved refl))), inl refl)), refl, tt), refl) (tt, refl) refl refl refl takes
         refl (record { wants = refl; running = refl; none_waits = refl }) refl
 
+    -- QUIT is heard and answered
+    quits : Quitted Starts (server_deeds takes.turns) [] (quiet far_bye) [] far_bye.owed
+    unfolding obeyed is_silent ear_after no_events
+    quits =
+        let before = server_deeds takes.turns in
+        let last : Far = record far_done { ear = ear_after far_done.ear (81 ∷ 85 ∷ 73 ∷ 84 ∷ 13 ∷ []) } in
+        let at : Attends far_done = record { wants = refl; running = refl; none_waits = refl } in
+        let there : Attends last = record { wants = refl; running = refl; none_waits = refl } in
+        let first = quit_first Starts before far_done takes.far_led takes.gives in
+        let read = quit_turn Starts before (Read quit_octets) tt quit_octets [] [] [] far_done far_done [] quit_octets
+        (far_reading far_done quit_octets at refl) (refl, refl) first in
+        let heard = far_hears (λ v u. Quitted Starts before [] v u [])
+        (λ octet rest v new at done q. quit_turn Starts before (Heard (octet ∷ [])) tt [] [] [] [] v new (octet ∷ rest) rest done refl q)
+        (81 ∷ 85 ∷ 73 ∷ 84 ∷ 13 ∷ []) (10 ∷ []) far_done at refl refl read in
+        let obeys = quit_turn Starts before (Heard (10 ∷ [])) tt [] [] [] [] last far_bye (10 ∷ []) []
+        (far_ending last far_bye (line_of command.Quit) command.Quit there refl refl (λ read reads. reads_stated read command.Quit reads tt tt) refl) refl heard in
+        quit_turn Starts before (Says far_bye.owed) tt [] [] [] far_bye.owed far_bye (quiet far_bye) [] [] (far_saying far_bye [] refl) refl obeys
+
+    -- so both are over
+    has_quit : (server : Stand server_side) × HaveQuit (example table) fetch_asked server
+    unfolding near.starts near.data_opened near.data_end obeyed answered line_heard extended_value path_on_literals
+    has_quit = fetch_quits (example table) far_first fetch (Octets example_octets) client_first near_first far_done near_over starts_so
+        (((refl, (((λ calm. refl), (λ moved. absurd (moved refl))), inl refl)), refl, tt), refl) (tt, refl) refl refl refl takes
+        (quiet far_bye) far_bye.owed refl refl quits
+
 -- the file stands where the login sees it
 pub fetch_is_over : FetchIsOver
 fetch_is_over table moment root file = is_over table root moment (under-stands table [] (example_name ∷ []) ∙ file)
+
+pub fetch_has_quit : FetchHasQuit
+fetch_has_quit table moment root file = has_quit table root moment (under-stands table [] (example_name ∷ []) ∙ file)

@@ -11,6 +11,7 @@ use Rattle.ftp_tree.specs.Map.{Dir, File}
 use Rattle.ftp_tree.specs.Tree.{Table, installed, node_at, root_alone}
 use Rattle.ftp_pair_drives.specs.Example.{example}
 use Rattle.ftp_pair_downloads.specs.Over.{AreOver}
+use Rattle.ftp_pair_quitting.specs.Quitting.{HaveQuit}
 use Rattle.ftp_pair_world.specs.Claims.{IsFair}
 
 -- the file's name, `f`, and its two octets
@@ -33,6 +34,12 @@ abbrev pub FetchIsOver : Type 0
 FetchIsOver =
     (table : Table) (moment : ℕ) → node_at table [] ≡ Some Dir → node_at table (example_name ∷ []) ≡ Some (File example_octets moment)
     → (server : Stand server_side) × AreOver (example table) fetch_asked server
+
+-- or since it heard QUIT, which was written after it
+abbrev pub FetchHasQuit : Type 0
+FetchHasQuit =
+    (table : Table) (moment : ℕ) → node_at table [] ≡ Some Dir → node_at table (example_name ∷ []) ≡ Some (File example_octets moment)
+    → (server : Stand server_side) × HaveQuit (example table) fetch_asked server
 
 -- the file alone, below the root
 abbrev pub file_alone : Table
