@@ -1,0 +1,9 @@
+pub mod Joining
+pub mod Seats
+pub mod Waiting
+pub mod Calling
+pub mod Seeing
+pub mod Rooted
+pub mod HomeTurns
+pub mod Home
+pub mod Served

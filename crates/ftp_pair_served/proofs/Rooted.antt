@@ -1,0 +1,117 @@
+-- Turns of a session with a root, as one drive of a server of its own but for what stands elsewhere.
+use Rattle.std.proofs.Common.{◌≡◌, ◌∙◌, ℕ, Bool, List, [], ◌∷◌, ◌++◌, Result, Ok, Err, refl, sym, ap, subst}
+use Rattle.std.specs.Prelude.{⊤}
+use Rattle.ftp_control.specs.Deeds.{Deed, Led, Other, Stand}
+use Rattle.ftp_control.specs.Machine.{Left}
+use Rattle.ftp_control.specs.declared.cause.Cause.{Cause}
+use Rattle.ftp_control_drive.specs.declared.drive.Turned.{Turned}
+use Rattle.ftp_control_drive.specs.declared.drive.Turned.TheVariants as Turns
+use Rattle.ftp_path.specs.Path.{Names}
+use Rattle.ftp_server_drive.specs.Driving.{MakesTurns}
+use Rattle.ftp_server_drive.specs.Side.{server_side}
+use Rattle.ftp_server_lent.specs.Lending.{Holding, with_tree_at}
+use Rattle.ftp_server_lent.specs.Turning.{AllGoOn, AreTurns, TakesTurn, Turn}
+use Rattle.ftp_server_model.specs.Failing.{Counts}
+use Rattle.ftp_server_model.specs.Play.{only_at}
+use Rattle.ftp_server_several.specs.Company.{IsSeated}
+use Rattle.ftp_tree.specs.Tree.{Table}
+use Rattle.ftp_pair_served.specs.Alone.{DrivesBy, FindWhatWasLeft, deeds_by, deeds_in, lent_first, part_at}
+use Rattle.ftp_pair_served.specs.Rooted.{TurnStaysAt, TurnsAreOwnDriveBut, TurnsStayAt, stand_but}
+use Rattle.ftp_pair_served.proofs.Joining.{drives_by, goes_by, led_then}
+use Rattle.ftp_pair_served.proofs.Seeing.{led_but}
+
+module _ (root : Names) (counts : Counts) where
+  -- what a turn made, with this map in place of that which it was lent
+  record Makes (table : Table) (most : ℕ) (failed : Bool) (old now : Stand server_side) (went : Result (Turned ⊤) Cause)
+      (makes : MakesTurns most failed old now went) : Type 0 where
+    map : Table
+    its : MakesTurns most failed (stand_but table counts old) (stand_but map counts now) went
+    deeds : deeds_by most failed (stand_but table counts old) (stand_but map counts now) went its ≡ deeds_by most failed old now went makes
+    same : only_at root map ≡ only_at root now.owner.end.server.view.session.table
+    seated : IsSeated root now.owner.end.server.view
+
+  makes_but : (table : Table) (most : ℕ) (failed : Bool) (old now : Stand server_side) (went : Result (Turned ⊤) Cause)
+      → only_at root table ≡ only_at root old.owner.end.server.view.session.table → IsSeated root old.owner.end.server.view
+      → (makes : MakesTurns most failed old now went) → TurnStaysAt root most failed old now went makes → Makes table most failed old now went makes
+  makes_but table most failed old now (Ok (Turns.Over over)) same seated makes stays =
+      let all = led_but root counts (Other (Left makes.asked) ∷ makes.deeds) table old now same seated makes.led stays in
+      record {
+        map = all.map;
+        its = record { deeds = makes.deeds; asked = makes.asked; led = all.led; over = makes.over };
+        deeds = refl;
+        same = all.same;
+        seated = all.seated;
+      }
+  makes_but table most failed old now (Ok Turns.Later) same seated makes stays =
+      let all = led_but root counts makes.deeds table old now same seated makes.led stays in
+      record { map = all.map; its = record { deeds = makes.deeds; led = all.led }; deeds = refl; same = all.same; seated = all.seated }
+  makes_but table most failed old now (Ok Turns.More) same seated makes stays =
+      let all = led_but root counts makes.leads.deeds table old now same seated makes.leads.led stays in
+      record {
+        map = all.map;
+        its = record { leads = record { deeds = makes.leads.deeds; led = all.led }; made = makes.made };
+        deeds = refl;
+        same = all.same;
+        seated = all.seated;
+      }
+  makes_but table most failed old now (Err cause) same seated makes stays = absurd stays
+
+  -- where the next turn begins, with a map of which the same stands there as of that which it is lent
+  record Begins (from : Stand server_side) (turn : Turn) (turns : List Turn) (start mid : Stand server_side) (are : AreTurns turns start mid) : Type 0 where
+    map : Table
+    led : Led (deeds_in turns start mid are) from (stand_but map counts mid)
+    same : only_at root map ≡ only_at root turn.lent.table
+    seated : IsSeated root mid.owner.end.server.view
+
+  begins_but : (turn : Turn) (before : List Turn) (start mid : Stand server_side) → IsSeated root start.owner.end.server.view → AllGoOn before
+      → FindWhatWasLeft (part_at root) (turn ∷ before) → (are : AreTurns before start mid) → TurnsStayAt root before start mid are
+      → Begins (stand_but (lent_first turn before).table counts start) turn before start mid are
+  begins_but turn [] start mid seated on found are stay = record {
+    map = turn.lent.table;
+    led = ap (stand_but turn.lent.table counts) are;
+    same = refl;
+    seated = subst (λ (s : Stand server_side). IsSeated root s.owner.end.server.view) (sym are) seated;
+  }
+  begins_but turn (last ∷ before) start mid seated on found are stay =
+      let old : Stand server_side = are.0 in
+      let takes : TakesTurn last old mid = are.2 in
+      let there : Stand server_side = with_tree_at last.lent old in
+      let from : Stand server_side = stand_but (lent_first last before).table counts start in
+      let first = begins_but last before start old seated on.0 found.0 are.1 stay.0 in
+      let at : IsSeated root there.owner.end.server.view = record { known = first.seated.known; held = first.seated.held } in
+      let one = makes_but first.map last.most last.failed there takes.mid last.went first.same at takes.turned stay.1 in
+      let then_on = goes_by last.most last.failed (stand_but first.map counts there) (stand_but one.map counts takes.mid) last.went on.1 one.its in
+      let did = deeds_by last.most last.failed (stand_but first.map counts there) (stand_but one.map counts takes.mid) last.went one.its in
+      let all = led_then did (deeds_in before start old are.1) from (stand_but first.map counts old) (stand_but one.map counts takes.mid) first.led then_on in
+      let named = subst (λ (d : List (Deed server_side)). Led (d ++ deeds_in before start old are.1) from (stand_but one.map counts takes.mid)) one.deeds all in
+      record {
+        map = one.map;
+        led = subst (λ (s : Stand server_side). Led (deeds_in (last ∷ before) start mid are) from s) (sym (ap (stand_but one.map counts) takes.own)) named;
+        same = one.same ∙ ap (λ (t : Holding). only_at root t.table) (sym takes.leaves) ∙ sym found.1;
+        seated = subst (λ (s : Stand server_side). IsSeated root s.owner.end.server.view) (sym takes.own)
+            (record { known = one.seated.known; held = one.seated.held });
+      }
+
+-- all of them are one drive so
+pub turns_are_own_drive_but : TurnsAreOwnDriveBut
+turns_are_own_drive_but root turn before start now unwritten untold seated on found are stay =
+    let mid : Stand server_side = are.0 in
+    let takes : TakesTurn turn mid now = are.2 in
+    let from : Stand server_side = with_tree_at (lent_first turn before) start in
+    let counts : Counts = from.owner.end.server.counts in
+    let there : Stand server_side = with_tree_at turn.lent mid in
+    let first = begins_but root counts turn before start mid seated on found are.1 stay.0 in
+    let at : IsSeated root there.owner.end.server.view = record { known = first.seated.known; held = first.seated.held } in
+    let one = makes_but root counts first.map turn.most turn.failed there takes.mid turn.went first.same at takes.turned stay.1 in
+    let drives = drives_by (deeds_in before start mid are.1) from (stand_but first.map counts mid) unwritten untold first.led turn.most turn.failed
+    (stand_but one.map counts takes.mid) turn.went one.its in
+    record {
+      left = stand_but one.map counts takes.mid;
+      drives = subst (λ (d : List (Deed server_side)).
+          DrivesBy (d ++ deeds_in before start mid are.1) turn.failed from (stand_but one.map counts takes.mid) turn.went)
+          one.deeds drives;
+      table = one.map;
+      counts = counts;
+      but = refl;
+      same = one.same ∙ ap (λ (t : Holding). only_at root t.table) (sym takes.leaves);
+    }
