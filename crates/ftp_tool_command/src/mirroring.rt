@@ -168,6 +168,7 @@ fn mirrored<'a>(
             timeout: settings.timeout,
             progress: words.get_flag("progress"),
             rate: settings.rate,
+            at_once: 1,
         },
         user: user_in(words, url),
         path: place.path,

@@ -45,6 +45,7 @@ pub fn script_server_of<'a>(words: &'a ArgMatches<'_>) -> Option<ServerAddress<'
         timeout: number_in(words, "timeout")?,
         progress: false,
         rate: 0,
+        at_once: 1,
     })
 }
 

@@ -1,5 +1,9 @@
 -- How an answer comes about.
 pub mod Answering
+-- What is asked ahead of its turn.
+pub mod Ahead
+-- How many control connections there are, and what each may move.
+pub mod Several
 -- When a further control connection may bring an answer.
 pub mod Again
 -- When a data connection did not end, and how much it may bring.

@@ -95,6 +95,18 @@ impl LastReply {
         }
     }
 
+    /// Why a further control connection is over, as it is told behind a sentence: the server says why; nothing where it does not.
+    pub(crate) fn parting(&self) -> Said<'_> {
+        let line = self.line();
+        Said {
+            line: match code_of(line) {
+                Some(NOT_AVAILABLE | NOT_LOGGED_IN) => line,
+                _ => &[],
+            },
+            silence: None,
+        }
+    }
+
     /// What the server said last, as it is told behind a sentence.
     pub fn said(&self) -> Said<'_> {
         Said {

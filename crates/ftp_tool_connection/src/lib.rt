@@ -1,11 +1,15 @@
-//! What the programs of a client do over one control connection: connecting, logging in, asking by one client, and saying goodbye (RFC 959).
+//! What the programs of a client do over one control connection, or several: connecting, logging in, asking by one client, and saying goodbye (RFC 959).
 #![tactic(auto)]
 
 mod again;
+mod ahead;
 mod conversing;
 mod course;
 mod fault;
 mod hearing;
+mod lane;
+mod lane_ports;
+mod lanes;
 mod last_reply;
 mod live;
 mod opening;
@@ -14,6 +18,7 @@ mod rate;
 mod request;
 mod saying;
 mod server;
+mod several;
 mod subject;
 mod talking;
 

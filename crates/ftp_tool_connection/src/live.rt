@@ -40,6 +40,20 @@ pub trait ClientSession {
 
     /// How the last data connection ended, beside what was answered.
     fn ending(&self) -> Ending;
+
+    /// How many requests may be asked ahead of their turn at once.
+    fn ahead(&self) -> usize {
+        0
+    }
+
+    /// Whether one of the same path would be asked ahead now, whatever its octets are.
+    fn takes(&self, _request: &Request) -> bool {
+        false
+    }
+
+    /// Tells that this will be requested. It may be asked at once, over a control connection of which nothing else is asked; its answer is given in its turn,
+    /// where that is as good as one that is asked for then.
+    fn foresee(&mut self, _request: Request) {}
 }
 
 /// What is done over one control connection.

@@ -18,8 +18,10 @@ pub struct ServerAddress<'a> {
     pub timeout: u32,
     /// Whether a transfer that takes more than a second is told of, each second at most.
     pub progress: bool,
-    /// The most octets a second over a data connection; 0: without a limit.
+    /// The most octets a second over all data connections at once; 0: without a limit.
     pub rate: u64,
+    /// How many control connections there are at once, where so much can be asked; 8 at most.
+    pub at_once: u32,
 }
 
 /// A control connection.
@@ -31,6 +33,18 @@ where
     stream.set_nodelay(true)?;
     keep_alive(&stream)?;
     Ok(stream)
+}
+
+/// A further control connection, to the address of the first one.
+pub(crate) fn connected_to<R>(
+    rt: &R,
+    address: SocketAddr,
+    server: ServerAddress<'_>,
+) -> io::Result<TcpStream>
+where
+    R: Net<Listener = TcpListener, Stream = TcpStream>,
+{
+    open(rt, address, server.timeout)
 }
 
 /// A connection to the first address of a server that answers in time; all of them together have the seconds of the server.

@@ -6,6 +6,7 @@ use crate::last_reply::LastReply;
 use crate::live::{LiveSession, Opens, SessionTask};
 use crate::progress::MeteredPorts;
 use crate::server::{ServerAddress, connected, leave};
+use crate::several::converse_by_several;
 use ftp_client::Client;
 use ftp_client_drive::Control;
 use ftp_client_model::Near;
@@ -33,9 +34,13 @@ where
     T: Drop,
     P: SessionTask<Result<T, SessionFault>>,
 {
-    let mut login = Some(login);
     let begun = Instant::now(rt).ok();
-    let done = converse_anew(rt, server, &mut login, noticed, play);
+    let done = if server.at_once > 1 {
+        converse_by_several(rt, server, &login, noticed, play)
+    } else {
+        let mut login = Some(login);
+        converse_anew(rt, server, &mut login, noticed, play)
+    };
     noticed.add_spent(seconds_since(rt, begun));
     done
 }

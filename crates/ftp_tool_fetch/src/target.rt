@@ -30,6 +30,7 @@ impl<'a> Target<'a> {
             timeout: self.timeout,
             progress: self.progress,
             rate: self.rate,
+            at_once: 1,
         }
     }
 

@@ -68,6 +68,7 @@ const ABSENT: ServerAddress<'static> = ServerAddress {
     timeout: 60,
     progress: false,
     rate: 0,
+    at_once: 1,
 };
 
 /// Tasks where nobody listens, and whether there is a password for each.

@@ -1,0 +1,208 @@
+// One of several control connections in one thread: a client between its connections, which takes turns and waits for nothing.
+use crate::course::{Course, Ending};
+use crate::lane_ports::{LaneLink, LanePorts};
+use crate::request::{Request, begin};
+use ftp_client_drive::{Control, Data, Driven, Turned, drive_some};
+use ftp_client_model::Near;
+use ftp_operation::Answer;
+use ftp_tool_looking::{Awaits, Leaving, Line, LineReader, LineWriter};
+use ftp_tool_sockets::Sockets;
+use std::alloc::Global;
+use std::rc::Rc;
+
+/// The most turns of a drive in one turn of a lane: as many octets of a line may be heard.
+const MOST: u64 = 1_024;
+
+/// How a lane stands.
+#[derive(Clone, Copy)]
+enum Stands {
+    /// Nothing is asked.
+    Idle,
+    /// Something is, and its next turn would wait.
+    Waits,
+    /// Something is, and its next turn is due.
+    Due,
+    /// Its control connection ended.
+    Gone,
+}
+
+/// One over whom things are asked, one after another, in turns between those of others.
+pub(crate) trait TakesTurns {
+    /// Whether its control connection ended.
+    fn is_gone(&self) -> bool;
+
+    /// Whether the next turn would not wait.
+    fn is_due(&self) -> bool;
+
+    /// What the next turn waits for; nothing where it is due, or nothing is asked.
+    fn awaits(&self) -> Awaits;
+
+    /// Begins what is requested. Nothing else is under way.
+    fn begin(&mut self, request: Request);
+
+    /// A turn; gives the answer where that is there.
+    fn turn(&mut self) -> Option<Answer<Global>>;
+
+    /// How many data connections were opened so far.
+    fn opened(&self) -> u32;
+
+    /// How the last data connection ended, beside what was answered.
+    fn ending(&self) -> Ending;
+
+    /// What came of the download that was asked for last, where its control connection ended in its middle; else nothing.
+    fn came(&self) -> &[u8];
+
+    /// The line that was said last.
+    fn last_reply(&self) -> &[u8];
+
+    /// Whether the server was silent for as long as it may be.
+    fn is_late(&self) -> bool;
+
+    /// Says goodbye: what stays of its connections.
+    fn leave(&mut self) -> Leaving;
+}
+
+/// A client, beside its connections.
+pub(crate) struct Lane<'a, R: Sockets, N: Near<Global>> {
+    client: N,
+    line: Rc<Line, Global>,
+    control: Control<LineReader, LineWriter>,
+    ports: LanePorts<'a, R>,
+    data: Data<LaneLink<'a>>,
+    course: &'a Course,
+    stands: Stands,
+}
+
+/// Its data connection is closed, if one stands.
+impl<'a, R: Sockets, N: Near<Global>> Drop for Lane<'a, R, N> {
+    fn drop(self) {
+        let Self {
+            client: _,
+            line: _,
+            control: _,
+            ports,
+            data,
+            course: _,
+            stands: _,
+        } = self;
+        let mut ports = ports;
+        data.finish(&mut ports);
+    }
+}
+
+impl<'a, R: Sockets, N: Near<Global>> Lane<'a, R, N> {
+    /// A client at its control connection.
+    pub(crate) fn new(
+        client: N,
+        line: Rc<Line, Global>,
+        control: Control<LineReader, LineWriter>,
+        ports: LanePorts<'a, R>,
+        course: &'a Course,
+    ) -> Lane<'a, R, N> {
+        Lane {
+            client,
+            line,
+            control,
+            ports,
+            data: Data::new(),
+            course,
+            stands: Stands::Idle,
+        }
+    }
+
+    fn drive(&mut self) -> Turned<Driven<Global>> {
+        drive_some::<Global, N, LineReader, LineWriter, LanePorts<'a, R>>(
+            &mut self.client,
+            &mut self.control,
+            &mut self.ports,
+            &mut self.data,
+            MOST,
+        )
+    }
+
+    /// The drive is over: its answer, and Lost where it has none.
+    fn answered(&mut self, driven: Driven<Global>) -> Answer<Global> {
+        let Driven { report, off: _ } = driven;
+        self.course.reported(&report, self.client.last_reply());
+        let answer = match report {
+            Some(answer) => answer,
+            None => Answer::Lost,
+        };
+        self.stands = if matches!(&answer, Answer::Lost) {
+            Stands::Gone
+        } else {
+            Stands::Idle
+        };
+        answer
+    }
+}
+
+impl<'a, R: Sockets, N: Near<Global>> TakesTurns for Lane<'a, R, N> {
+    fn is_gone(&self) -> bool {
+        matches!(self.stands, Stands::Gone)
+    }
+
+    fn is_due(&self) -> bool {
+        match self.stands {
+            Stands::Due => true,
+            Stands::Waits => self.line.patience.left() == Some(0),
+            Stands::Idle | Stands::Gone => false,
+        }
+    }
+
+    fn awaits(&self) -> Awaits {
+        match self.stands {
+            Stands::Waits => self.ports.awaits(),
+            Stands::Due | Stands::Idle | Stands::Gone => Awaits::nothing(),
+        }
+    }
+
+    fn begin(&mut self, request: Request) {
+        let mut request = request;
+        self.line.patience.stir();
+        self.course.begin(&request);
+        begin(&mut self.client, &mut request);
+        self.stands = Stands::Due;
+    }
+
+    fn turn(&mut self) -> Option<Answer<Global>> {
+        self.line.begin_turn(Awaits::nothing());
+        match self.drive() {
+            Turned::Later => {
+                self.stands = Stands::Waits;
+                None
+            }
+            Turned::More => {
+                self.stands = Stands::Due;
+                None
+            }
+            Turned::Over(driven) => Some(self.answered(driven)),
+        }
+    }
+
+    fn opened(&self) -> u32 {
+        self.ports.opened()
+    }
+
+    fn ending(&self) -> Ending {
+        self.course.ending()
+    }
+
+    fn came(&self) -> &[u8] {
+        self.client.came()
+    }
+
+    fn last_reply(&self) -> &[u8] {
+        self.client.last_reply()
+    }
+
+    fn is_late(&self) -> bool {
+        self.line.patience.over().is_some() || self.line.patience.left() == Some(0)
+    }
+
+    fn leave(&mut self) -> Leaving {
+        self.line.say_last(b"QUIT\r\n");
+        let line = self.line.clone().ok();
+        Leaving::new(line, self.ports.take_leaving())
+    }
+}

@@ -1,0 +1,271 @@
+// Several control connections from their beginning to their end, with a client at each.
+ghost use Rattle.std.specs.Prelude.{◌≡◌};
+ghost use Rattle.ftp_tool_connection.specs.Several.{lanes_of, part_of};
+
+use crate::course::Course;
+use crate::fault::{Phase, SessionFault, at};
+use crate::lane::{Lane, TakesTurns};
+use crate::lane_ports::LanePorts;
+use crate::lanes::{Lanes, MOST_LANES, Seat, Stand};
+use crate::last_reply::LastReply;
+use crate::live::SessionTask;
+use crate::saying::say;
+use crate::server::{ServerAddress, connected, connected_to};
+use ftp_client::Client;
+use ftp_client_drive::Control;
+use ftp_client_model::Near;
+use ftp_client_steps::ClientTransfer;
+use ftp_client_transfer::OperationTransfer;
+use ftp_facts::Text;
+use ftp_operation::Login;
+use ftp_tool_looking::{Limits, Line, LinePorts, LineReader, LineWriter, PassivePorts};
+use ftp_tool_sockets::{Sockets, host_of};
+use std::alloc::Global;
+use std::io;
+use std::io::{Eprint, Error, ErrorKind};
+use std::net::{Net, TcpListener, TcpStream};
+use std::rc::Rc;
+
+/// Opens control connections, plays over them by a client at each, says goodbye and closes them. Of those behind the first as many are used as the server
+/// gives.
+pub(crate) fn converse_by_several<R, T, P>(
+    rt: &R,
+    server: ServerAddress<'_>,
+    login: &Login<Global>,
+    noticed: &mut LastReply,
+    play: &mut P,
+) -> Result<T, SessionFault>
+where
+    R: Net<Listener = TcpListener, Stream = TcpStream> + Eprint + AllocGlobal,
+    T: Drop,
+    P: SessionTask<Result<T, SessionFault>>,
+{
+    let streams = at(Phase::Connection, streams_of(rt, rt.alloc(), server))?;
+    let courses = at(Phase::Talking, courses_of(rt.alloc()))?;
+    let passive = PassivePorts::new(rt.alloc(), 0, 0);
+    let house = House {
+        rt,
+        alloc: rt.alloc(),
+        login,
+        passive: &passive,
+        server,
+    };
+    play_over::<OperationTransfer<Global>, R, T, P>(
+        &house,
+        streams,
+        courses.as_slice(),
+        noticed,
+        play,
+    )
+}
+
+/// What the lanes have in common.
+#[derive(Drop)]
+struct House<'a, R> {
+    rt: &'a R,
+    alloc: Global,
+    login: &'a Login<Global>,
+    passive: &'a PassivePorts,
+    server: ServerAddress<'a>,
+}
+
+/// One control connection, and further ones as far as the server takes them.
+fn streams_of<R>(
+    rt: &R,
+    alloc: Global,
+    server: ServerAddress<'_>,
+) -> io::Result<Vec<TcpStream, Global>>
+where
+    R: Net<Listener = TcpListener, Stream = TcpStream> + Eprint,
+{
+    let first = connected(rt, server)?;
+    let address = first.peer_addr()?;
+    let mut streams = Vec::new(alloc);
+    streams.push(first)?;
+    for _ in 1..lanes_of(server.at_once) {
+        match connected_to(rt, address, server) {
+            Ok(stream) => streams.push(stream)?,
+            Err(error) => {
+                let _told = say(rt, "note: no further control connection: ", &error, "");
+                break;
+            }
+        }
+    }
+    Ok(streams)
+}
+
+/// How many control connections are wanted.
+fn lanes_of(at_once: u32) -> u32
+    ensures { result ≡ lanes_of at_once }
+{
+    at_once.min(MOST_LANES as u32)
+}
+
+/// What each lane asks.
+fn courses_of(alloc: Global) -> io::Result<Vec<Course, Global>> {
+    let mut courses = Vec::new(alloc);
+    for _ in 0..MOST_LANES {
+        courses.push(Course::new())?;
+    }
+    Ok(courses)
+}
+
+/// Plays over these control connections; what is transferred by is a parameter, since a named one costs the proof more.
+fn play_over<'a, F, R, T, P>(
+    house: &House<'a, R>,
+    streams: Vec<TcpStream, Global>,
+    courses: &'a [Course],
+    noticed: &mut LastReply,
+    play: &mut P,
+) -> Result<T, SessionFault>
+where
+    F: ClientTransfer<Global>,
+    R: Sockets + Eprint,
+    T: Drop,
+    P: SessionTask<Result<T, SessionFault>>,
+{
+    let clients = at(
+        Phase::Talking,
+        clients_of::<F, R>(house, streams.as_slice()),
+    )?;
+    play_between(house, streams, clients, courses, noticed, play)
+}
+
+/// A client for each control connection.
+fn clients_of<F, R>(
+    house: &House<'_, R>,
+    streams: &[TcpStream],
+) -> io::Result<Vec<Client<Global, F>, Global>>
+where
+    F: ClientTransfer<Global>,
+    R: Sockets,
+{
+    let mut clients = Vec::new(house.alloc);
+    for stream in streams {
+        clients.push(client_of::<F, R>(house, stream)?)?;
+    }
+    Ok(clients)
+}
+
+/// A client between the hosts of a control connection.
+fn client_of<F, R>(house: &House<'_, R>, stream: &TcpStream) -> io::Result<Client<Global, F>>
+where
+    F: ClientTransfer<Global>,
+    R: Sockets,
+{
+    let here = host_of(stream.local_addr()?);
+    let peer = host_of(stream.peer_addr()?);
+    let login = login_copy(house.alloc, house.login)?;
+    match Client::new(house.alloc, login, here, peer) {
+        Ok(client) => Ok(client),
+        Err(_) => Err(Error::from(ErrorKind::OutOfMemory)),
+    }
+}
+
+/// Plays by these clients, each at its control connection.
+fn play_between<'a, N, R, T, P>(
+    house: &House<'a, R>,
+    streams: Vec<TcpStream, Global>,
+    clients: Vec<N, Global>,
+    courses: &'a [Course],
+    noticed: &mut LastReply,
+    play: &mut P,
+) -> Result<T, SessionFault>
+where
+    N: Near<Global>,
+    R: Sockets + Eprint,
+    T: Drop,
+    P: SessionTask<Result<T, SessionFault>>,
+{
+    let mut lanes = Vec::new(house.alloc);
+    let ends = streams.into_iter().zip(clients.into_iter());
+    for ((stream, client), course) in ends.zip(courses.iter()) {
+        let lane = at(Phase::Talking, lane_of(house, stream, client, course))?;
+        if lanes.push(lane).is_err() {
+            return Err(SessionFault::of_memory());
+        }
+    }
+    play_by_lanes(house, lanes, noticed, play)
+}
+
+/// Plays over these lanes, says goodbye over each, and closes them.
+fn play_by_lanes<L, R, T, P>(
+    house: &House<'_, R>,
+    lanes: Vec<L, Global>,
+    noticed: &mut LastReply,
+    play: &mut P,
+) -> Result<T, SessionFault>
+where
+    L: TakesTurns + Drop,
+    R: Sockets + Eprint,
+    T: Drop,
+    P: SessionTask<Result<T, SessionFault>>,
+{
+    let mut seats = Vec::new(house.alloc);
+    let mut stand = Stand::Tried;
+    for lane in lanes {
+        if seats.push(Seat::new(lane, stand)).is_err() {
+            return Err(SessionFault::of_memory());
+        }
+        stand = Stand::Untried;
+    }
+    let timeout = house.server.timeout;
+    let mut lanes = Lanes::new(house.rt, house.alloc, seats, noticed, timeout);
+    let done = play.play(&mut lanes);
+    lanes.leave();
+    done
+}
+
+/// A client at a control connection.
+fn lane_of<'a, N, R>(
+    house: &House<'a, R>,
+    stream: TcpStream,
+    client: N,
+    course: &'a Course,
+) -> io::Result<Lane<'a, R, N>>
+where
+    N: Near<Global>,
+    R: Sockets,
+{
+    let line = Rc::new(house.alloc, Line::new(stream, limits_of(house.server))?)?;
+    let ports = LinePorts::new(house.rt, line.clone()?, house.passive)?;
+    let control = Control::new(
+        LineReader::new(line.clone()?),
+        LineWriter::new(line.clone()?),
+    );
+    let rate = part_of(house.server.rate, lanes_of(house.server.at_once));
+    let ports = LanePorts::new(ports, course, rate);
+    Ok(Lane::new(client, line, control, ports, course))
+}
+
+/// How long the server is waited for.
+fn limits_of(server: ServerAddress<'_>) -> Limits {
+    Limits {
+        login: 0,
+        idle: server.timeout,
+        idle_while_waited: 0,
+        session_while_waited: 0,
+        login_while_waited: 0,
+    }
+}
+
+/// The part that each of so many has of the octets that may go in a second; 0: without a limit.
+fn part_of(rate: u64, lanes: u32) -> u64
+    ensures { result ≡ part_of rate lanes }
+{
+    if rate == 0 {
+        0
+    } else {
+        (rate / u64::from(lanes.max(1))).max(1)
+    }
+}
+
+/// The same login once more.
+fn login_copy(alloc: Global, login: &Login<Global>) -> io::Result<Login<Global>> {
+    let user = Text::copy_of(alloc, login.user())?;
+    let pass = Text::copy_of(alloc, login.pass())?;
+    match Login::new(user, pass) {
+        Some(login) => Ok(login),
+        None => Err(Error::from(ErrorKind::OutOfMemory)),
+    }
+}
