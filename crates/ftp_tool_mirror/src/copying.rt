@@ -155,7 +155,11 @@ where
 }
 
 /// The octets of a file here.
-fn octets_of<R: Places>(rt: &R, mirror: &Mirror<'_>, below: &str) -> Result<Text<Global>, Trouble> {
+pub(crate) fn octets_of<R: Places>(
+    rt: &R,
+    mirror: &Mirror<'_>,
+    below: &str,
+) -> Result<Text<Global>, Trouble> {
     match rt.read_below(mirror.folder, below, mirror.limit)? {
         Reading::Content(Content { octets, changed: _ }) => Ok(Text::from_vec(octets)),
         Reading::TooLarge(size) => Err(Trouble::TooLarge(size, mirror.limit)),

@@ -6,6 +6,7 @@ mod asked;
 mod changing;
 mod copying;
 mod folder;
+mod foreseeing;
 mod machine;
 mod mirroring;
 mod removals;

@@ -80,7 +80,12 @@ fn listed<S: ClientSession>(
     Ok(seat.answer(listing_request(alloc, mirror, below)?))
 }
 
-fn listing_request(alloc: Global, mirror: &Mirror<'_>, below: &str) -> Result<Request, AllocError> {
+/// What asks for the entries of a directory.
+pub(crate) fn listing_request(
+    alloc: Global,
+    mirror: &Mirror<'_>,
+    below: &str,
+) -> Result<Request, AllocError> {
     let path = mirror.path(alloc, below)?;
     let how = mirror.openings.how(mirror.how);
     Ok(Request::One(Some(Op::List(path, how))))

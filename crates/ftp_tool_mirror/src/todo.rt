@@ -88,6 +88,12 @@ impl Todo {
         self.taken
     }
 
+    /// What comes as many places behind what is next.
+    pub(crate) fn coming(&self, behind: usize) -> Option<&Work> {
+        let last = self.waiting.len().checked_sub(1)?;
+        self.waiting.get(last.checked_sub(behind)?)
+    }
+
     /// Takes up what is next.
     pub(crate) fn next(&mut self) -> Option<Work> {
         let work = self.waiting.pop();

@@ -3,6 +3,7 @@ use crate::asked::{Deeds, Doing, Mirror};
 use crate::changing::{change_there, word_of};
 use crate::copying::{begun, copy_up, download, is_current, is_same, leave};
 use crate::folder::entries_here;
+use crate::foreseeing::foresee;
 use crate::machine::Machine;
 use crate::removals::Settled;
 use crate::sentence::reason_told;
@@ -71,6 +72,16 @@ impl<'a, R: Machine> Walk<'a, R> {
             None => 0,
         };
         (self.todo.taken(), came)
+    }
+
+    /// Tells what will be asked of the server next, so that it may be asked over other control connections meanwhile.
+    fn foresee<S: ClientSession>(&self, seat: &mut S) {
+        for behind in 0..seat.ahead() {
+            let Some(work) = self.todo.coming(behind) else {
+                return;
+            };
+            foresee(self.rt, self.alloc, seat, self.mirror, work);
+        }
     }
 
     /// Does one thing; where the control connection ends, it is done anew over another one. Gives why nothing more is done over this one.
@@ -552,6 +563,7 @@ fn is_missing(trouble: Trouble) -> bool {
 impl<'a, R: Machine> SessionTask<Result<Answer<Global>, SessionFault>> for Walk<'a, R> {
     fn play<S: ClientSession>(&mut self, seat: &mut S) -> Result<Answer<Global>, SessionFault> {
         for _ in 0..u64::MAX {
+            self.foresee(seat);
             let Some(work) = self.todo.next() else {
                 if self.settle() {
                     continue;

@@ -1,0 +1,146 @@
+// What will be asked of a server for what waits to be done.
+use crate::asked::{Doing, Mirror};
+use crate::copying::octets_of;
+use crate::folder::facts_here;
+use crate::server::listing_request;
+use crate::todo::{Chore, Work};
+use crate::trouble::Trouble;
+use ftp_facts::Text;
+use ftp_operation::Op;
+use ftp_tool_connection::{ClientSession, Request, Terms};
+use ftp_tool_listing::{Deed, Facts, Way};
+use ftp_tool_places::Places;
+use std::alloc::{AllocError, Global};
+
+/// The most octets of a file that is asked ahead, since it is held in memory until its turn.
+const AHEAD: u64 = 67_108_864;
+
+/// Tells what will surely be asked of the server for this, where it can be asked ahead: the octets of a file that is fetched, those of one that is sent, or
+/// the entries of a directory that is gone into; nothing of what depends on more than is known now.
+pub(crate) fn foresee<R, S>(rt: &R, alloc: Global, seat: &mut S, mirror: &Mirror<'_>, work: &Work)
+where
+    R: Places,
+    S: ClientSession,
+{
+    let Some(asked) = foreseen(rt, alloc, mirror, work) else {
+        return;
+    };
+    if !seat.takes(&asked) {
+        return;
+    }
+    let whole = match &asked {
+        Request::Upload(_, _) => upload_request(rt, alloc, mirror, work.below.as_str()),
+        _ => Ok(asked),
+    };
+    if let Ok(request) = whole {
+        seat.foresee(request);
+    }
+}
+
+/// What will be asked, of what is sent without its octets; none also where memory is refused.
+fn foreseen<R: Places>(rt: &R, alloc: Global, mirror: &Mirror<'_>, work: &Work) -> Option<Request> {
+    let Chore::Deed(deed) = work.chore else {
+        return None;
+    };
+    let below = work.below.as_str();
+    match deed {
+        Deed::Copy(facts) => copied(rt, alloc, mirror, below, facts),
+        Deed::Compare(facts) => fetched(alloc, mirror, below, facts),
+        Deed::MakeDir => match mirror.rules.way {
+            Way::Down => listed(alloc, mirror, below),
+            Way::Up => None,
+        },
+        Deed::Enter => listed(alloc, mirror, below),
+        _ => None,
+    }
+}
+
+/// What copies a file that is asked ahead: down, one that does not stand here with the size that is listed, which is fetched whatever else the server says of it.
+fn copied<R: Places>(
+    rt: &R,
+    alloc: Global,
+    mirror: &Mirror<'_>,
+    below: &str,
+    facts: Facts,
+) -> Option<Request> {
+    if mirror.doing == Doing::Nothing || is_large(facts) {
+        return None;
+    }
+    match mirror.rules.way {
+        Way::Down => {
+            if is_here(rt, mirror, below, facts) {
+                return None;
+            }
+            fetched(alloc, mirror, below, facts)
+        }
+        Way::Up => sending(alloc, mirror, below, Text::from_vec(Vec::new(alloc))).ok(),
+    }
+}
+
+/// What fetches a file, where it is small enough.
+fn fetched(alloc: Global, mirror: &Mirror<'_>, below: &str, facts: Facts) -> Option<Request> {
+    if is_large(facts) {
+        return None;
+    }
+    download_request(alloc, mirror, below, facts).ok()
+}
+
+/// What lists a directory.
+fn listed(alloc: Global, mirror: &Mirror<'_>, below: &str) -> Option<Request> {
+    listing_request(alloc, mirror, below).ok()
+}
+
+/// Whether a file has more octets than are held ahead, or it is not listed how many.
+fn is_large(facts: Facts) -> bool {
+    match facts.size {
+        Some(size) => size > AHEAD,
+        None => true,
+    }
+}
+
+/// Whether a file stands here with the size that is listed.
+fn is_here<R: Places>(rt: &R, mirror: &Mirror<'_>, below: &str, facts: Facts) -> bool {
+    match facts_here(rt, mirror.folder, below) {
+        Some(here) => here.size == facts.size,
+        None => false,
+    }
+}
+
+/// What the first try of a download asks for.
+fn download_request(
+    alloc: Global,
+    mirror: &Mirror<'_>,
+    below: &str,
+    facts: Facts,
+) -> Result<Request, AllocError> {
+    let path = mirror.path(alloc, below)?;
+    let how = mirror.openings.how(mirror.how);
+    let terms = Terms {
+        most: mirror.limit,
+        total: facts.size,
+    };
+    Ok(Request::Download(Some(Op::Get(path, how)), terms))
+}
+
+/// What sends these octets to a file.
+fn sending(
+    alloc: Global,
+    mirror: &Mirror<'_>,
+    below: &str,
+    octets: Text<Global>,
+) -> Result<Request, AllocError> {
+    let path = mirror.path(alloc, below)?;
+    let how = mirror.openings.how(mirror.how);
+    Ok(Request::Upload(Some((path, octets)), how))
+}
+
+/// What sends the octets of the file here.
+fn upload_request<R: Places>(
+    rt: &R,
+    alloc: Global,
+    mirror: &Mirror<'_>,
+    below: &str,
+) -> Result<Request, Trouble> {
+    let octets = octets_of(rt, mirror, below)?;
+    Ok(sending(alloc, mirror, below, octets)?)
+}
