@@ -13,7 +13,7 @@ _ftp_tool_options() {
         mkdir) echo "--parents $place" ;;
         rmdir) echo "$place" ;;
         mv) echo "$place" ;;
-        mirror) echo "--delete --delete-any --dry-run --json --checksum --exclude --user --password-file --limit --limit-rate --active --extended --no-extended --no-flush --progress --quiet --timeout --help" ;;
+        mirror) echo "--delete --delete-any --dry-run --json --checksum --exclude --user --password-file --limit --limit-rate --active --extended --no-extended --no-flush --progress --parallel --quiet --timeout --help" ;;
         run) echo "--host --port --user --password-file --timeout --help" ;;
         serve) echo "--port --dir --sessions --at-once --at-once-per-host --until-input-ends --finish --host --accounts --log --keep --login --idle --idle-while-waited --session-while-waited --login-while-waited --passive-ports --passive-address --skip --most-octets --most-of-a-file --most-files --any --help" ;;
         password) echo "--rounds --help" ;;
@@ -33,7 +33,7 @@ _ftp_tool_values() {
         --type) echo A I ;;
         --stru) echo F R ;;
         --mode) echo S B ;;
-        --user | --timeout | --limit | --limit-rate | --exclude | --host | --port | --rounds | --piece | --sessions) ;;
+        --user | --timeout | --limit | --limit-rate | --parallel | --exclude | --host | --port | --rounds | --piece | --sessions) ;;
         --most-*) echo any ;;
         --login | --idle | --*-while-waited | --passive-ports | --passive-address) ;;
         *) case $1 in

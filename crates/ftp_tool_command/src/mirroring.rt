@@ -2,8 +2,9 @@
 use crate::place::{location_in, user_in};
 use crate::refusal::Refusal;
 use crate::words::{
-    ACTIVE, EXTENDED, Form, LIMIT, LIMIT_RATE, NO_EXTENDED, PASSWORD_FILE, QUIET, Subcommand,
-    TIMEOUT, USER, Value, Word, chosen, how_of, limit_in, rate_in, text_in, timeout_in,
+    ACTIVE, EXTENDED, Form, LIMIT, LIMIT_RATE, NO_EXTENDED, PARALLEL, PASSWORD_FILE, QUIET,
+    Subcommand, TIMEOUT, USER, Value, Word, at_once_in, chosen, how_of, limit_in, rate_in, text_in,
+    timeout_in,
 };
 use clap::ArgMatches;
 use ftp_tool_connection::{Openings, ServerAddress};
@@ -24,7 +25,9 @@ slash, ? is one; a GLOB with a slash is of a path below SOURCE, and any other is
 --dry-run changes nothing, and writes what would be done on standard output. With --json each copy, each directory that is made and each
 removal is an object there, {\"deed\":\"copy\",\"path\":\"d/a\"}, make or remove, once it is done; what gave way is removed as NAME.ftp-old.
 A file that fails does not stop the others.
-One control connection is used; where it ends, the rest is done over another one, as with get. The server has to know MLSD.
+One control connection is used; where it ends, the rest is done over another one, as with get. With --parallel N there are N of them at once, 8 at
+most: what is copied from a server next, and the next listings, are fetched over those that are free; what is told and done is the same, in the same
+order. Where the server gives fewer, it goes on over those. The server has to know MLSD.
 A file of this machine is written beside its name, and moved over it once it is whole and on the disk, as with get. With --no-flush it is moved
 before it is on the disk, which is faster: after a power cut a file may be cut, and another run mends that. Passwords, --timeout, --limit-rate and
 data connections are as with get.
@@ -108,6 +111,7 @@ const OPTIONS: &[Word<'static>] = &[
         form: Form::Flag,
         help: "tells of each file that is copied",
     },
+    PARALLEL,
     QUIET,
     TIMEOUT,
 ];
@@ -123,6 +127,7 @@ pub fn mirror_of<'a>(
         openings,
         timeout: timeout_in(words)?,
         rate: rate_in(words)?,
+        at_once: at_once_in(words)?,
     };
     let source = text_in(words, "source");
     let target = text_in(words, "target");
@@ -147,6 +152,7 @@ struct Settings<'a> {
     openings: &'a Openings,
     timeout: u32,
     rate: u64,
+    at_once: u32,
 }
 
 fn mirrored<'a>(
@@ -168,7 +174,7 @@ fn mirrored<'a>(
             timeout: settings.timeout,
             progress: words.get_flag("progress"),
             rate: settings.rate,
-            at_once: 1,
+            at_once: settings.at_once,
         },
         user: user_in(words, url),
         path: place.path,

@@ -79,6 +79,12 @@ pub const LIMIT_RATE: Word<'static> = Word {
     help: "the most octets a second over a data connection, K, M, G and T are powers of 1,024; 0, and without it: no limit",
 };
 
+pub const PARALLEL: Word<'static> = Word {
+    name: "parallel",
+    form: Form::Else(Value::Number("N", 1, 8), "1"),
+    help: "how many control connections there are at once, 1 to 8",
+};
+
 /// The most octets that a file may be said to have.
 const MOST_OCTETS: u64 = 999_999_999_999_999_999;
 
@@ -276,6 +282,14 @@ pub fn timeout_in<'a>(matches: &'a ArgMatches<'_>) -> Result<u32, Refusal<'a>> {
             timeout,
             "decimal digits alone are wanted",
         )),
+    }
+}
+
+/// How many control connections there are at once.
+pub fn at_once_in<'a>(matches: &'a ArgMatches<'_>) -> Result<u32, Refusal<'a>> {
+    match number_in(matches, "parallel") {
+        Some(count) => Ok(count),
+        None => Err(Refusal::Number),
     }
 }
 
