@@ -6,7 +6,7 @@ use Rattle.ftp_facts.specs.declared.entry.EntryKind.TheVariants as Kinds
 use Rattle.ftp_facts.specs.declared.moment.Moment.{Moment}
 use Rattle.ftp_facts.specs.Moment.{moment_digits}
 use Rattle.ftp_tool_shown.specs.Shown.{digit}
-use Rattle.ftp_tool_listing.specs.Lines.{is_listed}
+use Rattle.ftp_tool_listing.specs.Lines.{is_shown}
 use Rattle.ftp_tool_listing.specs.Name.{is_name}
 
 -- an octet in a string (RFC 8259, section 7): a quotation mark, a backslash and control characters are escaped, any other stands as it is
@@ -66,7 +66,7 @@ name_line_json name = codes "{\"name\":" ++ string name ++ codes "}\n"
 
 -- what is written of a name
 abbrev pub name_json : List ℕ → List ℕ → List ℕ
-name_json path name = if is_listed path name then name_line_json name else []
+name_json path name = if is_shown path name then name_line_json name else []
 
 -- the line of what is done of a path
 abbrev pub deed_json : (deed path : List ℕ) → List ℕ

@@ -31,10 +31,18 @@ is_below path name = not (length path == 0) && starts_with nat_eq name path && i
 abbrev pub is_listed : List ℕ → List ℕ → Bool
 is_listed path name = is_name name || is_below path name
 
+-- the path itself, which some servers give of one that is a file
+abbrev pub is_itself : List ℕ → List ℕ → Bool
+is_itself path name = not (length path == 0) && starts_with nat_eq name path && length name == length path
+
+-- a name that is shown: one of the listing of a directory, or that of the file at the path
+abbrev pub is_shown : List ℕ → List ℕ → Bool
+is_shown path name = is_listed path name || is_itself path name
+
 -- what is shown of a name
 abbrev pub name_text : List ℕ → List ℕ → List ℕ
-name_text path name = if is_listed path name then line name else []
+name_text path name = if is_shown path name then line name else []
 
 -- a name that is left out
 abbrev pub is_strange_name : List ℕ → List ℕ → Bool
-is_strange_name path name = not (is_listed path name)
+is_strange_name path name = not (is_shown path name)

@@ -1,7 +1,7 @@
 -- Worked rows: which texts are names, the columns of a listing for people, and JSON. Each is a theorem that computes.
 use Rattle.std.specs.Prelude.{◌≡◌, true, false, codes, [], ◌∷◌, Some, None}
 use Rattle.ftp_tool_listing.specs.Json.{deed_json, name_json, perm_member, size_member, stamped, string}
-use Rattle.ftp_tool_listing.specs.Lines.{is_listed}
+use Rattle.ftp_tool_listing.specs.Lines.{is_listed, is_shown}
 use Rattle.ftp_tool_listing.specs.Long.{column, dated, size_text}
 use Rattle.ftp_tool_listing.specs.Name.{is_name}
 
@@ -20,6 +20,9 @@ NamesListed =
     × (is_listed (codes "pub") (codes "pub/..") ≡ false)
     × (is_listed (codes "pub") (codes "pub/a/b") ≡ false)
     × (is_listed [] (codes "/a") ≡ false)
+    × (is_shown (codes "pub/a") (codes "pub/a") ≡ true)
+    × (is_shown (codes "pub/a") (codes "pub/a/b/c") ≡ false)
+    × (is_shown (codes "pub/a") (codes "../a") ≡ false)
 
 -- the columns of a listing for people
 abbrev pub ColumnsShown : Type 0

@@ -5,7 +5,7 @@ ghost use Rattle.ftp_tool_shown.specs.Shown.{digit};
 ghost use Rattle.ftp_tool_listing.specs.Json.{deed_json, entry_json, entry_line_json, modified_member, name_json, name_line_json, octet_json, perm_member, size_member, stamp_member, stamped, string, type_member};
 
 use crate::is_name;
-use crate::lines::is_listed;
+use crate::lines::is_shown;
 use ftp_facts::{Entry, EntryKind, Moment, Text, moment_text};
 use itoa::Buffer;
 use std::alloc::{AllocError, Global};
@@ -114,7 +114,7 @@ fn stamped(digits: [u8; 14]) -> [u8; 20]
 }
 
 /// Appends the lines of names of the directory at a path, of which no fact is known. One that is none of a single file, alone or after that path, is
-/// left out.
+/// left out, unless it is the path itself, as of a file.
 ///
 /// Refused memory, a part of them may stand there.
 pub fn put_json_names(
@@ -133,7 +133,7 @@ pub fn put_json_names(
 fn put_name(path: &[u8], name: &[u8], out: &mut Vec<u8, Global>) -> Result<(), AllocError>
     ensures { OnOk result (out.new.items ≡ out.old.items ++ name_json path.now name.now) }
 {
-    if is_listed(path, name) {
+    if is_shown(path, name) {
         put_name_line(name, out)
     } else {
         Ok(())

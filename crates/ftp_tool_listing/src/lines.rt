@@ -1,7 +1,8 @@
 // Listings of a server, a line an entry.
 ghost use Rattle.std.specs.Prelude.{◌≡◌, ◌++◌, OnOk, count_by, flat_map};
 ghost use Rattle.ftp_facts.specs.Entry.{entry_line};
-ghost use Rattle.ftp_tool_listing.specs.Lines.{entry_text, is_below, is_listed, is_strange_entry, is_strange_name, line, name_text, without_slash};
+ghost use Rattle.ftp_tool_listing.specs.Lines.{entry_text, is_below, is_itself, is_listed, is_shown, without_slash};
+ghost use Rattle.ftp_tool_listing.specs.Lines.{is_strange_entry, is_strange_name, line, name_text};
 
 use crate::is_name;
 use ftp_facts::{Entry, Text, write_entry};
@@ -81,7 +82,7 @@ fn is_strange_entry(entry: &Entry<Global>) -> bool
 }
 
 /// Appends the names of the files of the directory at a path, as a terminal is to show them, each with LF at its end. One that is none of a single
-/// file, alone or behind that path, is left out.
+/// file, alone or behind that path, is left out, unless it is the path itself, as of a file.
 ///
 /// Refused memory, a part of them may stand there.
 pub fn put_names(
@@ -100,7 +101,7 @@ pub fn put_names(
 fn put_name(path: &[u8], name: &[u8], out: &mut Vec<u8, Global>) -> Result<(), AllocError>
     ensures { OnOk result (out.new.items ≡ out.old.items ++ name_text path.now name.now) }
 {
-    if is_listed(path, name) {
+    if is_shown(path, name) {
         put_line(name, out)
     } else {
         Ok(())
@@ -113,7 +114,7 @@ pub fn strange_names(path: &[u8], names: &[Text<Global>]) -> usize
 {
     let mut count = 0;
     for name in names {
-        if !is_listed(path, name.as_slice()) {
+        if !is_shown(path, name.as_slice()) {
             count += 1;
         }
     }
@@ -125,6 +126,19 @@ pub(crate) fn is_listed(path: &[u8], name: &[u8]) -> bool
     ensures { result ≡ is_listed path.now name.now }
 {
     is_name(name) || is_below(path, name)
+}
+
+/// Whether a name is shown: one of a directory's listing, or that of the file at the path.
+pub(crate) fn is_shown(path: &[u8], name: &[u8]) -> bool
+    ensures { result ≡ is_shown path.now name.now }
+{
+    is_listed(path, name) || is_itself(path, name)
+}
+
+fn is_itself(path: &[u8], name: &[u8]) -> bool
+    ensures { result ≡ is_itself path.now name.now }
+{
+    !path.is_empty() && name.starts_with(path) && name.len() == path.len()
 }
 
 fn is_below(path: &[u8], name: &[u8]) -> bool
