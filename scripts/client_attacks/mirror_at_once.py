@@ -1,0 +1,158 @@
+#!/usr/bin/env python3
+"""A mirror over several control connections leaves the tree, the lines and the status of one over one, whatever becomes of those behind the first: where the
+server takes fewer, refuses a login, ends or cuts one, or says no more over one. Where all end, what is left is done over others.
+"""
+import random
+import shutil
+import socket
+import threading
+
+from hostile import OwnServer, Rows
+from mirror import fill, tree_at
+
+RANDOM = random.Random(17)
+FILES = {f"{name}{number:02}": RANDOM.randbytes(number * 911) for name in ("a", "d/b", "d/e/c", "z/y") for number in range(12)}
+SILENT = b""
+
+
+class Instead(bytes):
+    """What is said in place of what the server would say."""
+
+
+class Gate:
+    """Stands before a server. `rule` is asked of each control connection, by its number, for each command by its number, and once before the first, as of
+    None: a text is said in its place, and the connection ends; SILENT says nothing more; an `Instead` is said, and the next command asked of; None passes."""
+
+    def __init__(self, port, rule):
+        self.behind, self.rule, self.count, self.kept = port, rule, 0, []
+        self.door = socket.create_server(("127.0.0.1", 0))
+        self.port = self.door.getsockname()[1]
+        threading.Thread(target=self.serve, daemon=True).start()
+
+    def serve(self):
+        while True:
+            try:
+                client = self.door.accept()[0]
+            except OSError:
+                return
+            threading.Thread(target=self.session, args=(client, self.count), daemon=True).start()
+            self.count += 1
+
+    def session(self, client, number):
+        if self.stops(client, number, None, b""):
+            return
+        server = socket.create_connection(("127.0.0.1", self.behind))
+        threading.Thread(target=passes, args=(server, client), daemon=True).start()
+        try:
+            for place, line in enumerate(client.makefile("rb")):
+                said = self.rule(number, place, line)
+                if isinstance(said, Instead):
+                    client.sendall(said)
+                elif self.stops(client, number, place, line):
+                    break
+                else:
+                    server.sendall(line)
+        except OSError:
+            pass
+        server.close()
+
+    def stops(self, client, number, place, line):
+        """Whether the connection goes no further; SILENT stays open."""
+        said = self.rule(number, place, line)
+        if said is None:
+            return False
+        if said == SILENT:
+            self.kept.append(client)
+        else:
+            client.sendall(said)
+            client.shutdown(socket.SHUT_RDWR)
+            client.close()
+        return True
+
+    def close(self):
+        self.door.close()
+
+
+def passes(source, sink):
+    """Passes octets on until they end."""
+    try:
+        while octets := source.recv(65536):
+            sink.sendall(octets)
+        sink.shutdown(socket.SHUT_WR)
+    except OSError:
+        pass
+
+
+def lines_of(told):
+    """What is told but for notes, which say how it went on."""
+    return [line for line in told.splitlines() if not line.startswith(b"note: ")]
+
+
+def try_one(rows, name, rule, *words, lanes=4, says=(b"",), again=False):
+    """One mirror down by one control connection, and one by several behind a gate. `says`: what a note says, one of these; `again`: whether all are connected
+    anew, and None where they may be."""
+    served, one, many = (rows.folder / it for it in ("served", "one", "many"))
+    for folder in (served, one, many):
+        shutil.rmtree(folder, ignore_errors=True)
+    served.mkdir()
+    fill(served, FILES)
+    server = OwnServer(served)
+    status, out, told = rows.tool("mirror", f"127.0.0.1:{server.port}/", "./one", "--json", "--no-flush")
+    gate = Gate(server.port, rule)
+    words = ("--json", "--no-flush", "--parallel", str(lanes), "--timeout", "4", *words)
+    seen = rows.tool("mirror", f"127.0.0.1:{gate.port}/", "./many", *words)
+    rows.row(f"{name}: the tree", tree_at(many) == tree_at(one) == tree_at(served), seen)
+    rows.row(f"{name}: what is told", seen[:2] == (status, out) and lines_of(seen[2]) == lines_of(told), (seen, told))
+    rows.row(f"{name}: a note", any(it in seen[2] for it in says), seen[2])
+    anew = gate.count > lanes
+    rows.row(f"{name}: how many control connections", gate.count >= lanes and again in (None, anew), gate.count)
+    gate.close()
+    server.close()
+
+
+def try_back(rows, lanes):
+    """Up, again with nothing to do, by octets, and with what is gone removed, by several."""
+    served, local = rows.folder / "served", rows.folder / "local"
+    for folder in (served, local):
+        shutil.rmtree(folder, ignore_errors=True)
+        folder.mkdir()
+    fill(local, FILES)
+    server = OwnServer(served)
+    there = f"127.0.0.1:{server.port}/"
+    for name, words in (("up", ("./local", there)), ("again", ("./local", there)), ("by octets", (there, "./local", "--checksum"))):
+        status, _, told = rows.tool("mirror", *words, "--parallel", str(lanes))
+        copied = b"48 files copied" if name == "up" else b"0 files copied"
+        rows.row(f"{name} by {lanes}", status == 0 and copied in told and tree_at(served) == tree_at(local), (status, told))
+    shutil.rmtree(served / "d")
+    status, _, told = rows.tool("mirror", there, "./local", "--delete", "--parallel", str(lanes))
+    rows.row(f"--delete by {lanes}", status == 1 and tree_at(local).keys() > tree_at(served).keys() and b"would be removed" in told, (status, told))
+    status, _, told = rows.tool("mirror", there, "./local", "--delete-any", "--parallel", str(lanes))
+    rows.row(f"--delete-any by {lanes}", status == 0 and tree_at(local) == tree_at(served), (status, told))
+    server.close()
+
+
+def main():
+    rows = Rows()
+    for lanes in (2, 4, 8):
+        try_one(rows, f"by {lanes}", lambda number, place, line: None, lanes=lanes)
+        try_back(rows, lanes)
+    full = b"421 There are too many connections\r\n"
+    try_one(rows, "the third is not taken", lambda number, place, line: full if number > 1 else None, says=(full.strip(),))
+    late = b"530 Too many users\r\n"
+    try_one(rows, "the third login is refused", lambda number, place, line: late if number > 1 and place == 0 else None, says=(late.strip(),))
+    barred = Instead(late)
+    try_one(rows, "the third login is refused each time", lambda number, place, line: barred if number > 1 and place is not None else None, says=(late.strip(),))
+    for number in (0, 1):
+        named = ("the first", "the second")[number]
+        # Where it ends amid what is asked in its turn, all are connected anew; amid what is asked ahead the others go on.
+        told = (b"going on over 3", b"trying again in 1 s")
+        try_one(rows, f"{named} ends", lambda its, place, line: full if its == number and place is not None and place > 9 else None, says=told, again=None)
+        try_one(rows, f"{named} says no more", lambda its, place, line: SILENT if its == number and place is not None and place > 9 else None,
+                says=told, again=None)
+    try_one(rows, "all end", lambda number, place, line: full if number < 4 and place is not None and place > 9 else None,
+            says=(b"trying again in 1 s",), again=True)
+    rows.finish()
+
+
+if __name__ == "__main__":
+    main()
