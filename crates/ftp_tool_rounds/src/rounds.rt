@@ -264,7 +264,9 @@ impl<'a, M: Seats> Rounds<'a, M> {
         }
     }
 
-    /// Frees a seat, whose session is over.
+    /// Frees a seat, whose session is over. A session is large, and a function pays at each call for the room of all that it may hold: so this one, which
+    /// drops one, and `seat`, which makes one, are no part of a turn and of a round.
+    #[inline(never)]
     fn free(&mut self, place: usize) {
         let Some(mut taken) = self.table.free(place) else {
             return;
@@ -334,6 +336,7 @@ impl<'a, M: Seats> Rounds<'a, M> {
     }
 
     /// Seats a client; one that could not be seated counts as a session that failed.
+    #[inline(never)]
     fn seat(&mut self, stream: TcpStream, peer: SocketAddr, tree: &mut M::Tree) {
         self.house.sessions = self.house.sessions.map(|count| count.saturating_sub(1));
         match self.seats.seat(stream, peer, tree) {
