@@ -102,8 +102,8 @@ impl Line {
         self.moved.set(0);
     }
 
-    /// What of the control connection and of another socket is there, in rows of both: as the round's poll told, once, where that told of the other one, else by a
-    /// look.
+    /// What of the control connection and of another socket is there, in rows of both: as the round's poll told, once, where that told of the other one;
+    /// else by a look.
     pub(crate) fn ask<S: AsRawFd>(&self, other: &S, rows: &mut [pollfd; 2]) {
         let mut told = self.told.get();
         let of_other = told.told(other) & rows[1].events;
