@@ -1,6 +1,6 @@
 // A table of refused logins.
-ghost use Rattle.std.specs.Prelude.{◌≡◌, ◌≤◌, ◌<◌, [], length, IfOk, IfSome};
-ghost use Rattle.ftp_tool_guesses.specs.Guesses.{after_refusal, counted, held_of, is_of, is_slow, left_of, left_to, make_room, next_wait, one_more, place_of, refused_of, waiting, with_wait, without};
+ghost use Rattle.std.specs.Prelude.{◌≡◌, ◌≤◌, ◌<◌, ◌++◌, [], ◌∷◌, length, IfSome, OnErr, OnOk};
+ghost use Rattle.ftp_tool_guesses.specs.Guesses.{after_refusal, counted, held_of, is_of, is_slow, left_of, left_to, make_room, next_wait, one_more, place_of, refused_of, taken_out, waiting, with_wait};
 
 use std::alloc::{AllocError, Allocator};
 use std::marker::Model;
@@ -104,21 +104,20 @@ impl<A: Allocator + Copy> Guesses<A> {
         }
     }
 
-    /// A login of an address was refused now. Of more than 1,024 addresses the one goes whose last refused login is the oldest.
+    /// A login of an address was refused now. Of more than 1,024 addresses the one goes whose last refused login is the oldest. Refused memory, all stays as
+    /// it was.
     pub fn refuse(&mut self, address: u128, now: u64) -> Result<(), AllocError>
-        ensures { IfOk result (λ _. self.new ≡ after_refusal self.old address now) }
+        ensures noted { OnOk result (self.new ≡ after_refusal self.old address now) }
+        ensures stays { OnErr result (self.new ≡ self.old) }
     {
-        let count = one_more(self.refused_of(address, now));
-        let held = self.held(address);
-        self.forget(address);
-        self.make_room();
-        self.list.push(Guess {
+        let guess = Guess {
             address,
-            count,
+            count: one_more(self.refused_of(address, now)),
             last: now,
-            held,
-        })?;
-        Ok(())
+            held: self.held(address),
+        };
+        let place = self.place_of(address);
+        put_last(&mut self.list, place, guess)
     }
 
     /// How long a slow answer to an address waits that is ready now, in milliseconds of some clock: it goes a second after the one before it, 30 seconds from
@@ -185,23 +184,33 @@ impl<A: Allocator + Copy> Guesses<A> {
     {
         self.list.iter().position(|guess| guess.is_of(address))
     }
+}
 
-    fn forget(&mut self, address: u128)
-        ensures items { self.new ≡ without self.old address }
-        ensures shorter { length self.new ≤ length self.old }
-    {
-        if let Some(place) = self.place_of(address) {
-            let _old = self.list.remove(place);
-        }
+/// Puts a guess last, in the room of the one at a place; where there is none and all room is taken, in that of the first one.
+fn put_last<A: Allocator + Copy>(
+    list: &mut Vec<Guess, A>,
+    place: Option<usize>,
+    guess: Guess,
+) -> Result<(), AllocError>
+    requires within { IfSome place (λ place. place < length list.old.items) }
+    requires few { length list.old.items ≤ 1024 }
+    ensures put { OnOk result (list.new.items ≡ make_room (taken_out list.old.items place) ++ guess ∷ []) }
+    ensures stays { OnErr result (list.new.items ≡ list.old.items) }
+    ensures few { length list.new.items ≤ 1024 }
+{
+    if let Some(place) = place {
+        let _old = list.remove(place);
+        list.push_reserved(guess);
+        return Ok(());
     }
-
-    fn make_room(&mut self)
-        ensures items { self.new ≡ make_room self.old }
-        ensures room { length self.new < 1024 }
-    {
-        if self.list.len() >= MOST_ADDRESSES {
-            let _oldest = self.list.remove(0);
-        }
+    if list.len() >= MOST_ADDRESSES {
+        let _oldest = list.remove(0);
+        list.push_reserved(guess);
+        return Ok(());
+    }
+    match list.push(guess) {
+        Ok(()) => Ok(()),
+        Err(_) => Err(AllocError),
     }
 }
 
