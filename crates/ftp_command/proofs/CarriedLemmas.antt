@@ -1,18 +1,25 @@
 -- Each command that has a line has one that a control connection can carry.
 use Rattle.std.proofs.Common.{◌≡◌, ℕ, ◌+◌, ◌*◌, ◌/◌, ◌%◌, ◌^◌, ◌<◌, ◌≤◌, List, [], ◌∷◌, ◌++◌, Bool, true, false, not, ◌==◌, ◌&&◌, Some, None, refl, ◌∙◌, arith, length, length-append, map}
-use Rattle.std.specs.Prelude.{codes, decimal, count_by, cond, nat_lt, if◌then◌else◌}
+use Rattle.std.specs.Prelude.{codes, decimal, count_by, cond, nat_le, nat_lt, if◌then◌else◌}
 use Rattle.std.specs.Char.{digit_char}
 use Rattle.std.specs.List.{list_all, join_with_byte, AllByRecursion}
 use Rattle.std.specs.Str.Parse.{AllDigits}
+use Rattle.std.proofs.lemmas.Bool.{leb-true}
 use Rattle.std.proofs.lemmas.Bool.Decides.{nat_tests}
 use Rattle.std.proofs.lemmas.List.Sums.{sum_by-cons}
 use Rattle.ftp_command.proofs.PathLemmas.{path_plain, path_short}
 use Rattle.ftp_path.specs.Path.{IsPathText, is_path_octet}
 use Rattle.ftp_command.specs.Argument.{IsPassword}
 use Rattle.ftp_path.specs.Login.{is_login_octet}
-use Rattle.ftp_command.specs.Line.{spaced, line_of, is_no_feed, IsWords, IsLine, IsStated, IsTyped}
+use Rattle.ftp_command.specs.Command.{value_of, verb_of}
+use Rattle.ftp_command.specs.Line.{IsStatedValue, IsLine, IsStated, IsTyped, IsTypedValue, IsWords, is_no_feed, line_of, spaced, tail}
+use Rattle.ftp_command.specs.Verb.{letters}
 use Rattle.ftp_command.specs.declared.command.Command.{Command}
-use Rattle.ftp_command.specs.declared.command.Command.TheVariants as command
+use Rattle.ftp_command.specs.declared.value.Value.{Value}
+use Rattle.ftp_command.specs.declared.value.Value.TheVariants as value
+use Rattle.ftp_command.specs.declared.verb.Verb.{Verb}
+use Rattle.ftp_command.proofs.TableLemmas.{four_letters, is_wordy}
+use Rattle.ftp_command.proofs.VerbLemmas.{every_passes}
 use Rattle.ftp_settings.specs.declared.representation.Kind.TheVariants.{Ascii, Image}
 use Rattle.ftp_settings.specs.declared.representation.Mode.TheVariants.{Stream, Block}
 use Rattle.ftp_command.specs.declared.command.Passive.TheVariants.{Any, Ipv4, Ipv6, Only}
@@ -192,7 +199,7 @@ spaced_fits n [] fits = record { plain = tt; short = omega arith }
 spaced_fits n (c ∷ text) fits = record { plain = (refl, fits.plain); short = omega (arith, fits.short) }
 
 -- a verb of four letters or three, and what stands behind it
-abbrev IsWord : List ℕ → Type 0
+abbrev pub IsWord : List ℕ → Type 0
 IsWord verb = (list_all is_plain verb ≡ true) × (length verb ≤ 4)
 
 verb_fits : (verb : List ℕ) → IsWord verb → Fits 4 verb
@@ -238,60 +245,52 @@ words_line verb (c ∷ words) plain four is = (
         let same : returns (x == 13) + count_by (λ c. c == 13) (xs ++ ys) ≡ count_by (λ c. c == 13) ys = omega (arith, one, rest) in
         sum_by-cons (λ (o : ℕ). cond (o == 13) 1 0) x (xs ++ ys) ∙ same
 
--- ---- a row a command
+-- ---- a row a shape
 
-pub carried : (said : Command (List ℕ)) → IsTyped said → IsStated said → IsLine (line_of said)
-carried (command.User value) typed is = password_line (codes "USER") value (refl, omega arith) is.1
-carried (command.Pass value) typed is = password_line (codes "PASS") value (refl, omega arith) is
-carried (command.Acct value) typed is = words_line (codes "ACCT") value (refl, (refl, (refl, (refl, tt)))) refl is
-carried (command.Cwd value) typed is = path_line (codes "CWD") value (refl, omega arith) is
-carried command.Cdup typed is = alone_line (codes "CDUP") (refl, omega arith)
-carried command.Rein typed is = alone_line (codes "REIN") (refl, omega arith)
-carried command.Quit typed is = alone_line (codes "QUIT") (refl, omega arith)
-carried (command.Port value) typed is = behind_verb (codes "PORT") (codes " " ++ six_text value) 201 (refl, omega arith) (let six = six_fits value.host value.port is typed.0 typed.1 in record { plain = (refl, six.plain); short = omega (arith, six.short) }) (omega arith)
-carried command.Pasv typed is = alone_line (codes "PASV") (refl, omega arith)
-carried (command.Eprt value) typed is = behind_verb (codes "EPRT") (codes " " ++ extended_text value) 201 (refl, omega arith) (let all = extended_fits value typed in record { plain = (refl, all.plain); short = omega (arith, all.short) }) (omega arith)
-carried (command.Epsv Any) typed is = alone_line (codes "EPSV") (refl, omega arith)
-carried (command.Epsv Ipv4) typed is = plain_line (codes "EPSV") (codes " 1") (refl, omega arith) refl (omega arith)
-carried (command.Epsv Ipv6) typed is = plain_line (codes "EPSV") (codes " 2") (refl, omega arith) refl (omega arith)
-carried (command.Epsv Only) typed is = plain_line (codes "EPSV") (codes " ALL") (refl, omega arith) refl (omega arith)
-carried (command.Repr Ascii) typed is = plain_line (codes "TYPE") (codes " A") (refl, omega arith) refl (omega arith)
-carried (command.Repr Image) typed is = plain_line (codes "TYPE") (codes " I") (refl, omega arith) refl (omega arith)
-carried (command.Stru File) typed is = plain_line (codes "STRU") (codes " F") (refl, omega arith) refl (omega arith)
-carried (command.Stru Record) typed is = plain_line (codes "STRU") (codes " R") (refl, omega arith) refl (omega arith)
-carried (command.Mode Stream) typed is = plain_line (codes "MODE") (codes " S") (refl, omega arith) refl (omega arith)
-carried (command.Mode Block) typed is = plain_line (codes "MODE") (codes " B") (refl, omega arith) refl (omega arith)
-carried (command.Retr value) typed is = path_line (codes "RETR") value (refl, omega arith) is
-carried (command.Stor value) typed is = path_line (codes "STOR") value (refl, omega arith) is
-carried (command.Appe value) typed is = path_line (codes "APPE") value (refl, omega arith) is
-carried (command.Allo octets None) typed is = behind_verb (codes "ALLO") (codes " " ++ (decimal octets ++ [])) 19 (refl, omega arith) (let one = fits_both 18 0 (decimal octets) [] (decimal_fits octets is.0) (record { plain = tt; short = omega arith }) in record { plain = (refl, one.plain); short = omega (arith, one.short) }) (omega arith)
-carried (command.Allo octets (Some longest)) typed is =
+-- the letters of each verb are such a word
+pub word_of : (v : Verb) → IsWord (letters v)
+word_of v = (every_passes (λ v. list_all is_plain (letters v)) refl v, leb-true (length (letters v)) 4 (every_passes (λ v. nat_le (length (letters v)) 4) refl v))
+
+pub value_line : (verb : List ℕ) (x : Value (List ℕ)) → IsWord verb → (is_wordy x ≡ true → length verb ≡ 4) → IsTypedValue x → IsStatedValue x → IsLine (verb ++ tail x)
+value_line verb (value.Name x) word four typed is = password_line verb x word is.1
+value_line verb (value.Password x) word four typed is = password_line verb x word is
+value_line verb (value.Words x) word four typed is = words_line verb x (verb_fits verb word).plain (four refl) is
+value_line verb (value.WordsOrNone None) word four typed is = alone_line verb word
+value_line verb (value.WordsOrNone (Some x)) word four typed is = words_line verb x (verb_fits verb word).plain (four refl) is
+value_line verb (value.Path x) word four typed is = path_line verb x word is
+value_line verb (value.PathOrNone None) word four typed is = alone_line verb word
+value_line verb (value.PathOrNone (Some x)) word four typed is = path_line verb x word is
+value_line verb (value.Listed None) word four typed is = alone_line verb word
+value_line verb (value.Listed (Some x)) word four typed is = path_line verb x word is.0
+value_line verb value.Nothing word four typed is = alone_line verb word
+value_line verb (value.Six x) word four typed is =
+    let six = six_fits x.host x.port is typed.0 typed.1 in
+    behind_verb verb (codes " " ++ six_text x) 201 word (record { plain = (refl, six.plain); short = omega (arith, six.short) }) (omega arith)
+value_line verb (value.Extended x) word four typed is =
+    let all = extended_fits x typed in
+    behind_verb verb (codes " " ++ extended_text x) 201 word (record { plain = (refl, all.plain); short = omega (arith, all.short) }) (omega arith)
+value_line verb (value.Family Any) word four typed is = alone_line verb word
+value_line verb (value.Family Ipv4) word four typed is = plain_line verb (codes " 1") word refl (omega arith)
+value_line verb (value.Family Ipv6) word four typed is = plain_line verb (codes " 2") word refl (omega arith)
+value_line verb (value.Family Only) word four typed is = plain_line verb (codes " ALL") word refl (omega arith)
+value_line verb (value.Kind Ascii) word four typed is = plain_line verb (codes " A") word refl (omega arith)
+value_line verb (value.Kind Image) word four typed is = plain_line verb (codes " I") word refl (omega arith)
+value_line verb (value.Structure File) word four typed is = plain_line verb (codes " F") word refl (omega arith)
+value_line verb (value.Structure Record) word four typed is = plain_line verb (codes " R") word refl (omega arith)
+value_line verb (value.Mode Stream) word four typed is = plain_line verb (codes " S") word refl (omega arith)
+value_line verb (value.Mode Block) word four typed is = plain_line verb (codes " B") word refl (omega arith)
+value_line verb (value.Number n) word four typed is =
+    let one = decimal_fits n is in
+    behind_verb verb (codes " " ++ decimal n) 19 word (record { plain = (refl, one.plain); short = omega (arith, one.short) }) (omega arith)
+value_line verb (value.Sizes octets None) word four typed is =
+    let one = fits_both 18 0 (decimal octets) [] (decimal_fits octets is.0) (record { plain = tt; short = omega arith }) in
+    behind_verb verb (codes " " ++ (decimal octets ++ [])) 19 word (record { plain = (refl, one.plain); short = omega (arith, one.short) }) (omega arith)
+value_line verb (value.Sizes octets (Some longest)) word four typed is =
     let two = decimal_fits longest is.1 in
     let more : Fits 21 (codes " R " ++ decimal longest) = record { plain = (refl, (refl, (refl, two.plain))); short = omega (arith, two.short) } in
     let all = fits_both 18 21 (decimal octets) (codes " R " ++ decimal longest) (decimal_fits octets is.0) more in
-    behind_verb (codes "ALLO") (codes " " ++ (decimal octets ++ (codes " R " ++ decimal longest))) 40 (refl, omega arith) (record { plain = (refl, all.plain); short = omega (arith, all.short) }) (omega arith)
-carried (command.Rest value) typed is = behind_verb (codes "REST") (codes " " ++ decimal value) 19 (refl, omega arith) (let one = decimal_fits value is in record { plain = (refl, one.plain); short = omega (arith, one.short) }) (omega arith)
-carried (command.Rnfr value) typed is = path_line (codes "RNFR") value (refl, omega arith) is
-carried (command.Rnto value) typed is = path_line (codes "RNTO") value (refl, omega arith) is
-carried command.Abor typed is = alone_line (codes "ABOR") (refl, omega arith)
-carried (command.Dele value) typed is = path_line (codes "DELE") value (refl, omega arith) is
-carried (command.Rmd value) typed is = path_line (codes "RMD") value (refl, omega arith) is
-carried (command.Mkd value) typed is = path_line (codes "MKD") value (refl, omega arith) is
-carried command.Pwd typed is = alone_line (codes "PWD") (refl, omega arith)
-carried (command.List None) typed is = alone_line (codes "LIST") (refl, omega arith)
-carried (command.List (Some value)) typed is = path_line (codes "LIST") value (refl, omega arith) is.0
-carried (command.Nlst None) typed is = alone_line (codes "NLST") (refl, omega arith)
-carried (command.Nlst (Some value)) typed is = path_line (codes "NLST") value (refl, omega arith) is.0
-carried (command.Mlst None) typed is = alone_line (codes "MLST") (refl, omega arith)
-carried (command.Mlst (Some value)) typed is = path_line (codes "MLST") value (refl, omega arith) is
-carried (command.Mlsd None) typed is = alone_line (codes "MLSD") (refl, omega arith)
-carried (command.Mlsd (Some value)) typed is = path_line (codes "MLSD") value (refl, omega arith) is
-carried (command.Size value) typed is = path_line (codes "SIZE") value (refl, omega arith) is
-carried (command.Mdtm value) typed is = path_line (codes "MDTM") value (refl, omega arith) is
-carried command.Syst typed is = alone_line (codes "SYST") (refl, omega arith)
-carried command.Stat typed is = alone_line (codes "STAT") (refl, omega arith)
-carried (command.Help None) typed is = alone_line (codes "HELP") (refl, omega arith)
-carried (command.Help (Some value)) typed is = words_line (codes "HELP") value (refl, (refl, (refl, (refl, tt)))) refl is
-carried command.Noop typed is = alone_line (codes "NOOP") (refl, omega arith)
-carried command.Feat typed is = alone_line (codes "FEAT") (refl, omega arith)
-carried (command.Opts value) typed is = words_line (codes "OPTS") value (refl, (refl, (refl, (refl, tt)))) refl is
+    behind_verb verb (codes " " ++ (decimal octets ++ (codes " R " ++ decimal longest))) 40 word (record { plain = (refl, all.plain); short = omega (arith, all.short) }) (omega arith)
+
+pub carried : (said : Command (List ℕ)) → IsTyped said → IsStated said → IsLine (line_of said)
+carried said typed is =
+    value_line (letters (verb_of said)) (value_of said) (word_of (verb_of said)) (λ words. (four_letters said words).0) typed is

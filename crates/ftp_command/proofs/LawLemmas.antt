@@ -9,12 +9,13 @@ use Rattle.std.specs.Str.{bytes_eq}
 use Rattle.std.proofs.lemmas.Str.Parse.{digit_from_value}
 use Rattle.std.specs.Int.{IsInRange}
 use Rattle.ftp_command.specs.Argument.{IsOtherFamily, IsOtherKind, IsOtherMode, IsOtherStructure, SaysEbcdic, SaysKind, SaysLocal, SaysLongest, SaysMode, SaysPassive, SaysPathOrNone, SaysSizes, SaysStructure, SaysTextOrNone, argument, trimmed, without_options, word}
-use Rattle.ftp_command.specs.Command.{Argues, Declined, HoldsText, IsNotDone, IsOtherNetwork, IsOtherParameter, Refuses, Says, verb_of}
+use Rattle.ftp_command.specs.Command.{Argues, Declined, HoldsText, IsForeign, IsNotDone, IsOtherNetwork, IsOtherParameter, IsOtherSetting, IsUndone, Refuses, Says, verb_of}
 use Rattle.ftp_endpoint.specs.Number.{SaysNumber, behind_digits}
 use Rattle.ftp_command.specs.Decline.{SaysText}
-use Rattle.ftp_command.specs.Verb.{Names, SameLetters}
+use Rattle.ftp_command.specs.Shapes.{Shape}
+use Rattle.ftp_command.specs.Shapes as shape
+use Rattle.ftp_command.specs.Verb.{Names, SameLetters, row}
 use Rattle.ftp_command.specs.declared.command.Command.{Command}
-use Rattle.ftp_command.specs.declared.command.Command.TheVariants as command
 use Rattle.ftp_settings.specs.declared.representation.Kind.{Kind}
 use Rattle.ftp_settings.specs.declared.representation.Kind.TheVariants.{Ascii, Image}
 use Rattle.ftp_settings.specs.declared.representation.Mode.{Mode}
@@ -25,11 +26,12 @@ use Rattle.ftp_settings.specs.declared.representation.Structure.{Structure}
 use Rattle.ftp_settings.specs.declared.representation.Structure.TheVariants.{File, Record}
 use Rattle.ftp_command.specs.declared.fault.CommandFault.{CommandFault}
 use Rattle.ftp_command.specs.declared.fault.CommandFault.TheVariants as fault
+use Rattle.ftp_command.specs.declared.value.Value.TheVariants as value
 use Rattle.ftp_command.specs.declared.verb.Verb.{Verb}
-use Rattle.ftp_command.specs.declared.verb.Verb.TheVariants as verb
 use Rattle.ftp_endpoint.proofs.EndpointLemmas.{six_same}
 use Rattle.ftp_endpoint.proofs.OnceLemmas.{no_other_protocol, same_extended, same_number}
 use Rattle.ftp_command.proofs.PathLemmas.{path_some}
+use Rattle.ftp_command.proofs.TableLemmas.{IsMade, is_made, made_by, said_as}
 use Rattle.ftp_command.proofs.VerbLemmas.{one_verb}
 
 -- two texts that differ
@@ -143,47 +145,76 @@ same_octets text None (Some b) m n h k = h.0.1 ∙ sym k.0.1
 same_octets text (Some a) None m n h k = h.0.1 ∙ sym k.0.1
 same_octets text (Some a) (Some b) m n h k = h.0.1 ∙ sym k.0.1
 
+-- an argument says one command that a shape makes at most
+one_made : (a : List ℕ) (s : Shape) (c d : Command (List ℕ)) → IsMade c s → IsMade d s → Argues a c → Argues a d → c ≡ d
+one_made a (shape.Name make) c d one two h k =
+    let first = said_as a c (value.Name one.0) one.2 h in
+    let second = said_as a d (value.Name two.0) two.2 k in
+    one.1 ∙ (ap make (sym first.0 ∙ second.0) ∙ sym two.1)
+one_made a (shape.Password make) c d one two h k =
+    let first = said_as a c (value.Password one.0) one.2 h in
+    let second = said_as a d (value.Password two.0) two.2 k in
+    one.1 ∙ (ap make (sym first.0 ∙ second.0) ∙ sym two.1)
+one_made a (shape.Words make) c d one two h k =
+    let first = said_as a c (value.Words one.0) one.2 h in
+    let second = said_as a d (value.Words two.0) two.2 k in
+    one.1 ∙ (ap make (sym first.0 ∙ second.0) ∙ sym two.1)
+one_made a (shape.Path make) c d one two h k =
+    let first = said_as a c (value.Path one.0) one.2 h in
+    let second = said_as a d (value.Path two.0) two.2 k in
+    one.1 ∙ (ap make (sym first.0 ∙ second.0) ∙ sym two.1)
+one_made a (shape.WordsOrNone make) c d one two h k =
+    let first = said_as a c (value.WordsOrNone one.0) one.2 h in
+    let second = said_as a d (value.WordsOrNone two.0) two.2 k in
+    one.1 ∙ (ap make (same_words (trimmed a) one.0 two.0 first second) ∙ sym two.1)
+one_made a (shape.PathOrNone make) c d one two h k =
+    let first = said_as a c (value.PathOrNone one.0) one.2 h in
+    let second = said_as a d (value.PathOrNone two.0) two.2 k in
+    one.1 ∙ (ap make (same_path a one.0 two.0 first second) ∙ sym two.1)
+one_made a (shape.Listed make) c d one two h k =
+    let first = said_as a c (value.Listed one.0) one.2 h in
+    let second = said_as a d (value.Listed two.0) two.2 k in
+    one.1 ∙ (ap make (same_path (without_options a) one.0 two.0 first second) ∙ sym two.1)
+one_made a (shape.Extended make) c d one two h k =
+    let first = said_as a c (value.Extended one.0) one.2 h in
+    let second = said_as a d (value.Extended two.0) two.2 k in
+    one.1 ∙ (ap make (same_extended (trimmed a) one.0 two.0 first second) ∙ sym two.1)
+one_made a (shape.Family make) c d one two h k =
+    let first = said_as a c (value.Family one.0) one.2 h in
+    let second = said_as a d (value.Family two.0) two.2 k in
+    one.1 ∙ (ap make (same_passive (trimmed a) one.0 two.0 first second) ∙ sym two.1)
+one_made a (shape.Kind make) c d one two h k =
+    let first = said_as a c (value.Kind one.0) one.2 h in
+    let second = said_as a d (value.Kind two.0) two.2 k in
+    one.1 ∙ (ap make (same_kind (trimmed a) one.0 two.0 first second) ∙ sym two.1)
+one_made a (shape.Structure make) c d one two h k =
+    let first = said_as a c (value.Structure one.0) one.2 h in
+    let second = said_as a d (value.Structure two.0) two.2 k in
+    one.1 ∙ (ap make (same_structure (trimmed a) one.0 two.0 first second) ∙ sym two.1)
+one_made a (shape.Mode make) c d one two h k =
+    let first = said_as a c (value.Mode one.0) one.2 h in
+    let second = said_as a d (value.Mode two.0) two.2 k in
+    one.1 ∙ (ap make (same_mode (trimmed a) one.0 two.0 first second) ∙ sym two.1)
+one_made a (shape.Number make) c d one two h k =
+    let first = said_as a c (value.Number one.0) one.2 h in
+    let second = said_as a d (value.Number two.0) two.2 k in
+    one.1 ∙ (ap make (same_number (trimmed a) one.0 two.0 first second) ∙ sym two.1)
+one_made a (shape.Six make) c d one two h k =
+    let first = said_as a c (value.Six one.0) one.2 h in
+    let second = said_as a d (value.Six two.0) two.2 k in
+    one.1 ∙ (ap make ((six_same (trimmed a) one.0 two.0 [] [] first second).0) ∙ sym two.1)
+one_made a (shape.Sizes make) c d one two h k =
+    let first = said_as a c (value.Sizes one.0 one.1) one.3 h in
+    let second = said_as a d (value.Sizes two.0 two.1) two.3 k in
+    let octets = ap (λ x. make x one.1) (same_octets (trimmed a) one.1 two.1 one.0 two.0 first second) in
+    one.2 ∙ (octets ∙ (ap (λ y. make two.0 y) (same_rest (trimmed a) one.1 two.1 one.0 two.0 first second) ∙ sym two.2))
+one_made a (shape.Nothing made) c d one two h k = one.0 ∙ sym two.0
+one_made a (shape.Alone made) c d one two h k = one.0 ∙ sym two.0
+one_made a shape.Undone c d one two h k = absurd one
+
 -- an argument says one value of a verb at most
 pub one_value : (a : List ℕ) (v w : Command (List ℕ)) → verb_of v ≡ verb_of w → Argues a v → Argues a w → v ≡ w
-one_value a (command.User x) (command.User y) e h k = ap command.User (sym h.0 ∙ k.0)
-one_value a (command.Pass x) (command.Pass y) e h k = ap command.Pass (sym h.0 ∙ k.0)
-one_value a (command.Acct x) (command.Acct y) e h k = ap command.Acct (sym h.0 ∙ k.0)
-one_value a (command.Cwd x) (command.Cwd y) e h k = ap command.Cwd (sym h.0 ∙ k.0)
-one_value a command.Cdup command.Cdup e h k = refl
-one_value a command.Rein command.Rein e h k = refl
-one_value a command.Quit command.Quit e h k = refl
-one_value a (command.Port x) (command.Port y) e h k = ap command.Port ((six_same (trimmed a) x y [] [] h k).0)
-one_value a command.Pasv command.Pasv e h k = refl
-one_value a (command.Eprt x) (command.Eprt y) e h k = ap command.Eprt (same_extended (trimmed a) x y h k)
-one_value a (command.Epsv x) (command.Epsv y) e h k = ap command.Epsv (same_passive (trimmed a) x y h k)
-one_value a (command.Repr x) (command.Repr y) e h k = ap command.Repr (same_kind (trimmed a) x y h k)
-one_value a (command.Stru x) (command.Stru y) e h k = ap command.Stru (same_structure (trimmed a) x y h k)
-one_value a (command.Mode x) (command.Mode y) e h k = ap command.Mode (same_mode (trimmed a) x y h k)
-one_value a (command.Retr x) (command.Retr y) e h k = ap command.Retr (sym h.0 ∙ k.0)
-one_value a (command.Stor x) (command.Stor y) e h k = ap command.Stor (sym h.0 ∙ k.0)
-one_value a (command.Appe x) (command.Appe y) e h k = ap command.Appe (sym h.0 ∙ k.0)
-one_value a (command.Allo m v) (command.Allo n w) e h k = ap (λ x. command.Allo x v) (same_octets (trimmed a) v w m n h k) ∙ ap (λ x. command.Allo n x) (same_rest (trimmed a) v w m n h k)
-one_value a (command.Rest x) (command.Rest y) e h k = ap command.Rest (same_number (trimmed a) x y h k)
-one_value a (command.Rnfr x) (command.Rnfr y) e h k = ap command.Rnfr (sym h.0 ∙ k.0)
-one_value a (command.Rnto x) (command.Rnto y) e h k = ap command.Rnto (sym h.0 ∙ k.0)
-one_value a command.Abor command.Abor e h k = refl
-one_value a (command.Dele x) (command.Dele y) e h k = ap command.Dele (sym h.0 ∙ k.0)
-one_value a (command.Rmd x) (command.Rmd y) e h k = ap command.Rmd (sym h.0 ∙ k.0)
-one_value a (command.Mkd x) (command.Mkd y) e h k = ap command.Mkd (sym h.0 ∙ k.0)
-one_value a command.Pwd command.Pwd e h k = refl
-one_value a (command.List x) (command.List y) e h k = ap command.List (same_path (without_options a) x y h k)
-one_value a (command.Nlst x) (command.Nlst y) e h k = ap command.Nlst (same_path (without_options a) x y h k)
-one_value a (command.Mlst x) (command.Mlst y) e h k = ap command.Mlst (same_path a x y h k)
-one_value a (command.Mlsd x) (command.Mlsd y) e h k = ap command.Mlsd (same_path a x y h k)
-one_value a (command.Size x) (command.Size y) e h k = ap command.Size (sym h.0 ∙ k.0)
-one_value a (command.Mdtm x) (command.Mdtm y) e h k = ap command.Mdtm (sym h.0 ∙ k.0)
-one_value a command.Syst command.Syst e h k = refl
-one_value a command.Stat command.Stat e h k = refl
-one_value a (command.Help x) (command.Help y) e h k = ap command.Help (same_words (trimmed a) x y h k)
-one_value a command.Noop command.Noop e h k = refl
-one_value a command.Feat command.Feat e h k = refl
-one_value a (command.Opts x) (command.Opts y) e h k = ap command.Opts (sym h.0 ∙ k.0)
-one_value a v w e h k = absurd (cc)
+one_value a v w e h k = one_made a (row (verb_of w)).shape v w (made_by v (verb_of w) e) (is_made w) h k
 
 -- no line says two commands
 pub one_command : (line : List ℕ) (v w : Command (List ℕ)) → Says line v → Says line w → v ≡ w
@@ -191,9 +222,13 @@ one_command line v w h k =
     one_value (argument line) v w (one_verb (word line) (verb_of v) (verb_of w) h.0 k.0) h.1 k.1
 
 -- what is said is not refused
+done_made : (a : List ℕ) (s : Shape) (c : Command (List ℕ)) → IsMade c s → Argues a c → IsUndone a s → ⊥
+done_made a shape.Undone c made h k = made
+done_made a (shape.Alone made) c is h k = k (said_as a c value.Nothing is.1 h)
+done_made a s c made h k = absurd k
+
 said_done : (a : List ℕ) (v : Command (List ℕ)) → Argues a v → IsNotDone a (verb_of v) → ⊥
-said_done a command.Stat h k = k h
-said_done a v h k = absurd k
+said_done a v h k = done_made a (row (verb_of v)).shape v (is_made v) h k
 
 no_other_kind : (text : List ℕ) (v : Kind) → SaysKind text v → IsOtherKind text → ⊥
 no_other_kind text Ascii (inl h) (inl (inl k)) = differ _ _ (sym h ∙ k) refl
@@ -225,11 +260,14 @@ no_other_mode : (text : List ℕ) (v : Mode) → SaysMode text v → IsOtherMode
 no_other_mode text Stream h k = differ _ _ (sym h ∙ k) refl
 no_other_mode text Block h k = differ _ _ (sym h ∙ k) refl
 
+setting_made : (a : List ℕ) (s : Shape) (c : Command (List ℕ)) → IsMade c s → Argues a c → IsOtherSetting a s → ⊥
+setting_made a (shape.Kind make) c made h k = no_other_kind (trimmed a) made.0 (said_as a c (value.Kind made.0) made.2 h) k
+setting_made a (shape.Structure make) c made h k = no_other_structure (trimmed a) made.0 (said_as a c (value.Structure made.0) made.2 h) k
+setting_made a (shape.Mode make) c made h k = no_other_mode (trimmed a) made.0 (said_as a c (value.Mode made.0) made.2 h) k
+setting_made a s c made h k = absurd k
+
 said_parameter : (a : List ℕ) (v : Command (List ℕ)) → Argues a v → IsOtherParameter a (verb_of v) → ⊥
-said_parameter a (command.Repr x) h k = no_other_kind (trimmed a) x h k
-said_parameter a (command.Stru x) h k = no_other_structure (trimmed a) x h k
-said_parameter a (command.Mode x) h k = no_other_mode (trimmed a) x h k
-said_parameter a v h k = absurd k
+said_parameter a v h k = setting_made a (row (verb_of v)).shape v (is_made v) h k
 
 no_other_family : (text : List ℕ) (v : Passive) → SaysPassive text v → IsOtherFamily text → ⊥
 no_other_family text Any h k = no_number_empty text k.0 k.1 h
@@ -237,10 +275,13 @@ no_other_family text Ipv4 h k = k.2 (same_number text k.0 1 k.1 h)
 no_other_family text Ipv6 h k = k.3 (same_number text k.0 2 k.1 h)
 no_other_family text Only h k = no_number_all text k.0 k.1 h
 
+network_made : (a : List ℕ) (s : Shape) (c : Command (List ℕ)) → IsMade c s → Argues a c → IsForeign a s → ⊥
+network_made a (shape.Extended make) c made h k = no_other_protocol (trimmed a) made.0 (said_as a c (value.Extended made.0) made.2 h) k
+network_made a (shape.Family make) c made h k = no_other_family (trimmed a) made.0 (said_as a c (value.Family made.0) made.2 h) k
+network_made a s c made h k = absurd k
+
 said_network : (a : List ℕ) (v : Command (List ℕ)) → Argues a v → IsOtherNetwork a (verb_of v) → ⊥
-said_network a (command.Eprt x) h k = no_other_protocol (trimmed a) x h k
-said_network a (command.Epsv x) h k = no_other_family (trimmed a) x h k
-said_network a v h k = absurd k
+said_network a v h k = network_made a (row (verb_of v)).shape v (is_made v) h k
 
 not_declined : (a : List ℕ) (v : Command (List ℕ)) (f : CommandFault) → Argues a v → Declined a (verb_of v) f → ⊥
 not_declined a v fault.Unknown h k = k
@@ -272,21 +313,21 @@ not_refused line v f says h =
     ]
 
 -- a line is refused in one way
-done_parameter : (a : List ℕ) (v : Verb) → IsNotDone a v → IsOtherParameter a v → ⊥
-done_parameter a verb.Repr h k = absurd h
-done_parameter a verb.Stru h k = absurd h
-done_parameter a verb.Mode h k = absurd h
-done_parameter a v h k = absurd k
+done_parameter : (a : List ℕ) (s : Shape) → IsUndone a s → IsOtherSetting a s → ⊥
+done_parameter a (shape.Kind make) h k = absurd h
+done_parameter a (shape.Structure make) h k = absurd h
+done_parameter a (shape.Mode make) h k = absurd h
+done_parameter a s h k = absurd k
 
-done_network : (a : List ℕ) (v : Verb) → IsNotDone a v → IsOtherNetwork a v → ⊥
-done_network a verb.Eprt h k = absurd h
-done_network a verb.Epsv h k = absurd h
-done_network a v h k = absurd k
+done_network : (a : List ℕ) (s : Shape) → IsUndone a s → IsForeign a s → ⊥
+done_network a (shape.Extended make) h k = absurd h
+done_network a (shape.Family make) h k = absurd h
+done_network a s h k = absurd k
 
-parameter_network : (a : List ℕ) (v : Verb) → IsOtherParameter a v → IsOtherNetwork a v → ⊥
-parameter_network a verb.Eprt h k = absurd h
-parameter_network a verb.Epsv h k = absurd h
-parameter_network a v h k = absurd k
+parameter_network : (a : List ℕ) (s : Shape) → IsOtherSetting a s → IsForeign a s → ⊥
+parameter_network a (shape.Extended make) h k = absurd h
+parameter_network a (shape.Family make) h k = absurd h
+parameter_network a s h k = absurd k
 
 one_decline : (a : List ℕ) (v : Verb) (f g : CommandFault) → Declined a v f → Declined a v g → f ≡ g
 one_decline a v fault.Unknown g h k = absurd h
@@ -299,15 +340,15 @@ one_decline a v fault.BadArgument fault.BadParameter h k = absurd (h.1 k)
 one_decline a v fault.BadArgument fault.Protocol h k = absurd (h.2 k)
 one_decline a v fault.NotDone fault.BadArgument h k = absurd (k.0 h)
 one_decline a v fault.NotDone fault.NotDone h k = refl
-one_decline a v fault.NotDone fault.BadParameter h k = absurd (done_parameter a v h k)
-one_decline a v fault.NotDone fault.Protocol h k = absurd (done_network a v h k)
+one_decline a v fault.NotDone fault.BadParameter h k = absurd (done_parameter a (row v).shape h k)
+one_decline a v fault.NotDone fault.Protocol h k = absurd (done_network a (row v).shape h k)
 one_decline a v fault.BadParameter fault.BadArgument h k = absurd (k.1 h)
-one_decline a v fault.BadParameter fault.NotDone h k = absurd (done_parameter a v k h)
+one_decline a v fault.BadParameter fault.NotDone h k = absurd (done_parameter a (row v).shape k h)
 one_decline a v fault.BadParameter fault.BadParameter h k = refl
-one_decline a v fault.BadParameter fault.Protocol h k = absurd (parameter_network a v h k)
+one_decline a v fault.BadParameter fault.Protocol h k = absurd (parameter_network a (row v).shape h k)
 one_decline a v fault.Protocol fault.BadArgument h k = absurd (k.2 h)
-one_decline a v fault.Protocol fault.NotDone h k = absurd (done_network a v k h)
-one_decline a v fault.Protocol fault.BadParameter h k = absurd (parameter_network a v k h)
+one_decline a v fault.Protocol fault.NotDone h k = absurd (done_network a (row v).shape k h)
+one_decline a v fault.Protocol fault.BadParameter h k = absurd (parameter_network a (row v).shape k h)
 one_decline a v fault.Protocol fault.Protocol h k = refl
 
 pub one_fault : (line : List ℕ) (f g : CommandFault) → Refuses line f → Refuses line g → f ≡ g

@@ -1,4 +1,5 @@
 pub mod VerbLemmas
+pub mod TableLemmas
 pub mod ArgumentLemmas
 pub mod SettingLemmas
 pub mod CommandLemmas

@@ -1,5 +1,5 @@
 -- The line that is written for a command says it.
-use Rattle.std.proofs.Common.{◌≡◌, inl, ℕ, suc, ◌+◌, ◌/◌, ◌%◌, ◌^◌, ◌<◌, ◌≤◌, ◌++◌, ◌&&◌, Bool, true, false, not, cond, List, [], ◌∷◌, length, take, drop, refl, sym, ap, subst, ◌∙◌, Some, None, arith, codes, decimal}
+use Rattle.std.proofs.Common.{◌≡◌, ◌⊎◌, inl, inr, ℕ, suc, ◌+◌, ◌/◌, ◌%◌, ◌^◌, ◌<◌, ◌≤◌, ◌++◌, ◌&&◌, Bool, true, false, not, cond, List, [], ◌∷◌, length, take, drop, refl, sym, ap, subst, ◌∙◌, Some, None, arith, codes, decimal}
 use Rattle.std.specs.Char.{digit_value}
 use Rattle.std.specs.Int.{IsInRange}
 use Rattle.std.specs.List.{list_all, prefix_len}
@@ -12,8 +12,8 @@ use Rattle.std.proofs.Math.Bool.{and-false}
 use Rattle.std.proofs.Math.Seq.{take-append_seam, drop-append-add, take-length}
 use Rattle.std.proofs.lemmas.Str.Parse.{digit_from_value}
 use Rattle.ftp_command.specs.Argument.{SaysLongest, SaysSizes, argument, is_space, trimmed, word}
-use Rattle.ftp_command.specs.Command.{Argues, Says, verb_of}
-use Rattle.ftp_command.specs.Line.{IsStated, IsTyped, line_of, spaced, tail_of}
+use Rattle.ftp_command.specs.Command.{Argues, Says, SaysValue, value_of, verb_of}
+use Rattle.ftp_command.specs.Line.{IsStatedValue, IsStated, IsTyped, IsTypedValue, line_of, spaced, tail, tail_of}
 use Rattle.ftp_command.specs.Verb.{Names, letters}
 use Rattle.ftp_command.specs.declared.command.Command.{Command}
 use Rattle.ftp_command.specs.declared.command.Command.TheVariants as command
@@ -22,8 +22,10 @@ use Rattle.ftp_settings.specs.declared.representation.Mode.TheVariants.{Stream, 
 use Rattle.ftp_command.specs.declared.command.Passive.TheVariants.{Any, Ipv4, Ipv6, Only}
 use Rattle.ftp_settings.specs.declared.representation.Structure.TheVariants.{File, Record}
 use Rattle.ftp_command.specs.declared.verb.Verb.{Verb}
-use Rattle.ftp_command.specs.declared.verb.Verb.TheVariants as verb
+use Rattle.ftp_command.specs.declared.value.Value.{Value}
+use Rattle.ftp_command.specs.declared.value.Value.TheVariants as value
 use Rattle.ftp_command.proofs.ArgumentLemmas.{without-done}
+use Rattle.ftp_command.proofs.VerbLemmas.{every_passes}
 use Rattle.ftp_endpoint.specs.Endpoint.{SaysSix}
 use Rattle.ftp_endpoint.specs.Host.{SaysExtended}
 use Rattle.ftp_endpoint.specs.Number.{SaysNumber, behind_digits}
@@ -81,47 +83,7 @@ pub argument_alone : (l : List ℕ) → list_all is_letter l ≡ true → argume
 argument_alone l h = ap argument (nil-append l) ∙ (ap (λ n. drop (n + 1) l) (alone_len l h) ∙ drop-past l)
 
 plain_letters : (v : Verb) → list_all is_letter (letters v) ≡ true
-plain_letters verb.User = refl
-plain_letters verb.Pass = refl
-plain_letters verb.Acct = refl
-plain_letters verb.Cwd = refl
-plain_letters verb.Cdup = refl
-plain_letters verb.Smnt = refl
-plain_letters verb.Rein = refl
-plain_letters verb.Quit = refl
-plain_letters verb.Port = refl
-plain_letters verb.Pasv = refl
-plain_letters verb.Eprt = refl
-plain_letters verb.Epsv = refl
-plain_letters verb.Repr = refl
-plain_letters verb.Stru = refl
-plain_letters verb.Mode = refl
-plain_letters verb.Retr = refl
-plain_letters verb.Stor = refl
-plain_letters verb.Stou = refl
-plain_letters verb.Appe = refl
-plain_letters verb.Allo = refl
-plain_letters verb.Rest = refl
-plain_letters verb.Rnfr = refl
-plain_letters verb.Rnto = refl
-plain_letters verb.Abor = refl
-plain_letters verb.Dele = refl
-plain_letters verb.Rmd = refl
-plain_letters verb.Mkd = refl
-plain_letters verb.Pwd = refl
-plain_letters verb.List = refl
-plain_letters verb.Nlst = refl
-plain_letters verb.Mlst = refl
-plain_letters verb.Mlsd = refl
-plain_letters verb.Size = refl
-plain_letters verb.Mdtm = refl
-plain_letters verb.Site = refl
-plain_letters verb.Syst = refl
-plain_letters verb.Stat = refl
-plain_letters verb.Help = refl
-plain_letters verb.Noop = refl
-plain_letters verb.Feat = refl
-plain_letters verb.Opts = refl
+plain_letters = every_passes (λ v. list_all is_letter (letters v)) refl
 
 -- a command is said by its letters, SP and its argument, or by its letters alone
 says_with : (v : Command (List ℕ)) (a : List ℕ) → tail_of v ≡ 32 ∷ a → Argues a v → Says (line_of v) v
@@ -244,55 +206,42 @@ argues_eprt e h some =
     let P : List ℕ → Type 0 = λ x. SaysExtended x e in
     subst P (sym (kept_extended e).kept) (says_extended e.host e.port h.0 some h.1)
 
+-- what is written behind a verb says the value: SP and an argument, or nothing where that is empty
+abbrev IsTold : Value (List ℕ) → Type 0
+IsTold x = (a : List ℕ) × ((tail x ≡ 32 ∷ a) ⊎ (tail x ≡ spaced a)) × SaysValue a x
+
+told : (x : Value (List ℕ)) → IsTypedValue x → IsStatedValue x → IsTold x
+told (value.Name x) t h = (x, inr refl, (refl, h))
+told (value.Password x) t h = (x, inr refl, (refl, h))
+told (value.Words x) t h = (x, inr refl, (h.1, h.0))
+told (value.WordsOrNone None) t h = ([], inr refl, refl)
+told (value.WordsOrNone (Some x)) t h = (x, inr refl, (h.1, h.0))
+told (value.Path x) t h = (x, inr refl, (refl, h))
+told (value.PathOrNone None) t h = ([], inr refl, refl)
+told (value.PathOrNone (Some x)) t h = (x, inr refl, (refl, h))
+told (value.Listed None) t h = ([], inr refl, refl)
+told (value.Listed (Some x)) t h = (x, inr refl, (without-done x h.1, h.0))
+told value.Nothing t h = ([], inr refl, refl)
+told (value.Six x) t h = (six_text x, inl refl, argues_port x.host x.port t.0 t.1 h)
+told (value.Extended x) t h = (extended_text x, inl refl, argues_eprt x t h)
+told (value.Family Any) t h = ([], inr refl, refl)
+told (value.Family Ipv4) t h = (49 ∷ [], inl refl, one_is)
+told (value.Family Ipv6) t h = (50 ∷ [], inl refl, two_is)
+told (value.Family Only) t h = (codes "ALL", inl refl, refl)
+told (value.Kind Ascii) t h = (codes "A", inl refl, inl refl)
+told (value.Kind Image) t h = (codes "I", inl refl, inl refl)
+told (value.Structure File) t h = (codes "F", inl refl, refl)
+told (value.Structure Record) t h = (codes "R", inl refl, refl)
+told (value.Mode Stream) t h = (codes "S", inl refl, refl)
+told (value.Mode Block) t h = (codes "B", inl refl, refl)
+told (value.Sizes m None) t h = (decimal m ++ [], inl refl, says_one_size_nil m h.0)
+told (value.Sizes m (Some n)) t h = (decimal m ++ (codes " R " ++ decimal n), inl refl, says_two_sizes m n h.0 h.1)
+told (value.Number n) t h = (decimal n, inl refl, says_rest n h)
+
+said_by : (v : Command (List ℕ)) (a : List ℕ) → (tail_of v ≡ 32 ∷ a) ⊎ (tail_of v ≡ spaced a) → Argues a v → Says (line_of v) v
+said_by v a (inl e) h = says_with v a e h
+said_by v a (inr e) h = says_spaced v a e h
+
 -- the line that is written says the command
 pub round_trip : (v : Command (List ℕ)) → IsTyped v → IsStated v → Says (line_of v) v
-round_trip (command.User x) t h = says_spaced (command.User x) x refl (refl, h)
-round_trip (command.Pass x) t h = says_spaced (command.Pass x) x refl (refl, h)
-round_trip (command.Acct x) t h = says_spaced (command.Acct x) x refl (h.1, h.0)
-round_trip (command.Cwd x) t h = says_spaced (command.Cwd x) x refl (refl, h)
-round_trip command.Cdup t h = says_alone command.Cdup refl refl
-round_trip command.Rein t h = says_alone command.Rein refl refl
-round_trip command.Quit t h = says_alone command.Quit refl refl
-round_trip (command.Port x) t h = says_with (command.Port x) (six_text x) refl (argues_port x.host x.port t.0 t.1 h)
-round_trip command.Pasv t h = says_alone command.Pasv refl refl
-round_trip (command.Eprt x) t h = says_with (command.Eprt x) (extended_text x) refl (argues_eprt x t h)
-round_trip (command.Epsv Any) t h = says_alone (command.Epsv Any) refl refl
-round_trip (command.Epsv Ipv4) t h = says_with (command.Epsv Ipv4) (49 ∷ []) refl one_is
-round_trip (command.Epsv Ipv6) t h = says_with (command.Epsv Ipv6) (50 ∷ []) refl two_is
-round_trip (command.Epsv Only) t h = says_with (command.Epsv Only) (codes "ALL") refl refl
-round_trip (command.Repr Ascii) t h = says_with (command.Repr Ascii) (codes "A") refl (inl refl)
-round_trip (command.Repr Image) t h = says_with (command.Repr Image) (codes "I") refl (inl refl)
-round_trip (command.Stru File) t h = says_with (command.Stru File) (codes "F") refl refl
-round_trip (command.Stru Record) t h = says_with (command.Stru Record) (codes "R") refl refl
-round_trip (command.Mode Stream) t h = says_with (command.Mode Stream) (codes "S") refl refl
-round_trip (command.Mode Block) t h = says_with (command.Mode Block) (codes "B") refl refl
-round_trip (command.Retr x) t h = says_spaced (command.Retr x) x refl (refl, h)
-round_trip (command.Stor x) t h = says_spaced (command.Stor x) x refl (refl, h)
-round_trip (command.Appe x) t h = says_spaced (command.Appe x) x refl (refl, h)
-round_trip (command.Allo m None) t h = says_with (command.Allo m None) (decimal m ++ []) refl (says_one_size_nil m h.0)
-round_trip (command.Allo m (Some n)) t h = says_with (command.Allo m (Some n)) (decimal m ++ (codes " R " ++ decimal n)) refl (says_two_sizes m n h.0 h.1)
-round_trip (command.Rest n) t h = says_with (command.Rest n) (decimal n) refl (says_rest n h)
-round_trip (command.Rnfr x) t h = says_spaced (command.Rnfr x) x refl (refl, h)
-round_trip (command.Rnto x) t h = says_spaced (command.Rnto x) x refl (refl, h)
-round_trip command.Abor t h = says_alone command.Abor refl refl
-round_trip (command.Dele x) t h = says_spaced (command.Dele x) x refl (refl, h)
-round_trip (command.Rmd x) t h = says_spaced (command.Rmd x) x refl (refl, h)
-round_trip (command.Mkd x) t h = says_spaced (command.Mkd x) x refl (refl, h)
-round_trip command.Pwd t h = says_alone command.Pwd refl refl
-round_trip (command.List None) t h = says_alone (command.List None) refl refl
-round_trip (command.List (Some x)) t h = says_spaced (command.List (Some x)) x refl (without-done x h.1, h.0)
-round_trip (command.Nlst None) t h = says_alone (command.Nlst None) refl refl
-round_trip (command.Nlst (Some x)) t h = says_spaced (command.Nlst (Some x)) x refl (without-done x h.1, h.0)
-round_trip (command.Mlst None) t h = says_alone (command.Mlst None) refl refl
-round_trip (command.Mlst (Some x)) t h = says_spaced (command.Mlst (Some x)) x refl (refl, h)
-round_trip (command.Mlsd None) t h = says_alone (command.Mlsd None) refl refl
-round_trip (command.Mlsd (Some x)) t h = says_spaced (command.Mlsd (Some x)) x refl (refl, h)
-round_trip (command.Size x) t h = says_spaced (command.Size x) x refl (refl, h)
-round_trip (command.Mdtm x) t h = says_spaced (command.Mdtm x) x refl (refl, h)
-round_trip command.Syst t h = says_alone command.Syst refl refl
-round_trip command.Stat t h = says_alone command.Stat refl refl
-round_trip (command.Help None) t h = says_alone (command.Help None) refl refl
-round_trip (command.Help (Some x)) t h = says_spaced (command.Help (Some x)) x refl (h.1, h.0)
-round_trip command.Noop t h = says_alone command.Noop refl refl
-round_trip command.Feat t h = says_alone command.Feat refl refl
-round_trip (command.Opts x) t h = says_spaced (command.Opts x) x refl (h.1, h.0)
+round_trip v t h = let is = told (value_of v) t h in said_by v is.0 is.1 is.2

@@ -7,15 +7,17 @@ use Rattle.std.proofs.lemmas.List.Sums.{sum_by-cons}
 use Rattle.std.proofs.lemmas.List.{length-map}
 use Rattle.ftp_path.specs.Path.{IsPathText}
 use Rattle.ftp_command.specs.Argument.{SaysSizes, argument, begins_with, behind_word, is_space, trimmed, without, without_options, word}
-use Rattle.ftp_command.specs.Command.{Says, verb_of}
-use Rattle.ftp_command.specs.Line.{IfShort, IsLine, IsListed, IsShort, IsStated, IsWords, is_no_feed}
+use Rattle.ftp_command.specs.Command.{Says, SaysValue, value_of, verb_of}
+use Rattle.ftp_command.specs.Line.{IsStatedValue, IfShort, IsLine, IsListed, IsShort, IsStated, IsWords, is_no_feed}
 use Rattle.ftp_endpoint.specs.Number.{SaysNumber}
-use Rattle.ftp_command.specs.Verb.{SameLetters, letters}
+use Rattle.ftp_command.specs.Verb.{SameLetters, letters, old_letters}
 use Rattle.ftp_command.specs.declared.command.Command.{Command}
-use Rattle.ftp_command.specs.declared.command.Command.TheVariants as command
+use Rattle.ftp_command.specs.declared.value.Value.{Value}
+use Rattle.ftp_command.specs.declared.value.Value.TheVariants as value
 use Rattle.ftp_endpoint.specs.Written.{IsV4}
 use Rattle.ftp_endpoint.specs.declared.endpoint.Endpoint.{Endpoint}
 use Rattle.ftp_command.proofs.ArgumentLemmas.{shorter, without-step, trimmed-cons}
+use Rattle.ftp_command.proofs.TableLemmas.{four_letters, is_wordy}
 use Rattle.ftp_endpoint.proofs.NumberLemmas.{value_lt}
 
 abbrev is_return : ℕ → Bool
@@ -125,9 +127,9 @@ is_cut (c ∷ cs) = cut-by c cs (list_all is_space (c ∷ cs)) refl (is_cut cs)
 four : (w v : List ℕ) → length v ≡ 4 → SameLetters w v → length w ≡ 4
 four w v is h = omega (arith, ap length h, length-map w to_ascii_lowercase, length-map v to_ascii_lowercase, is)
 
-four_of : (w v : List ℕ) → length v ≡ 4 → SameLetters w v ⊎ SameLetters w v → length w ≡ 4
-four_of w v is (inl h) = four w v is h
-four_of w v is (inr h) = four w v is h
+four_of : (w v old : List ℕ) → (length v ≡ 4) × (length old ≡ 4) → SameLetters w v ⊎ SameLetters w old → length w ≡ 4
+four_of w v old is (inl h) = four w v is.0 h
+four_of w v old is (inr h) = four w old is.1 h
 
 words_fit : (line value : List ℕ) → length (word line) ≡ 4 → IsLine line → trimmed (argument line) ≡ value → 1 ≤ length value → IsWords value
 words_fit line value long is at some =
@@ -163,48 +165,31 @@ are_short : (text : List ℕ) (m : ℕ) (o : Option ℕ) → SaysSizes text m o 
 are_short text m None h = (is_short _ m h.0, tt)
 are_short text m (Some n) h = (is_short _ m h.0, is_short h.1.digits n h.1.number)
 
+-- a value that the argument of a line says has a line to be written
+stated_value : (line : List ℕ) (x : Value (List ℕ)) → (is_wordy x ≡ true → length (word line) ≡ 4) → IsLine line → SaysValue (argument line) x → IsStatedValue x
+stated_value line (value.Name x) four is h = h.1
+stated_value line (value.Password x) four is h = h.1
+stated_value line (value.Words x) four is h = words_fit line x (four refl) is h.0 h.1
+stated_value line (value.WordsOrNone None) four is h = tt
+stated_value line (value.WordsOrNone (Some x)) four is h = words_fit line x (four refl) is h.0 h.1
+stated_value line (value.Path x) four is h = h.1
+stated_value line (value.PathOrNone None) four is h = tt
+stated_value line (value.PathOrNone (Some x)) four is h = h.1
+stated_value line (value.Listed None) four is h = tt
+stated_value line (value.Listed (Some x)) four is h = is_listed (argument line) x h
+stated_value line value.Nothing four is h = tt
+stated_value line (value.Six x) four is h = let P : Endpoint → Type 0 = λ e. IsV4 e.host in subst P (sym h.value) tt
+stated_value line (value.Extended x) four is h = omega (arith, h.shape.ends.number.0.1, h.shape.ends.number.1)
+stated_value line (value.Family x) four is h = tt
+stated_value line (value.Kind x) four is h = tt
+stated_value line (value.Structure x) four is h = tt
+stated_value line (value.Mode x) four is h = tt
+stated_value line (value.Number n) four is h = is_short (trimmed (argument line)) n h
+stated_value line (value.Sizes m o) four is h = are_short (trimmed (argument line)) m o h
+
 -- a command that some line says has a line to be written
 pub stated : (line : List ℕ) (v : Command (List ℕ)) → IsLine line → Says line v → IsStated v
-stated line (command.User x) is h = h.1.1
-stated line (command.Pass x) is h = h.1.1
-stated line (command.Acct x) is h = words_fit line x (four_of (word line) (letters (verb_of (command.Acct x))) refl h.0) is h.1.0 h.1.1
-stated line (command.Cwd x) is h = h.1.1
-stated line command.Cdup is h = tt
-stated line command.Rein is h = tt
-stated line command.Quit is h = tt
-stated line (command.Port x) is h = let P : Endpoint → Type 0 = λ e. IsV4 e.host in subst P (sym h.1.value) tt
-stated line command.Pasv is h = tt
-stated line (command.Eprt x) is h = omega (arith, h.1.shape.ends.number.0.1, h.1.shape.ends.number.1)
-stated line (command.Epsv x) is h = tt
-stated line (command.Repr x) is h = tt
-stated line (command.Stru x) is h = tt
-stated line (command.Mode x) is h = tt
-stated line (command.Retr x) is h = h.1.1
-stated line (command.Stor x) is h = h.1.1
-stated line (command.Appe x) is h = h.1.1
-stated line (command.Allo m o) is h = are_short (trimmed (argument line)) m o h.1
-stated line (command.Rest x) is h = is_short (trimmed (argument line)) x h.1
-stated line (command.Rnfr x) is h = h.1.1
-stated line (command.Rnto x) is h = h.1.1
-stated line command.Abor is h = tt
-stated line (command.Dele x) is h = h.1.1
-stated line (command.Rmd x) is h = h.1.1
-stated line (command.Mkd x) is h = h.1.1
-stated line command.Pwd is h = tt
-stated line (command.List None) is h = tt
-stated line (command.List (Some x)) is h = is_listed (argument line) x h.1
-stated line (command.Nlst None) is h = tt
-stated line (command.Nlst (Some x)) is h = is_listed (argument line) x h.1
-stated line (command.Mlst None) is h = tt
-stated line (command.Mlst (Some x)) is h = h.1.1
-stated line (command.Mlsd None) is h = tt
-stated line (command.Mlsd (Some x)) is h = h.1.1
-stated line (command.Size x) is h = h.1.1
-stated line (command.Mdtm x) is h = h.1.1
-stated line command.Syst is h = tt
-stated line command.Stat is h = tt
-stated line (command.Help None) is h = tt
-stated line (command.Help (Some x)) is h = words_fit line x (four_of (word line) (letters (verb_of (command.Help (Some x)))) refl h.0) is h.1.0 h.1.1
-stated line command.Noop is h = tt
-stated line command.Feat is h = tt
-stated line (command.Opts x) is h = words_fit line x (four_of (word line) (letters (verb_of (command.Opts x))) refl h.0) is h.1.0 h.1.1
+stated line v is h =
+    let four : is_wordy (value_of v) ≡ true → length (word line) ≡ 4 =
+    λ words. four_of (word line) (letters (verb_of v)) (old_letters (verb_of v)) (four_letters v words) h.0 in
+    stated_value line (value_of v) four is h.1

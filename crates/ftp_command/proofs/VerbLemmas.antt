@@ -1,145 +1,14 @@
--- A word names one verb at most.
-use Rattle.std.proofs.Common.{◌≡◌, ℕ, ◌<◌, List, get_or, refl, ap, subst, ◌||◌, ◌∙◌, lit<, Option, Some, inl, inr, map}
+-- Each verb is one of the list, and a word names one verb at most.
+use Rattle.std.proofs.Common.{◌≡◌, ℕ, ◌<◌, Bool, true, false, List, get_or, refl, sym, ap, subst, ◌||◌, ◌∙◌, lit<, Option, Some, inl, inr, map}
 use Rattle.std.specs.Char.{to_ascii_lowercase}
-use Rattle.std.specs.List.{find}
+use Rattle.std.specs.List.{find, list_all}
 use Rattle.std.specs.Str.{bytes_eq}
+use Rattle.std.proofs.lemmas.Bool.{false≢true}
+use Rattle.std.proofs.lemmas.List.Folds.{list_all_at}
 use Rattle.ftp_command.specs.Verb.{Names, letters, old_letters}
 use Rattle.ftp_command.specs.declared.verb.TheConstants.{VERBS}
 use Rattle.ftp_command.specs.declared.verb.Verb.{Verb}
 use Rattle.ftp_command.specs.declared.verb.Verb.TheVariants as verb
-
--- where a verb stands among all
-abbrev pub place : Verb → ℕ
-place verb.User = 0
-place verb.Pass = 1
-place verb.Acct = 2
-place verb.Cwd = 3
-place verb.Cdup = 4
-place verb.Smnt = 5
-place verb.Rein = 6
-place verb.Quit = 7
-place verb.Port = 8
-place verb.Pasv = 9
-place verb.Eprt = 10
-place verb.Epsv = 11
-place verb.Repr = 12
-place verb.Stru = 13
-place verb.Mode = 14
-place verb.Retr = 15
-place verb.Stor = 16
-place verb.Stou = 17
-place verb.Appe = 18
-place verb.Allo = 19
-place verb.Rest = 20
-place verb.Rnfr = 21
-place verb.Rnto = 22
-place verb.Abor = 23
-place verb.Dele = 24
-place verb.Rmd = 25
-place verb.Mkd = 26
-place verb.Pwd = 27
-place verb.List = 28
-place verb.Nlst = 29
-place verb.Mlst = 30
-place verb.Mlsd = 31
-place verb.Size = 32
-place verb.Mdtm = 33
-place verb.Site = 34
-place verb.Syst = 35
-place verb.Stat = 36
-place verb.Help = 37
-place verb.Noop = 38
-place verb.Feat = 39
-place verb.Opts = 40
-
-pub listed : (v : Verb) → get_or VERBS (place v) verb.User ≡ v
-listed verb.User = refl
-listed verb.Pass = refl
-listed verb.Acct = refl
-listed verb.Cwd = refl
-listed verb.Cdup = refl
-listed verb.Smnt = refl
-listed verb.Rein = refl
-listed verb.Quit = refl
-listed verb.Port = refl
-listed verb.Pasv = refl
-listed verb.Eprt = refl
-listed verb.Epsv = refl
-listed verb.Repr = refl
-listed verb.Stru = refl
-listed verb.Mode = refl
-listed verb.Retr = refl
-listed verb.Stor = refl
-listed verb.Stou = refl
-listed verb.Appe = refl
-listed verb.Allo = refl
-listed verb.Rest = refl
-listed verb.Rnfr = refl
-listed verb.Rnto = refl
-listed verb.Abor = refl
-listed verb.Dele = refl
-listed verb.Rmd = refl
-listed verb.Mkd = refl
-listed verb.Pwd = refl
-listed verb.List = refl
-listed verb.Nlst = refl
-listed verb.Mlst = refl
-listed verb.Mlsd = refl
-listed verb.Size = refl
-listed verb.Mdtm = refl
-listed verb.Site = refl
-listed verb.Syst = refl
-listed verb.Stat = refl
-listed verb.Help = refl
-listed verb.Noop = refl
-listed verb.Feat = refl
-listed verb.Opts = refl
-
-pub place_lt : (v : Verb) → place v < 41
-place_lt verb.User = lit< tt
-place_lt verb.Pass = lit< tt
-place_lt verb.Acct = lit< tt
-place_lt verb.Cwd = lit< tt
-place_lt verb.Cdup = lit< tt
-place_lt verb.Smnt = lit< tt
-place_lt verb.Rein = lit< tt
-place_lt verb.Quit = lit< tt
-place_lt verb.Port = lit< tt
-place_lt verb.Pasv = lit< tt
-place_lt verb.Eprt = lit< tt
-place_lt verb.Epsv = lit< tt
-place_lt verb.Repr = lit< tt
-place_lt verb.Stru = lit< tt
-place_lt verb.Mode = lit< tt
-place_lt verb.Retr = lit< tt
-place_lt verb.Stor = lit< tt
-place_lt verb.Stou = lit< tt
-place_lt verb.Appe = lit< tt
-place_lt verb.Allo = lit< tt
-place_lt verb.Rest = lit< tt
-place_lt verb.Rnfr = lit< tt
-place_lt verb.Rnto = lit< tt
-place_lt verb.Abor = lit< tt
-place_lt verb.Dele = lit< tt
-place_lt verb.Rmd = lit< tt
-place_lt verb.Mkd = lit< tt
-place_lt verb.Pwd = lit< tt
-place_lt verb.List = lit< tt
-place_lt verb.Nlst = lit< tt
-place_lt verb.Mlst = lit< tt
-place_lt verb.Mlsd = lit< tt
-place_lt verb.Size = lit< tt
-place_lt verb.Mdtm = lit< tt
-place_lt verb.Site = lit< tt
-place_lt verb.Syst = lit< tt
-place_lt verb.Stat = lit< tt
-place_lt verb.Help = lit< tt
-place_lt verb.Noop = lit< tt
-place_lt verb.Feat = lit< tt
-place_lt verb.Opts = lit< tt
-
-pub every : (P : Verb → Type 0) → ((k : ℕ) → k < 41 → P (get_or VERBS k verb.User)) → (v : Verb) → P v
-every P all v = subst P (listed v) (all (place v) (place_lt v))
 
 abbrev small : List ℕ → List ℕ
 small = map to_ascii_lowercase
@@ -148,95 +17,74 @@ small = map to_ascii_lowercase
 abbrev named : List ℕ → Option Verb
 named word = find (λ v. bytes_eq (small (letters v)) word || bytes_eq (small (old_letters v)) word) VERBS
 
-named_new : (v : Verb) → named (small (letters v)) ≡ Some v
-named_new verb.User = refl
-named_new verb.Pass = refl
-named_new verb.Acct = refl
-named_new verb.Cwd = refl
-named_new verb.Cdup = refl
-named_new verb.Smnt = refl
-named_new verb.Rein = refl
-named_new verb.Quit = refl
-named_new verb.Port = refl
-named_new verb.Pasv = refl
-named_new verb.Eprt = refl
-named_new verb.Epsv = refl
-named_new verb.Repr = refl
-named_new verb.Stru = refl
-named_new verb.Mode = refl
-named_new verb.Retr = refl
-named_new verb.Stor = refl
-named_new verb.Stou = refl
-named_new verb.Appe = refl
-named_new verb.Allo = refl
-named_new verb.Rest = refl
-named_new verb.Rnfr = refl
-named_new verb.Rnto = refl
-named_new verb.Abor = refl
-named_new verb.Dele = refl
-named_new verb.Rmd = refl
-named_new verb.Mkd = refl
-named_new verb.Pwd = refl
-named_new verb.List = refl
-named_new verb.Nlst = refl
-named_new verb.Mlst = refl
-named_new verb.Mlsd = refl
-named_new verb.Size = refl
-named_new verb.Mdtm = refl
-named_new verb.Site = refl
-named_new verb.Syst = refl
-named_new verb.Stat = refl
-named_new verb.Help = refl
-named_new verb.Noop = refl
-named_new verb.Feat = refl
-named_new verb.Opts = refl
+-- a verb stands in the list, and is the first there that its words name
+record Stands (v : Verb) : Type 0 where
+  place : ℕ
+  at : get_or VERBS place verb.User ≡ v
+  within : place < 41
+  new : named (small (letters v)) ≡ Some v
+  old : named (small (old_letters v)) ≡ Some v
 
-named_old : (v : Verb) → named (small (old_letters v)) ≡ Some v
-named_old verb.User = refl
-named_old verb.Pass = refl
-named_old verb.Acct = refl
-named_old verb.Cwd = refl
-named_old verb.Cdup = refl
-named_old verb.Smnt = refl
-named_old verb.Rein = refl
-named_old verb.Quit = refl
-named_old verb.Port = refl
-named_old verb.Pasv = refl
-named_old verb.Eprt = refl
-named_old verb.Epsv = refl
-named_old verb.Repr = refl
-named_old verb.Stru = refl
-named_old verb.Mode = refl
-named_old verb.Retr = refl
-named_old verb.Stor = refl
-named_old verb.Stou = refl
-named_old verb.Appe = refl
-named_old verb.Allo = refl
-named_old verb.Rest = refl
-named_old verb.Rnfr = refl
-named_old verb.Rnto = refl
-named_old verb.Abor = refl
-named_old verb.Dele = refl
-named_old verb.Rmd = refl
-named_old verb.Mkd = refl
-named_old verb.Pwd = refl
-named_old verb.List = refl
-named_old verb.Nlst = refl
-named_old verb.Mlst = refl
-named_old verb.Mlsd = refl
-named_old verb.Size = refl
-named_old verb.Mdtm = refl
-named_old verb.Site = refl
-named_old verb.Syst = refl
-named_old verb.Stat = refl
-named_old verb.Help = refl
-named_old verb.Noop = refl
-named_old verb.Feat = refl
-named_old verb.Opts = refl
+abbrev by_place : (v : Verb) (k : ℕ) → get_or VERBS k verb.User ≡ v → k < 41 → named (small (letters v)) ≡ Some v → named (small (old_letters v)) ≡ Some v → Stands v
+by_place v k at within new old = record { place = k; at = at; within = within; new = new; old = old }
+
+stands : (v : Verb) → Stands v
+stands verb.User = by_place verb.User 0 refl (lit< tt) refl refl
+stands verb.Pass = by_place verb.Pass 1 refl (lit< tt) refl refl
+stands verb.Acct = by_place verb.Acct 2 refl (lit< tt) refl refl
+stands verb.Cwd = by_place verb.Cwd 3 refl (lit< tt) refl refl
+stands verb.Cdup = by_place verb.Cdup 4 refl (lit< tt) refl refl
+stands verb.Smnt = by_place verb.Smnt 5 refl (lit< tt) refl refl
+stands verb.Rein = by_place verb.Rein 6 refl (lit< tt) refl refl
+stands verb.Quit = by_place verb.Quit 7 refl (lit< tt) refl refl
+stands verb.Port = by_place verb.Port 8 refl (lit< tt) refl refl
+stands verb.Pasv = by_place verb.Pasv 9 refl (lit< tt) refl refl
+stands verb.Eprt = by_place verb.Eprt 10 refl (lit< tt) refl refl
+stands verb.Epsv = by_place verb.Epsv 11 refl (lit< tt) refl refl
+stands verb.Repr = by_place verb.Repr 12 refl (lit< tt) refl refl
+stands verb.Stru = by_place verb.Stru 13 refl (lit< tt) refl refl
+stands verb.Mode = by_place verb.Mode 14 refl (lit< tt) refl refl
+stands verb.Retr = by_place verb.Retr 15 refl (lit< tt) refl refl
+stands verb.Stor = by_place verb.Stor 16 refl (lit< tt) refl refl
+stands verb.Stou = by_place verb.Stou 17 refl (lit< tt) refl refl
+stands verb.Appe = by_place verb.Appe 18 refl (lit< tt) refl refl
+stands verb.Allo = by_place verb.Allo 19 refl (lit< tt) refl refl
+stands verb.Rest = by_place verb.Rest 20 refl (lit< tt) refl refl
+stands verb.Rnfr = by_place verb.Rnfr 21 refl (lit< tt) refl refl
+stands verb.Rnto = by_place verb.Rnto 22 refl (lit< tt) refl refl
+stands verb.Abor = by_place verb.Abor 23 refl (lit< tt) refl refl
+stands verb.Dele = by_place verb.Dele 24 refl (lit< tt) refl refl
+stands verb.Rmd = by_place verb.Rmd 25 refl (lit< tt) refl refl
+stands verb.Mkd = by_place verb.Mkd 26 refl (lit< tt) refl refl
+stands verb.Pwd = by_place verb.Pwd 27 refl (lit< tt) refl refl
+stands verb.List = by_place verb.List 28 refl (lit< tt) refl refl
+stands verb.Nlst = by_place verb.Nlst 29 refl (lit< tt) refl refl
+stands verb.Mlst = by_place verb.Mlst 30 refl (lit< tt) refl refl
+stands verb.Mlsd = by_place verb.Mlsd 31 refl (lit< tt) refl refl
+stands verb.Size = by_place verb.Size 32 refl (lit< tt) refl refl
+stands verb.Mdtm = by_place verb.Mdtm 33 refl (lit< tt) refl refl
+stands verb.Site = by_place verb.Site 34 refl (lit< tt) refl refl
+stands verb.Syst = by_place verb.Syst 35 refl (lit< tt) refl refl
+stands verb.Stat = by_place verb.Stat 36 refl (lit< tt) refl refl
+stands verb.Help = by_place verb.Help 37 refl (lit< tt) refl refl
+stands verb.Noop = by_place verb.Noop 38 refl (lit< tt) refl refl
+stands verb.Feat = by_place verb.Feat 39 refl (lit< tt) refl refl
+stands verb.Opts = by_place verb.Opts 40 refl (lit< tt) refl refl
+
+pub every : (P : Verb → Type 0) → ((k : ℕ) → k < 41 → P (get_or VERBS k verb.User)) → (v : Verb) → P v
+every P all v = subst P (stands v).at (all (stands v).place (stands v).within)
+
+-- what each of the list passes, each verb passes
+pub every_passes : (p : Verb → Bool) → list_all p VERBS ≡ true → (v : Verb) → p v ≡ true
+every_passes p all = every (λ v. p v ≡ true) (λ k within. passes k within (p (get_or VERBS k verb.User)) refl)
+  where
+    passes : (k : ℕ) → k < 41 → (b : Bool) → p (get_or VERBS k verb.User) ≡ b → p (get_or VERBS k verb.User) ≡ true
+    passes k within true is = is
+    passes k within false is = absurd (false≢true (sym (list_all_at p VERBS k verb.User within is) ∙ all))
 
 named_is : (word : List ℕ) (v : Verb) → Names word v → named (small word) ≡ Some v
-named_is word v (inl h) = ap named h ∙ named_new v
-named_is word v (inr h) = ap named h ∙ named_old v
+named_is word v (inl h) = ap named h ∙ (stands v).new
+named_is word v (inr h) = ap named h ∙ (stands v).old
 
 -- a word names one verb at most
 pub one_verb : (word : List ℕ) (v w : Verb) → Names word v → Names word w → v ≡ w

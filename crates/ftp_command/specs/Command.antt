@@ -5,144 +5,142 @@ use Rattle.ftp_command.specs.Argument.{IsBlank, IsName, IsOtherFamily, IsOtherKi
 use Rattle.ftp_endpoint.specs.Endpoint.{SaysSix}
 use Rattle.ftp_endpoint.specs.Host.{IsOtherProtocol, SaysExtended}
 use Rattle.ftp_endpoint.specs.Number.{SaysNumber}
-use Rattle.ftp_command.specs.Verb.{Names}
+use Rattle.ftp_command.specs.Shapes.{Shape}
+use Rattle.ftp_command.specs.Shapes as shape
+use Rattle.ftp_command.specs.Verb.{Names, row}
 use Rattle.ftp_command.specs.declared.command.Command.{Command}
 use Rattle.ftp_command.specs.declared.command.Command.TheVariants as command
 use Rattle.ftp_command.specs.declared.fault.CommandFault.{CommandFault}
 use Rattle.ftp_command.specs.declared.fault.CommandFault.TheVariants.{Unknown, BadArgument, NotDone, BadParameter, Protocol}
+use Rattle.ftp_command.specs.declared.value.Value.{Value}
+use Rattle.ftp_command.specs.declared.value.Value.TheVariants as value
+use Rattle.ftp_command.specs.declared.verb.Role.{Role}
 use Rattle.ftp_command.specs.declared.verb.Verb.{Verb}
 use Rattle.ftp_command.specs.declared.verb.Verb.TheVariants as verb
 
--- a command's verb
+-- a command's verb, and its argument as a value
+abbrev pub parts : Command (List ℕ) → Verb × Value (List ℕ)
+parts (command.User text) = (verb.User, value.Name text)
+parts (command.Pass text) = (verb.Pass, value.Password text)
+parts (command.Acct text) = (verb.Acct, value.Words text)
+parts (command.Cwd text) = (verb.Cwd, value.Path text)
+parts command.Cdup = (verb.Cdup, value.Nothing)
+parts command.Rein = (verb.Rein, value.Nothing)
+parts command.Quit = (verb.Quit, value.Nothing)
+parts (command.Port endpoint) = (verb.Port, value.Six endpoint)
+parts command.Pasv = (verb.Pasv, value.Nothing)
+parts (command.Eprt endpoint) = (verb.Eprt, value.Extended endpoint)
+parts (command.Epsv family) = (verb.Epsv, value.Family family)
+parts (command.Repr kind) = (verb.Repr, value.Kind kind)
+parts (command.Stru structure) = (verb.Stru, value.Structure structure)
+parts (command.Mode mode) = (verb.Mode, value.Mode mode)
+parts (command.Retr text) = (verb.Retr, value.Path text)
+parts (command.Stor text) = (verb.Stor, value.Path text)
+parts (command.Appe text) = (verb.Appe, value.Path text)
+parts (command.Allo octets longest) = (verb.Allo, value.Sizes octets longest)
+parts (command.Rest place) = (verb.Rest, value.Number place)
+parts (command.Rnfr text) = (verb.Rnfr, value.Path text)
+parts (command.Rnto text) = (verb.Rnto, value.Path text)
+parts command.Abor = (verb.Abor, value.Nothing)
+parts (command.Dele text) = (verb.Dele, value.Path text)
+parts (command.Rmd text) = (verb.Rmd, value.Path text)
+parts (command.Mkd text) = (verb.Mkd, value.Path text)
+parts command.Pwd = (verb.Pwd, value.Nothing)
+parts (command.List text) = (verb.List, value.Listed text)
+parts (command.Nlst text) = (verb.Nlst, value.Listed text)
+parts (command.Mlst text) = (verb.Mlst, value.PathOrNone text)
+parts (command.Mlsd text) = (verb.Mlsd, value.PathOrNone text)
+parts (command.Size text) = (verb.Size, value.Path text)
+parts (command.Mdtm text) = (verb.Mdtm, value.Path text)
+parts command.Syst = (verb.Syst, value.Nothing)
+parts command.Stat = (verb.Stat, value.Nothing)
+parts (command.Help text) = (verb.Help, value.WordsOrNone text)
+parts command.Noop = (verb.Noop, value.Nothing)
+parts command.Feat = (verb.Feat, value.Nothing)
+parts (command.Opts text) = (verb.Opts, value.Words text)
+
 abbrev pub verb_of : Command (List ℕ) → Verb
-verb_of (command.User value) = verb.User
-verb_of (command.Pass value) = verb.Pass
-verb_of (command.Acct value) = verb.Acct
-verb_of (command.Cwd value) = verb.Cwd
-verb_of command.Cdup = verb.Cdup
-verb_of command.Rein = verb.Rein
-verb_of command.Quit = verb.Quit
-verb_of (command.Port value) = verb.Port
-verb_of command.Pasv = verb.Pasv
-verb_of (command.Eprt value) = verb.Eprt
-verb_of (command.Epsv value) = verb.Epsv
-verb_of (command.Repr value) = verb.Repr
-verb_of (command.Stru value) = verb.Stru
-verb_of (command.Mode value) = verb.Mode
-verb_of (command.Retr value) = verb.Retr
-verb_of (command.Stor value) = verb.Stor
-verb_of (command.Appe value) = verb.Appe
-verb_of (command.Allo octets longest) = verb.Allo
-verb_of (command.Rest value) = verb.Rest
-verb_of (command.Rnfr value) = verb.Rnfr
-verb_of (command.Rnto value) = verb.Rnto
-verb_of command.Abor = verb.Abor
-verb_of (command.Dele value) = verb.Dele
-verb_of (command.Rmd value) = verb.Rmd
-verb_of (command.Mkd value) = verb.Mkd
-verb_of command.Pwd = verb.Pwd
-verb_of (command.List value) = verb.List
-verb_of (command.Nlst value) = verb.Nlst
-verb_of (command.Mlst value) = verb.Mlst
-verb_of (command.Mlsd value) = verb.Mlsd
-verb_of (command.Size value) = verb.Size
-verb_of (command.Mdtm value) = verb.Mdtm
-verb_of command.Syst = verb.Syst
-verb_of command.Stat = verb.Stat
-verb_of (command.Help value) = verb.Help
-verb_of command.Noop = verb.Noop
-verb_of command.Feat = verb.Feat
-verb_of (command.Opts value) = verb.Opts
+verb_of command = (parts command).0
+
+abbrev pub value_of : Command (List ℕ) → Value (List ℕ)
+value_of command = (parts command).1
+
+-- the role of a command's verb
+abbrev pub role_of : Command (List ℕ) → Role
+role_of command = (row (verb_of command)).role
+
+-- a value that holds a text
+abbrev pub HasText : Value (List ℕ) → Type 0
+HasText (value.Name text) = Unit {0}
+HasText (value.Password text) = Unit {0}
+HasText (value.Words text) = Unit {0}
+HasText (value.WordsOrNone text) = IsTrue (is_some text)
+HasText (value.Path text) = Unit {0}
+HasText (value.PathOrNone text) = IsTrue (is_some text)
+HasText (value.Listed text) = IsTrue (is_some text)
+HasText value = ⊥
 
 -- a command that holds a text
 abbrev pub HoldsText : Command (List ℕ) → Type 0
-HoldsText (command.User value) = Unit {0}
-HoldsText (command.Pass value) = Unit {0}
-HoldsText (command.Acct value) = Unit {0}
-HoldsText (command.Cwd value) = Unit {0}
-HoldsText (command.Retr value) = Unit {0}
-HoldsText (command.Stor value) = Unit {0}
-HoldsText (command.Appe value) = Unit {0}
-HoldsText (command.Rnfr value) = Unit {0}
-HoldsText (command.Rnto value) = Unit {0}
-HoldsText (command.Dele value) = Unit {0}
-HoldsText (command.Rmd value) = Unit {0}
-HoldsText (command.Mkd value) = Unit {0}
-HoldsText (command.List value) = IsTrue (is_some value)
-HoldsText (command.Nlst value) = IsTrue (is_some value)
-HoldsText (command.Mlst value) = IsTrue (is_some value)
-HoldsText (command.Mlsd value) = IsTrue (is_some value)
-HoldsText (command.Size value) = Unit {0}
-HoldsText (command.Mdtm value) = Unit {0}
-HoldsText (command.Help value) = IsTrue (is_some value)
-HoldsText (command.Opts value) = Unit {0}
-HoldsText command = ⊥
+HoldsText command = HasText (value_of command)
 
--- an argument says the value of a command: a row of the table of verbs each
+-- an argument says a value, by the shape that the value has
+abbrev pub SaysValue : List ℕ → Value (List ℕ) → Type 0
+SaysValue a (value.Name text) = (a ≡ text) × IsName text
+SaysValue a (value.Password text) = (a ≡ text) × IsPassword text
+SaysValue a (value.Words text) = (trimmed a ≡ text) × (1 ≤ length text)
+SaysValue a (value.WordsOrNone text) = SaysTextOrNone (trimmed a) text
+SaysValue a (value.Path text) = (a ≡ text) × IsPathText text
+SaysValue a (value.PathOrNone text) = SaysPathOrNone a text
+SaysValue a (value.Listed text) = SaysPathOrNone (without_options a) text
+SaysValue a value.Nothing = IsBlank a
+SaysValue a (value.Six endpoint) = SaysSix (trimmed a) endpoint
+SaysValue a (value.Extended endpoint) = SaysExtended (trimmed a) endpoint
+SaysValue a (value.Family family) = SaysPassive (trimmed a) family
+SaysValue a (value.Kind kind) = SaysKind (trimmed a) kind
+SaysValue a (value.Structure structure) = SaysStructure (trimmed a) structure
+SaysValue a (value.Mode mode) = SaysMode (trimmed a) mode
+SaysValue a (value.Number number) = SaysNumber (trimmed a) number
+SaysValue a (value.Sizes octets longest) = SaysSizes (trimmed a) octets longest
+
+-- an argument says the value of a command
 abbrev pub Argues : List ℕ → Command (List ℕ) → Type 0
-Argues a (command.User value) = (a ≡ value) × IsName value
-Argues a (command.Pass value) = (a ≡ value) × IsPassword value
-Argues a (command.Acct value) = (trimmed a ≡ value) × (1 ≤ length value)
-Argues a (command.Cwd value) = (a ≡ value) × IsPathText value
-Argues a command.Cdup = IsBlank a
-Argues a command.Rein = IsBlank a
-Argues a command.Quit = IsBlank a
-Argues a (command.Port value) = SaysSix (trimmed a) value
-Argues a command.Pasv = IsBlank a
-Argues a (command.Eprt value) = SaysExtended (trimmed a) value
-Argues a (command.Epsv value) = SaysPassive (trimmed a) value
-Argues a (command.Repr value) = SaysKind (trimmed a) value
-Argues a (command.Stru value) = SaysStructure (trimmed a) value
-Argues a (command.Mode value) = SaysMode (trimmed a) value
-Argues a (command.Retr value) = (a ≡ value) × IsPathText value
-Argues a (command.Stor value) = (a ≡ value) × IsPathText value
-Argues a (command.Appe value) = (a ≡ value) × IsPathText value
-Argues a (command.Allo octets longest) = SaysSizes (trimmed a) octets longest
-Argues a (command.Rest value) = SaysNumber (trimmed a) value
-Argues a (command.Rnfr value) = (a ≡ value) × IsPathText value
-Argues a (command.Rnto value) = (a ≡ value) × IsPathText value
-Argues a command.Abor = IsBlank a
-Argues a (command.Dele value) = (a ≡ value) × IsPathText value
-Argues a (command.Rmd value) = (a ≡ value) × IsPathText value
-Argues a (command.Mkd value) = (a ≡ value) × IsPathText value
-Argues a command.Pwd = IsBlank a
-Argues a (command.List value) = SaysPathOrNone (without_options a) value
-Argues a (command.Nlst value) = SaysPathOrNone (without_options a) value
-Argues a (command.Mlst value) = SaysPathOrNone a value
-Argues a (command.Mlsd value) = SaysPathOrNone a value
-Argues a (command.Size value) = (a ≡ value) × IsPathText value
-Argues a (command.Mdtm value) = (a ≡ value) × IsPathText value
-Argues a command.Syst = IsBlank a
-Argues a command.Stat = IsBlank a
-Argues a (command.Help value) = SaysTextOrNone (trimmed a) value
-Argues a command.Noop = IsBlank a
-Argues a command.Feat = IsBlank a
-Argues a (command.Opts value) = (trimmed a ≡ value) × (1 ≤ length value)
+Argues a command = SaysValue a (value_of command)
 
 -- a line says a command: its word names the verb, and its argument says the value
 abbrev pub Says : List ℕ → Command (List ℕ) → Type 0
 Says line command = Names (word line) (verb_of command) × Argues (argument line) command
 
+-- a shape that is known and not done
+abbrev pub IsUndone : List ℕ → Shape → Type 0
+IsUndone a shape.Undone = Unit {0}
+IsUndone a (shape.Alone make) = ¬ IsBlank a
+IsUndone a shape = ⊥
+
 -- a verb that is known and not done; STAT with an argument too
 abbrev pub IsNotDone : List ℕ → Verb → Type 0
-IsNotDone a verb.Smnt = Unit {0}
-IsNotDone a verb.Stou = Unit {0}
-IsNotDone a verb.Site = Unit {0}
-IsNotDone a verb.Stat = ¬ IsBlank a
-IsNotDone a verb = ⊥
+IsNotDone a verb = IsUndone a (row verb).shape
+
+-- another type, structure or mode of the standard
+abbrev pub IsOtherSetting : List ℕ → Shape → Type 0
+IsOtherSetting a (shape.Kind make) = IsOtherKind (trimmed a)
+IsOtherSetting a (shape.Structure make) = IsOtherStructure (trimmed a)
+IsOtherSetting a (shape.Mode make) = IsOtherMode (trimmed a)
+IsOtherSetting a shape = ⊥
 
 -- a parameter that the standard has and that is not done
 abbrev pub IsOtherParameter : List ℕ → Verb → Type 0
-IsOtherParameter a verb.Repr = IsOtherKind (trimmed a)
-IsOtherParameter a verb.Stru = IsOtherStructure (trimmed a)
-IsOtherParameter a verb.Mode = IsOtherMode (trimmed a)
-IsOtherParameter a verb = ⊥
+IsOtherParameter a verb = IsOtherSetting a (row verb).shape
+
+-- an address or a family of another network protocol
+abbrev pub IsForeign : List ℕ → Shape → Type 0
+IsForeign a (shape.Extended make) = IsOtherProtocol (trimmed a)
+IsForeign a (shape.Family make) = IsOtherFamily (trimmed a)
+IsForeign a shape = ⊥
 
 -- another network protocol than IPv4 and IPv6
 abbrev pub IsOtherNetwork : List ℕ → Verb → Type 0
-IsOtherNetwork a verb.Eprt = IsOtherProtocol (trimmed a)
-IsOtherNetwork a verb.Epsv = IsOtherFamily (trimmed a)
-IsOtherNetwork a verb = ⊥
+IsOtherNetwork a verb = IsForeign a (row verb).shape
 
 -- how the argument of a verb is refused: BadArgument where none of the others holds and no command of the verb fits
 abbrev pub Declined : List ℕ → Verb → CommandFault → Type 0

@@ -6,4 +6,5 @@ pub mod Argument
 pub mod Command
 pub mod Decline
 pub mod Line
+pub mod Shapes
 pub mod Verb

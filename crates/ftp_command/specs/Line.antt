@@ -3,14 +3,15 @@ use Rattle.std.specs.Prelude.{◌≡◌, ◌+◌, ◌≤◌, ◌==◌, ℕ, Bool
 use Rattle.std.specs.List.{list_all}
 use Rattle.ftp_path.specs.Path.{IsPathText}
 use Rattle.ftp_command.specs.Argument.{IsName, IsPassword, begins_with, hyphen, trimmed}
-use Rattle.ftp_command.specs.Command.{verb_of}
+use Rattle.ftp_command.specs.Command.{value_of, verb_of}
 use Rattle.ftp_command.specs.Verb.{letters}
 use Rattle.ftp_command.specs.declared.command.Command.{Command}
-use Rattle.ftp_command.specs.declared.command.Command.TheVariants as command
 use Rattle.ftp_settings.specs.declared.representation.Kind.{Kind}
 use Rattle.ftp_settings.specs.declared.representation.Kind.TheVariants.{Ascii, Image}
 use Rattle.ftp_settings.specs.declared.representation.Mode.{Mode}
 use Rattle.ftp_settings.specs.declared.representation.Mode.TheVariants.{Stream, Block}
+use Rattle.ftp_command.specs.declared.value.Value.{Value}
+use Rattle.ftp_command.specs.declared.value.Value.TheVariants as value
 use Rattle.ftp_command.specs.declared.command.Passive.{Passive}
 use Rattle.ftp_command.specs.declared.command.Passive.TheVariants.{Any, Ipv4, Ipv6, Only}
 use Rattle.ftp_settings.specs.declared.representation.Structure.{Structure}
@@ -49,46 +50,28 @@ abbrev pub longest_text : Option ℕ → List ℕ
 longest_text None = []
 longest_text (Some longest) = codes " R " ++ decimal longest
 
--- what is written behind the verb
+-- what is written behind a verb
+abbrev pub tail : Value (List ℕ) → List ℕ
+tail (value.Name text) = spaced text
+tail (value.Password text) = spaced text
+tail (value.Words text) = spaced text
+tail (value.WordsOrNone text) = spaced_if text
+tail (value.Path text) = spaced text
+tail (value.PathOrNone text) = spaced_if text
+tail (value.Listed text) = spaced_if text
+tail value.Nothing = []
+tail (value.Six endpoint) = codes " " ++ six_text endpoint
+tail (value.Extended endpoint) = codes " " ++ extended_text endpoint
+tail (value.Family family) = passive_text family
+tail (value.Kind kind) = kind_text kind
+tail (value.Structure structure) = structure_text structure
+tail (value.Mode mode) = mode_text mode
+tail (value.Number number) = codes " " ++ decimal number
+tail (value.Sizes octets longest) = codes " " ++ (decimal octets ++ longest_text longest)
+
+-- what is written behind the verb of a command
 abbrev pub tail_of : Command (List ℕ) → List ℕ
-tail_of (command.User value) = spaced value
-tail_of (command.Pass value) = spaced value
-tail_of (command.Acct value) = spaced value
-tail_of (command.Cwd value) = spaced value
-tail_of command.Cdup = []
-tail_of command.Rein = []
-tail_of command.Quit = []
-tail_of (command.Port value) = codes " " ++ six_text value
-tail_of command.Pasv = []
-tail_of (command.Eprt value) = codes " " ++ extended_text value
-tail_of (command.Epsv value) = passive_text value
-tail_of (command.Repr value) = kind_text value
-tail_of (command.Stru value) = structure_text value
-tail_of (command.Mode value) = mode_text value
-tail_of (command.Retr value) = spaced value
-tail_of (command.Stor value) = spaced value
-tail_of (command.Appe value) = spaced value
-tail_of (command.Allo octets longest) = codes " " ++ (decimal octets ++ longest_text longest)
-tail_of (command.Rest value) = codes " " ++ decimal value
-tail_of (command.Rnfr value) = spaced value
-tail_of (command.Rnto value) = spaced value
-tail_of command.Abor = []
-tail_of (command.Dele value) = spaced value
-tail_of (command.Rmd value) = spaced value
-tail_of (command.Mkd value) = spaced value
-tail_of command.Pwd = []
-tail_of (command.List value) = spaced_if value
-tail_of (command.Nlst value) = spaced_if value
-tail_of (command.Mlst value) = spaced_if value
-tail_of (command.Mlsd value) = spaced_if value
-tail_of (command.Size value) = spaced value
-tail_of (command.Mdtm value) = spaced value
-tail_of command.Syst = []
-tail_of command.Stat = []
-tail_of (command.Help value) = spaced_if value
-tail_of command.Noop = []
-tail_of command.Feat = []
-tail_of (command.Opts value) = spaced value
+tail_of command = tail (value_of command)
 
 -- the line of a command, without its end: the verb in capitals, and SP and the argument where there is one
 abbrev pub line_of : Command (List ℕ) → List ℕ
@@ -125,49 +108,31 @@ abbrev pub IfShort : Option ℕ → Type 0
 IfShort None = Unit {0}
 IfShort (Some n) = IsShort n
 
+-- a line stands for this value
+abbrev pub IsStatedValue : Value (List ℕ) → Type 0
+IsStatedValue (value.Name text) = IsName text
+IsStatedValue (value.Password text) = IsPassword text
+IsStatedValue (value.Words text) = IsWords text
+IsStatedValue (value.WordsOrNone text) = IfGiven IsWords text
+IsStatedValue (value.Path text) = IsPathText text
+IsStatedValue (value.PathOrNone text) = IfGiven IsPathText text
+IsStatedValue (value.Listed text) = IfGiven IsListed text
+IsStatedValue (value.Six endpoint) = IsV4 endpoint.host
+IsStatedValue (value.Extended endpoint) = 1 ≤ endpoint.port
+IsStatedValue (value.Number number) = IsShort number
+IsStatedValue (value.Sizes octets longest) = IsShort octets × IfShort longest
+IsStatedValue value = Unit {0}
+
 -- a line stands for this command
 abbrev pub IsStated : Command (List ℕ) → Type 0
-IsStated (command.User value) = IsName value
-IsStated (command.Pass value) = IsPassword value
-IsStated (command.Acct value) = IsWords value
-IsStated (command.Cwd value) = IsPathText value
-IsStated command.Cdup = Unit {0}
-IsStated command.Rein = Unit {0}
-IsStated command.Quit = Unit {0}
-IsStated (command.Port value) = IsV4 value.host
-IsStated command.Pasv = Unit {0}
-IsStated (command.Eprt value) = 1 ≤ value.port
-IsStated (command.Epsv value) = Unit {0}
-IsStated (command.Repr value) = Unit {0}
-IsStated (command.Stru value) = Unit {0}
-IsStated (command.Mode value) = Unit {0}
-IsStated (command.Retr value) = IsPathText value
-IsStated (command.Stor value) = IsPathText value
-IsStated (command.Appe value) = IsPathText value
-IsStated (command.Allo octets longest) = IsShort octets × IfShort longest
-IsStated (command.Rest value) = IsShort value
-IsStated (command.Rnfr value) = IsPathText value
-IsStated (command.Rnto value) = IsPathText value
-IsStated command.Abor = Unit {0}
-IsStated (command.Dele value) = IsPathText value
-IsStated (command.Rmd value) = IsPathText value
-IsStated (command.Mkd value) = IsPathText value
-IsStated command.Pwd = Unit {0}
-IsStated (command.List value) = IfGiven IsListed value
-IsStated (command.Nlst value) = IfGiven IsListed value
-IsStated (command.Mlst value) = IfGiven IsPathText value
-IsStated (command.Mlsd value) = IfGiven IsPathText value
-IsStated (command.Size value) = IsPathText value
-IsStated (command.Mdtm value) = IsPathText value
-IsStated command.Syst = Unit {0}
-IsStated command.Stat = Unit {0}
-IsStated (command.Help value) = IfGiven IsWords value
-IsStated command.Noop = Unit {0}
-IsStated command.Feat = Unit {0}
-IsStated (command.Opts value) = IsWords value
+IsStated command = IsStatedValue (value_of command)
+
+-- what the types of a value's numbers keep
+abbrev pub IsTypedValue : Value (List ℕ) → Type 0
+IsTypedValue (value.Six endpoint) = IsTypedEndpoint endpoint
+IsTypedValue (value.Extended endpoint) = IsTypedEndpoint endpoint
+IsTypedValue value = Unit {0}
 
 -- what the types of a command's numbers keep
 abbrev pub IsTyped : Command (List ℕ) → Type 0
-IsTyped (command.Port value) = IsTypedEndpoint value
-IsTyped (command.Eprt value) = IsTypedEndpoint value
-IsTyped command = Unit {0}
+IsTyped command = IsTypedValue (value_of command)

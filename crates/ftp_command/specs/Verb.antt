@@ -1,61 +1,90 @@
--- The verbs and their words (RFC 959, section 5.3.1; RFC 2389, RFC 2428, RFC 3659).
-use Rattle.std.specs.Prelude.{◌≡◌, ◌⊎◌, ℕ, List, codes, map}
+-- The verbs, a row each: words, argument and command, and place in a session (RFC 959, sections 4.1 and 5.3; RFC 2389, RFC 2428, RFC 3659).
+use Rattle.std.specs.Prelude.{◌≡◌, ◌⊎◌, ℕ, Bool, true, false, List, codes, map}
 use Rattle.std.specs.Char.{to_ascii_lowercase}
+use Rattle.ftp_command.specs.Shapes.{Shape}
+use Rattle.ftp_command.specs.Shapes as shape
+use Rattle.ftp_command.specs.declared.command.Command.TheVariants as command
+use Rattle.ftp_command.specs.declared.verb.Role.{Role}
+use Rattle.ftp_command.specs.declared.verb.Role.TheVariants.{Free, Transfer, Change, Other}
 use Rattle.ftp_command.specs.declared.verb.Verb.{Verb}
 use Rattle.ftp_command.specs.declared.verb.Verb.TheVariants as verb
 
+-- what is fixed of a verb: its letters, its older letters, the shape of its argument with the command of each value, its role
+pub record Row : Type 0 where
+  pub letters : List ℕ
+  pub older : List ℕ
+  pub shape : Shape
+  pub role : Role
+
+-- a verb with one word
+abbrev pub says : List ℕ → Shape → Role → Row
+says letters shape role = record { letters = letters; older = letters; shape = shape; role = role }
+
+-- a verb with an older word too (RFC 1123, section 4.1.3.1)
+abbrev pub says_too : List ℕ → List ℕ → Shape → Role → Row
+says_too letters older shape role = record { letters = letters; older = older; shape = shape; role = role }
+
+-- the table of verbs
+abbrev pub row : Verb → Row
+row verb.User = says (codes "USER") (shape.Name command.User) Free
+row verb.Pass = says (codes "PASS") (shape.Password command.Pass) Free
+row verb.Acct = says (codes "ACCT") (shape.Words command.Acct) Other
+row verb.Cwd = says_too (codes "CWD") (codes "XCWD") (shape.Path command.Cwd) Change
+row verb.Cdup = says_too (codes "CDUP") (codes "XCUP") (shape.Nothing command.Cdup) Other
+row verb.Smnt = says (codes "SMNT") shape.Undone Other
+row verb.Rein = says (codes "REIN") (shape.Nothing command.Rein) Free
+row verb.Quit = says (codes "QUIT") (shape.Nothing command.Quit) Free
+row verb.Port = says (codes "PORT") (shape.Six command.Port) Other
+row verb.Pasv = says (codes "PASV") (shape.Nothing command.Pasv) Other
+row verb.Eprt = says (codes "EPRT") (shape.Extended command.Eprt) Other
+row verb.Epsv = says (codes "EPSV") (shape.Family command.Epsv) Other
+row verb.Repr = says (codes "TYPE") (shape.Kind command.Repr) Other
+row verb.Stru = says (codes "STRU") (shape.Structure command.Stru) Other
+row verb.Mode = says (codes "MODE") (shape.Mode command.Mode) Other
+row verb.Retr = says (codes "RETR") (shape.Path command.Retr) Transfer
+row verb.Stor = says (codes "STOR") (shape.Path command.Stor) Transfer
+row verb.Stou = says (codes "STOU") shape.Undone Transfer
+row verb.Appe = says (codes "APPE") (shape.Path command.Appe) Transfer
+row verb.Allo = says (codes "ALLO") (shape.Sizes command.Allo) Other
+row verb.Rest = says (codes "REST") (shape.Number command.Rest) Other
+row verb.Rnfr = says (codes "RNFR") (shape.Path command.Rnfr) Change
+row verb.Rnto = says (codes "RNTO") (shape.Path command.Rnto) Change
+row verb.Abor = says (codes "ABOR") (shape.Nothing command.Abor) Free
+row verb.Dele = says (codes "DELE") (shape.Path command.Dele) Change
+row verb.Rmd = says_too (codes "RMD") (codes "XRMD") (shape.Path command.Rmd) Change
+row verb.Mkd = says_too (codes "MKD") (codes "XMKD") (shape.Path command.Mkd) Change
+row verb.Pwd = says_too (codes "PWD") (codes "XPWD") (shape.Nothing command.Pwd) Other
+row verb.List = says (codes "LIST") (shape.Listed command.List) Transfer
+row verb.Nlst = says (codes "NLST") (shape.Listed command.Nlst) Transfer
+row verb.Mlst = says (codes "MLST") (shape.PathOrNone command.Mlst) Other
+row verb.Mlsd = says (codes "MLSD") (shape.PathOrNone command.Mlsd) Transfer
+row verb.Size = says (codes "SIZE") (shape.Path command.Size) Other
+row verb.Mdtm = says (codes "MDTM") (shape.Path command.Mdtm) Other
+row verb.Site = says (codes "SITE") shape.Undone Other
+row verb.Syst = says (codes "SYST") (shape.Nothing command.Syst) Free
+row verb.Stat = says (codes "STAT") (shape.Alone command.Stat) Other
+row verb.Help = says (codes "HELP") (shape.WordsOrNone command.Help) Free
+row verb.Noop = says (codes "NOOP") (shape.Nothing command.Noop) Free
+row verb.Feat = says (codes "FEAT") (shape.Nothing command.Feat) Free
+row verb.Opts = says (codes "OPTS") (shape.Words command.Opts) Free
+
 -- the letters of a verb
 abbrev pub letters : Verb → List ℕ
-letters verb.User = codes "USER"
-letters verb.Pass = codes "PASS"
-letters verb.Acct = codes "ACCT"
-letters verb.Cwd = codes "CWD"
-letters verb.Cdup = codes "CDUP"
-letters verb.Smnt = codes "SMNT"
-letters verb.Rein = codes "REIN"
-letters verb.Quit = codes "QUIT"
-letters verb.Port = codes "PORT"
-letters verb.Pasv = codes "PASV"
-letters verb.Eprt = codes "EPRT"
-letters verb.Epsv = codes "EPSV"
-letters verb.Repr = codes "TYPE"
-letters verb.Stru = codes "STRU"
-letters verb.Mode = codes "MODE"
-letters verb.Retr = codes "RETR"
-letters verb.Stor = codes "STOR"
-letters verb.Stou = codes "STOU"
-letters verb.Appe = codes "APPE"
-letters verb.Allo = codes "ALLO"
-letters verb.Rest = codes "REST"
-letters verb.Rnfr = codes "RNFR"
-letters verb.Rnto = codes "RNTO"
-letters verb.Abor = codes "ABOR"
-letters verb.Dele = codes "DELE"
-letters verb.Rmd = codes "RMD"
-letters verb.Mkd = codes "MKD"
-letters verb.Pwd = codes "PWD"
-letters verb.List = codes "LIST"
-letters verb.Nlst = codes "NLST"
-letters verb.Mlst = codes "MLST"
-letters verb.Mlsd = codes "MLSD"
-letters verb.Size = codes "SIZE"
-letters verb.Mdtm = codes "MDTM"
-letters verb.Site = codes "SITE"
-letters verb.Syst = codes "SYST"
-letters verb.Stat = codes "STAT"
-letters verb.Help = codes "HELP"
-letters verb.Noop = codes "NOOP"
-letters verb.Feat = codes "FEAT"
-letters verb.Opts = codes "OPTS"
+letters verb = (row verb).letters
 
--- its older letters, where it has others (RFC 1123, section 4.1.3.1)
+-- its older letters, which are the same where it has no others
 abbrev pub old_letters : Verb → List ℕ
-old_letters verb.Cwd = codes "XCWD"
-old_letters verb.Cdup = codes "XCUP"
-old_letters verb.Rmd = codes "XRMD"
-old_letters verb.Mkd = codes "XMKD"
-old_letters verb.Pwd = codes "XPWD"
-old_letters verb = letters verb
+old_letters verb = (row verb).older
+
+-- a verb that is done before a login too
+abbrev pub is_free_role : Role → Bool
+is_free_role Free = true
+is_free_role role = false
+
+-- a verb that needs a data connection
+abbrev pub is_transfer_role : Role → Bool
+is_transfer_role Transfer = true
+is_transfer_role role = false
 
 -- two texts, but for the case of their letters
 abbrev pub SameLetters : List ℕ → List ℕ → Type 0

@@ -1,125 +1,65 @@
 // The line of a command, made on the stack: a line that is written has at most 1,024 octets.
 ghost use Rattle.std.specs.Prelude.{◌≡◌, ◌+◌, ◌*◌, ◌/◌, ◌%◌, ◌^◌, ◌<◌, ◌≤◌, ◌++◌, ℕ, List, [], ◌∷◌, codes, decimal, length};
-ghost use Rattle.ftp_command.specs.Command.{verb_of};
-ghost use Rattle.ftp_command.specs.Line.{IsStated, line_of as line_text, line_limit, longest_text, passive_text as passive_words, spaced, tail_of};
+ghost use Rattle.ftp_command.specs.Line.{IsStatedValue, line_limit, longest_text, passive_text as passive_words, spaced, tail};
+ghost use Rattle.ftp_command.specs.Verb.{letters};
 ghost use Rattle.ftp_path.specs.Path.{IsPathText};
 ghost use Rattle.ftp_endpoint.specs.Written.{IsV4, extended_text, six_text};
 
-use crate::command::{Command, Passive};
-use crate::text::Argument;
+use crate::command::Passive;
+use crate::text::LentText;
+use crate::value::Value;
 use crate::verb::Verb;
 use arrayvec::ArrayVec;
 use ftp_endpoint::{Endpoint, write_extended, write_six};
 use ftp_settings::{Kind, Mode, Structure};
 use itoa::Buffer;
-use std::alloc::Allocator;
 
 /// The most octets that a line has on a control connection, its end included (own choice).
 pub const LINE_LIMIT: usize = 1024;
 
 type Line = ArrayVec<u8, LINE_LIMIT>;
 
-/// The line of a command that one stands for.
-pub(crate) fn line_of<A: Allocator + Copy>(command: &Command<Argument<A>>) -> Line
-    requires { IsStated command.now }
-    ensures { result.items ≡ line_text command.now }
+/// The line of a verb and a value that one stands for.
+pub(crate) fn line_of(verb: Verb, value: &Value<LentText<'_>>) -> Line
+    requires { IsStatedValue value.now }
+    ensures { result.items ≡ letters verb ++ tail value.now }
 {
     let mut line = Line::new();
-    put(command_verb(command).letters(), &mut line);
-    put_tail(command, &mut line);
+    put(verb.letters(), &mut line);
+    put_tail(value, &mut line);
     line
 }
 
-fn command_verb<A: Allocator + Copy>(command: &Command<Argument<A>>) -> Verb
-    ensures { result ≡ verb_of command.now }
-{
-    match command {
-        Command::User(_) => Verb::User,
-        Command::Pass(_) => Verb::Pass,
-        Command::Acct(_) => Verb::Acct,
-        Command::Cwd(_) => Verb::Cwd,
-        Command::Cdup => Verb::Cdup,
-        Command::Rein => Verb::Rein,
-        Command::Quit => Verb::Quit,
-        Command::Port(_) => Verb::Port,
-        Command::Pasv => Verb::Pasv,
-        Command::Eprt(_) => Verb::Eprt,
-        Command::Epsv(_) => Verb::Epsv,
-        Command::Repr(_) => Verb::Repr,
-        Command::Stru(_) => Verb::Stru,
-        Command::Mode(_) => Verb::Mode,
-        Command::Retr(_) => Verb::Retr,
-        Command::Stor(_) => Verb::Stor,
-        Command::Appe(_) => Verb::Appe,
-        Command::Allo(_, _) => Verb::Allo,
-        Command::Rest(_) => Verb::Rest,
-        Command::Rnfr(_) => Verb::Rnfr,
-        Command::Rnto(_) => Verb::Rnto,
-        Command::Abor => Verb::Abor,
-        Command::Dele(_) => Verb::Dele,
-        Command::Rmd(_) => Verb::Rmd,
-        Command::Mkd(_) => Verb::Mkd,
-        Command::Pwd => Verb::Pwd,
-        Command::List(_) => Verb::List,
-        Command::Nlst(_) => Verb::Nlst,
-        Command::Mlst(_) => Verb::Mlst,
-        Command::Mlsd(_) => Verb::Mlsd,
-        Command::Size(_) => Verb::Size,
-        Command::Mdtm(_) => Verb::Mdtm,
-        Command::Syst => Verb::Syst,
-        Command::Stat => Verb::Stat,
-        Command::Help(_) => Verb::Help,
-        Command::Noop => Verb::Noop,
-        Command::Feat => Verb::Feat,
-        Command::Opts(_) => Verb::Opts,
-    }
-}
-
 // What is behind the verb: nothing, or SP and the argument.
-fn put_tail<A: Allocator + Copy>(command: &Command<Argument<A>>, line: &mut Line)
-    requires stated { IsStated command.now }
+fn put_tail(value: &Value<LentText<'_>>, line: &mut Line)
+    requires stated { IsStatedValue value.now }
     requires room { length line.old.items ≤ 4 }
-    ensures { line.new.items ≡ line.old.items ++ tail_of command.now }
+    ensures { line.new.items ≡ line.old.items ++ tail value.now }
 {
-    match command {
-        Command::User(text) => put_spaced(text.octets(), line),
-        Command::Pass(text) => put_spaced(text.octets(), line),
-        Command::Acct(text) => put_spaced(text.octets(), line),
-        Command::Cwd(path) => put_path(path.octets(), line),
-        Command::Retr(path) => put_path(path.octets(), line),
-        Command::Stor(path) => put_path(path.octets(), line),
-        Command::Appe(path) => put_path(path.octets(), line),
-        Command::Rnfr(path) => put_path(path.octets(), line),
-        Command::Rnto(path) => put_path(path.octets(), line),
-        Command::Dele(path) => put_path(path.octets(), line),
-        Command::Rmd(path) => put_path(path.octets(), line),
-        Command::Mkd(path) => put_path(path.octets(), line),
-        Command::List(Some(path)) => put_path(path.octets(), line),
-        Command::Nlst(Some(path)) => put_path(path.octets(), line),
-        Command::Mlst(Some(path)) => put_path(path.octets(), line),
-        Command::Mlsd(Some(path)) => put_path(path.octets(), line),
-        Command::Size(path) => put_path(path.octets(), line),
-        Command::Mdtm(path) => put_path(path.octets(), line),
-        Command::Help(Some(text)) => put_spaced(text.octets(), line),
-        Command::Opts(text) => put_spaced(text.octets(), line),
-        Command::Port(endpoint) => put_six(*endpoint, line),
-        Command::Eprt(endpoint) => put_extended(*endpoint, line),
-        Command::Epsv(passive) => put(passive_text(*passive), line),
-        Command::Repr(Kind::Ascii) => put(b" A", line),
-        Command::Repr(Kind::Image) => put(b" I", line),
-        Command::Stru(Structure::File) => put(b" F", line),
-        Command::Stru(Structure::Record) => put(b" R", line),
-        Command::Mode(Mode::Stream) => put(b" S", line),
-        Command::Mode(Mode::Block) => put(b" B", line),
-        Command::Rest(place) => {
+    match value {
+        Value::Name(text) => put_spaced(text.octets(), line),
+        Value::Password(text) => put_spaced(text.octets(), line),
+        Value::Words(text) => put_spaced(text.octets(), line),
+        Value::WordsOrNone(Some(text)) => put_spaced(text.octets(), line),
+        Value::Path(path) => put_path(path.octets(), line),
+        Value::PathOrNone(Some(path)) => put_path(path.octets(), line),
+        Value::Listed(Some(path)) => put_path(path.octets(), line),
+        Value::Six(endpoint) => put_six(*endpoint, line),
+        Value::Extended(endpoint) => put_extended(*endpoint, line),
+        Value::Family(family) => put(passive_text(*family), line),
+        Value::Kind(Kind::Ascii) => put(b" A", line),
+        Value::Kind(Kind::Image) => put(b" I", line),
+        Value::Structure(Structure::File) => put(b" F", line),
+        Value::Structure(Structure::Record) => put(b" R", line),
+        Value::Mode(Mode::Stream) => put(b" S", line),
+        Value::Mode(Mode::Block) => put(b" B", line),
+        Value::Number(number) => {
             put(b" ", line);
-            put_decimal(*place, line);
+            put_decimal(*number, line);
         }
-        Command::Allo(octets, longest) => put_sizes(*octets, *longest, line),
-        Command::Cdup | Command::Rein | Command::Quit | Command::Pasv | Command::Abor => {}
-        Command::Pwd | Command::Syst | Command::Stat | Command::Noop | Command::Feat => {}
-        Command::List(None) | Command::Nlst(None) | Command::Mlst(None) => {}
-        Command::Mlsd(None) | Command::Help(None) => {}
+        Value::Sizes(octets, longest) => put_sizes(*octets, *longest, line),
+        Value::WordsOrNone(None) | Value::PathOrNone(None) | Value::Listed(None) => {}
+        Value::Nothing => {}
     }
 }
 

@@ -1,4 +1,4 @@
-// A text that a command owns.
+// A text that a command owns, and one that is lent.
 ghost use Rattle.std.specs.Prelude.{◌≡◌, IfOk};
 
 use std::alloc::{AllocError, Allocator};
@@ -39,5 +39,37 @@ impl<A: Allocator + Copy> Argument<A> {
         ensures { result.now ≡ self.now }
     {
         self.octets.as_slice()
+    }
+
+    /// The text, lent.
+    pub fn lend(&self) -> LentText<'_>
+        ensures { result ≡ self.now }
+    {
+        LentText {
+            octets: self.octets.as_slice(),
+        }
+    }
+}
+
+/// A text of a command, lent from it.
+#[derive(Drop)]
+pub struct LentText<'a> {
+    octets: &'a [u8],
+}
+
+impl<'a> Model for LentText<'a> {
+    ghost use Rattle.std.specs.Prelude.{ℕ, List};
+
+    ghost Value = { List ℕ };
+
+    ghost view = { λ t. t.octets.now };
+}
+
+impl<'a> LentText<'a> {
+    /// The octets, lent as long as the command is.
+    pub fn octets(&self) -> &'a [u8]
+        ensures { result.now ≡ self.now }
+    {
+        self.octets
     }
 }

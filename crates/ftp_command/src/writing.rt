@@ -3,15 +3,16 @@ ghost use Rattle.std.specs.Prelude.{◌≡◌, ◌⊎◌, ◌↔◌, ◌+◌, �
 ghost use Rattle.std.specs.List.{list_all};
 ghost use Rattle.ftp_command.specs.Argument.{begins_with, trimmed};
 ghost use Rattle.ftp_path.specs.Path.{IsPathText};
-ghost use Rattle.ftp_command.specs.Command.{verb_of};
-ghost use Rattle.ftp_command.specs.Line.{IfGiven, IfShort, IsListed, IsStated, IsWords, is_no_feed, line_of as line_text};
+ghost use Rattle.ftp_command.specs.Line.{IsStatedValue, IfGiven, IfShort, IsListed, IsStated, IsWords, is_no_feed, line_of as line_text};
 ghost use Rattle.ftp_endpoint.specs.Written.{IsV4};
 
 use crate::argument::{begins_option, is_name, is_password, trim};
 use crate::command::Command;
 use crate::fault::CommandFault;
 use crate::line::{LINE_LIMIT, line_of};
-use crate::text::Argument;
+use crate::table::parts;
+use crate::text::{Argument, LentText};
+use crate::value::Value;
 use ftp_endpoint::{Host, NUMBER_LIMIT};
 use ftp_path::is_path_text;
 use std::alloc::Allocator;
@@ -29,46 +30,34 @@ pub fn write<A: Allocator + Copy, B: Allocator + Copy>(
     ensures memory { IsStated command.now → IfErr result (λ fault. fault ≡ CommandFault.Memory) }
     ensures kept { IfErr result (λ _. out.new.items ≡ out.old.items) }
 {
-    if !is_stated(command) {
+    let (verb, value) = parts(command);
+    if !is_stated_value(&value) {
         return Err(CommandFault::BadArgument);
     }
-    let line = line_of(command);
+    let line = line_of(verb, &value);
     match out.extend_from_slice(line.as_slice()) {
         Ok(()) => Ok(()),
         Err(_) => Err(CommandFault::Memory),
     }
 }
 
-// Whether a line stands for a command.
-fn is_stated<A: Allocator + Copy>(command: &Command<Argument<A>>) -> bool
-    ensures { IsTrue result ↔ IsStated command.now }
+// Whether a line stands for a value.
+fn is_stated_value(value: &Value<LentText<'_>>) -> bool
+    ensures { IsTrue result ↔ IsStatedValue value.now }
 {
-    match command {
-        Command::User(name) => is_name(name.octets()),
-        Command::Pass(password) => is_password(password.octets()),
-        Command::Acct(words) => are_words(words.octets()),
-        Command::Opts(words) => are_words(words.octets()),
-        Command::Help(Some(words)) => are_words(words.octets()),
-        Command::Cwd(path) => is_path_text(path.octets()),
-        Command::Retr(path) => is_path_text(path.octets()),
-        Command::Stor(path) => is_path_text(path.octets()),
-        Command::Appe(path) => is_path_text(path.octets()),
-        Command::Rnfr(path) => is_path_text(path.octets()),
-        Command::Rnto(path) => is_path_text(path.octets()),
-        Command::Dele(path) => is_path_text(path.octets()),
-        Command::Rmd(path) => is_path_text(path.octets()),
-        Command::Mkd(path) => is_path_text(path.octets()),
-        Command::Size(path) => is_path_text(path.octets()),
-        Command::Mdtm(path) => is_path_text(path.octets()),
-        Command::Mlst(Some(path)) => is_path_text(path.octets()),
-        Command::Mlsd(Some(path)) => is_path_text(path.octets()),
-        Command::List(Some(path)) => is_listed(path.octets()),
-        Command::Nlst(Some(path)) => is_listed(path.octets()),
-        Command::Port(endpoint) => matches!(endpoint.host, Host::V4(_)),
-        Command::Eprt(endpoint) => endpoint.port > 0,
-        Command::Rest(place) => *place < NUMBER_LIMIT,
-        Command::Allo(octets, None) => *octets < NUMBER_LIMIT,
-        Command::Allo(octets, Some(longest)) => *octets < NUMBER_LIMIT && *longest < NUMBER_LIMIT,
+    match value {
+        Value::Name(name) => is_name(name.octets()),
+        Value::Password(password) => is_password(password.octets()),
+        Value::Words(words) => are_words(words.octets()),
+        Value::WordsOrNone(Some(words)) => are_words(words.octets()),
+        Value::Path(path) => is_path_text(path.octets()),
+        Value::PathOrNone(Some(path)) => is_path_text(path.octets()),
+        Value::Listed(Some(path)) => is_listed(path.octets()),
+        Value::Six(endpoint) => matches!(endpoint.host, Host::V4(_)),
+        Value::Extended(endpoint) => endpoint.port > 0,
+        Value::Number(number) => *number < NUMBER_LIMIT,
+        Value::Sizes(octets, None) => *octets < NUMBER_LIMIT,
+        Value::Sizes(octets, Some(longest)) => *octets < NUMBER_LIMIT && *longest < NUMBER_LIMIT,
         _ => true,
     }
 }
