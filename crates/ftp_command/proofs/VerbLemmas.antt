@@ -10,6 +10,10 @@ use Rattle.ftp_command.specs.declared.verb.TheConstants.{VERBS}
 use Rattle.ftp_command.specs.declared.verb.Verb.{Verb}
 use Rattle.ftp_command.specs.declared.verb.Verb.TheVariants as verb
 
+-- all verbs
+abbrev pub verbs : List Verb
+verbs = VERBS
+
 abbrev small : List ℕ → List ℕ
 small = map to_ascii_lowercase
 

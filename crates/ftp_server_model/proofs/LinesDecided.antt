@@ -1,15 +1,17 @@
 -- A reading of lines exists: of each line it is decided whether it says a command, and which, and if none, how it is refused.
-use Rattle.std.proofs.Common.{◌≡◌, ◌≢◌, ℕ, ◌≤◌, ◌⊎◌, inl, inr, List, [], ◌∷◌, true, Option, Some, None, refl, sym, ap, subst, ◌∙◌, length, map}
+use Rattle.std.proofs.Common.{◌≡◌, ◌≢◌, ℕ, zero, suc, ◌<◌, ◌≤◌, ◌⊎◌, inl, inr, List, [], ◌∷◌, true, Option, Some, None, refl, sym, ap, subst, ◌∙◌, arith, get_or, length, map}
 use Rattle.std.specs.Prelude.{codes}
 use Rattle.std.specs.Char.{to_ascii_lowercase, is_ascii_alphabetic}
 use Rattle.std.specs.List.{list_all}
 use Rattle.std.specs.Str.Parse.{digits_value}
 use Rattle.ftp_path.specs.Login.{is_login_octet}
 use Rattle.ftp_command.specs.Argument.{IsBlank, is_space, IsName, IsPassword, SaysPathOrNone, SaysTextOrNone, SaysPassive, IsOtherFamily, SaysLocal, SaysKind, SaysEbcdic, IsOtherKind, SaysStructure, SaysMode, SaysLongest, SaysSizes, argument, trimmed, without_options, word}
-use Rattle.ftp_command.specs.Command.{verb_of, Argues, IsNotDone, IsOtherParameter, IsOtherNetwork}
-use Rattle.ftp_command.specs.Verb.{letters, old_letters, SameLetters, Names}
+use Rattle.ftp_command.specs.Command.{verb_of, Argues, IsUndone, IsOtherSetting, IsForeign}
+use Rattle.ftp_command.specs.Shapes.{Shape}
+use Rattle.ftp_command.specs.Shapes as shape
+use Rattle.ftp_command.specs.Verb.{letters, old_letters, row, SameLetters, Names}
+use Rattle.ftp_command.specs.declared.value.Value.TheVariants as value
 use Rattle.ftp_command.specs.declared.command.Command.{Command}
-use Rattle.ftp_command.specs.declared.command.Command.TheVariants as command
 use Rattle.ftp_settings.specs.declared.representation.Kind.{Kind}
 use Rattle.ftp_settings.specs.declared.representation.Kind.TheVariants.{Ascii, Image}
 use Rattle.ftp_settings.specs.declared.representation.Mode.{Mode}
@@ -29,6 +31,8 @@ use Rattle.ftp_path.specs.Path.{IsPathText, is_path_text}
 use Rattle.ftp_server_model.specs.Machine.{IsRead, ReadingExists}
 use Rattle.ftp_server_model.specs.declared.heard.HeardLine.{HeardLine}
 use Rattle.ftp_server_model.specs.declared.heard.HeardLine.TheVariants.{Bad, Asks}
+use Rattle.ftp_command.proofs.TableLemmas.{IsMade, Makes, made_by, makes, said_as, said_with}
+use Rattle.ftp_command.proofs.VerbLemmas.{every, verbs}
 use Rattle.ftp_server_model.proofs.Deciding.{Decided, yes_if, and_then, and_both, or_else, unless, never, is_true, at_most, same_number, same_text}
 use Rattle.ftp_server_model.proofs.EndpointsDecided.{six, extended, other_protocol, some_value, this_value}
 
@@ -224,331 +228,122 @@ sizes a =
     from octets None says = ((octets, says.0), inl says.1)
     from octets (Some n) says = ((octets, says.0), inr (n, says.1))
 
--- ---- a row of the table of verbs: that an argument says some command of the verb
+-- ---- a shape: that an argument says some value of it
 
-abbrev Row : List ℕ → Verb → Type 0
-Row a verb.User = IsName a
-Row a verb.Pass = IsPassword a
-Row a verb.Acct = 1 ≤ length (trimmed a)
-Row a verb.Cwd = IsPathText a
-Row a verb.Cdup = IsBlank a
-Row a verb.Smnt = ⊥
-Row a verb.Rein = IsBlank a
-Row a verb.Quit = IsBlank a
-Row a verb.Port = (value : Endpoint) × SaysSix (trimmed a) value
-Row a verb.Pasv = IsBlank a
-Row a verb.Eprt = (value : Endpoint) × SaysExtended (trimmed a) value
-Row a verb.Epsv = (value : Passive) × SaysPassive (trimmed a) value
-Row a verb.Repr = (value : Kind) × SaysKind (trimmed a) value
-Row a verb.Stru = (value : Structure) × SaysStructure (trimmed a) value
-Row a verb.Mode = (value : Mode) × SaysMode (trimmed a) value
-Row a verb.Retr = IsPathText a
-Row a verb.Stor = IsPathText a
-Row a verb.Stou = ⊥
-Row a verb.Appe = IsPathText a
-Row a verb.Allo = (octets : ℕ) × (longest : Option ℕ) × SaysSizes (trimmed a) octets longest
-Row a verb.Rest = (value : ℕ) × SaysNumber (trimmed a) value
-Row a verb.Rnfr = IsPathText a
-Row a verb.Rnto = IsPathText a
-Row a verb.Abor = IsBlank a
-Row a verb.Dele = IsPathText a
-Row a verb.Rmd = IsPathText a
-Row a verb.Mkd = IsPathText a
-Row a verb.Pwd = IsBlank a
-Row a verb.List = (value : Option (List ℕ)) × SaysPathOrNone (without_options a) value
-Row a verb.Nlst = (value : Option (List ℕ)) × SaysPathOrNone (without_options a) value
-Row a verb.Mlst = (value : Option (List ℕ)) × SaysPathOrNone a value
-Row a verb.Mlsd = (value : Option (List ℕ)) × SaysPathOrNone a value
-Row a verb.Size = IsPathText a
-Row a verb.Mdtm = IsPathText a
-Row a verb.Site = ⊥
-Row a verb.Syst = IsBlank a
-Row a verb.Stat = IsBlank a
-Row a verb.Help = (value : Option (List ℕ)) × SaysTextOrNone (trimmed a) value
-Row a verb.Noop = IsBlank a
-Row a verb.Feat = IsBlank a
-Row a verb.Opts = 1 ≤ length (trimmed a)
+abbrev SaysSome : List ℕ → Shape → Type 0
+SaysSome a (shape.Name make) = IsName a
+SaysSome a (shape.Password make) = IsPassword a
+SaysSome a (shape.Words make) = 1 ≤ length (trimmed a)
+SaysSome a (shape.WordsOrNone make) = (value : Option (List ℕ)) × SaysTextOrNone (trimmed a) value
+SaysSome a (shape.Path make) = IsPathText a
+SaysSome a (shape.PathOrNone make) = (value : Option (List ℕ)) × SaysPathOrNone a value
+SaysSome a (shape.Listed make) = (value : Option (List ℕ)) × SaysPathOrNone (without_options a) value
+SaysSome a (shape.Nothing make) = IsBlank a
+SaysSome a (shape.Alone make) = IsBlank a
+SaysSome a (shape.Six make) = (value : Endpoint) × SaysSix (trimmed a) value
+SaysSome a (shape.Extended make) = (value : Endpoint) × SaysExtended (trimmed a) value
+SaysSome a (shape.Family make) = (value : Passive) × SaysPassive (trimmed a) value
+SaysSome a (shape.Kind make) = (value : Kind) × SaysKind (trimmed a) value
+SaysSome a (shape.Structure make) = (value : Structure) × SaysStructure (trimmed a) value
+SaysSome a (shape.Mode make) = (value : Mode) × SaysMode (trimmed a) value
+SaysSome a (shape.Number make) = (value : ℕ) × SaysNumber (trimmed a) value
+SaysSome a (shape.Sizes make) = (octets : ℕ) × (longest : Option ℕ) × SaysSizes (trimmed a) octets longest
+SaysSome a shape.Undone = ⊥
 
-row : (a : List ℕ) (verb : Verb) → Decided (Row a verb)
-row a verb.User = name a
-row a verb.Pass = password a
-row a verb.Acct = at_most 1 (length (trimmed a))
-row a verb.Cwd = path a
-row a verb.Cdup = blank a
-row a verb.Smnt = never (λ none. none)
-row a verb.Rein = blank a
-row a verb.Quit = blank a
-row a verb.Port = six (trimmed a)
-row a verb.Pasv = blank a
-row a verb.Eprt = extended (trimmed a)
-row a verb.Epsv = passive (trimmed a)
-row a verb.Repr = kind (trimmed a)
-row a verb.Stru = structure (trimmed a)
-row a verb.Mode = mode (trimmed a)
-row a verb.Retr = path a
-row a verb.Stor = path a
-row a verb.Stou = never (λ none. none)
-row a verb.Appe = path a
-row a verb.Allo = sizes (trimmed a)
-row a verb.Rest = some_value (trimmed a)
-row a verb.Rnfr = path a
-row a verb.Rnto = path a
-row a verb.Abor = blank a
-row a verb.Dele = path a
-row a verb.Rmd = path a
-row a verb.Mkd = path a
-row a verb.Pwd = blank a
-row a verb.List = path_or_none (without_options a)
-row a verb.Nlst = path_or_none (without_options a)
-row a verb.Mlst = path_or_none a
-row a verb.Mlsd = path_or_none a
-row a verb.Size = path a
-row a verb.Mdtm = path a
-row a verb.Site = never (λ none. none)
-row a verb.Syst = blank a
-row a verb.Stat = blank a
-row a verb.Help = text_or_none (trimmed a)
-row a verb.Noop = blank a
-row a verb.Feat = blank a
-row a verb.Opts = at_most 1 (length (trimmed a))
+says_some : (a : List ℕ) (s : Shape) → Decided (SaysSome a s)
+says_some a (shape.Name make) = name a
+says_some a (shape.Password make) = password a
+says_some a (shape.Words make) = at_most 1 (length (trimmed a))
+says_some a (shape.WordsOrNone make) = text_or_none (trimmed a)
+says_some a (shape.Path make) = path a
+says_some a (shape.PathOrNone make) = path_or_none a
+says_some a (shape.Listed make) = path_or_none (without_options a)
+says_some a (shape.Nothing make) = blank a
+says_some a (shape.Alone make) = blank a
+says_some a (shape.Six make) = six (trimmed a)
+says_some a (shape.Extended make) = extended (trimmed a)
+says_some a (shape.Family make) = passive (trimmed a)
+says_some a (shape.Kind make) = kind (trimmed a)
+says_some a (shape.Structure make) = structure (trimmed a)
+says_some a (shape.Mode make) = mode (trimmed a)
+says_some a (shape.Number make) = some_value (trimmed a)
+says_some a (shape.Sizes make) = sizes (trimmed a)
+says_some a shape.Undone = never (λ none. none)
 
 -- some command of this verb is said
 abbrev IsSaid : List ℕ → Verb → Type 0
 IsSaid a verb = (command : Command (List ℕ)) × (verb_of command ≡ verb) × Argues a command
 
-said_by : (a : List ℕ) (verb : Verb) → Row a verb → IsSaid a verb
-said_by a verb.User is = (command.User a, refl, (refl, is))
-said_by a verb.Pass is = (command.Pass a, refl, (refl, is))
-said_by a verb.Acct is = (command.Acct (trimmed a), refl, (refl, is))
-said_by a verb.Cwd is = (command.Cwd a, refl, (refl, is))
-said_by a verb.Cdup is = (command.Cdup, refl, is)
-said_by a verb.Smnt none = absurd none
-said_by a verb.Rein is = (command.Rein, refl, is)
-said_by a verb.Quit is = (command.Quit, refl, is)
-said_by a verb.Port some = (command.Port some.0, refl, some.1)
-said_by a verb.Pasv is = (command.Pasv, refl, is)
-said_by a verb.Eprt some = (command.Eprt some.0, refl, some.1)
-said_by a verb.Epsv some = (command.Epsv some.0, refl, some.1)
-said_by a verb.Repr some = (command.Repr some.0, refl, some.1)
-said_by a verb.Stru some = (command.Stru some.0, refl, some.1)
-said_by a verb.Mode some = (command.Mode some.0, refl, some.1)
-said_by a verb.Retr is = (command.Retr a, refl, (refl, is))
-said_by a verb.Stor is = (command.Stor a, refl, (refl, is))
-said_by a verb.Stou none = absurd none
-said_by a verb.Appe is = (command.Appe a, refl, (refl, is))
-said_by a verb.Allo some = (command.Allo some.0 some.1, refl, some.2)
-said_by a verb.Rest some = (command.Rest some.0, refl, some.1)
-said_by a verb.Rnfr is = (command.Rnfr a, refl, (refl, is))
-said_by a verb.Rnto is = (command.Rnto a, refl, (refl, is))
-said_by a verb.Abor is = (command.Abor, refl, is)
-said_by a verb.Dele is = (command.Dele a, refl, (refl, is))
-said_by a verb.Rmd is = (command.Rmd a, refl, (refl, is))
-said_by a verb.Mkd is = (command.Mkd a, refl, (refl, is))
-said_by a verb.Pwd is = (command.Pwd, refl, is)
-said_by a verb.List some = (command.List some.0, refl, some.1)
-said_by a verb.Nlst some = (command.Nlst some.0, refl, some.1)
-said_by a verb.Mlst some = (command.Mlst some.0, refl, some.1)
-said_by a verb.Mlsd some = (command.Mlsd some.0, refl, some.1)
-said_by a verb.Size is = (command.Size a, refl, (refl, is))
-said_by a verb.Mdtm is = (command.Mdtm a, refl, (refl, is))
-said_by a verb.Site none = absurd none
-said_by a verb.Syst is = (command.Syst, refl, is)
-said_by a verb.Stat is = (command.Stat, refl, is)
-said_by a verb.Help some = (command.Help some.0, refl, some.1)
-said_by a verb.Noop is = (command.Noop, refl, is)
-said_by a verb.Feat is = (command.Feat, refl, is)
-said_by a verb.Opts is = (command.Opts (trimmed a), refl, (refl, is))
+said_by : (a : List ℕ) (v : Verb) (s : Shape) → Makes v s → SaysSome a s → IsSaid a v
+said_by a v (shape.Name make) makes is = said_with a v (make a) (value.Name a) (makes a) (refl, is)
+said_by a v (shape.Password make) makes is = said_with a v (make a) (value.Password a) (makes a) (refl, is)
+said_by a v (shape.Words make) makes is = said_with a v (make (trimmed a)) (value.Words (trimmed a)) (makes (trimmed a)) (refl, is)
+said_by a v (shape.Path make) makes is = said_with a v (make a) (value.Path a) (makes a) (refl, is)
+said_by a v (shape.WordsOrNone make) makes some = said_with a v (make some.0) (value.WordsOrNone some.0) (makes some.0) some.1
+said_by a v (shape.PathOrNone make) makes some = said_with a v (make some.0) (value.PathOrNone some.0) (makes some.0) some.1
+said_by a v (shape.Listed make) makes some = said_with a v (make some.0) (value.Listed some.0) (makes some.0) some.1
+said_by a v (shape.Six make) makes some = said_with a v (make some.0) (value.Six some.0) (makes some.0) some.1
+said_by a v (shape.Extended make) makes some = said_with a v (make some.0) (value.Extended some.0) (makes some.0) some.1
+said_by a v (shape.Family make) makes some = said_with a v (make some.0) (value.Family some.0) (makes some.0) some.1
+said_by a v (shape.Kind make) makes some = said_with a v (make some.0) (value.Kind some.0) (makes some.0) some.1
+said_by a v (shape.Structure make) makes some = said_with a v (make some.0) (value.Structure some.0) (makes some.0) some.1
+said_by a v (shape.Mode make) makes some = said_with a v (make some.0) (value.Mode some.0) (makes some.0) some.1
+said_by a v (shape.Number make) makes some = said_with a v (make some.0) (value.Number some.0) (makes some.0) some.1
+said_by a v (shape.Nothing made) makes is = said_with a v made value.Nothing makes is
+said_by a v (shape.Alone made) makes is = said_with a v made value.Nothing makes is
+said_by a v (shape.Sizes make) makes some = said_with a v (make some.0 some.1) (value.Sizes some.0 some.1) (makes some.0 some.1) some.2
+said_by a v shape.Undone makes none = absurd none
 
 has_octet : (text value : List ℕ) → text ≡ value → 1 ≤ length value → 1 ≤ length text
 has_octet text value e is = let P : List ℕ → Type 0 = λ l. 1 ≤ length l in subst P (sym e) is
 
-row_of : (a : List ℕ) (said : Command (List ℕ)) → Argues a said → Row a (verb_of said)
-row_of a (command.User value) says = subst IsName (sym says.0) says.1
-row_of a (command.Pass value) says = subst IsPassword (sym says.0) says.1
-row_of a (command.Acct value) says = has_octet (trimmed a) value says.0 says.1
-row_of a (command.Cwd value) says = subst IsPathText (sym says.0) says.1
-row_of a command.Cdup says = says
-row_of a command.Rein says = says
-row_of a command.Quit says = says
-row_of a (command.Port value) says = (value, says)
-row_of a command.Pasv says = says
-row_of a (command.Eprt value) says = (value, says)
-row_of a (command.Epsv value) says = (value, says)
-row_of a (command.Repr value) says = (value, says)
-row_of a (command.Stru value) says = (value, says)
-row_of a (command.Mode value) says = (value, says)
-row_of a (command.Retr value) says = subst IsPathText (sym says.0) says.1
-row_of a (command.Stor value) says = subst IsPathText (sym says.0) says.1
-row_of a (command.Appe value) says = subst IsPathText (sym says.0) says.1
-row_of a (command.Allo octets longest) says = (octets, longest, says)
-row_of a (command.Rest value) says = (value, says)
-row_of a (command.Rnfr value) says = subst IsPathText (sym says.0) says.1
-row_of a (command.Rnto value) says = subst IsPathText (sym says.0) says.1
-row_of a command.Abor says = says
-row_of a (command.Dele value) says = subst IsPathText (sym says.0) says.1
-row_of a (command.Rmd value) says = subst IsPathText (sym says.0) says.1
-row_of a (command.Mkd value) says = subst IsPathText (sym says.0) says.1
-row_of a command.Pwd says = says
-row_of a (command.List value) says = (value, says)
-row_of a (command.Nlst value) says = (value, says)
-row_of a (command.Mlst value) says = (value, says)
-row_of a (command.Mlsd value) says = (value, says)
-row_of a (command.Size value) says = subst IsPathText (sym says.0) says.1
-row_of a (command.Mdtm value) says = subst IsPathText (sym says.0) says.1
-row_of a command.Syst says = says
-row_of a command.Stat says = says
-row_of a (command.Help value) says = (value, says)
-row_of a command.Noop says = says
-row_of a command.Feat says = says
-row_of a (command.Opts value) says = has_octet (trimmed a) value says.0 says.1
+some_of : (a : List ℕ) (s : Shape) (c : Command (List ℕ)) → IsMade c s → Argues a c → SaysSome a s
+some_of a (shape.Name make) c made says = let is = said_as a c (value.Name made.0) made.2 says in subst IsName (sym is.0) is.1
+some_of a (shape.Password make) c made says = let is = said_as a c (value.Password made.0) made.2 says in subst IsPassword (sym is.0) is.1
+some_of a (shape.Path make) c made says = let is = said_as a c (value.Path made.0) made.2 says in subst IsPathText (sym is.0) is.1
+some_of a (shape.Words make) c made says = let is = said_as a c (value.Words made.0) made.2 says in has_octet (trimmed a) made.0 is.0 is.1
+some_of a (shape.WordsOrNone make) c made says = (made.0, said_as a c (value.WordsOrNone made.0) made.2 says)
+some_of a (shape.PathOrNone make) c made says = (made.0, said_as a c (value.PathOrNone made.0) made.2 says)
+some_of a (shape.Listed make) c made says = (made.0, said_as a c (value.Listed made.0) made.2 says)
+some_of a (shape.Six make) c made says = (made.0, said_as a c (value.Six made.0) made.2 says)
+some_of a (shape.Extended make) c made says = (made.0, said_as a c (value.Extended made.0) made.2 says)
+some_of a (shape.Family make) c made says = (made.0, said_as a c (value.Family made.0) made.2 says)
+some_of a (shape.Kind make) c made says = (made.0, said_as a c (value.Kind made.0) made.2 says)
+some_of a (shape.Structure make) c made says = (made.0, said_as a c (value.Structure made.0) made.2 says)
+some_of a (shape.Mode make) c made says = (made.0, said_as a c (value.Mode made.0) made.2 says)
+some_of a (shape.Number make) c made says = (made.0, said_as a c (value.Number made.0) made.2 says)
+some_of a (shape.Nothing make) c made says = said_as a c value.Nothing made.1 says
+some_of a (shape.Alone make) c made says = said_as a c value.Nothing made.1 says
+some_of a (shape.Sizes make) c made says = (made.0, made.1, said_as a c (value.Sizes made.0 made.1) made.3 says)
+some_of a shape.Undone c made says = absurd made
 
 is_said : (a : List ℕ) (verb : Verb) → Decided (IsSaid a verb)
-is_said a verb = yes_if (λ is. said_by a verb is) (λ said. subst (Row a) said.1 (row_of a said.0 said.2)) (row a verb)
+is_said a verb =
+    let s : Shape = (row verb).shape in
+    yes_if (λ is. said_by a verb s (makes verb) is) (λ said. some_of a s said.0 (made_by said.0 verb said.1) said.2) (says_some a s)
 
 -- ---- what is known and not done
 
-not_done : (a : List ℕ) (verb : Verb) → Decided (IsNotDone a verb)
-not_done a verb.User = never (λ none. none)
-not_done a verb.Pass = never (λ none. none)
-not_done a verb.Acct = never (λ none. none)
-not_done a verb.Cwd = never (λ none. none)
-not_done a verb.Cdup = never (λ none. none)
-not_done a verb.Smnt = inl tt
-not_done a verb.Rein = never (λ none. none)
-not_done a verb.Quit = never (λ none. none)
-not_done a verb.Port = never (λ none. none)
-not_done a verb.Pasv = never (λ none. none)
-not_done a verb.Eprt = never (λ none. none)
-not_done a verb.Epsv = never (λ none. none)
-not_done a verb.Repr = never (λ none. none)
-not_done a verb.Stru = never (λ none. none)
-not_done a verb.Mode = never (λ none. none)
-not_done a verb.Retr = never (λ none. none)
-not_done a verb.Stor = never (λ none. none)
-not_done a verb.Stou = inl tt
-not_done a verb.Appe = never (λ none. none)
-not_done a verb.Allo = never (λ none. none)
-not_done a verb.Rest = never (λ none. none)
-not_done a verb.Rnfr = never (λ none. none)
-not_done a verb.Rnto = never (λ none. none)
-not_done a verb.Abor = never (λ none. none)
-not_done a verb.Dele = never (λ none. none)
-not_done a verb.Rmd = never (λ none. none)
-not_done a verb.Mkd = never (λ none. none)
-not_done a verb.Pwd = never (λ none. none)
-not_done a verb.List = never (λ none. none)
-not_done a verb.Nlst = never (λ none. none)
-not_done a verb.Mlst = never (λ none. none)
-not_done a verb.Mlsd = never (λ none. none)
-not_done a verb.Size = never (λ none. none)
-not_done a verb.Mdtm = never (λ none. none)
-not_done a verb.Site = inl tt
-not_done a verb.Syst = never (λ none. none)
-not_done a verb.Stat = unless (blank a)
-not_done a verb.Help = never (λ none. none)
-not_done a verb.Noop = never (λ none. none)
-not_done a verb.Feat = never (λ none. none)
-not_done a verb.Opts = never (λ none. none)
+undone : (a : List ℕ) (s : Shape) → Decided (IsUndone a s)
+undone a shape.Undone = inl tt
+undone a (shape.Alone made) = unless (blank a)
+undone a s = never (λ none. none)
 
-other_parameter : (a : List ℕ) (verb : Verb) → Decided (IsOtherParameter a verb)
-other_parameter a verb.User = never (λ none. none)
-other_parameter a verb.Pass = never (λ none. none)
-other_parameter a verb.Acct = never (λ none. none)
-other_parameter a verb.Cwd = never (λ none. none)
-other_parameter a verb.Cdup = never (λ none. none)
-other_parameter a verb.Smnt = never (λ none. none)
-other_parameter a verb.Rein = never (λ none. none)
-other_parameter a verb.Quit = never (λ none. none)
-other_parameter a verb.Port = never (λ none. none)
-other_parameter a verb.Pasv = never (λ none. none)
-other_parameter a verb.Eprt = never (λ none. none)
-other_parameter a verb.Epsv = never (λ none. none)
-other_parameter a verb.Repr = other_kind (trimmed a)
-other_parameter a verb.Stru = same_letters (trimmed a) (codes "P")
-other_parameter a verb.Mode = same_letters (trimmed a) (codes "C")
-other_parameter a verb.Retr = never (λ none. none)
-other_parameter a verb.Stor = never (λ none. none)
-other_parameter a verb.Stou = never (λ none. none)
-other_parameter a verb.Appe = never (λ none. none)
-other_parameter a verb.Allo = never (λ none. none)
-other_parameter a verb.Rest = never (λ none. none)
-other_parameter a verb.Rnfr = never (λ none. none)
-other_parameter a verb.Rnto = never (λ none. none)
-other_parameter a verb.Abor = never (λ none. none)
-other_parameter a verb.Dele = never (λ none. none)
-other_parameter a verb.Rmd = never (λ none. none)
-other_parameter a verb.Mkd = never (λ none. none)
-other_parameter a verb.Pwd = never (λ none. none)
-other_parameter a verb.List = never (λ none. none)
-other_parameter a verb.Nlst = never (λ none. none)
-other_parameter a verb.Mlst = never (λ none. none)
-other_parameter a verb.Mlsd = never (λ none. none)
-other_parameter a verb.Size = never (λ none. none)
-other_parameter a verb.Mdtm = never (λ none. none)
-other_parameter a verb.Site = never (λ none. none)
-other_parameter a verb.Syst = never (λ none. none)
-other_parameter a verb.Stat = never (λ none. none)
-other_parameter a verb.Help = never (λ none. none)
-other_parameter a verb.Noop = never (λ none. none)
-other_parameter a verb.Feat = never (λ none. none)
-other_parameter a verb.Opts = never (λ none. none)
+other_setting : (a : List ℕ) (s : Shape) → Decided (IsOtherSetting a s)
+other_setting a (shape.Kind make) = other_kind (trimmed a)
+other_setting a (shape.Structure make) = same_letters (trimmed a) (codes "P")
+other_setting a (shape.Mode make) = same_letters (trimmed a) (codes "C")
+other_setting a s = never (λ none. none)
 
-other_network : (a : List ℕ) (verb : Verb) → Decided (IsOtherNetwork a verb)
-other_network a verb.User = never (λ none. none)
-other_network a verb.Pass = never (λ none. none)
-other_network a verb.Acct = never (λ none. none)
-other_network a verb.Cwd = never (λ none. none)
-other_network a verb.Cdup = never (λ none. none)
-other_network a verb.Smnt = never (λ none. none)
-other_network a verb.Rein = never (λ none. none)
-other_network a verb.Quit = never (λ none. none)
-other_network a verb.Port = never (λ none. none)
-other_network a verb.Pasv = never (λ none. none)
-other_network a verb.Eprt = other_protocol (trimmed a)
-other_network a verb.Epsv = other_family (trimmed a)
-other_network a verb.Repr = never (λ none. none)
-other_network a verb.Stru = never (λ none. none)
-other_network a verb.Mode = never (λ none. none)
-other_network a verb.Retr = never (λ none. none)
-other_network a verb.Stor = never (λ none. none)
-other_network a verb.Stou = never (λ none. none)
-other_network a verb.Appe = never (λ none. none)
-other_network a verb.Allo = never (λ none. none)
-other_network a verb.Rest = never (λ none. none)
-other_network a verb.Rnfr = never (λ none. none)
-other_network a verb.Rnto = never (λ none. none)
-other_network a verb.Abor = never (λ none. none)
-other_network a verb.Dele = never (λ none. none)
-other_network a verb.Rmd = never (λ none. none)
-other_network a verb.Mkd = never (λ none. none)
-other_network a verb.Pwd = never (λ none. none)
-other_network a verb.List = never (λ none. none)
-other_network a verb.Nlst = never (λ none. none)
-other_network a verb.Mlst = never (λ none. none)
-other_network a verb.Mlsd = never (λ none. none)
-other_network a verb.Size = never (λ none. none)
-other_network a verb.Mdtm = never (λ none. none)
-other_network a verb.Site = never (λ none. none)
-other_network a verb.Syst = never (λ none. none)
-other_network a verb.Stat = never (λ none. none)
-other_network a verb.Help = never (λ none. none)
-other_network a verb.Noop = never (λ none. none)
-other_network a verb.Feat = never (λ none. none)
-other_network a verb.Opts = never (λ none. none)
+foreign : (a : List ℕ) (s : Shape) → Decided (IsForeign a s)
+foreign a (shape.Extended make) = other_protocol (trimmed a)
+foreign a (shape.Family make) = other_family (trimmed a)
+foreign a s = never (λ none. none)
 
 -- ---- verbs
 
 names : (word : List ℕ) (verb : Verb) → Decided (Names word verb)
 names word verb = or_else (same_letters word (letters verb)) (same_letters word (old_letters verb))
-
--- all of them
-abbrev verbs : List Verb
-verbs =
-    verb.User ∷ verb.Pass ∷ verb.Acct ∷ verb.Cwd ∷ verb.Cdup ∷ verb.Smnt ∷ verb.Rein ∷ verb.Quit ∷ verb.Port ∷
-    verb.Pasv ∷ verb.Eprt ∷ verb.Epsv ∷ verb.Repr ∷ verb.Stru ∷ verb.Mode ∷ verb.Retr ∷ verb.Stor ∷ verb.Stou ∷
-    verb.Appe ∷ verb.Allo ∷ verb.Rest ∷ verb.Rnfr ∷ verb.Rnto ∷ verb.Abor ∷ verb.Dele ∷ verb.Rmd ∷ verb.Mkd ∷
-    verb.Pwd ∷ verb.List ∷ verb.Nlst ∷ verb.Mlst ∷ verb.Mlsd ∷ verb.Size ∷ verb.Mdtm ∷ verb.Site ∷ verb.Syst ∷
-    verb.Stat ∷ verb.Help ∷ verb.Noop ∷ verb.Feat ∷ verb.Opts ∷ []
 
 abbrev IsOneOf : Verb → List Verb → Type 0
 IsOneOf verb [] = ⊥
@@ -566,48 +361,13 @@ named_among word (one ∷ more) = yes_if (λ either. to either) (λ some. from s
     from verb (inl e) is = inl (subst (Names word) e is)
     from verb (inr one_of) is = inr (verb, one_of, is)
 
+in_place : (all : List Verb) (k : ℕ) → k < length all → IsOneOf (get_or all k verb.User) all
+in_place [] k within = absurd (omega (arith, within))
+in_place (one ∷ more) zero within = inl refl
+in_place (one ∷ more) (suc k) within = inr (in_place more k (omega (arith, within)))
+
 all_verbs : (verb : Verb) → IsOneOf verb verbs
-all_verbs verb.User = inl refl
-all_verbs verb.Pass = inr (inl refl)
-all_verbs verb.Acct = inr (inr (inl refl))
-all_verbs verb.Cwd = inr (inr (inr (inl refl)))
-all_verbs verb.Cdup = inr (inr (inr (inr (inl refl))))
-all_verbs verb.Smnt = inr (inr (inr (inr (inr (inl refl)))))
-all_verbs verb.Rein = inr (inr (inr (inr (inr (inr (inl refl))))))
-all_verbs verb.Quit = inr (inr (inr (inr (inr (inr (inr (inl refl)))))))
-all_verbs verb.Port = inr (inr (inr (inr (inr (inr (inr (inr (inl refl))))))))
-all_verbs verb.Pasv = inr (inr (inr (inr (inr (inr (inr (inr (inr (inl refl)))))))))
-all_verbs verb.Eprt = inr (inr (inr (inr (inr (inr (inr (inr (inr (inr (inl refl))))))))))
-all_verbs verb.Epsv = inr (inr (inr (inr (inr (inr (inr (inr (inr (inr (inr (inl refl)))))))))))
-all_verbs verb.Repr = inr (inr (inr (inr (inr (inr (inr (inr (inr (inr (inr (inr (inl refl))))))))))))
-all_verbs verb.Stru = inr (inr (inr (inr (inr (inr (inr (inr (inr (inr (inr (inr (inr (inl refl)))))))))))))
-all_verbs verb.Mode = inr (inr (inr (inr (inr (inr (inr (inr (inr (inr (inr (inr (inr (inr (inl refl))))))))))))))
-all_verbs verb.Retr = inr (inr (inr (inr (inr (inr (inr (inr (inr (inr (inr (inr (inr (inr (inr (inl refl)))))))))))))))
-all_verbs verb.Stor = inr (inr (inr (inr (inr (inr (inr (inr (inr (inr (inr (inr (inr (inr (inr (inr (inl refl))))))))))))))))
-all_verbs verb.Stou = inr (inr (inr (inr (inr (inr (inr (inr (inr (inr (inr (inr (inr (inr (inr (inr (inr (inl refl)))))))))))))))))
-all_verbs verb.Appe = inr (inr (inr (inr (inr (inr (inr (inr (inr (inr (inr (inr (inr (inr (inr (inr (inr (inr (inl refl))))))))))))))))))
-all_verbs verb.Allo = inr (inr (inr (inr (inr (inr (inr (inr (inr (inr (inr (inr (inr (inr (inr (inr (inr (inr (inr (inl refl)))))))))))))))))))
-all_verbs verb.Rest = inr (inr (inr (inr (inr (inr (inr (inr (inr (inr (inr (inr (inr (inr (inr (inr (inr (inr (inr (inr (inl refl))))))))))))))))))))
-all_verbs verb.Rnfr = inr (inr (inr (inr (inr (inr (inr (inr (inr (inr (inr (inr (inr (inr (inr (inr (inr (inr (inr (inr (inr (inl refl)))))))))))))))))))))
-all_verbs verb.Rnto = inr (inr (inr (inr (inr (inr (inr (inr (inr (inr (inr (inr (inr (inr (inr (inr (inr (inr (inr (inr (inr (inr (inl refl))))))))))))))))))))))
-all_verbs verb.Abor = inr (inr (inr (inr (inr (inr (inr (inr (inr (inr (inr (inr (inr (inr (inr (inr (inr (inr (inr (inr (inr (inr (inr (inl refl)))))))))))))))))))))))
-all_verbs verb.Dele = inr (inr (inr (inr (inr (inr (inr (inr (inr (inr (inr (inr (inr (inr (inr (inr (inr (inr (inr (inr (inr (inr (inr (inr (inl refl))))))))))))))))))))))))
-all_verbs verb.Rmd = inr (inr (inr (inr (inr (inr (inr (inr (inr (inr (inr (inr (inr (inr (inr (inr (inr (inr (inr (inr (inr (inr (inr (inr (inr (inl refl)))))))))))))))))))))))))
-all_verbs verb.Mkd = inr (inr (inr (inr (inr (inr (inr (inr (inr (inr (inr (inr (inr (inr (inr (inr (inr (inr (inr (inr (inr (inr (inr (inr (inr (inr (inl refl))))))))))))))))))))))))))
-all_verbs verb.Pwd = inr (inr (inr (inr (inr (inr (inr (inr (inr (inr (inr (inr (inr (inr (inr (inr (inr (inr (inr (inr (inr (inr (inr (inr (inr (inr (inr (inl refl)))))))))))))))))))))))))))
-all_verbs verb.List = inr (inr (inr (inr (inr (inr (inr (inr (inr (inr (inr (inr (inr (inr (inr (inr (inr (inr (inr (inr (inr (inr (inr (inr (inr (inr (inr (inr (inl refl))))))))))))))))))))))))))))
-all_verbs verb.Nlst = inr (inr (inr (inr (inr (inr (inr (inr (inr (inr (inr (inr (inr (inr (inr (inr (inr (inr (inr (inr (inr (inr (inr (inr (inr (inr (inr (inr (inr (inl refl)))))))))))))))))))))))))))))
-all_verbs verb.Mlst = inr (inr (inr (inr (inr (inr (inr (inr (inr (inr (inr (inr (inr (inr (inr (inr (inr (inr (inr (inr (inr (inr (inr (inr (inr (inr (inr (inr (inr (inr (inl refl))))))))))))))))))))))))))))))
-all_verbs verb.Mlsd = inr (inr (inr (inr (inr (inr (inr (inr (inr (inr (inr (inr (inr (inr (inr (inr (inr (inr (inr (inr (inr (inr (inr (inr (inr (inr (inr (inr (inr (inr (inr (inl refl)))))))))))))))))))))))))))))))
-all_verbs verb.Size = inr (inr (inr (inr (inr (inr (inr (inr (inr (inr (inr (inr (inr (inr (inr (inr (inr (inr (inr (inr (inr (inr (inr (inr (inr (inr (inr (inr (inr (inr (inr (inr (inl refl))))))))))))))))))))))))))))))))
-all_verbs verb.Mdtm = inr (inr (inr (inr (inr (inr (inr (inr (inr (inr (inr (inr (inr (inr (inr (inr (inr (inr (inr (inr (inr (inr (inr (inr (inr (inr (inr (inr (inr (inr (inr (inr (inr (inl refl)))))))))))))))))))))))))))))))))
-all_verbs verb.Site = inr (inr (inr (inr (inr (inr (inr (inr (inr (inr (inr (inr (inr (inr (inr (inr (inr (inr (inr (inr (inr (inr (inr (inr (inr (inr (inr (inr (inr (inr (inr (inr (inr (inr (inl refl))))))))))))))))))))))))))))))))))
-all_verbs verb.Syst = inr (inr (inr (inr (inr (inr (inr (inr (inr (inr (inr (inr (inr (inr (inr (inr (inr (inr (inr (inr (inr (inr (inr (inr (inr (inr (inr (inr (inr (inr (inr (inr (inr (inr (inr (inl refl)))))))))))))))))))))))))))))))))))
-all_verbs verb.Stat = inr (inr (inr (inr (inr (inr (inr (inr (inr (inr (inr (inr (inr (inr (inr (inr (inr (inr (inr (inr (inr (inr (inr (inr (inr (inr (inr (inr (inr (inr (inr (inr (inr (inr (inr (inr (inl refl))))))))))))))))))))))))))))))))))))
-all_verbs verb.Help = inr (inr (inr (inr (inr (inr (inr (inr (inr (inr (inr (inr (inr (inr (inr (inr (inr (inr (inr (inr (inr (inr (inr (inr (inr (inr (inr (inr (inr (inr (inr (inr (inr (inr (inr (inr (inr (inl refl)))))))))))))))))))))))))))))))))))))
-all_verbs verb.Noop = inr (inr (inr (inr (inr (inr (inr (inr (inr (inr (inr (inr (inr (inr (inr (inr (inr (inr (inr (inr (inr (inr (inr (inr (inr (inr (inr (inr (inr (inr (inr (inr (inr (inr (inr (inr (inr (inr (inl refl))))))))))))))))))))))))))))))))))))))
-all_verbs verb.Feat = inr (inr (inr (inr (inr (inr (inr (inr (inr (inr (inr (inr (inr (inr (inr (inr (inr (inr (inr (inr (inr (inr (inr (inr (inr (inr (inr (inr (inr (inr (inr (inr (inr (inr (inr (inr (inr (inr (inr (inl refl)))))))))))))))))))))))))))))))))))))))
-all_verbs verb.Opts = inr (inr (inr (inr (inr (inr (inr (inr (inr (inr (inr (inr (inr (inr (inr (inr (inr (inr (inr (inr (inr (inr (inr (inr (inr (inr (inr (inr (inr (inr (inr (inr (inr (inr (inr (inr (inr (inr (inr (inr (inl refl))))))))))))))))))))))))))))))))))))))))
+all_verbs = every (λ verb. IsOneOf verb verbs) (λ k within. in_place verbs k within)
 
 named : (word : List ℕ) → Decided ((verb : Verb) × Names word verb)
 named word = yes_if (λ some. (some.0, some.2)) (λ some. (some.0, all_verbs some.0, some.1)) (named_among word verbs)
@@ -616,13 +376,13 @@ named word = yes_if (λ some. (some.0, some.2)) (λ some. (some.0, all_verbs som
 
 read_verb : (text : List ℕ) (verb : Verb) → Names (word text) verb → (heard : HeardLine (List ℕ)) × IsRead text heard
 read_verb text verb is =
-    elim (not_done (argument text) verb) [
+    elim (undone (argument text) (row verb).shape) [
       | inl done ↦ (Bad fault.NotDone, (verb, is, done))
       | inr done ↦
-          elim (other_parameter (argument text) verb) [
+          elim (other_setting (argument text) (row verb).shape) [
             | inl other ↦ (Bad fault.BadParameter, (verb, is, other))
             | inr other ↦
-                elim (other_network (argument text) verb) [
+                elim (foreign (argument text) (row verb).shape) [
                   | inl network ↦ (Bad fault.Protocol, (verb, is, network))
                   | inr network ↦
                       elim (is_said (argument text) verb) [

@@ -4,13 +4,15 @@ use Rattle.std.specs.Prelude.{if◌then◌else◌, ◌==◌}
 use Rattle.std.specs.Option.{unwrap_or}
 use Rattle.std.specs.List.{find, list_all}
 use Rattle.std.proofs.lemmas.Bool.{and_parts, cond_both, ltb-true}
-use Rattle.ftp_command.specs.Argument.{IsName, SaysPathOrNone}
+use Rattle.ftp_command.specs.Argument.{IsName, SaysPathOrNone, argument}
 use Rattle.ftp_endpoint.specs.Number.{SaysNumber}
 use Rattle.ftp_endpoint.proofs.NumberLemmas.{value_lt}
-use Rattle.ftp_command.specs.Command.{Says}
+use Rattle.ftp_command.specs.Command.{Says, SaysValue, value_of}
 use Rattle.ftp_command.specs.Line.{IfGiven, IsShort}
 use Rattle.ftp_command.specs.declared.command.Command.{Command}
 use Rattle.ftp_command.specs.declared.command.Command.TheVariants as command
+use Rattle.ftp_command.specs.declared.value.Value.{Value}
+use Rattle.ftp_command.specs.declared.value.Value.TheVariants as value
 use Rattle.ftp_command.specs.declared.command.Passive.{Passive}
 use Rattle.ftp_command.specs.declared.command.Passive.TheVariants.{Any, Ipv4, Ipv6, Only}
 use Rattle.ftp_endpoint.specs.declared.endpoint.Endpoint.{Endpoint}
@@ -34,7 +36,7 @@ use Rattle.ftp_server_model.specs.Login.{logged_out, admits, is_open, open_accou
 use Rattle.ftp_server_model.specs.Machine.{is_connection_busy}
 use Rattle.ftp_server_model.specs.Replies.{Turn, IsTold, tells}
 use Rattle.ftp_server_model.specs.Setting.{choose, is_utf8_on, opts}
-use Rattle.ftp_server_model.specs.Told.{is_path, CanBeSaid, ReadCanBeHeard, PendingKeeps, TransferKeeps, ConnectionKeeps, Keeps, AreWithinLimits, TurnKeeps, LineKeeps}
+use Rattle.ftp_server_model.specs.Told.{is_path, CanBeSaid, ValueCanBeSaid, ReadCanBeHeard, PendingKeeps, TransferKeeps, ConnectionKeeps, Keeps, AreWithinLimits, TurnKeeps, LineKeeps}
 use Rattle.ftp_server_model.specs.Transfer.{rests, begin, transfer_starts, stor_at, appe_at, refused_to_hold, place_of}
 use Rattle.ftp_server_model.specs.View.{Accounts, Footing, Session, Transfer, direct_of, as_direct, how_in_force, seen, with_seen}
 use Rattle.ftp_server_model.specs.Walk.{target_seen, unless, path_of, performs, refused_source, refused_target, rnto}
@@ -351,45 +353,17 @@ optional_said a (Some text) is = is.1
 number_said : (text : List ℕ) (n : ℕ) → SaysNumber text n → IsShort n
 number_said text n is = subst IsShort (sym is.1) (value_lt text is.0.0.1 is.0.1)
 
+value_said : (a : List ℕ) (x : Value (List ℕ)) → SaysValue a x → ValueCanBeSaid x
+value_said a (value.Name name) says = says.1
+value_said a (value.Password word) says = says.1
+value_said a (value.Path text) says = says.1
+value_said a (value.PathOrNone text) says = optional_said _ text says
+value_said a (value.Listed text) says = optional_said _ text says
+value_said a (value.Number number) says = number_said _ number says
+value_said a other says = tt
+
 said_so : (line : List ℕ) (c : Command (List ℕ)) → Says line c → CanBeSaid c
-said_so line (command.User name) says = says.1.1
-said_so line (command.Pass word) says = says.1.1
-said_so line (command.Cwd text) says = says.1.1
-said_so line (command.Retr text) says = says.1.1
-said_so line (command.Stor text) says = says.1.1
-said_so line (command.Appe text) says = says.1.1
-said_so line (command.Rest place) says = number_said _ place says.1
-said_so line (command.Rnfr text) says = says.1.1
-said_so line (command.Rnto text) says = says.1.1
-said_so line (command.Dele text) says = says.1.1
-said_so line (command.Rmd text) says = says.1.1
-said_so line (command.Mkd text) says = says.1.1
-said_so line (command.List text) says = optional_said _ text says.1
-said_so line (command.Nlst text) says = optional_said _ text says.1
-said_so line (command.Mlst text) says = optional_said _ text says.1
-said_so line (command.Mlsd text) says = optional_said _ text says.1
-said_so line (command.Size text) says = says.1.1
-said_so line (command.Mdtm text) says = says.1.1
-said_so line (command.Acct text) says = tt
-said_so line command.Cdup says = tt
-said_so line command.Rein says = tt
-said_so line command.Quit says = tt
-said_so line (command.Port endpoint) says = tt
-said_so line command.Pasv says = tt
-said_so line (command.Eprt endpoint) says = tt
-said_so line (command.Epsv family) says = tt
-said_so line (command.Repr kind) says = tt
-said_so line (command.Stru structure) says = tt
-said_so line (command.Mode mode) says = tt
-said_so line (command.Allo octets longest) says = tt
-said_so line command.Abor says = tt
-said_so line command.Pwd says = tt
-said_so line command.Syst says = tt
-said_so line command.Stat says = tt
-said_so line (command.Help text) says = tt
-said_so line command.Noop says = tt
-said_so line command.Feat says = tt
-said_so line (command.Opts text) says = tt
+said_so line c says = value_said (argument line) (value_of c) says.1
 
 pub read_can_be_heard : ReadCanBeHeard
 read_can_be_heard line TooLong read = tt

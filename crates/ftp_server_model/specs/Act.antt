@@ -1,5 +1,7 @@
 -- What each command does, one row a verb in the order of RFC 959, section 4.1, and the order of decisions on a line.
 use Rattle.std.specs.Prelude.{ℕ, Bool, true, false, ◌||◌, List, if◌then◌else◌}
+use Rattle.ftp_command.specs.Command.{role_of}
+use Rattle.ftp_command.specs.Verb.{is_free_role, is_transfer_role}
 use Rattle.ftp_command.specs.declared.command.Command.{Command}
 use Rattle.ftp_command.specs.declared.command.Command.TheVariants as command
 use Rattle.ftp_command.specs.declared.fault.CommandFault.{CommandFault}
@@ -76,17 +78,7 @@ fault_text Faults.Memory = Texts.LocalFault
 
 -- the commands that are done before a login too (own choice)
 abbrev pub is_free : Command (List ℕ) → Bool
-is_free (command.User name) = true
-is_free (command.Pass word) = true
-is_free command.Rein = true
-is_free command.Quit = true
-is_free command.Noop = true
-is_free (command.Help text) = true
-is_free command.Syst = true
-is_free command.Feat = true
-is_free (command.Opts text) = true
-is_free command.Abor = true
-is_free other = false
+is_free command = is_free_role (role_of command)
 
 -- somebody is logged in
 abbrev pub is_in : Access (List ℕ) → Bool
@@ -96,13 +88,7 @@ is_in Known = true
 
 -- the transfer commands: those that need a data connection (RFC 959, section 4.1.3; RFC 3659, section 7)
 abbrev pub is_transfer : Command (List ℕ) → Bool
-is_transfer (command.Retr text) = true
-is_transfer (command.Stor text) = true
-is_transfer (command.Appe text) = true
-is_transfer (command.List text) = true
-is_transfer (command.Nlst text) = true
-is_transfer (command.Mlsd text) = true
-is_transfer other = false
+is_transfer command = is_transfer_role (role_of command)
 
 -- a transfer command forgets the endpoint, whatever comes of it (own choice)
 abbrev pub forgets : Command (List ℕ) → Session → Session

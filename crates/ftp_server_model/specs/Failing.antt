@@ -3,8 +3,10 @@
 -- else it leaves one of these. Every later call is a function again. Of a call in which the device strayed nothing of this is said.
 use Rattle.std.specs.Prelude.{◌++◌, ◌≡◌, ◌⊎◌, ◌<◌, ℕ, Bool, true, false, List, [], ◌∷◌, length, Option, Some, None, is_some}
 use Rattle.ftp_nvt.specs.Lines.{NvtEvent, line, too_long, owed}
+use Rattle.ftp_command.specs.Command.{value_of}
 use Rattle.ftp_command.specs.declared.command.Command.{Command}
-use Rattle.ftp_command.specs.declared.command.Command.TheVariants as command
+use Rattle.ftp_command.specs.declared.value.Value.{Value}
+use Rattle.ftp_command.specs.declared.value.Value.TheVariants as value
 use Rattle.ftp_command.specs.declared.fault.CommandFault.TheVariants as Faults
 use Rattle.ftp_mode.specs.Said.{Said}
 use Rattle.ftp_wire.specs.Decoder.{read_on, octet_says}
@@ -39,30 +41,21 @@ KeepsCourse old new = NoStray old.failures new.failures
 abbrev pub line_lost : Command (List ℕ) → View → View
 line_lost command v = replied Texts.LocalFault (forgets command (record v.session { pending = Pendings.Nothing })) v
 
+-- an argument with a path, a name or another text, or that may leave its path out
+abbrev pub value_may_fail : Value (List ℕ) → Bool
+value_may_fail (value.Name name) = true
+value_may_fail (value.Password word) = true
+value_may_fail (value.Words text) = true
+value_may_fail (value.WordsOrNone text) = is_some text
+value_may_fail (value.Path text) = true
+value_may_fail (value.PathOrNone text) = true
+value_may_fail (value.Listed text) = true
+value_may_fail other = false
+
 -- the commands that may take memory, or ask something of the device: those with a path, a name or another text, and those that
 -- tell entries
 abbrev pub may_fail : Command (List ℕ) → Bool
-may_fail (command.User name) = true
-may_fail (command.Pass word) = true
-may_fail (command.Acct text) = true
-may_fail (command.Cwd text) = true
-may_fail (command.Retr text) = true
-may_fail (command.Stor text) = true
-may_fail (command.Appe text) = true
-may_fail (command.Rnfr text) = true
-may_fail (command.Rnto text) = true
-may_fail (command.Dele text) = true
-may_fail (command.Rmd text) = true
-may_fail (command.Mkd text) = true
-may_fail (command.List text) = true
-may_fail (command.Nlst text) = true
-may_fail (command.Mlst text) = true
-may_fail (command.Mlsd text) = true
-may_fail (command.Size text) = true
-may_fail (command.Mdtm text) = true
-may_fail (command.Help text) = is_some text
-may_fail (command.Opts text) = true
-may_fail other = false
+may_fail command = value_may_fail (value_of command)
 
 -- a command that may fail has failed, and is answered 451; one that wants a login is 530 without it, and takes no memory for that
 abbrev pub LineFails : HeardLine (List ℕ) → View → View → Type 0
@@ -142,13 +135,15 @@ abbrev pub ActingFails : (is_abort : Bool) → HeardLine (List ℕ) → View →
 ActingFails true heard v w = AbortFails v.session.connection v w
 ActingFails false heard v w = Late (record v { waiting = Some heard }) w
 
+-- a value that holds a text
+abbrev pub value_holds_text : Value (List ℕ) → Bool
+value_holds_text (value.PathOrNone text) = is_some text
+value_holds_text (value.Listed text) = is_some text
+value_holds_text other = value_may_fail other
+
 -- a command that holds a text; one without an argument takes no memory to be read
 abbrev pub holds_text : Command (List ℕ) → Bool
-holds_text (command.List text) = is_some text
-holds_text (command.Nlst text) = is_some text
-holds_text (command.Mlst text) = is_some text
-holds_text (command.Mlsd text) = is_some text
-holds_text other = may_fail other
+holds_text command = value_holds_text (value_of command)
 
 -- a command that takes memory to hold could not be read for want of it: the line is answered 451 when its turn comes, login or not
 abbrev pub ReadingFails : HeardLine (List ℕ) → View → View → Type 0

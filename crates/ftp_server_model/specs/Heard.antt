@@ -2,9 +2,10 @@
 use Rattle.std.specs.Prelude.{◌≡◌, ℕ, ◌+◌, ◌*◌, ◌-◌, true, false, ◌&&◌, List, [], ◌∷◌, length, take, Option, Some, None, option_map, if◌then◌else◌}
 use Rattle.std.specs.Char.{is_ascii_digit}
 use Rattle.ftp_nvt.specs.Lines.{NvtEvent, line, too_long, owed}
-use Rattle.ftp_command.specs.Command.{verb_of}
+use Rattle.ftp_command.specs.Command.{value_of, verb_of}
 use Rattle.ftp_command.specs.declared.command.Command.{Command}
-use Rattle.ftp_command.specs.declared.command.Command.TheVariants as command
+use Rattle.ftp_command.specs.declared.value.Value.{Value}
+use Rattle.ftp_command.specs.declared.value.Value.TheVariants as value
 use Rattle.ftp_command.specs.declared.verb.Verb.{Verb}
 use Rattle.ftp_command.specs.declared.verb.Verb.TheVariants as verb
 use Rattle.ftp_ends.specs.Ear.{ear_step, ear_out}
@@ -44,25 +45,17 @@ abbrev pub text_or_none : Option (List ℕ) → List ℕ
 text_or_none None = []
 text_or_none (Some text) = text
 
--- the path text that a command gives, or the name of a user; never a password
+-- the path text of a value, or the name of a user; never a password
+abbrev pub value_text : Value (List ℕ) → List ℕ
+value_text (value.Name name) = name
+value_text (value.Path text) = text
+value_text (value.PathOrNone text) = text_or_none text
+value_text (value.Listed text) = text_or_none text
+value_text other = []
+
+-- the same of a command
 abbrev pub text_named : Command (List ℕ) → List ℕ
-text_named (command.User name) = name
-text_named (command.Cwd text) = text
-text_named (command.Retr text) = text
-text_named (command.Stor text) = text
-text_named (command.Appe text) = text
-text_named (command.Rnfr text) = text
-text_named (command.Rnto text) = text
-text_named (command.Dele text) = text
-text_named (command.Rmd text) = text
-text_named (command.Mkd text) = text
-text_named (command.List text) = text_or_none text
-text_named (command.Nlst text) = text_or_none text
-text_named (command.Mlst text) = text_or_none text
-text_named (command.Mlsd text) = text_or_none text
-text_named (command.Size text) = text
-text_named (command.Mdtm text) = text
-text_named other = []
+text_named command = value_text (value_of command)
 
 -- the same of a line
 abbrev pub text_told : HeardLine (List ℕ) → List ℕ

@@ -3,9 +3,11 @@
 use Rattle.std.specs.Prelude.{◌≡◌, ◌⊎◌, ℕ, ◌&&◌, Bool, true, false, List, IsTrue}
 use Rattle.std.specs.List.{list_all}
 use Rattle.ftp_command.specs.Argument.{IsName, IsPassword}
+use Rattle.ftp_command.specs.Command.{value_of}
 use Rattle.ftp_command.specs.Line.{IfGiven, IsShort}
 use Rattle.ftp_command.specs.declared.command.Command.{Command}
-use Rattle.ftp_command.specs.declared.command.Command.TheVariants as command
+use Rattle.ftp_command.specs.declared.value.Value.{Value}
+use Rattle.ftp_command.specs.declared.value.Value.TheVariants as value
 use Rattle.ftp_path.specs.Path.{IsPathText, Names, fits, is_name, parent, resolved, text_of as path_text}
 use Rattle.ftp_server_model.specs.Act.{decided}
 use Rattle.ftp_server_model.specs.Machine.{IsRead, is_connection_busy}
@@ -43,27 +45,19 @@ ParentIsPath = (path : Names) → IsTrue (is_path path) → IsTrue (is_path (par
 
 -- ---- lines
 
--- what the values of a command keep that a line says: paths are path texts, names and numbers are within their limits
+-- what the value of a command keeps that a line says: paths are path texts, names and numbers are within their limits
+abbrev pub ValueCanBeSaid : Value (List ℕ) → Type 0
+ValueCanBeSaid (value.Name name) = IsName name
+ValueCanBeSaid (value.Password word) = IsPassword word
+ValueCanBeSaid (value.Path text) = IsPathText text
+ValueCanBeSaid (value.PathOrNone text) = IfGiven IsPathText text
+ValueCanBeSaid (value.Listed text) = IfGiven IsPathText text
+ValueCanBeSaid (value.Number number) = IsShort number
+ValueCanBeSaid other = Unit {0}
+
+-- of a command
 abbrev pub CanBeSaid : Command (List ℕ) → Type 0
-CanBeSaid (command.User name) = IsName name
-CanBeSaid (command.Pass word) = IsPassword word
-CanBeSaid (command.Cwd text) = IsPathText text
-CanBeSaid (command.Retr text) = IsPathText text
-CanBeSaid (command.Stor text) = IsPathText text
-CanBeSaid (command.Appe text) = IsPathText text
-CanBeSaid (command.Rest place) = IsShort place
-CanBeSaid (command.Rnfr text) = IsPathText text
-CanBeSaid (command.Rnto text) = IsPathText text
-CanBeSaid (command.Dele text) = IsPathText text
-CanBeSaid (command.Rmd text) = IsPathText text
-CanBeSaid (command.Mkd text) = IsPathText text
-CanBeSaid (command.List text) = IfGiven IsPathText text
-CanBeSaid (command.Nlst text) = IfGiven IsPathText text
-CanBeSaid (command.Mlst text) = IfGiven IsPathText text
-CanBeSaid (command.Mlsd text) = IfGiven IsPathText text
-CanBeSaid (command.Size text) = IsPathText text
-CanBeSaid (command.Mdtm text) = IsPathText text
-CanBeSaid other = Unit {0}
+CanBeSaid command = ValueCanBeSaid (value_of command)
 
 -- of a line as it is heard
 abbrev pub CanBeHeard : HeardLine (List ℕ) → Type 0
