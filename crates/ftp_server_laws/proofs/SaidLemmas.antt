@@ -1,17 +1,20 @@
 -- A line within the limit says a command that is written in at most twice as many octets.
-use Rattle.std.proofs.Common.{◌≡◌, ℕ, ◌+◌, ◌*◌, ◌<◌, ◌≤◌, List, [], ◌∷◌, ◌++◌, Option, Some, None, refl, sym, ap, subst, arith, length, length-append, map}
+use Rattle.std.proofs.Common.{◌≡◌, ℕ, ◌+◌, ◌*◌, ◌<◌, ◌≤◌, true, List, [], ◌∷◌, ◌++◌, Option, Some, None, refl, sym, ap, subst, arith, length, length-append, map}
 use Rattle.std.specs.Prelude.{codes, decimal, nat_lt}
 use Rattle.std.specs.List.{join_with_byte, position_or_len}
 use Rattle.std.proofs.lemmas.Bool.{cond_both}
 use Rattle.std.proofs.lemmas.List.{length-drop}
-use Rattle.ftp_command.proofs.CarriedLemmas.{carried, decimal_fits}
+use Rattle.ftp_command.proofs.CarriedLemmas.{IsWord, decimal_fits, value_line, word_of}
 use Rattle.ftp_command.proofs.PathLemmas.{path_short}
 use Rattle.ftp_command.proofs.StatedLemmas.{is_cut}
 use Rattle.ftp_command.specs.Argument.{SaysSizes, argument, is_space, trimmed}
-use Rattle.ftp_command.specs.Command.{Says}
-use Rattle.ftp_command.specs.Line.{IfShort, IsShort, IsStated, IsTyped, line_of, spaced}
+use Rattle.ftp_command.proofs.TableLemmas.{four_letters, is_wordy}
+use Rattle.ftp_command.specs.Command.{Says, SaysValue, value_of, verb_of}
+use Rattle.ftp_command.specs.Line.{IfShort, IsShort, IsStatedValue, IsTypedValue, line_of, spaced, tail}
+use Rattle.ftp_command.specs.Verb.{letters}
 use Rattle.ftp_command.specs.declared.command.Command.{Command}
-use Rattle.ftp_command.specs.declared.command.Command.TheVariants as command
+use Rattle.ftp_command.specs.declared.value.Value.{Value}
+use Rattle.ftp_command.specs.declared.value.Value.TheVariants as value
 use Rattle.ftp_endpoint.proofs.NumberLemmas.{value_lt}
 use Rattle.ftp_endpoint.specs.Endpoint.{BeginsWith, SaysSix}
 use Rattle.ftp_endpoint.specs.Host.{SaysHost, octets_of}
@@ -114,73 +117,58 @@ six_long octets port sixteen small =
       (decimal_fits port (omega (arith, small))).short,
     )
 
-host_short : (proto : ℕ) (address : List ℕ) (host : Host) (port : ℕ) → SaysHost proto address host → port < 65536 → 1 ≤ port
-    → length (line_of (command.Eprt (record { host = host; port = port }))) ≤ 2048
-host_short proto address (V4 octets) port says small some =
+host_short : (verb : List ℕ) → IsWord verb → (proto : ℕ) (address : List ℕ) (host : Host) (port : ℕ) → SaysHost proto address host → port < 65536 → 1 ≤ port
+    → length (verb ++ tail (value.Extended (record { host = host; port = port }))) ≤ 2048
+host_short verb word proto address (V4 octets) port says small some =
     let v4 = says.1 in
     let P : List ℕ → Type 0 = λ os. IsTypedHost (V4 os) in
     let typed : IsTypedHost (V4 octets) = subst P (sym v4.value) (four_typed point address [] v4.a v4.b v4.c v4.d v4.numbers) in
-    omega (arith, (carried (command.Eprt (record { host = V4 octets; port = port })) (typed, small) some).1)
-host_short proto address (V6 octets) port says small some =
+    let none : is_wordy (value.Extended (record { host = V4 octets; port = port })) ≡ true → length verb ≡ 4 = λ words. absurd (cc) in
+    omega (arith, (value_line verb (value.Extended (record { host = V4 octets; port = port })) word none (typed, small) some).1)
+host_short verb word proto address (V6 octets) port says small some =
     let v6 = says.1 in
     let text : List ℕ = extended_text (record { host = V6 octets; port = port }) in
     let sixteen : length octets ≡ 16 = omega (arith, ap length v6.value, octets_many v6.groups, v6.eight) in
-    omega (arith, length-append (codes "EPRT") (codes " " ++ text), length-append (codes " ") text, six_long octets port sixteen small)
+    omega (arith, length-append verb (codes " " ++ text), length-append (codes " ") text, six_long octets port sixteen small, word.1)
 
--- ---- all commands
-
-by_line : (c : Command (List ℕ)) → IsTyped c → IsStated c → length (line_of c) ≤ 2048
-by_line c typed stated = omega (arith, (carried c typed stated).1)
+-- ---- all values
 
 path_said : (verb value : List ℕ) → length verb ≤ 4 → IsPathText value → length (verb ++ spaced value) ≤ 2048
 path_said verb value four is = omega (arith, length-append verb (spaced value), spaced_short value, path_short value is, four)
 
+module _ (verb line : List ℕ) (word : IsWord verb) (short : length line ≤ 1024) where
+  -- a value that has a line
+  by_line : (x : Value (List ℕ)) → (is_wordy x ≡ true → length verb ≡ 4) → IsTypedValue x → IsStatedValue x → length (verb ++ tail x) ≤ 2048
+  by_line x four typed stated = omega (arith, (value_line verb x word four typed stated).1)
+
+  pub value_short : (x : Value (List ℕ)) → (is_wordy x ≡ true → length verb ≡ 4) → SaysValue (argument line) x → length (verb ++ tail x) ≤ 2048
+  value_short (value.Name text) four says = by_line (value.Name text) four tt says.1
+  value_short (value.Password text) four says = by_line (value.Password text) four tt says.1
+  value_short (value.Words text) four says = words_short verb line text (four refl) short says.0
+  value_short (value.WordsOrNone None) four says = by_line (value.WordsOrNone None) four tt tt
+  value_short (value.WordsOrNone (Some text)) four says = words_short verb line text (four refl) short says.0
+  value_short (value.Path text) four says = by_line (value.Path text) four tt says.1
+  value_short (value.PathOrNone None) four says = by_line (value.PathOrNone None) four tt tt
+  value_short (value.PathOrNone (Some text)) four says = by_line (value.PathOrNone (Some text)) four tt says.1
+  value_short (value.Listed None) four says = by_line (value.Listed None) four tt tt
+  value_short (value.Listed (Some text)) four says = path_said verb text word.1 says.1
+  value_short value.Nothing four says = by_line value.Nothing four tt tt
+  value_short (value.Six endpoint) four says =
+      let both = port_typed _ endpoint says in by_line (value.Six endpoint) four both.0 both.1
+  value_short (value.Extended endpoint) four says =
+      let port = says.shape.ends.number in
+      host_short verb word says.proto says.address endpoint.host endpoint.port says.host (omega (arith, port.0.2, port.1)) (omega (arith, port.0.1, port.1))
+  value_short (value.Family family) four says = by_line (value.Family family) four tt tt
+  value_short (value.Kind kind) four says = by_line (value.Kind kind) four tt tt
+  value_short (value.Structure structure) four says = by_line (value.Structure structure) four tt tt
+  value_short (value.Mode mode) four says = by_line (value.Mode mode) four tt tt
+  value_short (value.Number number) four says = by_line (value.Number number) four tt (number_short _ number says)
+  value_short (value.Sizes octets longest) four says =
+      by_line (value.Sizes octets longest) four tt (sizes_short (trimmed (argument line)) octets longest says)
+
 said_short : (line : List ℕ) (c : Command (List ℕ)) → length line ≤ 1024 → Says line c → length (line_of c) ≤ 2048
-said_short line (command.User value) short says = by_line (command.User value) tt says.1.1
-said_short line (command.Pass value) short says = by_line (command.Pass value) tt says.1.1
-said_short line (command.Acct value) short says = words_short (codes "ACCT") line value refl short says.1.0
-said_short line (command.Cwd value) short says = by_line (command.Cwd value) tt says.1.1
-said_short line command.Cdup short says = by_line command.Cdup tt tt
-said_short line command.Rein short says = by_line command.Rein tt tt
-said_short line command.Quit short says = by_line command.Quit tt tt
-said_short line (command.Port value) short says = let both = port_typed _ value says.1 in by_line (command.Port value) both.0 both.1
-said_short line command.Pasv short says = by_line command.Pasv tt tt
-said_short line (command.Eprt value) short says =
-    let port = says.1.shape.ends.number in
-    host_short says.1.proto says.1.address value.host value.port says.1.host (omega (arith, port.0.2, port.1)) (omega (arith, port.0.1, port.1))
-said_short line (command.Epsv value) short says = by_line (command.Epsv value) tt tt
-said_short line (command.Repr value) short says = by_line (command.Repr value) tt tt
-said_short line (command.Stru value) short says = by_line (command.Stru value) tt tt
-said_short line (command.Mode value) short says = by_line (command.Mode value) tt tt
-said_short line (command.Retr value) short says = by_line (command.Retr value) tt says.1.1
-said_short line (command.Stor value) short says = by_line (command.Stor value) tt says.1.1
-said_short line (command.Appe value) short says = by_line (command.Appe value) tt says.1.1
-said_short line (command.Allo octets longest) short says = by_line (command.Allo octets longest) tt (sizes_short (trimmed (argument line)) octets longest says.1)
-said_short line (command.Rest value) short says = by_line (command.Rest value) tt (number_short _ value says.1)
-said_short line (command.Rnfr value) short says = by_line (command.Rnfr value) tt says.1.1
-said_short line (command.Rnto value) short says = by_line (command.Rnto value) tt says.1.1
-said_short line command.Abor short says = by_line command.Abor tt tt
-said_short line (command.Dele value) short says = by_line (command.Dele value) tt says.1.1
-said_short line (command.Rmd value) short says = by_line (command.Rmd value) tt says.1.1
-said_short line (command.Mkd value) short says = by_line (command.Mkd value) tt says.1.1
-said_short line command.Pwd short says = by_line command.Pwd tt tt
-said_short line (command.List None) short says = by_line (command.List None) tt tt
-said_short line (command.List (Some value)) short says = path_said (codes "LIST") value (omega arith) says.1.1
-said_short line (command.Nlst None) short says = by_line (command.Nlst None) tt tt
-said_short line (command.Nlst (Some value)) short says = path_said (codes "NLST") value (omega arith) says.1.1
-said_short line (command.Mlst None) short says = by_line (command.Mlst None) tt tt
-said_short line (command.Mlst (Some value)) short says = by_line (command.Mlst (Some value)) tt says.1.1
-said_short line (command.Mlsd None) short says = by_line (command.Mlsd None) tt tt
-said_short line (command.Mlsd (Some value)) short says = by_line (command.Mlsd (Some value)) tt says.1.1
-said_short line (command.Size value) short says = by_line (command.Size value) tt says.1.1
-said_short line (command.Mdtm value) short says = by_line (command.Mdtm value) tt says.1.1
-said_short line command.Syst short says = by_line command.Syst tt tt
-said_short line command.Stat short says = by_line command.Stat tt tt
-said_short line (command.Help None) short says = by_line (command.Help None) tt tt
-said_short line (command.Help (Some value)) short says = words_short (codes "HELP") line value refl short says.1.0
-said_short line command.Noop short says = by_line command.Noop tt tt
-said_short line command.Feat short says = by_line command.Feat tt tt
-said_short line (command.Opts value) short says = words_short (codes "OPTS") line value refl short says.1.0
+said_short line c short says =
+    value_short (letters (verb_of c)) line (word_of (verb_of c)) short (value_of c) (λ words. (four_letters c words).0) says.1
 
 -- a line as it is heard, if it waits
 pub heard_short : (line : List ℕ) (heard : HeardLine (List ℕ)) → length line ≤ 1024 → IsRead line heard → waiting_len (Some heard) ≤ 2048
