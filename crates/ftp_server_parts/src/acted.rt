@@ -1,13 +1,12 @@
 // A line that was acted on, as it is told: its verb, what it names, and the code of its reply.
 ghost use Rattle.std.specs.Prelude.{◌≡◌, ◌≤◌, length, take};
-ghost use Rattle.ftp_server_model.specs.Heard.{abort_told, code_if_any, lent, text_named, text_or_none, text_told, unanswered, verb_told};
+ghost use Rattle.ftp_server_model.specs.Heard.{abort_told, code_if_any, lent, text_named, text_or_none, text_told, unanswered, value_text, verb_told};
 ghost use Rattle.ftp_server_model.specs.Replies.{reply_said};
 ghost use Rattle.ftp_server_model.specs.Texts.{code_of};
 ghost use Rattle.ftp_server_model.specs.View.{Session};
-ghost use Rattle.ftp_command.specs.Command.{verb_of};
 
 use arrayvec::ArrayVec;
-use ftp_command::{Argument, Command, Verb};
+use ftp_command::{Argument, Command, LentText, Value, Verb, parts};
 use ftp_path::Path;
 use ftp_server_model::{Answered, FixedReply, HeardLine, ReplyKind, TOLD_LIMIT};
 use std::alloc::Allocator;
@@ -111,53 +110,10 @@ fn verb_told<A: Allocator + Copy>(heard: &HeardLine<Argument<A>>) -> Option<Verb
 {
     match heard {
         HeardLine::TooLong | HeardLine::Bad(_) => None,
-        HeardLine::Asks(command) => Some(verb_of(command)),
-    }
-}
-
-/// The verb of a command.
-fn verb_of<A: Allocator + Copy>(command: &Command<Argument<A>>) -> Verb
-    ensures { result ≡ verb_of command.now }
-{
-    match command {
-        Command::User(_) => Verb::User,
-        Command::Pass(_) => Verb::Pass,
-        Command::Acct(_) => Verb::Acct,
-        Command::Cwd(_) => Verb::Cwd,
-        Command::Cdup => Verb::Cdup,
-        Command::Rein => Verb::Rein,
-        Command::Quit => Verb::Quit,
-        Command::Port(_) => Verb::Port,
-        Command::Pasv => Verb::Pasv,
-        Command::Eprt(_) => Verb::Eprt,
-        Command::Epsv(_) => Verb::Epsv,
-        Command::Repr(_) => Verb::Repr,
-        Command::Stru(_) => Verb::Stru,
-        Command::Mode(_) => Verb::Mode,
-        Command::Retr(_) => Verb::Retr,
-        Command::Stor(_) => Verb::Stor,
-        Command::Appe(_) => Verb::Appe,
-        Command::Allo(_, _) => Verb::Allo,
-        Command::Rest(_) => Verb::Rest,
-        Command::Rnfr(_) => Verb::Rnfr,
-        Command::Rnto(_) => Verb::Rnto,
-        Command::Abor => Verb::Abor,
-        Command::Dele(_) => Verb::Dele,
-        Command::Rmd(_) => Verb::Rmd,
-        Command::Mkd(_) => Verb::Mkd,
-        Command::Pwd => Verb::Pwd,
-        Command::List(_) => Verb::List,
-        Command::Nlst(_) => Verb::Nlst,
-        Command::Mlst(_) => Verb::Mlst,
-        Command::Mlsd(_) => Verb::Mlsd,
-        Command::Size(_) => Verb::Size,
-        Command::Mdtm(_) => Verb::Mdtm,
-        Command::Syst => Verb::Syst,
-        Command::Stat => Verb::Stat,
-        Command::Help(_) => Verb::Help,
-        Command::Noop => Verb::Noop,
-        Command::Feat => Verb::Feat,
-        Command::Opts(_) => Verb::Opts,
+        HeardLine::Asks(command) => {
+            let (verb, _) = parts(command);
+            Some(verb)
+        }
     }
 }
 
@@ -175,27 +131,23 @@ fn text_told<A: Allocator + Copy>(heard: &HeardLine<Argument<A>>) -> &[u8]
 fn text_named<A: Allocator + Copy>(command: &Command<Argument<A>>) -> &[u8]
     ensures { result.now ≡ text_named command.now }
 {
-    match command {
-        Command::User(text)
-        | Command::Cwd(text)
-        | Command::Retr(text)
-        | Command::Stor(text)
-        | Command::Appe(text)
-        | Command::Rnfr(text)
-        | Command::Rnto(text)
-        | Command::Dele(text)
-        | Command::Rmd(text)
-        | Command::Mkd(text)
-        | Command::Size(text)
-        | Command::Mdtm(text) => text.octets(),
-        Command::List(text) | Command::Nlst(text) | Command::Mlst(text) | Command::Mlsd(text) =>
-            text_or_none(text),
+    let (_, value) = parts(command);
+    value_text(&value)
+}
+
+/// The same of a value.
+fn value_text<'a>(value: &Value<LentText<'a>>) -> &'a [u8]
+    ensures { result.now ≡ value_text value.now }
+{
+    match value {
+        Value::Name(text) | Value::Path(text) => text.octets(),
+        Value::PathOrNone(text) | Value::Listed(text) => text_or_none(text),
         _ => &[],
     }
 }
 
 /// A text, or nothing.
-fn text_or_none<A: Allocator + Copy>(text: &Option<Argument<A>>) -> &[u8]
+fn text_or_none<'a>(text: &Option<LentText<'a>>) -> &'a [u8]
     ensures { result.now ≡ text_or_none text.now }
 {
     match text {

@@ -2,7 +2,7 @@
 ghost use Rattle.std.specs.Prelude.{◌≡◌};
 ghost use Rattle.ftp_server_model.specs.Act.{fault_text, is_free, is_in, is_transfer};
 
-use ftp_command::{Argument, Command, CommandFault};
+use ftp_command::{Argument, Command, CommandFault, role_of};
 use ftp_path::Path;
 use ftp_server_model::{Access, FixedReply, Pending};
 use std::alloc::Allocator;
@@ -27,34 +27,14 @@ pub fn is_in<A: Allocator + Copy>(access: &Access<Argument<A>>) -> bool
 pub fn is_transfer<A: Allocator + Copy>(command: &Command<Argument<A>>) -> bool
     ensures { result ≡ is_transfer command.now }
 {
-    matches!(
-        command,
-        Command::Retr(_)
-            | Command::Stor(_)
-            | Command::Appe(_)
-            | Command::List(_)
-            | Command::Nlst(_)
-            | Command::Mlsd(_)
-    )
+    role_of(command).is_transfer()
 }
 
 /// Whether a command is done before a login too.
 pub fn is_free<A: Allocator + Copy>(command: &Command<Argument<A>>) -> bool
     ensures { result ≡ is_free command.now }
 {
-    matches!(
-        command,
-        Command::User(_)
-            | Command::Pass(_)
-            | Command::Rein
-            | Command::Quit
-            | Command::Noop
-            | Command::Help(_)
-            | Command::Syst
-            | Command::Feat
-            | Command::Opts(_)
-            | Command::Abor
-    )
+    role_of(command).is_free()
 }
 
 /// The reply to a line that says no command.

@@ -1,9 +1,9 @@
 // How long the line is that a command is written as (RFC 959, section 5.3).
 ghost use Rattle.std.specs.Prelude.{◌≡◌, ◌≤◌, ◌^◌, decimal, length};
-ghost use Rattle.ftp_command.specs.Line.{line_of, longest_text, passive_text, spaced, spaced_if};
+ghost use Rattle.ftp_command.specs.Line.{line_of, longest_text, passive_text, spaced, spaced_if, tail};
 ghost use Rattle.ftp_endpoint.specs.Written.{six_text};
 
-use ftp_command::{Argument, Command, Passive};
+use ftp_command::{Argument, Command, LentText, Passive, Value, parts};
 use ftp_endpoint::{Endpoint, write_extended, write_six};
 use itoa::Buffer;
 use std::alloc::Allocator;
@@ -12,46 +12,31 @@ use std::alloc::Allocator;
 pub fn line_len<A: Allocator + Copy>(command: &Command<Argument<A>>) -> usize
     ensures { result ≡ length (line_of command.now) }
 {
-    match command {
-        Command::Cwd(text) | Command::Rmd(text) | Command::Mkd(text) => 3 + spaced_len(text),
-        Command::User(text)
-        | Command::Pass(text)
-        | Command::Acct(text)
-        | Command::Retr(text)
-        | Command::Stor(text)
-        | Command::Appe(text)
-        | Command::Rnfr(text)
-        | Command::Rnto(text)
-        | Command::Dele(text)
-        | Command::Size(text)
-        | Command::Mdtm(text)
-        | Command::Opts(text) => 4 + spaced_len(text),
-        Command::List(text)
-        | Command::Nlst(text)
-        | Command::Mlst(text)
-        | Command::Mlsd(text)
-        | Command::Help(text) => 4 + given_len(text),
-        Command::Port(endpoint) => 5 + six_len(*endpoint),
-        Command::Eprt(endpoint) => 5 + write_extended(*endpoint).len(),
-        Command::Epsv(family) => 4 + passive_len(*family),
-        Command::Repr(_) | Command::Stru(_) | Command::Mode(_) => 6,
-        Command::Allo(octets, longest) => 5 + decimal_len(*octets) + longest_len(*longest),
-        Command::Rest(place) => 5 + decimal_len(*place),
-        Command::Pwd => 3,
-        Command::Cdup
-        | Command::Rein
-        | Command::Quit
-        | Command::Pasv
-        | Command::Abor
-        | Command::Syst
-        | Command::Stat
-        | Command::Noop
-        | Command::Feat => 4,
+    let (verb, value) = parts(command);
+    verb.letters().len() + tail_len(&value)
+}
+
+/// What is behind the verb.
+fn tail_len(value: &Value<LentText<'_>>) -> usize
+    ensures len { result ≡ length (tail value.now) }
+    ensures short { result ≤ 2 ^ 63 }
+{
+    match value {
+        Value::Name(text) | Value::Password(text) | Value::Words(text) | Value::Path(text) =>
+            spaced_len(text),
+        Value::WordsOrNone(text) | Value::PathOrNone(text) | Value::Listed(text) => given_len(text),
+        Value::Nothing => 0,
+        Value::Six(endpoint) => 1 + six_len(*endpoint),
+        Value::Extended(endpoint) => 1 + write_extended(*endpoint).len(),
+        Value::Family(family) => passive_len(*family),
+        Value::Kind(_) | Value::Structure(_) | Value::Mode(_) => 2,
+        Value::Number(number) => 1 + decimal_len(*number),
+        Value::Sizes(octets, longest) => 1 + decimal_len(*octets) + longest_len(*longest),
     }
 }
 
 /// SP and a text, or nothing where it is empty.
-fn spaced_len<A: Allocator + Copy>(text: &Argument<A>) -> usize
+fn spaced_len(text: &LentText<'_>) -> usize
     ensures len { result ≡ length (spaced text.now) }
     ensures short { result ≤ 2 ^ 63 }
 {
@@ -59,7 +44,7 @@ fn spaced_len<A: Allocator + Copy>(text: &Argument<A>) -> usize
     if count == 0 { 0 } else { count + 1 }
 }
 
-fn given_len<A: Allocator + Copy>(text: &Option<Argument<A>>) -> usize
+fn given_len(text: &Option<LentText<'_>>) -> usize
     ensures len { result ≡ length (spaced_if text.now) }
     ensures short { result ≤ 2 ^ 63 }
 {
