@@ -1,8 +1,11 @@
 -- A line as a session is given it, and what it leaves where it could not be done.
 use Rattle.std.specs.Prelude.{◌≡◌, ℕ, List, Bool, true, false, Result, Ok, Err}
+use Rattle.ftp_command.specs.Command.{value_of}
 use Rattle.ftp_command.specs.Line.{IfGiven}
 use Rattle.ftp_command.specs.declared.command.Command.{Command}
 use Rattle.ftp_command.specs.declared.command.Command.TheVariants as command
+use Rattle.ftp_command.specs.declared.value.Value.{Value}
+use Rattle.ftp_command.specs.declared.value.Value.TheVariants as value
 use Rattle.ftp_path.specs.Path.{IsPathText, Names}
 use Rattle.ftp_tree.specs.Change.{Failures, IsSteady, NoStray}
 use Rattle.ftp_tree.specs.Tree.{Table}
@@ -19,24 +22,16 @@ use Rattle.ftp_server_model.specs.declared.heard.HeardLine.TheVariants.{TooLong,
 use Rattle.ftp_server_model.specs.declared.session.Pending.{Pending}
 use Rattle.ftp_server_model.specs.declared.session.Pending.TheVariants as Pendings
 
--- the texts by which a command names paths are path texts, as those of each line that is read are
+-- the texts by which a value names paths are path texts, as those of each line that is read are
+abbrev pub ValueHasPathTexts : Value (List ℕ) → Type 0
+ValueHasPathTexts (value.Path text) = IsPathText text
+ValueHasPathTexts (value.PathOrNone text) = IfGiven IsPathText text
+ValueHasPathTexts (value.Listed text) = IfGiven IsPathText text
+ValueHasPathTexts other = Unit {0}
+
+-- the same of a command
 abbrev pub HasPathTexts : Command (List ℕ) → Type 0
-HasPathTexts (command.Cwd text) = IsPathText text
-HasPathTexts (command.Retr text) = IsPathText text
-HasPathTexts (command.Stor text) = IsPathText text
-HasPathTexts (command.Appe text) = IsPathText text
-HasPathTexts (command.Rnfr text) = IsPathText text
-HasPathTexts (command.Rnto text) = IsPathText text
-HasPathTexts (command.Dele text) = IsPathText text
-HasPathTexts (command.Rmd text) = IsPathText text
-HasPathTexts (command.Mkd text) = IsPathText text
-HasPathTexts (command.List text) = IfGiven IsPathText text
-HasPathTexts (command.Nlst text) = IfGiven IsPathText text
-HasPathTexts (command.Mlst text) = IfGiven IsPathText text
-HasPathTexts (command.Mlsd text) = IfGiven IsPathText text
-HasPathTexts (command.Size text) = IsPathText text
-HasPathTexts (command.Mdtm text) = IsPathText text
-HasPathTexts other = Unit {0}
+HasPathTexts command = ValueHasPathTexts (value_of command)
 
 -- USER alone gives its name away
 abbrev pub is_user : Command (List ℕ) → Bool

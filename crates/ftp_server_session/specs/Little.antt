@@ -1,7 +1,9 @@
 -- What a line leaves whatever the tree's device gives: it says little while the data connection is busy, and keeps no longer name than came.
 use Rattle.std.specs.Prelude.{◌≡◌, ◌≤◌, ◌⊎◌, ℕ, Bool, true, false, List, length, Result, Ok, Err}
+use Rattle.ftp_command.specs.Command.{value_of}
 use Rattle.ftp_command.specs.declared.command.Command.{Command}
-use Rattle.ftp_command.specs.declared.command.Command.TheVariants as command
+use Rattle.ftp_command.specs.declared.value.Value.{Value}
+use Rattle.ftp_command.specs.declared.value.Value.TheVariants as value
 use Rattle.ftp_path.specs.Path.{Names}
 use Rattle.ftp_server_model.specs.Held.{access_len}
 use Rattle.ftp_server_model.specs.declared.heard.HeardLine.{HeardLine}
@@ -35,10 +37,14 @@ abbrev pub SaysLittle : {J : Type 0} → ServerLink J → Result (ReplyKind Name
 SaysLittle connection (Ok kind) = is_busy connection ≡ true → is_short kind ≡ true
 SaysLittle connection (Err fault) = Unit {0}
 
+-- the octets of the name that a value is
+abbrev pub value_name_len : Value (List ℕ) → ℕ
+value_name_len (value.Name name) = length name
+value_name_len other = 0
+
 -- the octets of the name that a USER says
 abbrev pub name_len : Command (List ℕ) → ℕ
-name_len (command.User name) = length name
-name_len other = 0
+name_len command = value_name_len (value_of command)
 
 -- the same of a line
 abbrev pub heard_name_len : HeardLine (List ℕ) → ℕ
