@@ -2,9 +2,10 @@
 use Rattle.std.proofs.Common.{◌≡◌, ℕ, ◌≤◌, List, [], ◌∷◌, Some, sym, subst, arith, length}
 use Rattle.std.proofs.Math.Logic.{∥∥₁_elim}
 use Rattle.std.proofs.Props.{props}
-use Rattle.ftp_command.specs.Command.{Argues, Says}
+use Rattle.ftp_command.specs.Command.{Argues, Says, SaysValue, value_of}
 use Rattle.ftp_command.specs.declared.command.Command.{Command}
-use Rattle.ftp_command.specs.declared.command.Command.TheVariants as command
+use Rattle.ftp_command.specs.declared.value.Value.{Value}
+use Rattle.ftp_command.specs.declared.value.Value.TheVariants as value
 use Rattle.ftp_path.specs.Login.{login_limit}
 use Rattle.ftp_cutting.specs.Machine.{after}
 use Rattle.ftp_nvt.specs.Ear.{event_list, limit_of}
@@ -19,6 +20,7 @@ use Rattle.ftp_ends.specs.Limits.{IsShortLine}
 use Rattle.ftp_ends.proofs.ReadLemmas.{AreShortEvents, ear_says, ear_short, none_short}
 use Rattle.ftp_server_laws.proofs.SaidLemmas.{heard_short}
 use Rattle.ftp_server.specs.Busy.{MayWait, name_len}
+use Rattle.ftp_server_session.specs.Little.{value_name_len}
 use Rattle.ftp_server.specs.Hearing.{HasHeardSome}
 use Rattle.ftp_server.proofs.ReadingLemmas.{paths_said}
 
@@ -49,45 +51,12 @@ ended_short reader octet event text same was out is =
     (subst (AreShortEvents line_limit) (sym out) (ear_says line_limit (ear_of reader) octet (reader_short reader same some)))).0)
 
 -- the name that a line says is within its limit
+value_said : (a : List ℕ) (x : Value (List ℕ)) → SaysValue a x → value_name_len x ≤ login_limit
+value_said a (value.Name name) h = h.1.1.0
+value_said a other h = omega arith
+
 name_said : (a : List ℕ) (command : Command (List ℕ)) → Argues a command → name_len command ≤ login_limit
-name_said a (command.User name) h = h.1.1.0
-name_said a (command.Pass word) h = omega arith
-name_said a (command.Acct text) h = omega arith
-name_said a (command.Cwd text) h = omega arith
-name_said a command.Cdup h = omega arith
-name_said a command.Rein h = omega arith
-name_said a command.Quit h = omega arith
-name_said a (command.Port endpoint) h = omega arith
-name_said a command.Pasv h = omega arith
-name_said a (command.Eprt endpoint) h = omega arith
-name_said a (command.Epsv family) h = omega arith
-name_said a (command.Repr kind) h = omega arith
-name_said a (command.Stru structure) h = omega arith
-name_said a (command.Mode mode) h = omega arith
-name_said a (command.Retr text) h = omega arith
-name_said a (command.Stor text) h = omega arith
-name_said a (command.Appe text) h = omega arith
-name_said a (command.Allo octets longest) h = omega arith
-name_said a (command.Rest place) h = omega arith
-name_said a (command.Rnfr text) h = omega arith
-name_said a (command.Rnto text) h = omega arith
-name_said a command.Abor h = omega arith
-name_said a (command.Dele text) h = omega arith
-name_said a (command.Rmd text) h = omega arith
-name_said a (command.Mkd text) h = omega arith
-name_said a command.Pwd h = omega arith
-name_said a (command.List text) h = omega arith
-name_said a (command.Nlst text) h = omega arith
-name_said a (command.Mlst text) h = omega arith
-name_said a (command.Mlsd text) h = omega arith
-name_said a (command.Size text) h = omega arith
-name_said a (command.Mdtm text) h = omega arith
-name_said a command.Syst h = omega arith
-name_said a command.Stat h = omega arith
-name_said a (command.Help text) h = omega arith
-name_said a command.Noop h = omega arith
-name_said a command.Feat h = omega arith
-name_said a (command.Opts text) h = omega arith
+name_said a command h = value_said a (value_of command) h
 
 -- what a line within the limit says may wait
 pub command_waits : (text : List ℕ) (command : Command (List ℕ)) → length text ≤ line_limit → Says text command → MayWait (Some (Asks command))
