@@ -1,6 +1,6 @@
 // What is told of a line that a server acted on: its verb, and what it names where that is no secret.
 use crate::text::Text;
-use ftp_command::Verb;
+use ftp_command::{Role, Verb};
 use ftp_server_model::Answered;
 
 /// The code of a login (RFC 959, section 4.2.2).
@@ -30,24 +30,10 @@ impl Asked {
 
     /// Whether it is told whatever is answered, and where it is not answered: transfers, and what changes the folder or the directory.
     pub(crate) fn is_told(&self) -> bool {
-        matches!(
-            self.verb,
-            Some(
-                Verb::Retr
-                    | Verb::Stor
-                    | Verb::Stou
-                    | Verb::Appe
-                    | Verb::List
-                    | Verb::Nlst
-                    | Verb::Mlsd
-                    | Verb::Cwd
-                    | Verb::Dele
-                    | Verb::Rmd
-                    | Verb::Mkd
-                    | Verb::Rnfr
-                    | Verb::Rnto
-            )
-        )
+        match self.verb {
+            Some(verb) => matches!(verb.row().role, Role::Transfer | Role::Change),
+            None => false,
+        }
     }
 
     /// Whether it is told with this code of its last reply: refusals and logins are too.
