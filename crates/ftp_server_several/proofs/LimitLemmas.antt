@@ -1,6 +1,6 @@
 -- No call changes the limits of the map.
-use Rattle.std.proofs.Common.{◌≡◌, ◌∙◌, ℕ, List, [], ◌∷◌, Bool, true, false, Option, Some, None, refl, sym, ap}
-use Rattle.std.specs.Prelude.{if◌then◌else◌, ◌&&◌}
+use Rattle.std.proofs.Common.{◌≡◌, ◌∙◌, ℕ, List, [], ◌∷◌, Bool, false, Option, Some, None, refl, ap}
+use Rattle.std.specs.Prelude.{◌&&◌}
 use Rattle.std.proofs.lemmas.Bool.{cond_both}
 use Rattle.ftp_command.specs.declared.command.Command.{Command}
 use Rattle.ftp_command.specs.declared.command.Command.TheVariants as command
@@ -11,14 +11,14 @@ use Rattle.ftp_path.specs.Path.{Names}
 use Rattle.ftp_tree.proofs.PartLemmas.{part-limits, under-limits}
 use Rattle.ftp_tree.proofs.UnderLemmas.{moved-limits}
 use Rattle.ftp_tree.specs.Tree.{Table, freed, installed, made, moved, removed, takes_place}
-use Rattle.ftp_wire.specs.Decoder.{Decoder, broken, ended, is_whole}
+use Rattle.ftp_wire.specs.Decoder.{broken, ended, is_whole}
 use Rattle.ftp_server_model.specs.Act.{act, decided, forgets, is_allowed}
 use Rattle.ftp_server_model.specs.Machine.{at_break, at_end, completed, end_refusal, ends_by, installs, obeyed, put_together, turned}
 use Rattle.ftp_server_model.specs.Play.{Cue, call}
 use Rattle.ftp_server_model.specs.Replies.{Turn, tells}
 use Rattle.ftp_server_model.specs.View.{Footing, Session, Transfer, View, direct_of, seen, with_seen}
 use Rattle.ftp_server_model.specs.Machine.{Reading}
-use Rattle.ftp_server_model.specs.Walk.{path_of, refused_target, renames, rnto, target_seen, unless}
+use Rattle.ftp_server_model.specs.Walk.{path_of, refused_target, rnto, target_seen, unless}
 use Rattle.ftp_server_model.specs.declared.heard.HeardLine.{HeardLine}
 use Rattle.ftp_server_model.specs.declared.heard.HeardLine.TheVariants.{TooLong, Bad, Asks}
 use Rattle.ftp_server_model.specs.declared.reply.FixedReply.{FixedReply}
@@ -83,40 +83,7 @@ module _ (footing : Footing) (pending : Pending Names) (s : Session) where
   act_keeps (command.Dele text) =
       unless_keeps (refusal (direct_of s) (Ops.Delete text)) s _ (part_keeps s (removed (seen s) (path_of s text)) (removed-limits (seen s) (path_of s text)))
   act_keeps (command.Rnto text) = rnto_keeps pending text s
-  act_keeps (command.User name) = left (command.User name) refl
-  act_keeps (command.Pass word) = left (command.Pass word) refl
-  act_keeps (command.Acct text) = refl
-  act_keeps (command.Cwd text) = left (command.Cwd text) refl
-  act_keeps command.Cdup = refl
-  act_keeps command.Rein = refl
-  act_keeps command.Quit = refl
-  act_keeps (command.Port endpoint) = left (command.Port endpoint) refl
-  act_keeps command.Pasv = left command.Pasv refl
-  act_keeps (command.Eprt endpoint) = left (command.Eprt endpoint) refl
-  act_keeps (command.Epsv family) = left (command.Epsv family) refl
-  act_keeps (command.Repr kind) = refl
-  act_keeps (command.Stru structure) = refl
-  act_keeps (command.Mode mode) = refl
-  act_keeps (command.Retr text) = left (command.Retr text) refl
-  act_keeps (command.Stor text) = left (command.Stor text) refl
-  act_keeps (command.Appe text) = left (command.Appe text) refl
-  act_keeps (command.Allo octets longest) = refl
-  act_keeps (command.Rest place) = left (command.Rest place) refl
-  act_keeps (command.Rnfr text) = left (command.Rnfr text) refl
-  act_keeps command.Abor = refl
-  act_keeps command.Pwd = refl
-  act_keeps (command.List text) = left (command.List text) refl
-  act_keeps (command.Nlst text) = left (command.Nlst text) refl
-  act_keeps (command.Mlst text) = left (command.Mlst text) refl
-  act_keeps (command.Mlsd text) = left (command.Mlsd text) refl
-  act_keeps (command.Size text) = left (command.Size text) refl
-  act_keeps (command.Mdtm text) = left (command.Mdtm text) refl
-  act_keeps command.Syst = refl
-  act_keeps command.Stat = refl
-  act_keeps (command.Help text) = refl
-  act_keeps command.Noop = refl
-  act_keeps command.Feat = refl
-  act_keeps (command.Opts text) = left (command.Opts text) refl
+  act_keeps c = left c refl
 
 decided_keeps : (footing : Footing) (heard : HeardLine (List ℕ)) (pending : Pending Names) (s : Session) → Keeps s (decided footing heard pending s).0
 decided_keeps footing TooLong pending s = refl

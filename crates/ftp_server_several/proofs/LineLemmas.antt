@@ -1,12 +1,11 @@
 -- Each line tells what the direct run answers on the map that stands: a lemma a command.
-use Rattle.std.proofs.Common.{◌≡◌, ℕ, Bool, true, false, List, [], Option, Some, None, refl, sym, ap, subst, ◌∙◌, drop}
+use Rattle.std.proofs.Common.{◌≡◌, ℕ, Bool, true, false, List, Option, Some, None, refl, sym, ap, subst, ◌∙◌}
 use Rattle.std.specs.Prelude.{if◌then◌else◌, ◌||◌}
 use Rattle.std.specs.Option.{unwrap_or}
-use Rattle.std.proofs.lemmas.Bool.{cond_both}
 use Rattle.ftp_command.specs.declared.command.Command.{Command}
 use Rattle.ftp_command.specs.declared.command.Command.TheVariants as command
 use Rattle.ftp_direct.proofs.NodeLemmas.{rename_target}
-use Rattle.ftp_direct.specs.Direct.{State, barred, busy_refusal, chosen, done, file_of, limited, named_or_here, or_refused, refusal, refused_file, refused_from, refused_name, refused_there}
+use Rattle.ftp_direct.specs.Direct.{State, barred, busy_refusal, chosen, done, limited, named_or_here, or_refused, refusal, refused_file, refused_from, refused_name, refused_there}
 use Rattle.ftp_direct.specs.Refusal.{code_of as refused_code}
 use Rattle.ftp_direct.specs.declared.refusal.Refusal.{Refusal}
 use Rattle.ftp_direct.specs.declared.refusal.Refusal.TheVariants as Refusals
@@ -15,7 +14,7 @@ use Rattle.ftp_operation.specs.declared.op.Op.{Op}
 use Rattle.ftp_operation.specs.declared.op.Op.TheVariants as Ops
 use Rattle.ftp_path.specs.Path.{Names, fits}
 use Rattle.ftp_tree.proofs.KeepLaws.{freed-source}
-use Rattle.ftp_tree.specs.Tree.{Table, freed, moved, or_else, rename_refusal, source_refusal, target_refusal}
+use Rattle.ftp_tree.specs.Tree.{Table, moved, or_else, rename_refusal, source_refusal, target_refusal}
 use Rattle.ftp_tree.specs.declared.fault.TreeFault.{TreeFault}
 use Rattle.ftp_tree.specs.declared.fault.TreeFault.TheVariants as Faults
 use Rattle.ftp_server_model.specs.Act.{act, forgets, is_free, is_in}
@@ -27,14 +26,13 @@ use Rattle.ftp_server_model.specs.Transfer.{begin, path_or_here, place_of, retr_
 use Rattle.ftp_server_model.specs.Listing.{entry_lines, list_lines, listing_wire, name_lines}
 use Rattle.ftp_facts.specs.Moment.{moment_digits}
 use Rattle.ftp_server_model.specs.View.{Footing, Session, Transfer, as_direct, direct_of, how_in_force, seen, with_seen}
-use Rattle.ftp_server_model.specs.Walk.{path_of, refusal_text, refused_source, refused_target, renames, target_seen, unless}
-use Rattle.ftp_server_model.specs.declared.heard.HeardLine.TheVariants.{Asks as Says}
+use Rattle.ftp_server_model.specs.Walk.{path_of, refusal_text, refused_target, renames, target_seen, unless}
 use Rattle.ftp_server_model.specs.declared.reply.FixedReply.TheVariants as Texts
 use Rattle.ftp_server_model.specs.declared.reply.ReplyKind.TheVariants as Replies
 use Rattle.ftp_server_model.specs.declared.session.Pending.{Pending}
 use Rattle.ftp_server_model.specs.declared.session.Pending.TheVariants as Pendings
 use Rattle.ftp_server_model.specs.declared.session.Transfer.TheVariants as Transfers
-use Rattle.ftp_server_several.specs.Asked.{Answers, Asks, AsksFile, AsksRename, LinesAreDirect, answer_to, state_of}
+use Rattle.ftp_server_several.specs.Asked.{Answers, Asks, AsksFile, AsksRename, LinesAreDirect, state_of}
 
 -- the reply that tells a refusal has its code
 pub same_code : (why : Refusal) → code_of (refusal_text why) ≡ refused_code why
@@ -236,43 +234,10 @@ module _ (footing : Footing) (pending : Pending Names) (s : Session) (moment : �
   known_answers (command.Mdtm text) op is =
       by_op (command.Mdtm text) op (Ops.Modified text) is
       (unless_answers (command.Mdtm text) (Ops.Modified text) s (refusal (state_of s) (Ops.Modified text)) (state_of s) (done (state_of s) (Ops.Modified text) moment) (s, Replies.Stamp (moment_digits (stamp_of s text))) refl refl)
-  known_answers (command.User name) op is = absurd is
-  known_answers (command.Pass word) op is = absurd is
-  known_answers (command.Acct text) op is = absurd is
-  known_answers command.Rein op is = absurd is
-  known_answers command.Quit op is = absurd is
-  known_answers (command.Port endpoint) op is = absurd is
-  known_answers command.Pasv op is = absurd is
-  known_answers (command.Eprt endpoint) op is = absurd is
-  known_answers (command.Epsv family) op is = absurd is
-  known_answers (command.Repr kind) op is = absurd is
-  known_answers (command.Stru structure) op is = absurd is
-  known_answers (command.Mode mode) op is = absurd is
-  known_answers (command.Stor text) op is = absurd is
-  known_answers (command.Appe text) op is = absurd is
-  known_answers (command.Allo octets longest) op is = absurd is
-  known_answers (command.Rest place) op is = absurd is
-  known_answers (command.Rnfr text) op is = absurd is
-  known_answers command.Abor op is = absurd is
-  known_answers command.Syst op is = absurd is
-  known_answers command.Stat op is = absurd is
-  known_answers (command.Help text) op is = absurd is
-  known_answers command.Noop op is = absurd is
-  known_answers command.Feat op is = absurd is
-  known_answers (command.Opts text) op is = absurd is
+  known_answers c op is = absurd is
 
 -- no command that asks for an operation is done before a login
 not_free : (pending : Pending Names) (s : Session) (c : Command (List ℕ)) (op : Op (List ℕ)) → Asks pending s c op → is_free c ≡ false
-not_free pending s (command.User name) op is = absurd is
-not_free pending s (command.Pass word) op is = absurd is
-not_free pending s command.Rein op is = absurd is
-not_free pending s command.Quit op is = absurd is
-not_free pending s command.Noop op is = absurd is
-not_free pending s (command.Help text) op is = absurd is
-not_free pending s command.Syst op is = absurd is
-not_free pending s command.Feat op is = absurd is
-not_free pending s (command.Opts text) op is = absurd is
-not_free pending s command.Abor op is = absurd is
 not_free pending s command.Pwd op is = refl
 not_free pending s (command.Cwd text) op is = refl
 not_free pending s command.Cdup op is = refl
@@ -287,20 +252,7 @@ not_free pending s (command.Mlsd text) op is = refl
 not_free pending s (command.Mlst text) op is = refl
 not_free pending s (command.Size text) op is = refl
 not_free pending s (command.Mdtm text) op is = refl
-not_free pending s (command.Acct text) op is = refl
-not_free pending s (command.Port endpoint) op is = refl
-not_free pending s command.Pasv op is = refl
-not_free pending s (command.Eprt endpoint) op is = refl
-not_free pending s (command.Epsv family) op is = refl
-not_free pending s (command.Repr kind) op is = refl
-not_free pending s (command.Stru structure) op is = refl
-not_free pending s (command.Mode mode) op is = refl
-not_free pending s (command.Stor text) op is = refl
-not_free pending s (command.Appe text) op is = refl
-not_free pending s (command.Allo octets longest) op is = refl
-not_free pending s (command.Rest place) op is = refl
-not_free pending s (command.Rnfr text) op is = refl
-not_free pending s command.Stat op is = refl
+not_free pending s c op is = absurd is
 
 pub lines_are_direct : LinesAreDirect
 lines_are_direct footing c pending s op moment asks = by (is_in s.access)

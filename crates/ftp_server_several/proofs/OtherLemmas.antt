@@ -1,10 +1,9 @@
 -- Lines that ask for no change leave the map: a lemma for each definition that makes a turn.
-use Rattle.std.proofs.Common.{◌≡◌, ◌∙◌, ℕ, List, Bool, true, false, Option, Some, None, refl, sym, ap}
+use Rattle.std.proofs.Common.{◌≡◌, ℕ, List, Bool, true, false, Option, Some, None, refl}
 use Rattle.std.specs.Prelude.{if◌then◌else◌}
 use Rattle.std.proofs.lemmas.Bool.{cond_both}
 use Rattle.ftp_command.specs.declared.command.Command.{Command}
 use Rattle.ftp_command.specs.declared.command.Command.TheVariants as command
-use Rattle.ftp_command.specs.declared.command.Passive.{Passive}
 use Rattle.ftp_command.specs.declared.command.Passive.TheVariants.{Any, Ipv4, Ipv6, Only}
 use Rattle.ftp_direct.specs.Direct.{is_directory, refusal}
 use Rattle.ftp_direct.specs.declared.refusal.Refusal.{Refusal}
@@ -14,17 +13,16 @@ use Rattle.ftp_operation.specs.Account.{Account, login_account}
 use Rattle.ftp_operation.specs.declared.op.Op.TheVariants as Ops
 use Rattle.ftp_path.specs.Path.{Names}
 use Rattle.ftp_tree.specs.Tree.{node_at}
-use Rattle.ftp_server_model.specs.Act.{act, decided, forgets, is_allowed, is_transfer}
+use Rattle.ftp_server_model.specs.Act.{act, forgets, is_allowed, is_transfer}
 use Rattle.ftp_server_model.specs.Ask.{has_size}
 use Rattle.ftp_server_model.specs.Endpoint.{asks, forgotten, is_taken, takes}
 use Rattle.ftp_server_model.specs.Entries.{option_facts}
-use Rattle.ftp_server_model.specs.Login.{admits, checked, logged_out, open_account, pass, user_named}
+use Rattle.ftp_server_model.specs.Login.{admits, checked, open_account, pass, user_named}
 use Rattle.ftp_server_model.specs.Replies.{Turn, tells}
 use Rattle.ftp_server_model.specs.Setting.{choose, is_utf8_on}
 use Rattle.ftp_server_model.specs.Transfer.{begin, rests, transfer_starts}
 use Rattle.ftp_server_model.specs.View.{Accounts, Footing, Session, Transfer, direct_of, how_in_force}
 use Rattle.ftp_server_model.specs.Walk.{path_of, refused_source, rnto, unless}
-use Rattle.ftp_server_model.specs.declared.heard.HeardLine.{HeardLine}
 use Rattle.ftp_server_model.specs.declared.heard.HeardLine.TheVariants.{TooLong, Bad, Asks}
 use Rattle.ftp_server_model.specs.declared.reply.FixedReply.TheVariants as Texts
 use Rattle.ftp_server_model.specs.declared.session.Access.{Access}
@@ -96,11 +94,7 @@ module _ (footing : Footing) (pending : Pending Names) (s : Session) where
   pub act_leaves : (c : Command (List ℕ)) → changes pending c ≡ false → Leaves s (act footing c pending s)
   act_leaves (command.User name) other = user_leaves (open_account footing.accounts name) name s
   act_leaves (command.Pass word) other = pass_leaves s.access footing.accounts word s
-  act_leaves (command.Acct text) other = refl
   act_leaves (command.Cwd text) other = unless_leaves (refusal (direct_of s) (Ops.ChangeDir text)) s _ refl
-  act_leaves command.Cdup other = refl
-  act_leaves command.Rein other = refl
-  act_leaves command.Quit other = refl
   act_leaves (command.Port endpoint) other =
       cond_both s.only_extended (tells Texts.BadSequence s) (takes (is_taken footing.peer endpoint) endpoint (forgotten s)) (Leaves s) (λ is. refl)
       (λ is. takes_leaves (is_taken footing.peer endpoint) endpoint (forgotten s))
@@ -114,21 +108,15 @@ module _ (footing : Footing) (pending : Pending Names) (s : Session) where
   act_leaves (command.Epsv Ipv4) other = cond_both (is_v6 footing.here) (tells Texts.OnlyIpv6 s) (asks Asking.Epsv s) (Leaves s) (λ is. refl) (λ is. refl)
   act_leaves (command.Epsv Ipv6) other = cond_both (is_v6 footing.here) (asks Asking.Epsv s) (tells Texts.OnlyIpv4 s) (Leaves s) (λ is. refl) (λ is. refl)
   act_leaves (command.Epsv Only) other = refl
-  act_leaves (command.Repr kind) other = refl
-  act_leaves (command.Stru structure) other = refl
-  act_leaves (command.Mode mode) other = refl
   act_leaves (command.Retr text) other = starts_leaves _ _ s
   act_leaves (command.Stor text) other = starts_leaves _ _ s
   act_leaves (command.Appe text) other = starts_leaves _ _ s
-  act_leaves (command.Allo octets longest) other = refl
   act_leaves (command.Rest place) other = rests_leaves _ place s
   act_leaves (command.Rnfr text) other = unless_leaves (refused_source s (path_of s text)) s _ refl
   act_leaves (command.Rnto text) other = rnto_leaves pending text s other
-  act_leaves command.Abor other = refl
   act_leaves (command.Dele text) other = absurd (cc)
   act_leaves (command.Rmd text) other = absurd (cc)
   act_leaves (command.Mkd text) other = absurd (cc)
-  act_leaves command.Pwd other = refl
   act_leaves (command.List text) other = starts_leaves _ _ s
   act_leaves (command.Nlst text) other = starts_leaves _ _ s
   act_leaves (command.Mlst text) other = unless_leaves _ s _ refl
@@ -137,13 +125,9 @@ module _ (footing : Footing) (pending : Pending Names) (s : Session) where
       cond_both (has_size s.settings) _ (tells Texts.Refused s) (Leaves s)
       (λ is. unless_leaves (refusal (direct_of s) (Ops.Size text (how_in_force s.settings))) s _ refl) (λ is. refl)
   act_leaves (command.Mdtm text) other = unless_leaves (refusal (direct_of s) (Ops.Modified text)) s _ refl
-  act_leaves command.Syst other = refl
-  act_leaves command.Stat other = refl
-  act_leaves (command.Help text) other = refl
-  act_leaves command.Noop other = refl
-  act_leaves command.Feat other = refl
   act_leaves (command.Opts text) other =
       cond_both (is_utf8_on text) (tells Texts.Utf8Set s) (choose (option_facts text) s) (Leaves s) (λ is. refl) (λ is. choose_leaves (option_facts text) s)
+  act_leaves c other = refl
 
 pub forgets_leaves : (c : Command (List ℕ)) (s : Session) → (forgets c s).table ≡ s.table
 forgets_leaves c s = cond_both (is_transfer c) (forgotten s) s (λ (t : Session). t.table ≡ s.table) (λ is. refl) (λ is. refl)
