@@ -176,7 +176,6 @@ choose_beside None s = stays (choose None) s (λ link closing. refl)
 act_beside : (footing : Footing) (asked : Command (List ℕ)) (pending : Pending Names) (s : Session) → Acts (act footing asked pending) s
 act_beside footing (command.User name) pending s = named_beside (open_account footing.accounts name) name s
 act_beside footing (command.Pass word) pending s = pass_beside s.access footing.accounts word s
-act_beside footing (command.Acct text) pending s = stays (act footing (command.Acct text) pending) s (λ link closing. refl)
 act_beside footing (command.Cwd text) pending s = performs_beside (Ops.ChangeDir text) (Replies.Fixed Texts.Done) s
 act_beside footing command.Cdup pending s = performs_beside Ops.Up (Replies.Fixed Texts.Done) s
 act_beside footing command.Rein pending s = forgets (act footing command.Rein pending) s (λ link closing. refl)
@@ -185,24 +184,18 @@ act_beside footing (command.Port endpoint) pending s = port_beside footing endpo
 act_beside footing command.Pasv pending s = pasv_beside footing s
 act_beside footing (command.Eprt endpoint) pending s = port_beside footing endpoint s
 act_beside footing (command.Epsv family) pending s = epsv_beside footing family s
-act_beside footing (command.Repr kind) pending s = stays (act footing (command.Repr kind) pending) s (λ link closing. refl)
-act_beside footing (command.Stru structure) pending s = stays (act footing (command.Stru structure) pending) s (λ link closing. refl)
-act_beside footing (command.Mode mode) pending s = stays (act footing (command.Mode mode) pending) s (λ link closing. refl)
 act_beside footing (command.Retr text) pending s = retr_placed pending text s
 act_beside footing (command.Stor text) pending s = stor_placed pending text s
 act_beside footing (command.Appe text) pending s =
     let path = path_of s text in
     starts_beside (or_refused (barred_put (direct_of s) path) (refused_to_hold s path))
     (Transfers.Upload path (Keeps.All (length (octets_or_none (seen s) path))) (no_octets s.settings)) s
-act_beside footing (command.Allo octets longest) pending s = stays (act footing (command.Allo octets longest) pending) s (λ link closing. refl)
 act_beside footing (command.Rest place) pending s = rests_beside (offset_refusal place (how_in_force s.settings)) place s
 act_beside footing (command.Rnfr text) pending s = rnfr_beside (path_of s text) s
 act_beside footing (command.Rnto text) pending s = rnto_beside pending text s
-act_beside footing command.Abor pending s = stays (act footing command.Abor pending) s (λ link closing. refl)
 act_beside footing (command.Dele text) pending s = performs_beside (Ops.Delete text) (Replies.Fixed Texts.Done) s
 act_beside footing (command.Rmd text) pending s = performs_beside (Ops.RemoveDir text) (Replies.Fixed Texts.Done) s
 act_beside footing (command.Mkd text) pending s = performs_beside (Ops.MakeDir text) (Replies.Made (path_of s text)) s
-act_beside footing command.Pwd pending s = stays (act footing command.Pwd pending) s (λ link closing. refl)
 act_beside footing (command.List text) pending s =
     starts_beside (refusal (direct_of s) (Ops.Names (or_empty text) (how_in_force s.settings)))
     (Transfers.Listing (listing_wire s.settings.mode (list_lines (seen s) (path_or_here s text)))) s
@@ -223,13 +216,9 @@ act_beside footing (command.Size text) pending s =
 act_beside footing (command.Mdtm text) pending s =
     unless_beside (refusal (direct_of s) (Ops.Modified text)) s _
     (stays (λ s. (s, Replies.Stamp (moment_digits (stamp_of s text)))) s (λ link closing. refl))
-act_beside footing command.Syst pending s = stays (act footing command.Syst pending) s (λ link closing. refl)
-act_beside footing command.Stat pending s = stays (act footing command.Stat pending) s (λ link closing. refl)
-act_beside footing (command.Help text) pending s = stays (act footing (command.Help text) pending) s (λ link closing. refl)
-act_beside footing command.Noop pending s = stays (act footing command.Noop pending) s (λ link closing. refl)
-act_beside footing command.Feat pending s = stays (act footing command.Feat pending) s (λ link closing. refl)
 act_beside footing (command.Opts text) pending s = if_beside (is_utf8_on text) _ _ (stays (tells Texts.Utf8Set) s (λ link closing. refl))
     (choose_beside (option_facts text) s)
+act_beside footing asked pending s = stays (act footing asked pending) s (λ link closing. refl)
 
 -- ---- a line
 
