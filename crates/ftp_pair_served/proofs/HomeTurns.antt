@@ -170,45 +170,33 @@ module _ (root : Names) where
   act_home footing (command.User name) pending s none k =
       user_home (open_account footing.accounts name) name s (λ account is. found_home (is_open name) footing.accounts account none is) k
   act_home footing (command.Pass word) pending s none k = pass_home s.access footing.accounts word s none k
-  act_home footing (command.Acct text) pending s none k = k
   act_home footing (command.Cwd text) pending s none k = performs_home (Ops.ChangeDir text) (Replies.Fixed Texts.Done) s k
   act_home footing command.Cdup pending s none k = performs_home Ops.Up (Replies.Fixed Texts.Done) s k
   act_home footing command.Rein pending s none k = λ e. absurd (true≢false (sym e))
-  act_home footing command.Quit pending s none k = k
   act_home footing (command.Port endpoint) pending s none k = port_home footing endpoint s k
   act_home footing command.Pasv pending s none k = pasv_home footing s k
   act_home footing (command.Eprt endpoint) pending s none k = port_home footing endpoint s k
   act_home footing (command.Epsv family) pending s none k = epsv_home footing family s k
-  act_home footing (command.Repr kind) pending s none k = k
-  act_home footing (command.Stru structure) pending s none k = k
-  act_home footing (command.Mode mode) pending s none k = k
   act_home footing (command.Retr text) pending s none k = starts_home _ (Transfers.Download _) s k
   act_home footing (command.Stor text) pending s none k = stor_home (place_of pending (path_of s text) s) (path_of s text) s k
   act_home footing (command.Appe text) pending s none k = appe_home (path_of s text) s k
-  act_home footing (command.Allo octets longest) pending s none k = k
   act_home footing (command.Rest place) pending s none k = rests_home _ place s k
   act_home footing (command.Rnfr text) pending s none k = unless_home (refused_source s (path_of s text)) s _ k k
   act_home footing (command.Rnto text) pending s none k = rnto_home pending text s k
-  act_home footing command.Abor pending s none k = k
   act_home footing (command.Dele text) pending s none k =
       performs_home (Ops.Delete text) (Replies.Fixed Texts.Done) s k
   act_home footing (command.Rmd text) pending s none k =
       performs_home (Ops.RemoveDir text) (Replies.Fixed Texts.Done) s k
   act_home footing (command.Mkd text) pending s none k =
       performs_home (Ops.MakeDir text) (Replies.Made (path_of s text)) s k
-  act_home footing command.Pwd pending s none k = k
   act_home footing (command.List text) pending s none k = starts_home _ (Transfers.Listing _) s k
   act_home footing (command.Nlst text) pending s none k = starts_home _ (Transfers.Listing _) s k
   act_home footing (command.Mlst text) pending s none k = unless_home (refusal (direct_of s) (Ops.Facts (or_empty text))) s _ k k
   act_home footing (command.Mlsd text) pending s none k = starts_home _ (Transfers.Listing _) s k
   act_home footing (command.Size text) pending s none k = size_home text s k
   act_home footing (command.Mdtm text) pending s none k = unless_home (refusal (direct_of s) (Ops.Modified text)) s _ k k
-  act_home footing command.Syst pending s none k = k
-  act_home footing command.Stat pending s none k = k
-  act_home footing (command.Help text) pending s none k = k
-  act_home footing command.Noop pending s none k = k
-  act_home footing command.Feat pending s none k = k
   act_home footing (command.Opts text) pending s none k = opts_home text s k
+  act_home footing c pending s none k = k
 
   pub forgets_home : (c : Command (List ℕ)) (s : Session) → Home s → Home (forgets c s)
   forgets_home c s k = cond_both (is_transfer c) (forgotten s) s Home (λ is. k) (λ is. k)
