@@ -1,0 +1,4 @@
+pub mod DrawingLemmas
+pub mod GivingLemmas
+pub mod PouringLemmas
+pub mod ReadingLemmas
