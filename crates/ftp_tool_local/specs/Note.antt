@@ -1,5 +1,5 @@
 -- The note beside a part of a download (own choice): three numbers of 18 digits, each with LF behind it, and the place of the file at its server.
-use Rattle.std.specs.Prelude.{ℕ, ◌++◌, List, [], ◌∷◌, codes, decimal, length, take, drop, nat_eq, Option, Some, None, if◌then◌else◌}
+use Rattle.std.specs.Prelude.{ℕ, ◌++◌, ◌&&◌, ◌||◌, Bool, nat_le, List, [], ◌∷◌, codes, decimal, length, take, drop, nat_eq, Option, Some, None, if◌then◌else◌}
 use Rattle.std.specs.Cmp.Lexicographic.{pointwise}
 use Rattle.ftp_facts.specs.Value.{and_then, number_value}
 use Rattle.ftp_tool_local.specs.declared.note.Note.{Note}
@@ -29,3 +29,11 @@ number_line number = padded (codes "000000000000000000") (decimal number)
 -- the text of a note of the file at a place
 abbrev pub note_text : Note → List ℕ → List ℕ
 note_text note place = number_line note.size ++ number_line note.moment ++ number_line note.count ++ place
+
+-- what stands for the count where the part grows still: it has as many octets as it has
+abbrev pub growing : ℕ
+growing = 999999999999999999
+
+-- a part of so many octets is what its note says: it has just so many, or grows still, and has no more than the file
+abbrev pub is_part_of : Note → ℕ → Bool
+is_part_of note count = nat_eq note.count count || (nat_eq note.count growing && nat_le count note.size)

@@ -1,11 +1,12 @@
 // What is asked of this machine's files by names alone, as a trait without types of its own: what stands on it is proved for less than on the system's
 // files, which bring two types and their bounds.
 use crate::content::{Reading, read_from};
+use crate::open_part::OpenPart;
 use crate::place::Standing;
-use crate::writing::{Writing, write_beside, write_into, write_new};
+use crate::writing::{Writing, create_beside, open_again, write_beside, write_into, write_new};
 use ftp_facts::Text;
 use std::alloc::Global;
-use std::fs::Files;
+use std::fs::{File, Files};
 use std::io::ErrorKind;
 use std::path::PathBuf;
 use std::{fs, io};
@@ -26,6 +27,12 @@ pub(crate) trait Disk {
     /// The name that a link has, from the directory that the link is in; none where no link has this name.
     fn link_at(&self, name: &PathBuf<Global>) -> io::Result<Option<PathBuf<Global>>>;
 
+    /// Makes a file beside this one, to replace one of these permissions, where there is one; one that may be kept has no note yet.
+    fn create_beside(&self, file: &str, kept: Option<u32>, is_noted: bool) -> io::Result<OpenPart>;
+
+    /// Opens a part that stands, to be written behind what it has, and tells how many octets that are; none where another process has it open.
+    fn open_again(&self, name: &str) -> io::Result<Option<(File, u64)>>;
+
     /// Writes a file that is made just now, beside this one, and gives its name. Where that fails, what was written is removed again.
     fn write_beside(&self, file: &str, writing: Writing<'_>) -> io::Result<String<Global>>;
 
@@ -40,7 +47,7 @@ pub(crate) trait Disk {
     fn remove(&self, name: &str) -> io::Result<()>;
 }
 
-impl<R: Files + AllocGlobal> Disk for R {
+impl<R: Files<File = File> + AllocGlobal> Disk for R {
     fn read(&self, name: &str, limit: u64) -> io::Result<Reading> {
         read_from(self, name, 0, limit)
     }
@@ -63,6 +70,20 @@ impl<R: Files + AllocGlobal> Disk for R {
         }
         let target = fs::read_link(self, name)?;
         from_directory(self.alloc(), name, target)
+    }
+
+    fn create_beside(&self, file: &str, kept: Option<u32>, is_noted: bool) -> io::Result<OpenPart> {
+        create_beside(self, self.alloc(), file, kept, is_noted)
+    }
+
+    fn open_again(&self, name: &str) -> io::Result<Option<(File, u64)>> {
+        match open_again(self, name)? {
+            Some(opened) => {
+                let count = opened.metadata()?.len();
+                Ok(Some((opened, count)))
+            }
+            None => Ok(None),
+        }
     }
 
     fn write_beside(&self, file: &str, writing: Writing<'_>) -> io::Result<String<Global>> {

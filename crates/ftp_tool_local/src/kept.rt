@@ -1,11 +1,16 @@
 // A part that was kept of a download before, with a note of which file it is.
+ghost use Rattle.std.specs.Prelude.{◌≡◌};
+ghost use Rattle.ftp_tool_local.specs.Note.{is_part_of};
+
 use crate::content::Reading;
 use crate::disk::Disk;
-use crate::note::{Note, note_in};
+use crate::note::{GROWING, Note, note_in};
+use crate::open_part::OpenPart;
 use crate::part::beside;
 use crate::place::{Place, Standing, place_of};
 use crate::writing::NAMES;
 use std::alloc::{AllocError, Global};
+use std::fs::File;
 use std::io;
 use std::io::ErrorKind;
 
@@ -15,12 +20,12 @@ const NOTE: &str = ".note";
 /// The most octets of a note.
 const NOTE_LIMIT: u64 = 65_536;
 
-/// A part of a download.
+/// A part of a download, open to be gone on with.
 #[derive(Drop)]
 pub struct Kept {
-    /// The number of its name, as `beside` takes it.
-    pub number: u32,
-    pub octets: Vec<u8, Global>,
+    pub part: OpenPart,
+    /// How many octets it has.
+    pub count: u64,
     pub note: Note,
 }
 
@@ -34,16 +39,15 @@ pub enum Beside {
     Nothing,
 }
 
-/// The first part beside a file that has a note of the file at this place of a server, and is as long as that says; `limit` octets at most.
+/// The first part beside a file that is what its note says, of the file at this place of a server, and that no other process has open.
 pub(crate) fn kept_beside<D: Disk>(
     disk: &D,
     alloc: Global,
     file: &str,
     place: &[u8],
-    limit: u64,
 ) -> io::Result<Beside> {
     match &place_of(disk, alloc, file)? {
-        Place::File { name, mode: _ } => kept_at(disk, alloc, name.as_str(), place, limit),
+        Place::File { name, mode } => kept_at(disk, alloc, name.as_str(), place, *mode),
         Place::Device => Ok(Beside::Nothing),
     }
 }
@@ -54,10 +58,10 @@ fn kept_at<D: Disk>(
     alloc: Global,
     name: &str,
     place: &[u8],
-    limit: u64,
+    mode: Option<u32>,
 ) -> io::Result<Beside> {
     for number in 0..NAMES {
-        if let Some(kept) = kept_as(disk, alloc, name, number, place, limit)? {
+        if let Some(kept) = kept_as(disk, alloc, name, number, place, mode)? {
             return Ok(Beside::Kept(kept));
         }
     }
@@ -76,20 +80,35 @@ fn kept_as<D: Disk>(
     name: &str,
     number: u32,
     place: &[u8],
-    limit: u64,
+    mode: Option<u32>,
 ) -> io::Result<Option<Kept>> {
     let part = beside(alloc, name, number)?;
     let Some(note) = noted(disk, alloc, part.as_str(), place)? else {
         return Ok(None);
     };
-    match octets_of(disk, part.as_str(), limit)? {
-        Some(octets) if octets.len() as u64 == note.count => Ok(Some(Kept {
-            number,
-            octets,
+    match opened_again(disk, part.as_str())? {
+        Some((opened, count)) if is_part_of(note, count) => Ok(Some(Kept {
+            part: OpenPart::new(number, opened, mode),
+            count,
             note,
         })),
         _ => Ok(None),
     }
+}
+
+/// A part that stands, open again; none where no file stands there, and where another process has it open.
+fn opened_again<D: Disk>(disk: &D, part: &str) -> io::Result<Option<(File, u64)>> {
+    if !matches!(disk.standing_at(part)?, Standing::File(_)) {
+        return Ok(None);
+    }
+    disk.open_again(part)
+}
+
+/// Whether a part of so many octets is what its note says.
+fn is_part_of(note: Note, count: u64) -> bool
+    ensures { result ≡ is_part_of note count }
+{
+    note.count == count || (note.count == GROWING && count <= note.size)
 }
 
 /// What the note of a part says, where it is of the file at this place.
@@ -130,25 +149,6 @@ pub(crate) fn forget_note<D: Disk>(disk: &D, alloc: Global, part: &str) -> Resul
     let name = name_of_note(alloc, part)?;
     let _gone = disk.remove(name.as_str());
     Ok(())
-}
-
-/// Removes a part beside a file, and its note, which goes first.
-pub(crate) fn remove_kept<D: Disk>(
-    disk: &D,
-    alloc: Global,
-    file: &str,
-    number: u32,
-) -> io::Result<()> {
-    match &place_of(disk, alloc, file)? {
-        Place::File { name, mode: _ } => remove_part(disk, alloc, name.as_str(), number),
-        Place::Device => Ok(()),
-    }
-}
-
-fn remove_part<D: Disk>(disk: &D, alloc: Global, name: &str, number: u32) -> io::Result<()> {
-    let part = beside(alloc, name, number)?;
-    forget_note(disk, alloc, part.as_str())?;
-    disk.remove(part.as_str())
 }
 
 /// What the note of a part is called.

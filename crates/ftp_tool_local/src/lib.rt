@@ -1,4 +1,5 @@
-//! Files of this end: read, also from an octet on and up to a limit; written beside their names, and moved over them once they are whole (own choice).
+//! Files of this end: read, also from an octet on and up to a limit; written beside their names, also as their octets come, and moved over them once they
+//! are whole (own choice).
 #![tactic(auto)]
 
 mod change;
@@ -7,6 +8,8 @@ mod disk;
 mod kept;
 mod local_files;
 mod note;
+mod open_part;
+mod open_source;
 mod part;
 mod place;
 mod writing;
@@ -15,7 +18,9 @@ pub use change::Change;
 pub use content::{Content, Reading, read_from, read_most};
 pub use kept::{Beside, Kept};
 pub use local_files::LocalFiles;
-pub use note::{Note, note_in, note_of};
+pub use note::{GROWING, Note, note_in, note_of};
+pub use open_part::OpenPart;
+pub use open_source::OpenSource;
 pub use part::beside;
 pub use place::{Standing, Way};
 pub use writing::Flush;

@@ -2,12 +2,17 @@
 // their bounds.
 use crate::change::{Change, changed};
 use crate::content::{Reading, read_from};
-use crate::kept::{Beside, kept_beside, remove_kept};
-use crate::part::{write_at, write_over, write_part};
+use crate::kept::{Beside, kept_beside};
+use crate::open_part::OpenPart;
+use crate::open_source::{OpenSource, open_source};
+use crate::part::{
+    begin_at, begin_part, discard_at, discard_part, finish_at, finish_part, name_of, note_part,
+    write_at, write_over,
+};
 use crate::writing::Flush;
 use ftp_facts::{Moment, Text};
 use std::alloc::Global;
-use std::fs::Files;
+use std::fs::{File, Files};
 use std::io;
 
 /// Who has files.
@@ -35,28 +40,56 @@ pub trait LocalFiles {
         flush: Flush,
     ) -> io::Result<()>;
 
-    /// Writes a part of a file beside its name, leaves it there, and gives its own name; over the part of the number `over`, where there is one, and else
-    /// by the first name that is free, as that of its note is. Its note is written once it is whole. Where the part can't be written, what was written
-    /// of it is removed again.
-    fn write_part(
+    /// A file, open at one of its octets; none where that is no file of a known size, as a pipe or what the system makes up.
+    fn open_source(&self, file: &str, from: u64) -> io::Result<Option<OpenSource>>;
+
+    /// Makes the part of a file beside its name, by the first name that is free; `is_noted`: it may be kept, and the name of its note is free too. None
+    /// where octets go into what is no file, as it stands.
+    fn begin_part(&self, file: &str, is_noted: bool) -> io::Result<Option<OpenPart>>;
+
+    /// Moves a part that is whole over its file, with the permissions of that; its last change was at the moment, where there is one; its note goes.
+    /// Where that fails, the part stands.
+    fn finish_part(
         &self,
         file: &str,
-        pieces: &[Text<Global>],
-        over: Option<u32>,
-        note: Option<&[u8]>,
-    ) -> io::Result<String<Global>>;
+        part: &OpenPart,
+        moment: Option<Moment>,
+        flush: Flush,
+    ) -> io::Result<()>;
 
-    /// The first part beside a file that has a note of the file at this place of a server, and is as long as that says; `limit` octets at most.
-    fn kept_beside(&self, file: &str, place: &[u8], limit: u64) -> io::Result<Beside>;
+    /// Removes a part, and its note, which goes first.
+    fn discard_part(&self, file: &str, part: &OpenPart) -> io::Result<()>;
 
-    /// Removes a part beside a file, and its note, which goes first.
-    fn remove_kept(&self, file: &str, number: u32) -> io::Result<()>;
+    /// Makes the part of a file beside this very name: no link is followed.
+    fn begin_at(&self, name: &str) -> io::Result<OpenPart>;
+
+    /// Moves a part that is whole over what has this very name, be it a link; its last change was at the moment, where there is one. Where that fails, the
+    /// part stands.
+    fn finish_at(
+        &self,
+        name: &str,
+        part: &OpenPart,
+        moment: Option<Moment>,
+        flush: Flush,
+    ) -> io::Result<()>;
+
+    /// Removes a part beside this very name.
+    fn discard_at(&self, name: &str, part: &OpenPart) -> io::Result<()>;
+
+    /// Writes the note of a part, and flushes it, in the place of the one that it had.
+    fn note_part(&self, file: &str, part: &OpenPart, note: &[u8]) -> io::Result<()>;
+
+    /// What a part of a file is called.
+    fn name_of_part(&self, file: &str, part: &OpenPart) -> io::Result<String<Global>>;
+
+    /// The first part beside a file that is what its note says, of the file at this place of a server, and that no other process has open.
+    fn kept_beside(&self, file: &str, place: &[u8]) -> io::Result<Beside>;
 
     /// Changes what stands at a place, beside the octets of files.
     fn change(&self, change: Change, place: &str) -> io::Result<()>;
 }
 
-impl<R: Files + AllocGlobal> LocalFiles for R {
+impl<R: Files<File = File> + AllocGlobal> LocalFiles for R {
     fn read_from(&self, file: &str, from: u64, limit: u64) -> io::Result<Reading> {
         read_from(self, file, from, limit)
     }
@@ -81,22 +114,56 @@ impl<R: Files + AllocGlobal> LocalFiles for R {
         write_at(self, name, pieces, moment, flush)
     }
 
-    fn write_part(
+    fn open_source(&self, file: &str, from: u64) -> io::Result<Option<OpenSource>> {
+        open_source(self, file, from)
+    }
+
+    fn begin_part(&self, file: &str, is_noted: bool) -> io::Result<Option<OpenPart>> {
+        begin_part(self, self.alloc(), file, is_noted)
+    }
+
+    fn finish_part(
         &self,
         file: &str,
-        pieces: &[Text<Global>],
-        over: Option<u32>,
-        note: Option<&[u8]>,
-    ) -> io::Result<String<Global>> {
-        write_part(self, self.alloc(), file, pieces, over, note)
+        part: &OpenPart,
+        moment: Option<Moment>,
+        flush: Flush,
+    ) -> io::Result<()> {
+        finish_part(self, self.alloc(), file, part, moment, flush)
     }
 
-    fn kept_beside(&self, file: &str, place: &[u8], limit: u64) -> io::Result<Beside> {
-        kept_beside(self, self.alloc(), file, place, limit)
+    fn discard_part(&self, file: &str, part: &OpenPart) -> io::Result<()> {
+        discard_part(self, self.alloc(), file, part)
     }
 
-    fn remove_kept(&self, file: &str, number: u32) -> io::Result<()> {
-        remove_kept(self, self.alloc(), file, number)
+    fn begin_at(&self, name: &str) -> io::Result<OpenPart> {
+        begin_at(self, name)
+    }
+
+    fn finish_at(
+        &self,
+        name: &str,
+        part: &OpenPart,
+        moment: Option<Moment>,
+        flush: Flush,
+    ) -> io::Result<()> {
+        finish_at(self, self.alloc(), name, part, moment, flush)
+    }
+
+    fn discard_at(&self, name: &str, part: &OpenPart) -> io::Result<()> {
+        discard_at(self, self.alloc(), name, part)
+    }
+
+    fn note_part(&self, file: &str, part: &OpenPart, note: &[u8]) -> io::Result<()> {
+        note_part(self, self.alloc(), file, part, note)
+    }
+
+    fn name_of_part(&self, file: &str, part: &OpenPart) -> io::Result<String<Global>> {
+        name_of(self, self.alloc(), file, part)
+    }
+
+    fn kept_beside(&self, file: &str, place: &[u8]) -> io::Result<Beside> {
+        kept_beside(self, self.alloc(), file, place)
     }
 
     fn change(&self, change: Change, place: &str) -> io::Result<()> {

@@ -20,6 +20,9 @@ const THIRD: usize = 38;
 
 const PLACE: usize = 57;
 
+/// What stands for the count of a part that grows still.
+pub const GROWING: u64 = 999_999_999_999_999_999;
+
 /// What a note says.
 #[derive(Clone, Copy, PartialEq, Eq)]
 pub struct Note {
@@ -27,7 +30,7 @@ pub struct Note {
     pub size: u64,
     /// When it was changed there last, in seconds from the beginning of 1970.
     pub moment: u64,
-    /// How many octets of it the part has, from its first on.
+    /// How many octets of it the part has, from its first on; `GROWING` while they come.
     pub count: u64,
 }
 

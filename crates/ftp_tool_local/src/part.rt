@@ -4,13 +4,15 @@ ghost use Rattle.ftp_tool_local.specs.Part.{part_name};
 
 use crate::disk::Disk;
 use crate::kept::{forget_note, write_note};
+use crate::open_part::OpenPart;
 use crate::place::{Place, place_of};
-use crate::writing::{Flush, Writing};
+use crate::writing::{Flush, Writing, settle};
 use ftp_facts::{Moment, Text};
 use itoa::Buffer;
 use std::alloc::{AllocError, Global};
 use std::io;
 use std::io::{Error, ErrorKind};
+use std::path::PathBuf;
 
 /// What a file is called behind its own name while it is written, and where a part of it is kept.
 const BESIDE: &str = ".ftp-part";
@@ -31,7 +33,6 @@ pub(crate) fn write_over<D: Disk>(
                 kept: *mode,
                 moment,
                 flush,
-                is_part: false,
             };
             replace(disk, name.as_str(), writing)
         }
@@ -52,7 +53,6 @@ pub(crate) fn write_at<D: Disk>(
         kept: disk.mode_at(name)?,
         moment,
         flush,
-        is_part: false,
     };
     replace(disk, name, writing)
 }
@@ -68,63 +68,110 @@ fn replace<D: Disk>(disk: &D, file: &str, writing: Writing<'_>) -> io::Result<()
     moved
 }
 
-/// Writes a part of a file beside its name, leaves it there, and gives its own name; over the part of the number `over`, where there is one, and else
-/// by the first name that is free, as that of its note is. Its note is written once it is whole. Where the part can't be written, what was written of
-/// it is removed again.
-pub(crate) fn write_part<D: Disk>(
+/// Makes the part of a file beside its name; none where octets go into what is no file, as it stands.
+pub(crate) fn begin_part<D: Disk>(
     disk: &D,
     alloc: Global,
     file: &str,
-    pieces: &[Text<Global>],
-    over: Option<u32>,
-    note: Option<&[u8]>,
-) -> io::Result<String<Global>> {
-    let part = part_at(disk, alloc, file, pieces, over)?;
-    if let Some(note) = note {
-        write_note(disk, alloc, part.as_str(), note)?;
-    }
-    Ok(part)
-}
-
-/// Writes a part of a file, and gives its name.
-fn part_at<D: Disk>(
-    disk: &D,
-    alloc: Global,
-    file: &str,
-    pieces: &[Text<Global>],
-    over: Option<u32>,
-) -> io::Result<String<Global>> {
+    is_noted: bool,
+) -> io::Result<Option<OpenPart>> {
     match &place_of(disk, alloc, file)? {
         Place::File { name, mode } => {
-            let writing = Writing {
-                pieces,
-                kept: *mode,
-                moment: None,
-                flush: Flush::First,
-                is_part: true,
-            };
-            let made = disk.write_beside(name.as_str(), writing)?;
-            moved(disk, alloc, name.as_str(), made, over)
+            Ok(Some(disk.create_beside(name.as_str(), *mode, is_noted)?))
         }
-        Place::Device => Err(Error::new(ErrorKind::InvalidInput, "no file stands beside a device")),
+        Place::Device => Ok(None),
     }
 }
 
-/// Moves a part that was made over the one of this number beside a file, whose note does not fit it any more; with no number it stays.
-fn moved<D: Disk>(
+/// Makes the part of a file beside this very name: no link is followed.
+pub(crate) fn begin_at<D: Disk>(disk: &D, name: &str) -> io::Result<OpenPart> {
+    disk.create_beside(name, disk.mode_at(name)?, false)
+}
+
+/// Moves a part that is whole over what has this very name, be it a link. Where that fails, the part stands as it was.
+pub(crate) fn finish_at<D: Disk>(
+    disk: &D,
+    alloc: Global,
+    name: &str,
+    part: &OpenPart,
+    moment: Option<Moment>,
+    flush: Flush,
+) -> io::Result<()> {
+    settle(part, moment, flush)?;
+    let made = beside(alloc, name, part.number)?;
+    disk.rename(made.as_str(), name)
+}
+
+/// Removes a part beside this very name.
+pub(crate) fn discard_at<D: Disk>(
+    disk: &D,
+    alloc: Global,
+    name: &str,
+    part: &OpenPart,
+) -> io::Result<()> {
+    let made = beside(alloc, name, part.number)?;
+    disk.remove(made.as_str())
+}
+
+/// Moves a part that is whole over its file, with the permissions of that; its note goes then. Where that fails, the part stands as it was.
+pub(crate) fn finish_part<D: Disk>(
     disk: &D,
     alloc: Global,
     file: &str,
-    made: String<Global>,
-    over: Option<u32>,
+    part: &OpenPart,
+    moment: Option<Moment>,
+    flush: Flush,
+) -> io::Result<()> {
+    settle(part, moment, flush)?;
+    let file = file_of(disk, alloc, file)?;
+    let name = beside(alloc, file.as_str(), part.number)?;
+    disk.rename(name.as_str(), file.as_str())?;
+    forget_note(disk, alloc, name.as_str())?;
+    Ok(())
+}
+
+/// Removes a part, and its note, which goes first.
+pub(crate) fn discard_part<D: Disk>(
+    disk: &D,
+    alloc: Global,
+    file: &str,
+    part: &OpenPart,
+) -> io::Result<()> {
+    let name = name_of(disk, alloc, file, part)?;
+    forget_note(disk, alloc, name.as_str())?;
+    disk.remove(name.as_str())
+}
+
+/// Writes the note of a part, and flushes it, in the place of the one that it had.
+pub(crate) fn note_part<D: Disk>(
+    disk: &D,
+    alloc: Global,
+    file: &str,
+    part: &OpenPart,
+    note: &[u8],
+) -> io::Result<()> {
+    let name = name_of(disk, alloc, file, part)?;
+    forget_note(disk, alloc, name.as_str())?;
+    write_note(disk, alloc, name.as_str(), note)
+}
+
+/// What a part of a file is called.
+pub(crate) fn name_of<D: Disk>(
+    disk: &D,
+    alloc: Global,
+    file: &str,
+    part: &OpenPart,
 ) -> io::Result<String<Global>> {
-    let Some(number) = over else {
-        return Ok(made);
-    };
-    let part = beside(alloc, file, number)?;
-    forget_note(disk, alloc, part.as_str())?;
-    disk.rename(made.as_str(), part.as_str())?;
-    Ok(part)
+    let file = file_of(disk, alloc, file)?;
+    Ok(beside(alloc, file.as_str(), part.number)?)
+}
+
+/// The name beside which a file is written.
+fn file_of<D: Disk>(disk: &D, alloc: Global, file: &str) -> io::Result<PathBuf<Global>> {
+    match place_of(disk, alloc, file)? {
+        Place::File { name, mode: _ } => Ok(name),
+        Place::Device => Err(Error::new(ErrorKind::InvalidInput, "no file stands beside a device")),
+    }
 }
 
 /// A name beside a file, by its number from 0.

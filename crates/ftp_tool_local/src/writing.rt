@@ -1,9 +1,10 @@
 // The octets of a file that is made just now.
 use crate::kept::name_of_note;
+use crate::open_part::OpenPart;
 use crate::part::beside;
 use ftp_facts::{Moment, Text};
 use std::alloc::Global;
-use std::fs::{FileTimes, Files, OpenFile, OpenOptions, Permissions};
+use std::fs::{File, FileTimes, Files, OpenOptions, Permissions, TryLockError};
 use std::io::{Error, ErrorKind, Write};
 use std::os::unix::fs::{OpenOptionsExt, PermissionsExt};
 use std::time::{Duration, SystemTime, UNIX_EPOCH};
@@ -33,25 +34,18 @@ pub(crate) struct Writing<'a> {
     /// When it was changed last, where that is said.
     pub(crate) moment: Option<Moment>,
     pub(crate) flush: Flush,
-    /// Whether it is a part, which has a note beside it: it takes a name by which no note stands yet.
-    pub(crate) is_part: bool,
-}
-
-/// A file beside another, which was made just now: no other program writes it or moves it.
-struct Made<F> {
-    name: String<Global>,
-    opened: F,
 }
 
 /// Writes a file that is made beside another, and gives its name. Where that fails, what was written is removed again.
-pub(crate) fn write_beside<R: Files>(
+pub(crate) fn write_beside<R: Files<File = File>>(
     files: &R,
     alloc: Global,
     file: &str,
     writing: Writing<'_>,
 ) -> io::Result<String<Global>> {
-    let Made { name, mut opened } = create(files, alloc, file, writing)?;
-    match write_to(&mut opened, writing) {
+    let part = create_beside(files, alloc, file, writing.kept, false)?;
+    let name = beside(alloc, file, part.number)?;
+    match write_to(&part, writing) {
         Ok(()) => Ok(name),
         Err(error) => {
             let _gone = fs::remove_file(files, name.as_str());
@@ -60,17 +54,22 @@ pub(crate) fn write_beside<R: Files>(
     }
 }
 
-/// Makes a file beside another, by the first name that is free: what stands there may be of another program or of the user, and stays.
-fn create<R: Files>(
+/// Makes a file beside another, by the first name that is free: what stands there may be of another program or of the user, and stays. One that may be
+/// kept, which has a note beside it, takes a name by which no note stands yet.
+pub(crate) fn create_beside<R: Files<File = File>>(
     files: &R,
     alloc: Global,
     file: &str,
-    writing: Writing<'_>,
-) -> io::Result<Made<R::File>> {
+    kept: Option<u32>,
+    is_noted: bool,
+) -> io::Result<OpenPart> {
     for number in 0..NAMES {
         let name = beside(alloc, file, number)?;
-        if let Some(opened) = open_new(files, alloc, name.as_str(), writing)? {
-            return Ok(Made { name, opened });
+        if is_noted && has_note(files, alloc, name.as_str())? {
+            continue;
+        }
+        if let Some(opened) = open_new(files, name.as_str(), kept)? {
+            return Ok(OpenPart::new(number, opened, kept));
         }
     }
     Err(Error::new(
@@ -79,29 +78,39 @@ fn create<R: Files>(
     ))
 }
 
-/// Makes a file; none where something has its name, or, if it is a part, that of its note.
-fn open_new<R: Files>(
+/// Makes a file, which no other process takes for its own as long as it is open; none where something has its name.
+fn open_new<R: Files<File = File>>(
     files: &R,
-    alloc: Global,
     name: &str,
-    writing: Writing<'_>,
-) -> io::Result<Option<R::File>> {
-    if writing.is_part && is_noted(files, alloc, name)? {
-        return Ok(None);
-    }
+    kept: Option<u32>,
+) -> io::Result<Option<File>> {
     let mut how = OpenOptions::new();
-    how.write(true)
+    how.append(true)
         .create_new(true)
-        .mode(writing.kept.unwrap_or(NEW_MODE));
+        .mode(kept.unwrap_or(NEW_MODE));
     match how.open(files, name) {
-        Ok(opened) => Ok(Some(opened)),
+        Ok(opened) => {
+            let _locked = opened.try_lock();
+            Ok(Some(opened))
+        }
         Err(error) if error.kind() == ErrorKind::AlreadyExists => Ok(None),
         Err(error) => Err(error),
     }
 }
 
+/// Opens a part that stands, to be written behind what it has; none where another process has it open.
+pub(crate) fn open_again<R: Files<File = File>>(files: &R, name: &str) -> io::Result<Option<File>> {
+    let mut how = OpenOptions::new();
+    how.append(true);
+    let opened = how.open(files, name)?;
+    match opened.try_lock() {
+        Err(TryLockError::WouldBlock) => Ok(None),
+        Ok(()) | Err(TryLockError::Error(_)) => Ok(Some(opened)),
+    }
+}
+
 /// Whether something has the name of a part's note, a link that leads to nothing too.
-fn is_noted<R: Files>(files: &R, alloc: Global, part: &str) -> io::Result<bool> {
+fn has_note<R: Files>(files: &R, alloc: Global, part: &str) -> io::Result<bool> {
     let note = name_of_note(alloc, part)?;
     match fs::symlink_metadata(files, note.as_str()) {
         Ok(_) => Ok(true),
@@ -111,17 +120,24 @@ fn is_noted<R: Files>(files: &R, alloc: Global, part: &str) -> io::Result<bool> 
 }
 
 /// Writes the octets of a file, and flushes it where that comes first.
-fn write_to<F: Write + OpenFile>(opened: &mut F, writing: Writing<'_>) -> io::Result<()> {
+fn write_to(part: &OpenPart, writing: Writing<'_>) -> io::Result<()> {
+    let mut opened = part.writer();
     for piece in writing.pieces {
         opened.write_all(piece.as_slice())?;
     }
-    if let Some(mode) = writing.kept {
+    settle(part, writing.moment, writing.flush)
+}
+
+/// Gives a part the permissions of the file that it is to replace, and its moment, where there is one; flushes it where that comes first.
+pub(crate) fn settle(part: &OpenPart, moment: Option<Moment>, flush: Flush) -> io::Result<()> {
+    let opened = part.writer();
+    if let Some(mode) = part.kept {
         opened.set_permissions(Permissions::from_mode(mode))?;
     }
-    if let Some(moment) = writing.moment {
+    if let Some(moment) = moment {
         opened.set_times(FileTimes::new().set_modified(time_of(moment)?))?;
     }
-    match writing.flush {
+    match flush {
         Flush::First => opened.sync_all(),
         Flush::Later => Ok(()),
     }
@@ -143,7 +159,11 @@ pub(crate) fn write_into<R: Files>(
 }
 
 /// Makes a file of these octets, and flushes it. Where something has its name, a link too, that stays, and it fails.
-pub(crate) fn write_new<R: Files>(files: &R, file: &str, octets: &[u8]) -> io::Result<()> {
+pub(crate) fn write_new<R: Files<File = File>>(
+    files: &R,
+    file: &str,
+    octets: &[u8],
+) -> io::Result<()> {
     let mut how = OpenOptions::new();
     how.write(true).create_new(true).mode(NEW_MODE);
     let mut opened = how.open(files, file)?;

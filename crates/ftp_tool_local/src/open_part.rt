@@ -1,0 +1,40 @@
+// A part of a file that is open.
+use std::fs::File;
+use std::io;
+
+/// A part of a file, beside its name, that is open: what comes goes behind what it has. It stands until it is moved over the file, kept or discarded by
+/// `LocalFiles`.
+#[derive(Drop)]
+pub struct OpenPart {
+    /// The number of its name, as `beside` takes it.
+    pub(crate) number: u32,
+    opened: File,
+    /// The permissions of the file that it is to replace.
+    pub(crate) kept: Option<u32>,
+}
+
+impl OpenPart {
+    /// A part of this number that was opened.
+    pub(crate) fn new(number: u32, opened: File, kept: Option<u32>) -> OpenPart {
+        OpenPart {
+            number,
+            opened,
+            kept,
+        }
+    }
+
+    /// What writes behind what it has.
+    pub fn writer(&self) -> &File {
+        &self.opened
+    }
+
+    /// Leaves its first octets, so many.
+    pub fn cut(&self, count: u64) -> io::Result<()> {
+        self.opened.set_len(count)
+    }
+
+    /// Its octets are on the disk then.
+    pub fn flush(&self) -> io::Result<()> {
+        self.opened.sync_all()
+    }
+}
