@@ -1,9 +1,9 @@
 // What is asked of the places below a folder, as one trait without types of its own: what stands on it is proved for less than on the system's files.
 use crate::folder::Folder;
 use ftp_facts::{Moment, Text};
-use ftp_tool_local::{Change, Flush, LocalFiles, Reading};
+use ftp_tool_local::{Change, Flush, LocalFiles, OpenPart, Reading};
 use std::alloc::Global;
-use std::fs::{Files, Metadata};
+use std::fs::{File, Files, Metadata};
 use std::io::{Error, ErrorKind};
 use std::{fs, io};
 
@@ -45,6 +45,22 @@ pub trait Places {
         flush: Flush,
     ) -> io::Result<()>;
 
+    /// Makes the part of the file there, beside its name, to which octets go as they come.
+    fn begin_below(&self, root: &str, below: &str) -> io::Result<OpenPart>;
+
+    /// Moves a part that is whole over what has the name. Where that fails, the part stands.
+    fn finish_below(
+        &self,
+        root: &str,
+        below: &str,
+        part: &OpenPart,
+        moment: Option<Moment>,
+        flush: Flush,
+    ) -> io::Result<()>;
+
+    /// Removes a part.
+    fn discard_below(&self, root: &str, below: &str, part: &OpenPart) -> io::Result<()>;
+
     /// Changes what stands there, beside the octets of files. The root itself can be made alone.
     fn change_below(&self, change: Change, root: &str, below: &str) -> io::Result<()>;
 
@@ -52,7 +68,7 @@ pub trait Places {
     fn rename_below(&self, root: &str, below: &str, name: &str) -> io::Result<()>;
 }
 
-impl<R: Files + AllocGlobal> Places for R {
+impl<R: Files<File = File> + AllocGlobal> Places for R {
     fn sightings(&self, root: &str, below: &str, most: usize) -> io::Result<Sightings> {
         let folder = Folder::reach(self.alloc(), root, below)?;
         seen(self, self.alloc(), &folder, most)
@@ -83,6 +99,31 @@ impl<R: Files + AllocGlobal> Places for R {
         let (folder, name) = parent(self.alloc(), root, below)?;
         let path = folder.path_of(self.alloc(), name)?;
         self.write_at(path.as_str(), pieces, moment, flush)
+    }
+
+    fn begin_below(&self, root: &str, below: &str) -> io::Result<OpenPart> {
+        let (folder, name) = parent(self.alloc(), root, below)?;
+        let path = folder.path_of(self.alloc(), name)?;
+        self.begin_at(path.as_str())
+    }
+
+    fn finish_below(
+        &self,
+        root: &str,
+        below: &str,
+        part: &OpenPart,
+        moment: Option<Moment>,
+        flush: Flush,
+    ) -> io::Result<()> {
+        let (folder, name) = parent(self.alloc(), root, below)?;
+        let path = folder.path_of(self.alloc(), name)?;
+        self.finish_at(path.as_str(), part, moment, flush)
+    }
+
+    fn discard_below(&self, root: &str, below: &str, part: &OpenPart) -> io::Result<()> {
+        let (folder, name) = parent(self.alloc(), root, below)?;
+        let path = folder.path_of(self.alloc(), name)?;
+        self.discard_at(path.as_str(), part)
     }
 
     fn change_below(&self, change: Change, root: &str, below: &str) -> io::Result<()> {
