@@ -13,7 +13,7 @@ use Rattle.ftp_operation.specs.Answer.{Said, Lost}
 use Rattle.ftp_operation.specs.declared.op.How.{How}
 use Rattle.ftp_operation.specs.declared.op.Op.{Op}
 use Rattle.ftp_tool_connection.specs.declared.request.Request.{Request}
-use Rattle.ftp_tool_connection.specs.declared.request.Request.TheVariants.{One, Upload, Download}
+use Rattle.ftp_tool_connection.specs.declared.request.Request.TheVariants.{One, Upload, Download, Drawn}
 
 -- an operation is begun by a client that is not busy: that is the deed before those of its drive
 abbrev pub BeginsOne : Option (Op (List ℕ)) → (old new : Client) → Type 0
@@ -32,6 +32,7 @@ BeginsUpload (Some file) how old new =
 abbrev pub Begins : Request → (old new : Client) → Type 0
 Begins (One op) old new = BeginsOne op old new
 Begins (Download op terms) old new = BeginsOne op old new
+Begins (Drawn op span) old new = BeginsOne op old new
 Begins (Upload file how) old new = BeginsUpload file how old new
 
 -- the answer is the report of its drive from there, and Lost where that has none

@@ -6,6 +6,7 @@ use crate::last_reply::{LastReply, Said};
 use crate::live::ClientSession;
 use crate::request::Request;
 use crate::saying::say;
+use ftp_client_stream::Carries;
 use ftp_control::TURNS;
 use ftp_operation::Answer;
 use ftp_tool_looking::{Awaits, Leaving};
@@ -13,6 +14,7 @@ use ftp_tool_sockets::monotonic_millis;
 use libc::net as c;
 use libc::types::pollfd;
 use std::alloc::Global;
+use std::cell::Cell;
 use std::fmt::{Display, Formatter};
 use std::io::Eprint;
 use std::{fmt, mem};
@@ -473,6 +475,18 @@ impl<'n, 'r, R: Eprint, L: TakesTurns + Drop> ClientSession for Lanes<'n, 'r, R,
             }
         }
         self.asked(request)
+    }
+
+    /// What goes over lanes is held: an upload that is read as it goes is none that can be asked, and what comes of a download is answered whole.
+    fn answer_carried<T: Carries + Drop>(
+        &mut self,
+        request: Request,
+        _home: &Cell<Option<T>>,
+    ) -> Answer<Global> {
+        if let Request::Drawn(_, _) = &request {
+            return Answer::BadOperation;
+        }
+        self.answer(request)
     }
 
     fn came(&self) -> &[u8] {

@@ -1,7 +1,7 @@
 // A client between its connections, as whoever asks sees it: how an answer comes about, and what is kept of a download, are ghost members, so that what
 // stands on these calls is proved without the clauses of a client.
 ghost use Rattle.std.specs.Global.{Global};
-ghost use Rattle.std.specs.Prelude.{◌≡◌, ℕ, List, ⊤};
+ghost use Rattle.std.specs.Prelude.{◌≡◌, ℕ, List, None, ⊤};
 ghost use Rattle.ftp_control.specs.Lane.{no_lane};
 ghost use Rattle.ftp_control.specs.Machine.{held};
 ghost use Rattle.ftp_client_drive.specs.Side.{beside};
@@ -14,9 +14,11 @@ use crate::course::{Course, Ending};
 use crate::request::{Request, begin};
 use ftp_client_drive::{Control, Driven, drive_client};
 use ftp_client_model::Near;
+use ftp_client_stream::{CarriedPorts, Carries};
 use ftp_control::Ports;
 use ftp_operation::Answer;
 use std::alloc::Global;
+use std::cell::Cell;
 use std::io::{Read, Write};
 
 /// What can be asked over one control connection, one request after another.
@@ -24,12 +26,23 @@ pub trait ClientSession {
     /// How an answer comes about, where that is known.
     ghost answers: { Request → Answer Global → (old new : Self) → Type 0 } = { λ request answer old new. ⊤ };
 
+    /// How one comes about where something else goes over the data connection, where that is known.
+    ghost carried: { Request → Answer Global → (old new : Self) → Type 0 } = { λ request answer old new. ⊤ };
+
     /// What is kept of a download whose control connection ended, where that is known.
     ghost keeps: { (came : List ℕ) → Self → Type 0 } = { λ came session. ⊤ };
 
     /// Does what is requested, and gives its answer.
     fn answer(&mut self, request: Request) -> Answer<Global>
         ensures { answers request result self.old self.new };
+
+    /// The same, where something else goes over the data connection than the client gives and hears: what is at home in the cell, and is back there then.
+    fn answer_carried<T: Carries + Drop>(
+        &mut self,
+        request: Request,
+        home: &Cell<Option<T>>,
+    ) -> Answer<Global>
+        ensures { carried request result self.old self.new };
 
     /// What came of the download that was asked for last, where its control connection ended in its middle; else nothing.
     fn came(&self) -> &[u8]
@@ -89,6 +102,8 @@ where
 {
     ghost answers = { λ request answer old new. Answers request (said_of answer) new.control.now.failed (beside C.remaining W.contents (held (N.client old.client) (no_lane (P.history old.ports.now))) old.control.now) (beside C.remaining W.contents (held (N.client new.client) (no_lane (P.history new.ports.now))) new.control.now) };
 
+    ghost carried = { λ request answer old new. Answers request (said_of answer) new.control.now.failed (beside C.remaining W.contents (held (N.client old.client) (no_lane None)) old.control.now) (beside C.remaining W.contents (held (N.client new.client) (no_lane None)) new.control.now) };
+
     ghost keeps = { λ came session. came ≡ (N.told session.client).came };
 
     fn answer(&mut self, request: Request) -> Answer<Global> {
@@ -96,6 +111,23 @@ where
         self.course.begin(&request);
         begin(&mut self.client, &mut request);
         let Driven { report, off: _ } = drive_client(&mut self.client, self.control, self.ports);
+        self.course.reported(&report, self.client.last_reply());
+        match report {
+            Some(answer) => answer,
+            None => Answer::Lost,
+        }
+    }
+
+    fn answer_carried<T: Carries + Drop>(
+        &mut self,
+        request: Request,
+        home: &Cell<Option<T>>,
+    ) -> Answer<Global> {
+        let mut request = request;
+        self.course.begin(&request);
+        begin(&mut self.client, &mut request);
+        let mut ports = CarriedPorts::new(self.ports, home);
+        let Driven { report, off: _ } = drive_client(&mut self.client, self.control, &mut ports);
         self.course.reported(&report, self.client.last_reply());
         match report {
             Some(answer) => answer,

@@ -20,6 +20,8 @@ pub enum Request {
     Upload(Option<(Text<Global>, Text<Global>)>, How),
     /// A download.
     Download(Option<Op<Text<Global>>>, Terms),
+    /// An upload of what a source gives: what it moves of the file. The octets of its operation stand for those, and never go.
+    Drawn(Option<Op<Text<Global>>>, Span),
 }
 
 /// The terms of a download.
@@ -35,7 +37,8 @@ pub struct Terms {
 impl Drop for Request {
     fn drop(self) {
         match self {
-            Request::One(_) | Request::Upload(_, _) | Request::Download(_, _) => {}
+            Request::One(_) | Request::Upload(_, _) => {}
+            Request::Download(_, _) | Request::Drawn(_, _) => {}
         }
     }
 }
@@ -47,7 +50,7 @@ pub(crate) fn most_of(request: &Request) -> Most {
             octets: MOST_LISTED,
             lines: Some(MOST_ENTRIES),
         },
-        Request::One(_) | Request::Upload(_, _) => Most {
+        Request::One(_) | Request::Upload(_, _) | Request::Drawn(_, _) => Most {
             octets: u64::MAX,
             lines: None,
         },
@@ -69,6 +72,7 @@ pub(crate) fn span_of(request: &Request) -> Span {
             start: start_of(op),
             total: terms.total,
         },
+        Request::Drawn(_, span) => *span,
         Request::One(Some(Op::Put(_, octets, _))) => Span {
             start: 0,
             total: Some(octets.as_slice().len() as u64),
@@ -94,7 +98,7 @@ pub(crate) fn begin<N: Near<Global>>(client: &mut N, request: &mut Request)
     ensures { Begins request.old (N.client client.old) (N.client client.new) }
 {
     match request {
-        Request::One(op) | Request::Download(op, _) => client.begin(op),
+        Request::One(op) | Request::Download(op, _) | Request::Drawn(op, _) => client.begin(op),
         Request::Upload(file, how) => client.begin_upload(file, *how),
     }
 }
