@@ -1,6 +1,7 @@
 // A download, which goes on where it was cut: where its data connection broke, where its control connection ended, and where the server says that all
 // is sent and not all came. After each try the server is asked once more which file it has: octets of two files are never joined.
-use crate::came::Came;
+use crate::came::{Came, poured};
+use crate::noting::Noting;
 use crate::telling::Part;
 use crate::trying::{ended_of, is_counted, moment_request, size_request};
 use ftp_client_steps::MOST_TRIES;
@@ -9,12 +10,14 @@ use ftp_operation::{Answer, How, Op};
 use ftp_tool_connection::{
     ClientSession, Ending, Openings, Request, SessionFault, SessionTask, Terms, say,
 };
+use ftp_tool_local::{LocalFiles, OpenPart};
 use ftp_tool_status::{
     Arrival, Ended, Size, Step, Version, arrived, follows_download, is_too_large, resumes,
 };
 use std::alloc::{AllocError, Global};
+use std::cell::Cell;
 use std::io::Eprint;
-use std::mem;
+use std::{io, mem};
 
 /// What is known of the moment of the file's last change.
 #[derive(Clone, Copy)]
@@ -52,6 +55,8 @@ pub struct Downloading<'a, R> {
     limit: u64,
     /// What came so far.
     came: Came,
+    /// Where a note stands beside the part that it goes to.
+    noting: Option<Noting>,
     /// How many tries may still begin, over all control connections.
     left: u64,
     /// Which file the server had before the first octet of what came.
@@ -74,6 +79,7 @@ impl<'a, R> Drop for Downloading<'a, R> {
             openings: _,
             limit: _,
             came: _,
+            noting: _,
             left: _,
             begun: _,
             size: _,
@@ -83,7 +89,7 @@ impl<'a, R> Drop for Downloading<'a, R> {
     }
 }
 
-impl<'a, R: Eprint> Downloading<'a, R> {
+impl<'a, R: LocalFiles + Eprint> Downloading<'a, R> {
     /// What is asked for: the file at a path of a server, of any size; its moment is not asked for.
     pub fn new(
         rt: &'a R,
@@ -108,6 +114,7 @@ impl<'a, R: Eprint> Downloading<'a, R> {
             openings,
             limit: u64::MAX,
             came: Came::new(alloc),
+            noting: None,
             left: MOST_TRIES,
             begun: Version { size, moment: None },
             size,
@@ -128,20 +135,28 @@ impl<'a, R: Eprint> Downloading<'a, R> {
         self.head.push_str(": ")
     }
 
-    /// These octets came before, of a file of this size that was changed last at this moment: the download goes on behind them where the server has
-    /// that file still.
-    pub fn begin_with(
-        &mut self,
-        octets: Text<Global>,
-        total: u64,
-        moment: Moment,
-    ) -> Result<(), AllocError> {
-        if is_counted(self.how) {
-            self.came.add(octets)?;
-            self.size = Size::Told(total);
-            self.stamp = Stamp::Told(moment);
-            self.begun = self.version();
+    /// What comes goes to this part of a file, as it comes, and none of it is held in memory.
+    pub fn pour_into(&mut self, part: OpenPart) {
+        self.came = Came::into_part(self.alloc, part, 0);
+    }
+
+    /// The same, where the part has octets of a file of this size that was changed last at this moment, as its note says: the download goes on behind them
+    /// where the server has that file still, and else begins anew. Without a moment, and in settings in which octets are not counted, it begins anew.
+    pub fn go_on_in(&mut self, part: OpenPart, count: u64, total: u64, moment: Option<Moment>) {
+        self.came = Came::into_part(self.alloc, part, count);
+        match moment {
+            Some(moment) if is_counted(self.how) => {
+                self.size = Size::Told(total);
+                self.stamp = Stamp::Told(moment);
+                self.begun = self.version();
+            }
+            _ => self.came.cut(0),
         }
+    }
+
+    /// A note beside the part says of which file it is, as soon as the server tells that: the file of this end, and the place of the file at its server.
+    pub fn note_as(&mut self, file: &str, place: &str) -> Result<(), AllocError> {
+        self.noting = Some(Noting::new(self.alloc, file, place)?);
         Ok(())
     }
 
@@ -159,6 +174,11 @@ impl<'a, R: Eprint> Downloading<'a, R> {
     /// What came.
     pub fn came(&self) -> &Came {
         &self.came
+    }
+
+    /// The most octets that the file may have.
+    pub fn limit(&self) -> u64 {
+        self.limit
     }
 
     /// Which file what came is of, as far as the server told before its first octet.
@@ -298,11 +318,17 @@ impl<'a, R: Eprint> Downloading<'a, R> {
     /// One try, behind what came so far.
     fn turn<S: ClientSession>(&mut self, seat: &mut S) -> Turn {
         let opened = seat.opened();
+        let before = self.came.count();
         self.left = self.left.saturating_sub(1);
+        self.note();
         let Ok(asked) = self.asked(seat) else {
             return Turn::Over(Answer::Memory);
         };
-        let answer = self.take(asked, seat.came());
+        let answer = self.take(asked, seat.came(), before);
+        if self.came.fault().is_some() {
+            drop(answer);
+            return Turn::Over(Answer::Memory);
+        }
         if seat.ending() == Ending::PastLimit {
             drop(answer);
             self.size = Size::Past;
@@ -312,15 +338,50 @@ impl<'a, R: Eprint> Downloading<'a, R> {
         self.follow(answer, step)
     }
 
+    /// Writes the note of the part before it grows, where one is to stand.
+    fn note(&mut self) {
+        let (Some(noting), Some(part)) = (&mut self.noting, self.came.part()) else {
+            return;
+        };
+        if let Err(error) = noting.begin(self.rt, self.alloc, part, self.begun) {
+            self.came.fail(error);
+        }
+    }
+
+    /// The octets of the part are on the disk then, and where a note is to stand, it says how many they are.
+    pub fn keep(&self) -> io::Result<()> {
+        let Some(part) = self.came.part() else {
+            return Ok(());
+        };
+        part.flush()?;
+        if let Some(noting) = &self.noting {
+            noting.write(self.rt, self.alloc, part, self.begun, self.came.count())?;
+        }
+        Ok(())
+    }
+
     /// What the server answers to a try; where it does not know how its data connection is asked for, to the same asked for otherwise.
-    fn asked<S: ClientSession>(&self, seat: &mut S) -> Result<Answer<Global>, AllocError> {
+    fn asked<S: ClientSession>(&mut self, seat: &mut S) -> Result<Answer<Global>, AllocError> {
         let opened = seat.opened();
-        let answer = seat.answer(self.request()?);
+        let answer = self.asked_once(seat)?;
         if !self.openings.hear(&answer, seat.opened() > opened) {
             return Ok(answer);
         }
         drop(answer);
-        Ok(seat.answer(self.request()?))
+        self.asked_once(seat)
+    }
+
+    /// What the server answers to a try. Where there is a part, octets go there.
+    fn asked_once<S: ClientSession>(&mut self, seat: &mut S) -> Result<Answer<Global>, AllocError> {
+        let request = self.request()?;
+        let Some(pouring) = self.came.pouring(self.how.representation) else {
+            return Ok(seat.answer(request));
+        };
+        let home = Cell::new(Some(pouring));
+        let answer = seat.answer_carried(request, &home);
+        let (count, fault) = poured(home.into_inner(), &answer);
+        self.came.took(count, fault);
+        Ok(answer)
     }
 
     /// What is asked for a try.
@@ -342,16 +403,14 @@ impl<'a, R: Eprint> Downloading<'a, R> {
         Ok(Request::Download(Some(op), terms))
     }
 
-    /// Takes the octets out of an answer; where the control connection ended in the middle of a transfer, those that came until then (`kept`), which
-    /// is answered as a break. Without the size of the file nothing goes on behind them, and they are left.
-    fn take(&mut self, mut answer: Answer<Global>, kept: &[u8]) -> Answer<Global> {
+    /// Takes the octets out of an answer; where the control connection ended in the middle of a transfer, those that came until then (`kept`, and to the part
+    /// what it has more than before), which is answered as a break. Without the size of the file nothing goes on behind them, and they are left.
+    fn take(&mut self, mut answer: Answer<Global>, kept: &[u8], before: u64) -> Answer<Global> {
         let none = Text::from_vec(Vec::new(self.alloc));
         let octets = match &mut answer {
             Answer::Octets(octets) => mem::replace(octets, none),
             Answer::Broken { got, mark: _ } => mem::replace(got, none),
-            Answer::Lost if matches!(self.size, Size::Told(_)) && !kept.is_empty() => {
-                return self.take_kept(kept);
-            }
+            Answer::Lost => return self.take_lost(kept, before),
             _ => return answer,
         };
         match self.came.add(octets) {
@@ -359,6 +418,20 @@ impl<'a, R: Eprint> Downloading<'a, R> {
             Ok(()) => answer,
             Err(AllocError) => Answer::Memory,
         }
+    }
+
+    /// Takes octets that came before the control connection ended, or leaves them.
+    fn take_lost(&mut self, kept: &[u8], before: u64) -> Answer<Global> {
+        if !matches!(self.size, Size::Told(_)) {
+            if self.came.count() > before {
+                self.came.cut(before);
+            }
+            return Answer::Lost;
+        }
+        if kept.is_empty() && self.came.count() == before {
+            return Answer::Lost;
+        }
+        self.take_kept(kept)
     }
 
     /// Takes octets that came before the control connection ended.
@@ -430,6 +503,14 @@ impl<'a, R: Eprint> Downloading<'a, R> {
         }
     }
 
+    /// Nothing came; the note of the part, if it has one, is of another file.
+    fn begin_anew(&mut self) {
+        self.came.cut(0);
+        if let Some(noting) = &mut self.noting {
+            noting.forget();
+        }
+    }
+
     /// Tells from where the download goes on; where that is not after what came, it begins anew, with the file that the server has now.
     fn go_on(&mut self, from: u64) {
         let is_anew = from != self.came.count();
@@ -437,7 +518,7 @@ impl<'a, R: Eprint> Downloading<'a, R> {
             self.begun = self.version();
         }
         if is_anew {
-            self.came = Came::new(self.alloc);
+            self.begin_anew();
             let _told = say(self.rt, self.head.as_str(), &"the download begins anew", "");
         } else if let Size::Told(total) = self.size {
             let part = Part {
@@ -450,7 +531,8 @@ impl<'a, R: Eprint> Downloading<'a, R> {
     }
 }
 
-impl<'a, R: Eprint> SessionTask<Result<Answer<Global>, SessionFault>> for Downloading<'a, R> {
+impl<'a, R: LocalFiles + Eprint> SessionTask<Result<Answer<Global>, SessionFault>>
+    for Downloading<'a, R> {
     fn play<S: ClientSession>(&mut self, seat: &mut S) -> Result<Answer<Global>, SessionFault> {
         Ok(self.answer(seat))
     }

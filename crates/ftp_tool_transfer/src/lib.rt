@@ -4,6 +4,8 @@
 
 mod came;
 mod downloading;
+mod held;
+mod noting;
 mod source;
 mod telling;
 mod trying;
@@ -11,6 +13,7 @@ mod uploading;
 
 pub use came::Came;
 pub use downloading::{Downloading, Stamp};
+pub use held::limit_held;
 pub use source::Source;
 pub use telling::{Part, tell, tell_too_large};
 pub use trying::is_counted;

@@ -1,13 +1,19 @@
 // The octets of an upload, at this end.
-use ftp_tool_local::{Content, LocalFiles, Reading};
+use ftp_client_stream::{Drawing, Inlet};
+use ftp_operation::How;
+use ftp_tool_local::{LocalFiles, OpenSource};
 use std::alloc::Global;
+use std::fs::File;
 use std::io;
 use std::io::{Error, ErrorKind};
 use std::time::SystemTime;
 
+/// What a data connection of an upload carries: octets of a file, as they are read.
+pub(crate) type Drawn = Drawing<Inlet<File>, Global>;
+
 /// The octets of an upload.
 pub enum Source<'a> {
-    /// Those of a file: of the first try they are here, and behind it they are read anew.
+    /// Those of a file, which are read as they go.
     File(FileSource<'a>),
     /// Those that can be had only once, as from standard input: they stay here.
     Kept(Vec<u8, Global>),
@@ -16,8 +22,8 @@ pub enum Source<'a> {
 /// A file of this end, whose octets go.
 pub struct FileSource<'a> {
     name: &'a str,
-    /// All octets of the file, until they go for the first time.
-    octets: Option<Vec<u8, Global>>,
+    /// The file as it was opened first, until its octets go for the first time.
+    opened: Option<OpenSource>,
     total: u64,
     /// When it was changed last, where that is known.
     changed: Option<SystemTime>,
@@ -37,7 +43,7 @@ impl<'a> Drop for FileSource<'a> {
     fn drop(self) {
         let Self {
             name: _,
-            octets: _,
+            opened: _,
             total: _,
             changed: _,
         } = self;
@@ -45,14 +51,13 @@ impl<'a> Drop for FileSource<'a> {
 }
 
 impl<'a> Source<'a> {
-    /// A file of this name, with what was read of it.
-    pub fn file(name: &'a str, content: Content) -> Source<'a> {
-        let Content { octets, changed } = content;
+    /// A file of this name, open at its first octet.
+    pub fn file(name: &'a str, opened: OpenSource) -> Source<'a> {
         Source::File(FileSource {
             name,
-            total: octets.len() as u64,
-            octets: Some(octets),
-            changed,
+            total: opened.total,
+            changed: opened.changed,
+            opened: Some(opened),
         })
     }
 
@@ -64,46 +69,69 @@ impl<'a> Source<'a> {
         }
     }
 
-    /// The octets from one of them on; fails where a file has changed since it was read first. The first try asks for all.
-    pub(crate) fn octets_from<R: LocalFiles>(
+    /// What carries octets of a file to a data connection, from one of them on; none of those that stay here. Fails where the file has changed since it was
+    /// opened first. The first try asks for all.
+    pub(crate) fn drawing<R: LocalFiles>(
         &mut self,
         rt: &R,
         alloc: Global,
+        how: How,
         from: u64,
-    ) -> io::Result<Vec<u8, Global>> {
+    ) -> io::Result<Option<Drawn>> {
         match self {
-            Source::File(file) => file.octets_from(rt, from),
-            Source::Kept(octets) => copy_from(alloc, octets.as_slice(), from),
+            Source::File(file) => Ok(Some(file.drawing(rt, alloc, how, from)?)),
+            Source::Kept(_) => Ok(None),
         }
     }
-}
 
-/// A copy of octets from one of them on.
-fn copy_from(alloc: Global, octets: &[u8], from: u64) -> io::Result<Vec<u8, Global>> {
-    let (_, rest) = octets.split_at(octets.len().min(from as usize));
-    Ok(Vec::from_slice(alloc, rest)?)
+    /// A copy of those that stay here, from one of them on; none of a file.
+    pub(crate) fn copy_from(&self, alloc: Global, from: u64) -> io::Result<Vec<u8, Global>> {
+        match self {
+            Source::File(_) => Ok(Vec::new(alloc)),
+            Source::Kept(octets) => {
+                let (_, rest) = octets.split_at(octets.len().min(from as usize));
+                Ok(Vec::from_slice(alloc, rest)?)
+            }
+        }
+    }
 }
 
 impl<'a> FileSource<'a> {
-    /// The octets from one of them on.
-    fn octets_from<R: LocalFiles>(&mut self, rt: &R, from: u64) -> io::Result<Vec<u8, Global>> {
-        match self.octets.take() {
-            Some(octets) => Ok(octets),
-            None => self.read_again(rt, from),
-        }
+    /// What carries the octets from one of them on.
+    fn drawing<R: LocalFiles>(
+        &mut self,
+        rt: &R,
+        alloc: Global,
+        how: How,
+        from: u64,
+    ) -> io::Result<Drawn> {
+        let opened = match self.opened.take() {
+            Some(opened) => opened,
+            None => self.open_again(rt, from)?,
+        };
+        let inlet = Inlet::new(opened.opened, self.total.saturating_sub(from));
+        let start = if how.marks { Some(from) } else { None };
+        Ok(Drawing::new(how.representation, start, inlet, alloc)?)
     }
 
-    /// Reads octets of the file anew; fails where it has another size or moment than before.
-    fn read_again<R: LocalFiles>(&self, rt: &R, from: u64) -> io::Result<Vec<u8, Global>> {
-        if let Reading::Content(content) = rt.read_from(self.name, from, self.total)? {
-            let Content { octets, changed } = content;
-            if from.saturating_add(octets.len() as u64) == self.total && changed == self.changed {
-                return Ok(octets);
+    /// Opens the file anew, at one of its octets; fails where it has another size or moment than before.
+    fn open_again<R: LocalFiles>(&self, rt: &R, from: u64) -> io::Result<OpenSource> {
+        if let Some(opened) = rt.open_source(self.name, from)? {
+            if opened.total == self.total && opened.changed == self.changed {
+                return Ok(opened);
             }
         }
         Err(Error::new(
             ErrorKind::InvalidData,
             "it has changed since the upload began",
         ))
+    }
+}
+
+/// Why a file could not be read that a data connection carried, if it could not.
+pub(crate) fn unread(home: Option<Drawn>) -> Option<Error> {
+    match home {
+        Some(drawing) => drawing.into_source().fault(),
+        None => Some(Error::from(ErrorKind::NotConnected)),
     }
 }

@@ -1,5 +1,5 @@
 // An upload, which goes on where the server has it: over breaks, and where a 226 came and not all is there.
-use crate::source::Source;
+use crate::source::{Source, unread};
 use crate::telling::{Part, tell};
 use crate::trying::{NO_FILE, ended_of, is_counted, size_request, there_of};
 use ftp_client_steps::MOST_TRIES;
@@ -9,10 +9,14 @@ use ftp_tool_connection::{
     ClientSession, LastReply, Openings, Phase, Request, SessionFault, SessionTask, at, say, told,
 };
 use ftp_tool_local::LocalFiles;
-use ftp_tool_status::{Ended, Status, Step, There, Transfer, follows};
+use ftp_tool_status::{Ended, Span, Status, Step, There, Transfer, follows};
 use std::alloc::{AllocError, Global};
+use std::cell::Cell;
 use std::io;
 use std::io::Eprint;
+
+/// What stands for the octets of a file in an operation of which others go: some, so that their end is awaited.
+const STAND_IN: &[u8] = b"-";
 
 /// An upload, until the server answers to it.
 pub struct Uploading<'a, R> {
@@ -112,24 +116,51 @@ impl<'a, R: LocalFiles + Eprint> Uploading<'a, R> {
     /// What the server answers to a try; where it does not know how its data connection is asked for, to the same asked for otherwise.
     fn asked<S: ClientSession>(&mut self, seat: &mut S, from: u64) -> io::Result<Answer<Global>> {
         let opened = seat.opened();
-        let answer = seat.answer(self.request(from)?);
+        let answer = self.asked_once(seat, from)?;
         if !self.openings.hear(&answer, seat.opened() > opened) {
             return Ok(answer);
         }
         drop(answer);
-        Ok(seat.answer(self.request(from)?))
+        self.asked_once(seat, from)
+    }
+
+    /// What the server answers to a try. Octets of a file are read as they go; where that fails, the try failed, whatever was answered.
+    fn asked_once<S: ClientSession>(
+        &mut self,
+        seat: &mut S,
+        from: u64,
+    ) -> io::Result<Answer<Global>> {
+        let Some(drawing) = self.source.drawing(self.rt, self.alloc, self.how, from)? else {
+            let octets = self.source.copy_from(self.alloc, from)?;
+            return Ok(seat.answer(Request::One(Some(self.operation(from, octets)?))));
+        };
+        let stand_in = Vec::from_slice(self.alloc, STAND_IN)?;
+        let span = Span {
+            start: from,
+            total: Some(self.upload.total),
+        };
+        let request = Request::Drawn(Some(self.operation(from, stand_in)?), span);
+        let home = Cell::new(Some(drawing));
+        let answer = seat.answer_carried(request, &home);
+        match unread(home.into_inner()) {
+            None => Ok(answer),
+            Some(error) => {
+                drop(answer);
+                Err(error)
+            }
+        }
     }
 
     /// What is asked for a try.
-    fn request(&mut self, from: u64) -> io::Result<Request> {
+    fn operation(&self, from: u64, octets: Vec<u8, Global>) -> io::Result<Op<Text<Global>>> {
         let path = self.path()?;
-        let octets = Text::from_vec(self.source.octets_from(self.rt, self.alloc, from)?);
+        let octets = Text::from_vec(octets);
         let how = self.openings.how(self.how);
-        Ok(Request::One(Some(if from == 0 {
+        Ok(if from == 0 {
             Op::Put(path, octets, how)
         } else {
             Op::PutFrom(path, from, octets, how)
-        })))
+        })
     }
 
     /// What follows a try that was answered so, with a data connection or without.
