@@ -1,16 +1,18 @@
 // A download: what is asked for, and what is left of it at this end.
 use crate::single::ask_at;
 use crate::target::Target;
-use ftp_facts::{Moment, Text};
+use ftp_facts::Moment;
 use ftp_operation::{Answer, How};
 use ftp_settings::{Mode, Structure};
 use ftp_tool_connection::{Converses, LastReply, Logins, Phase, SessionFault, at, say, told};
-use ftp_tool_local::{Beside, Flush, Kept, LocalFiles, Note, note_of};
-use ftp_tool_status::{Arrival, Size, Status, Version};
-use ftp_tool_transfer::{Came, Downloading, Part, Stamp, is_counted, tell, tell_too_large};
+use ftp_tool_local::{Beside, Flush, Kept, LocalFiles, OpenPart};
+use ftp_tool_status::{Arrival, Status};
+use ftp_tool_transfer::{
+    Came, Downloading, Part, Stamp, is_counted, limit_held, tell, tell_too_large,
+};
 use std::alloc::Global;
 use std::io;
-use std::io::{Eprint, Print, Write};
+use std::io::{Eprint, Error, Print, Write};
 
 /// The file that stands for standard output.
 const OUTPUT: &str = "-";
@@ -35,12 +37,11 @@ pub struct Download<'a> {
     pub moment: bool,
 }
 
-/// A download, the place of its file at a server, and the number of the part that it may go on behind.
+/// A download, and the place of its file at a server.
 pub(crate) struct Job<'a> {
     pub(crate) alloc: Global,
     pub(crate) download: Download<'a>,
     pub(crate) place: String<Global>,
-    pub(crate) over: Option<u32>,
 }
 
 /// By hand: a derived drop is proved again, part by part, wherever a job is let go.
@@ -50,7 +51,6 @@ impl<'a> Drop for Job<'a> {
             alloc: _,
             download: _,
             place: _,
-            over: _,
         } = self;
     }
 }
@@ -67,23 +67,17 @@ where
     R: Converses + Logins + LocalFiles + Print + Eprint,
 {
     let mut downloading = at(Phase::Asking, begun(rt, alloc, asked, download))?;
-    let mut job = Job {
+    let job = Job {
         alloc,
         download,
         place: at(Phase::Asking, place_text(alloc, asked))?,
-        over: None,
     };
-    if download.parts == Parts::Continued && download.file != OUTPUT {
-        at(
-            Phase::Reading,
-            resume(rt, asked.limit, &mut job, &mut downloading),
-        )?;
-    }
+    at(Phase::Writing, prepare(rt, &job, &mut downloading))?;
     get_by(rt, asked, &job, &mut downloading, noticed)
 }
 
 /// A download of which nothing came yet.
-fn begun<'a, R: Eprint>(
+fn begun<'a, R: LocalFiles + Eprint>(
     rt: &'a R,
     alloc: Global,
     asked: &Target<'a>,
@@ -91,7 +85,12 @@ fn begun<'a, R: Eprint>(
 ) -> io::Result<Downloading<'a, R>> {
     let path = asked.place.path;
     let mut downloading = Downloading::new(rt, alloc, path, asked.how, asked.openings)?;
-    downloading.put_terms(asked.limit, stamp_of(asked.how, download.moment));
+    let limit = if download.file == OUTPUT {
+        limit_held(asked.limit)
+    } else {
+        asked.limit
+    };
+    downloading.put_terms(limit, stamp_of(asked.how, download.moment));
     Ok(downloading)
 }
 
@@ -110,24 +109,44 @@ pub(crate) fn place_text(alloc: Global, asked: &Target<'_>) -> io::Result<String
     Ok(format!(in alloc; "{}:{}/{}", place.host, place.port, place.path)?)
 }
 
-/// Takes the octets of a part that is kept beside the file; where it has no note that fits, that is told.
-pub(crate) fn resume<R: LocalFiles + Eprint>(
+/// Makes the part of the file to which its octets go as they come, or takes up one that was kept. What goes to standard output or into a device is held in
+/// memory.
+pub(crate) fn prepare<R: LocalFiles + Eprint>(
     rt: &R,
-    limit: u64,
-    job: &mut Job<'_>,
+    job: &Job<'_>,
     downloading: &mut Downloading<'_, R>,
 ) -> io::Result<()> {
-    match rt.kept_beside(job.download.file, job.place.as_bytes(), limit)? {
+    let Download {
+        file,
+        parts,
+        moment: _,
+    } = job.download;
+    if file == OUTPUT {
+        return Ok(());
+    }
+    if parts != Parts::Continued || !resume(rt, job, downloading)? {
+        match rt.begin_part(file, parts != Parts::Dropped)? {
+            Some(part) => downloading.pour_into(part),
+            None => return Ok(()),
+        }
+    }
+    if parts != Parts::Dropped {
+        downloading.note_as(file, job.place.as_str())?;
+    }
+    Ok(())
+}
+
+/// Takes up a part that is kept beside the file, and says whether there is one; where it has no note that fits, that is told.
+fn resume<R: LocalFiles + Eprint>(
+    rt: &R,
+    job: &Job<'_>,
+    downloading: &mut Downloading<'_, R>,
+) -> io::Result<bool> {
+    match rt.kept_beside(job.download.file, job.place.as_bytes())? {
         Beside::Kept(kept) => {
-            let Kept {
-                number,
-                octets,
-                note,
-            } = kept;
-            job.over = Some(number);
-            if let Some(moment) = Moment::new(note.moment) {
-                downloading.begin_with(Text::from_vec(octets), note.size, moment)?;
-            }
+            let Kept { part, count, note } = kept;
+            downloading.go_on_in(part, count, note.size, Moment::new(note.moment));
+            Ok(true)
         }
         Beside::Unnoted => {
             let _told = say(
@@ -136,10 +155,10 @@ pub(crate) fn resume<R: LocalFiles + Eprint>(
                 &job.download.file,
                 " has a note of this file; the download begins anew",
             );
+            Ok(false)
         }
-        Beside::Nothing => {}
+        Beside::Nothing => Ok(false),
     }
-    Ok(())
 }
 
 /// Does a download, and leaves what came at this end.
@@ -159,7 +178,10 @@ where
             drop(answer);
             at(Phase::Report, left)
         }
-        Err(stop) => Err(stop),
+        Err(stop) => {
+            let _kept = keep_part(rt, job, downloading, Status::Failed);
+            Err(stop)
+        }
     }
 }
 
@@ -172,6 +194,10 @@ pub(crate) fn leave<R: LocalFiles + Print + Eprint>(
     downloading: &Downloading<'_, R>,
     noticed: &LastReply,
 ) -> io::Result<Status> {
+    if let Some(error) = downloading.came().fault() {
+        let status = tell_unwritten(rt, asked, job.download.file, error)?;
+        return keep_part(rt, job, downloading, status);
+    }
     match answer {
         Answer::Done => save(rt, asked, job, downloading),
         Answer::Broken { got: _, mark: _ } => {
@@ -202,9 +228,32 @@ fn save<R: LocalFiles + Print + Eprint>(
             tell_wrong(rt, downloading.came(), total)?;
             keep_part(rt, job, downloading, Status::Refused)
         }
-        Arrival::TooLarge(total) => tell_too_large(rt, asked.place.path, total, asked.limit),
-        Arrival::Past => tell_past(rt, asked.limit),
-        Arrival::Changed => tell_changed(rt),
+        Arrival::TooLarge(total) => {
+            let status = tell_too_large(rt, asked.place.path, total, downloading.limit())?;
+            keep_part(rt, job, downloading, status)
+        }
+        Arrival::Past => {
+            let status = tell_past(rt, downloading.limit())?;
+            keep_part(rt, job, downloading, status)
+        }
+        Arrival::Changed => {
+            discard(rt, job, downloading);
+            tell_changed(rt)
+        }
+    }
+}
+
+/// Tells that the octets that came could not be written, and gives the exit status.
+pub(crate) fn tell_unwritten<R: Eprint>(
+    rt: &R,
+    asked: &Target<'_>,
+    file: &str,
+    error: Error,
+) -> io::Result<Status> {
+    let failed: io::Result<()> = Err(error);
+    match at(Phase::Writing, failed) {
+        Ok(()) => Ok(Status::Done),
+        Err(stop) => stop.tell(rt, asked.subject(file)),
     }
 }
 
@@ -250,33 +299,41 @@ fn tell_changed<R: Eprint>(rt: &R) -> io::Result<Status> {
     Ok(Status::Refused)
 }
 
-/// Writes the file, or its octets to standard output.
+/// Moves the part over the file, or writes the octets that are held to standard output or into a device.
 fn write<R: LocalFiles + Print + Eprint>(
     rt: &R,
     asked: &Target<'_>,
     job: &Job<'_>,
     downloading: &Downloading<'_, R>,
 ) -> io::Result<Status> {
-    let file = job.download.file;
-    let written = if file == OUTPUT {
-        put_out(rt, downloading.came())
-    } else {
-        let moment = moment_for(rt, job.download, downloading);
-        rt.write_over(file, downloading.came().pieces(), moment, Flush::First)
-    };
-    match at(Phase::Writing, written) {
-        Ok(()) => {
-            if let Some(number) = job.over {
-                let _gone = rt.remove_kept(file, number);
-            }
-            Ok(Status::Done)
+    match written(rt, job, downloading) {
+        Ok(()) => Ok(Status::Done),
+        Err(error) => {
+            let status = tell_unwritten(rt, asked, job.download.file, error)?;
+            keep_part(rt, job, downloading, status)
         }
-        Err(stop) => stop.tell(rt, asked.subject(file)),
+    }
+}
+
+fn written<R: LocalFiles + Print + Eprint>(
+    rt: &R,
+    job: &Job<'_>,
+    downloading: &Downloading<'_, R>,
+) -> io::Result<()> {
+    let file = job.download.file;
+    let came = downloading.came();
+    if file == OUTPUT {
+        return put_out(rt, came);
+    }
+    let moment = moment_for(rt, job.download, downloading);
+    match came.part() {
+        Some(part) => rt.finish_part(file, part, moment, Flush::First),
+        None => rt.write_over(file, came.pieces(), moment, Flush::First),
     }
 }
 
 /// The moment that the file's last change is to be at; where the server does not tell it, that is told.
-fn moment_for<R: Eprint>(
+fn moment_for<R: LocalFiles + Eprint>(
     rt: &R,
     download: Download<'_>,
     downloading: &Downloading<'_, R>,
@@ -311,7 +368,7 @@ fn tell_broken<R: Eprint>(rt: &R, came: &Came) -> io::Result<Status> {
     )
 }
 
-/// Keeps the octets that came where they are to be kept, tells where they are, and gives the status.
+/// Keeps the part with the octets that came where they are to be kept, tells where it is, and gives the status; else it is discarded.
 fn keep_part<R: LocalFiles + Eprint>(
     rt: &R,
     job: &Job<'_>,
@@ -324,24 +381,14 @@ fn keep_part<R: LocalFiles + Eprint>(
         moment: _,
     } = job.download;
     let came = downloading.came();
-    if parts == Parts::Dropped || file == OUTPUT || came.count() == 0 {
+    let Some(part) = came.part() else {
+        return Ok(status);
+    };
+    if parts == Parts::Dropped || came.count() == 0 {
+        discard(rt, job, downloading);
         return Ok(status);
     }
-    match &note_for(job, downloading)? {
-        Some(note) => write_part(rt, job, came, Some(note.as_slice()), status),
-        None => write_part(rt, job, came, None, status),
-    }
-}
-
-/// Writes the octets that came beside the file, with this note, tells where they are, and gives the status.
-fn write_part<R: LocalFiles + Eprint>(
-    rt: &R,
-    job: &Job<'_>,
-    came: &Came,
-    note: Option<&[u8]>,
-    status: Status,
-) -> io::Result<Status> {
-    match rt.write_part(job.download.file, came.pieces(), job.over, note) {
+    match kept(rt, file, part, downloading) {
         Ok(name) => told(rt, "note: the octets that came are in ", &name, "", status),
         Err(error) => told(
             rt,
@@ -353,22 +400,20 @@ fn write_part<R: LocalFiles + Eprint>(
     }
 }
 
-/// The note of a part, where the server told the size and the moment of the file that it is of.
-fn note_for<R: Eprint>(
-    job: &Job<'_>,
+/// What a part is called, which is kept.
+fn kept<R: LocalFiles + Eprint>(
+    rt: &R,
+    file: &str,
+    part: &OpenPart,
     downloading: &Downloading<'_, R>,
-) -> io::Result<Option<Vec<u8, Global>>> {
-    let Version {
-        size: Size::Told(size),
-        moment: Some(moment),
-    } = downloading.begun()
-    else {
-        return Ok(None);
-    };
-    let note = Note {
-        size,
-        moment,
-        count: downloading.came().count(),
-    };
-    Ok(note_of(job.alloc, note, job.place.as_bytes())?)
+) -> io::Result<String<Global>> {
+    downloading.keep()?;
+    rt.name_of_part(file, part)
+}
+
+/// Removes the part, with its note.
+fn discard<R: LocalFiles + Eprint>(rt: &R, job: &Job<'_>, downloading: &Downloading<'_, R>) {
+    if let Some(part) = downloading.came().part() {
+        let _gone = rt.discard_part(job.download.file, part);
+    }
 }

@@ -14,7 +14,7 @@ use ftp_tool_status::Status;
 use ftp_tool_transfer::tell;
 use std::alloc::Global;
 use std::env::Env;
-use std::fs::Files;
+use std::fs::{File, Files};
 use std::io;
 use std::io::{Eprint, Print, Write};
 use std::net::{Net, TcpListener, TcpStream};
@@ -48,7 +48,7 @@ pub enum Task<'a> {
 pub fn fetch<R>(rt: &R, asked: &Target<'_>, task: Task<'_>) -> io::Result<Status>
 where
     R: Net<Listener = TcpListener, Stream = TcpStream>
-        + Files
+        + Files<File = File>
         + Env
         + Input
         + Print

@@ -1,7 +1,7 @@
 // The files of a directory whose names are of a pattern, one after another over one control connection.
 ghost use Rattle.std.specs.Prelude.{◌≡◌, ◌++◌};
 
-use crate::download::{Download, Job, Parts, leave, place_text, resume, stamp_of};
+use crate::download::{Download, Job, Parts, leave, place_text, prepare, stamp_of, tell_unwritten};
 use crate::fetching::says_unknown;
 use crate::single::{Single, Wish};
 use crate::target::Target;
@@ -85,8 +85,6 @@ where
 struct Under<'a, R> {
     name: String<Global>,
     downloading: Downloading<'a, R>,
-    /// The number of the part that it may go on behind.
-    over: Option<u32>,
     /// Whether nothing was asked of it yet.
     is_new: bool,
 }
@@ -97,7 +95,6 @@ impl<'a, R> Drop for Under<'a, R> {
         let Self {
             name: _,
             downloading: _,
-            over: _,
             is_new: _,
         } = self;
     }
@@ -275,7 +272,6 @@ impl<'a, R: LocalFiles + Print + Eprint> Matching<'a, R> {
         Ok(Under {
             name,
             downloading,
-            over: None,
             is_new: true,
         })
     }
@@ -294,7 +290,10 @@ impl<'a, R: LocalFiles + Print + Eprint> Matching<'a, R> {
         under: Under<'a, R>,
     ) -> io::Result<Answer<Global>> {
         let mut under = under;
-        self.take_up(&mut under)?;
+        if let Err(error) = self.take_up(&mut under) {
+            self.refuse(&under, error)?;
+            return Ok(Answer::Done);
+        }
         let answer = under.downloading.answer(seat);
         if matches!(&answer, Answer::Lost) && !under.downloading.is_spent() {
             self.cut = Some(under);
@@ -304,23 +303,34 @@ impl<'a, R: LocalFiles + Print + Eprint> Matching<'a, R> {
         Ok(answer)
     }
 
-    /// Takes the octets of a part that is kept of a file, where that is wished for and nothing was asked of it yet.
+    /// Makes the part of a file of which nothing was asked yet, or takes up one that is kept.
     fn take_up(&self, under: &mut Under<'a, R>) -> io::Result<()> {
-        if !under.is_new || self.parts != Parts::Continued {
+        if !under.is_new {
             return Ok(());
         }
         under.is_new = false;
         let file = joined(self.alloc, self.folder.as_str(), under.name.as_str())?;
         let there = self.there(under.name.as_str())?;
-        let mut job = Job {
+        let job = Job {
             alloc: self.alloc,
             download: self.download_into(file.as_str()),
             place: place_text(self.alloc, &self.asked_at(there.as_str()))?,
-            over: None,
         };
-        resume(self.rt, self.asked.limit, &mut job, &mut under.downloading)?;
-        under.over = job.over;
-        Ok(())
+        prepare(self.rt, &job, &mut under.downloading)
+    }
+
+    /// Tells why a file can't be written here.
+    fn refuse(&mut self, under: &Under<'a, R>, error: Error) -> io::Result<()> {
+        let file = joined(self.alloc, self.folder.as_str(), under.name.as_str())?;
+        let there = self.there(under.name.as_str())?;
+        let status = tell_unwritten(
+            self.rt,
+            &self.asked_at(there.as_str()),
+            file.as_str(),
+            error,
+        )?;
+        self.worst = self.worst.worse(status);
+        self.tell_undone(status, there.as_str())
     }
 
     /// Leaves at this end what came of a file, as the server answered.
@@ -337,7 +347,6 @@ impl<'a, R: LocalFiles + Print + Eprint> Matching<'a, R> {
             alloc: self.alloc,
             download: self.download_into(file.as_str()),
             place: place_text(self.alloc, &asked)?,
-            over: under.over,
         };
         let status = leave(self.rt, &asked, &job, answer, &under.downloading, noticed)?;
         self.worst = self.worst.worse(status);

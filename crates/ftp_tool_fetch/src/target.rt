@@ -17,7 +17,7 @@ pub struct Target<'a> {
     pub progress: bool,
     /// The most octets a second over a data connection; 0: without a limit.
     pub rate: u64,
-    /// The most octets of a file, which is held in memory.
+    /// The most octets of a file; of one that is held in memory 1 GiB, where this is the most that a number can be.
     pub limit: u64,
 }
 

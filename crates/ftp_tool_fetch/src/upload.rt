@@ -4,7 +4,7 @@ use crate::target::Target;
 use ftp_tool_connection::{Converses, LastReply, Logins, Phase, SessionFault, at};
 use ftp_tool_local::{LocalFiles, Reading, read_most};
 use ftp_tool_status::Status;
-use ftp_tool_transfer::{Source, Uploading, tell_too_large};
+use ftp_tool_transfer::{Source, Uploading, limit_held, tell_too_large};
 use std::alloc::Global;
 use std::io;
 use std::io::Eprint;
@@ -23,12 +23,11 @@ pub(crate) fn put<R>(
 where
     R: Converses + Logins + LocalFiles + Input + Eprint,
 {
-    let source = match at(Phase::Reading, read(rt, alloc, file, asked.limit))? {
-        Reading::Content(content) if file == INPUT => Source::Kept(content.octets),
-        Reading::Content(content) => Source::file(file, content),
-        Reading::TooLarge(size) => return at(
+    let source = match at(Phase::Reading, source_of(rt, alloc, file, asked.limit))? {
+        Ok(source) => source,
+        Err(TooLarge { size, limit }) => return at(
             Phase::Report,
-            tell_too_large(rt, file, size, asked.limit),
+            tell_too_large(rt, file, size, limit),
         ),
     };
     let path = asked.place.path;
@@ -36,7 +35,38 @@ where
     put_by(rt, asked, &mut uploading, noticed)
 }
 
-/// Reads what is to be uploaded.
+/// What is not uploaded: it has more octets than may be.
+#[derive(Clone, Copy)]
+struct TooLarge {
+    size: u64,
+    limit: u64,
+}
+
+/// What is to be uploaded: a file is read as it goes; what comes of standard input, or is no file of a known size, is held in memory.
+fn source_of<'a, R: LocalFiles + Input>(
+    rt: &R,
+    alloc: Global,
+    file: &'a str,
+    limit: u64,
+) -> io::Result<Result<Source<'a>, TooLarge>> {
+    if file != INPUT {
+        if let Some(opened) = rt.open_source(file, 0)? {
+            let size = opened.total;
+            return Ok(if size > limit {
+                Err(TooLarge { size, limit })
+            } else {
+                Ok(Source::file(file, opened))
+            });
+        }
+    }
+    let limit = limit_held(limit);
+    match read(rt, alloc, file, limit)? {
+        Reading::Content(content) => Ok(Ok(Source::Kept(content.octets))),
+        Reading::TooLarge(size) => Ok(Err(TooLarge { size, limit })),
+    }
+}
+
+/// Reads what is held in memory.
 fn read<R: LocalFiles + Input>(
     rt: &R,
     alloc: Global,
