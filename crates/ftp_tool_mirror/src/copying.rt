@@ -7,15 +7,15 @@ use ftp_facts::{Moment, Text};
 use ftp_operation::{Answer, How, Op};
 use ftp_tool_connection::{ClientSession, Request};
 use ftp_tool_listing::Facts;
-use ftp_tool_local::{Content, Reading};
+use ftp_tool_local::{Content, LocalFiles, Reading};
 use ftp_tool_places::Places;
 use ftp_tool_status::Arrival;
-use ftp_tool_transfer::{Came, Downloading, Stamp};
+use ftp_tool_transfer::{Came, Downloading, Stamp, limit_held};
 use std::alloc::{AllocError, Global};
 use std::io::Eprint;
 
-/// Writes what came of a file here, last changed at the moment that the server told last of it. Gives how many octets it has.
-pub(crate) fn leave<R: Places + Eprint>(
+/// Moves the part of a file that came over its name here, last changed at the moment that the server told last of it. Gives how many octets it has.
+pub(crate) fn leave<R: Places + LocalFiles + Eprint>(
     rt: &R,
     mirror: &Mirror<'_>,
     below: &str,
@@ -27,8 +27,22 @@ pub(crate) fn leave<R: Places + Eprint>(
         None => moment_of(facts),
     };
     let came = downloading.came();
-    rt.write_below(mirror.folder, below, came.pieces(), moment, mirror.flush)?;
+    if let Some(part) = came.part() {
+        rt.finish_below(mirror.folder, below, part, moment, mirror.flush)?;
+    }
     Ok(came.count())
+}
+
+/// Removes the part of a file that is to be here, where it has one.
+pub(crate) fn discard<R: Places + LocalFiles + Eprint>(
+    rt: &R,
+    mirror: &Mirror<'_>,
+    below: &str,
+    downloading: &Downloading<'_, R>,
+) {
+    if let Some(part) = downloading.came().part() {
+        let _gone = rt.discard_below(mirror.folder, below, part);
+    }
 }
 
 /// The moment of a file, where it is known.
@@ -36,49 +50,64 @@ fn moment_of(facts: Facts) -> Option<Moment> {
     Moment::new(facts.moment?)
 }
 
-/// The download of a file that is listed so, of which nothing came yet.
-pub(crate) fn begun<'a, R: Eprint>(
+/// The download of a file that is listed so, of which nothing came yet, and which may have `limit` octets at most. What comes goes to a part of the file that
+/// is to be here, and where there is none it is held in memory.
+pub(crate) fn begun<'a, R: Places + LocalFiles + Eprint>(
     rt: &'a R,
     alloc: Global,
     mirror: &Mirror<'a>,
     below: &str,
     facts: Facts,
-) -> Result<Downloading<'a, R>, AllocError> {
+    limit: u64,
+    to: Option<&str>,
+) -> Result<Downloading<'a, R>, Trouble> {
     let there = mirror.there(alloc, below)?;
     let mut downloading = Downloading::new(rt, alloc, there.as_str(), mirror.how, mirror.openings)?;
-    put_terms(&mut downloading, alloc, mirror, below, facts)?;
+    name(&mut downloading, alloc, below)?;
+    downloading.put_terms(limit, Stamp::Untold);
+    if let Some(to) = to {
+        downloading.pour_into(rt.begin_below(mirror.folder, to)?);
+    }
+    expect(&mut downloading, facts);
     Ok(downloading)
 }
 
-/// A download is told of by its path below the roots, and is of a file that is listed so.
-fn put_terms<R: Eprint>(
+/// A download is told of by its path below the roots.
+fn name<R: LocalFiles + Eprint>(
     downloading: &mut Downloading<'_, R>,
     alloc: Global,
-    mirror: &Mirror<'_>,
     below: &str,
-    facts: Facts,
 ) -> Result<(), AllocError> {
     let name = shown(alloc, below)?;
-    downloading.name_as(name.as_str())?;
-    downloading.put_terms(mirror.limit, Stamp::Untold);
+    downloading.name_as(name.as_str())
+}
+
+/// A download is of a file that is listed so.
+fn expect<R: LocalFiles + Eprint>(downloading: &mut Downloading<'_, R>, facts: Facts) {
     if let (Some(size), Some(moment)) = (facts.size, moment_of(facts)) {
         downloading.expect(size, moment);
     }
-    Ok(())
 }
 
 /// Goes on with a download until all of it came.
 pub(crate) fn download<R, S>(
     downloading: &mut Downloading<'_, R>,
     seat: &mut S,
-    limit: u64,
 ) -> Result<(), Trouble>
 where
-    R: Eprint,
+    R: LocalFiles + Eprint,
     S: ClientSession,
 {
-    match &downloading.answer(seat) {
-        Answer::Done => check_whole(downloading.arrived(), downloading.came().count(), limit),
+    let answer = downloading.answer(seat);
+    if let Some(error) = downloading.came().fault() {
+        return Err(Trouble::Here(error));
+    }
+    match &answer {
+        Answer::Done => check_whole(
+            downloading.arrived(),
+            downloading.came().count(),
+            downloading.limit(),
+        ),
         answer => Err(Trouble::of(answer)),
     }
 }
@@ -160,9 +189,10 @@ pub(crate) fn octets_of<R: Places>(
     mirror: &Mirror<'_>,
     below: &str,
 ) -> Result<Text<Global>, Trouble> {
-    match rt.read_below(mirror.folder, below, mirror.limit)? {
+    let limit = limit_held(mirror.limit);
+    match rt.read_below(mirror.folder, below, limit)? {
         Reading::Content(Content { octets, changed: _ }) => Ok(Text::from_vec(octets)),
-        Reading::TooLarge(size) => Err(Trouble::TooLarge(size, mirror.limit)),
+        Reading::TooLarge(size) => Err(Trouble::TooLarge(size, limit)),
     }
 }
 

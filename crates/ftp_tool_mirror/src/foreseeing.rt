@@ -10,6 +10,7 @@ use ftp_operation::Op;
 use ftp_tool_connection::{ClientSession, Request, Terms};
 use ftp_tool_listing::{Deed, Facts, Way};
 use ftp_tool_places::Places;
+use ftp_tool_transfer::limit_held;
 use std::alloc::{AllocError, Global};
 
 /// The most octets of a file that is asked ahead, since it is held in memory until its turn.
@@ -116,7 +117,7 @@ fn download_request(
     let path = mirror.path(alloc, below)?;
     let how = mirror.openings.how(mirror.how);
     let terms = Terms {
-        most: mirror.limit,
+        most: limit_held(mirror.limit),
         total: facts.size,
     };
     Ok(Request::Download(Some(Op::Get(path, how)), terms))

@@ -5,6 +5,7 @@
 mod asked;
 mod changing;
 mod copying;
+mod cut;
 mod folder;
 mod foreseeing;
 mod machine;

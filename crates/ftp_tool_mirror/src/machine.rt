@@ -1,7 +1,7 @@
 // What a mirror asks of this machine: what stands on one trait without types of its own is proved for less.
 use ftp_tool_local::LocalFiles;
 use ftp_tool_places::Places;
-use std::fs::Files;
+use std::fs::{File, Files};
 use std::io;
 use std::io::{Eprint, Print, Write};
 
@@ -14,7 +14,7 @@ pub(crate) trait Machine: LocalFiles + Places + Eprint {
     fn tell_line(&self, line: &[u8]) -> io::Result<()>;
 }
 
-impl<R: Files + Print + Eprint + AllocGlobal + Clone + Drop> Machine for R {
+impl<R: Files<File = File> + Print + Eprint + AllocGlobal + Clone + Drop> Machine for R {
     fn tell_would(&self, what: &str, name: &str) -> io::Result<()> {
         println!(self; "{what} {name}")
     }

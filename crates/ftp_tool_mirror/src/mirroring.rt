@@ -7,7 +7,7 @@ use ftp_tool_connection::{Converses, LastReply, Logins, SessionFault, Subject, a
 use ftp_tool_status::Status;
 use std::alloc::Global;
 use std::env::Env;
-use std::fs::Files;
+use std::fs::{File, Files};
 use std::io;
 use std::io::{Eprint, Print};
 use std::net::{Net, TcpListener, TcpStream};
@@ -27,7 +27,7 @@ const ENDED: &str = "error: the control connection ended";
 pub fn mirror<R>(rt: &R, asked: Mirror<'_>) -> io::Result<Status>
 where
     R: Net<Listener = TcpListener, Stream = TcpStream>
-        + Files
+        + Files<File = File>
         + Env
         + Print
         + Eprint
@@ -47,6 +47,7 @@ where
     let mut noticed = LastReply::new();
     let mut walk = Walk::new(rt, alloc, asked)?;
     let answered = walked(rt, asked, &mut walk, &mut noticed);
+    walk.give_up();
     let told = tell_end(rt, asked, &answered, walk.tally.failed, &noticed);
     say(rt, "", &walk.tally, "")?;
     told

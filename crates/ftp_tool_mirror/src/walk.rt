@@ -1,7 +1,8 @@
 // The way through a tree, one thing after another.
 use crate::asked::{Deeds, Doing, Mirror};
 use crate::changing::{change_there, word_of};
-use crate::copying::{begun, copy_up, download, is_current, is_same, leave};
+use crate::copying::{copy_up, discard, is_current, is_same, leave};
+use crate::cut::Cut;
 use crate::folder::entries_here;
 use crate::foreseeing::foresee;
 use crate::machine::Machine;
@@ -16,7 +17,6 @@ use ftp_operation::Answer;
 use ftp_tool_connection::{ClientSession, SessionFault, SessionTask};
 use ftp_tool_listing::{Deed, Extra, Facts, Listing, Rules, Way};
 use ftp_tool_local::Change;
-use ftp_tool_transfer::Downloading;
 use std::alloc::{AllocError, Global};
 use std::io::ErrorKind;
 
@@ -27,7 +27,7 @@ pub(crate) struct Walk<'a, R> {
     pub(crate) mirror: &'a Mirror<'a>,
     pub(crate) todo: Todo,
     /// The download of what comes next, where a control connection ended in its middle.
-    cut: Option<Downloading<'a, R>>,
+    pub(crate) cut: Option<Cut<'a, R>>,
     /// What was done so far.
     pub(crate) tally: Tally,
 }
@@ -68,7 +68,7 @@ impl<'a, R: Machine> Walk<'a, R> {
     /// How far it got: how many things it took up, and how many octets came of the file under way.
     pub(crate) fn reach(&self) -> (u64, u64) {
         let came = match &self.cut {
-            Some(downloading) => downloading.came().count(),
+            Some(cut) => cut.count(),
             None => 0,
         };
         (self.todo.taken(), came)
@@ -327,35 +327,12 @@ impl<'a, R: Machine> Walk<'a, R> {
         facts: Facts,
         to: &str,
     ) -> Result<u64, Trouble> {
-        let downloading = self.downloaded(seat, below, facts)?;
-        leave(self.rt, self.mirror, to, facts, &downloading)
-    }
-
-    /// Downloads a file, all of it: behind what came before, where a control connection ended in its middle.
-    fn downloaded<S: ClientSession>(
-        &mut self,
-        seat: &mut S,
-        below: &str,
-        facts: Facts,
-    ) -> Result<Downloading<'a, R>, Trouble> {
-        let mut downloading = match self.cut.take() {
-            Some(downloading) => downloading,
-            None => begun(self.rt, self.alloc, self.mirror, below, facts)?,
-        };
-        match download(&mut downloading, seat, self.mirror.limit) {
-            Ok(()) => Ok(downloading),
-            Err(Trouble::Lost) => Err(self.cut_off(downloading)),
-            Err(trouble) => Err(trouble),
+        let downloading = self.downloaded(seat, below, facts, Some(to))?;
+        let left = leave(self.rt, self.mirror, to, facts, &downloading);
+        if left.is_err() {
+            discard(self.rt, self.mirror, to, &downloading);
         }
-    }
-
-    /// The control connection ended in the middle of a download, which goes on over another one, if a try is left.
-    fn cut_off(&mut self, downloading: Downloading<'a, R>) -> Trouble {
-        if downloading.is_spent() {
-            return Trouble::Spent;
-        }
-        self.cut = Some(downloading);
-        Trouble::Lost
+        left
     }
 
     /// Copies a file whose octets differ.
@@ -378,7 +355,7 @@ impl<'a, R: Machine> Walk<'a, R> {
         below: &str,
         facts: Facts,
     ) -> Result<bool, Trouble> {
-        let downloading = self.downloaded(seat, below, facts)?;
+        let downloading = self.downloaded(seat, below, facts, None)?;
         is_same(self.rt, self.mirror, below, downloading.came())
     }
 

@@ -1,0 +1,117 @@
+// A download of a mirror, over as many control connections as it takes.
+use crate::copying::{begun, discard, download};
+use crate::machine::Machine;
+use crate::trouble::Trouble;
+use crate::walk::Walk;
+use ftp_tool_connection::ClientSession;
+use ftp_tool_listing::Facts;
+use ftp_tool_local::LocalFiles;
+use ftp_tool_transfer::{Downloading, limit_held};
+use std::alloc::{AllocError, Global};
+use std::io::Eprint;
+
+/// A download that the end of a control connection cut off.
+pub(crate) struct Cut<'a, R> {
+    downloading: Downloading<'a, R>,
+    /// Where its file goes, if it goes to one.
+    to: Option<String<Global>>,
+}
+
+/// By hand: a derived drop is proved again, part by part, wherever one is let go.
+impl<'a, R> Drop for Cut<'a, R> {
+    fn drop(self) {
+        let Self {
+            downloading: _,
+            to: _,
+        } = self;
+    }
+}
+
+impl<'a, R: LocalFiles + Eprint> Cut<'a, R> {
+    /// How many octets came.
+    pub(crate) fn count(&self) -> u64 {
+        self.downloading.came().count()
+    }
+
+    fn into_downloading(self) -> Downloading<'a, R> {
+        let Cut { downloading, to: _ } = self;
+        downloading
+    }
+}
+
+/// A copy of a name, where there is one.
+fn copied_name(alloc: Global, name: Option<&str>) -> Result<Option<String<Global>>, AllocError> {
+    match name {
+        Some(name) => Ok(Some(String::from_str(alloc, name)?)),
+        None => Ok(None),
+    }
+}
+
+impl<'a, R: Machine> Walk<'a, R> {
+    /// Downloads a file, all of it, to its part here, or into memory: behind what came before, where a control connection ended in its middle.
+    pub(crate) fn downloaded<S: ClientSession>(
+        &mut self,
+        seat: &mut S,
+        below: &str,
+        facts: Facts,
+        to: Option<&str>,
+    ) -> Result<Downloading<'a, R>, Trouble> {
+        let mut downloading = match self.cut.take() {
+            Some(cut) => cut.into_downloading(),
+            None => {
+                let limit = self.limit_over(seat, to);
+                begun(self.rt, self.alloc, self.mirror, below, facts, limit, to)?
+            }
+        };
+        match download(&mut downloading, seat) {
+            Ok(()) => Ok(downloading),
+            Err(Trouble::Lost) if !downloading.is_spent() => Err(self.cut_off(downloading, to)),
+            Err(trouble) => {
+                self.discard(&downloading, to);
+                Err(match trouble {
+                    Trouble::Lost => Trouble::Spent,
+                    _ => trouble,
+                })
+            }
+        }
+    }
+
+    /// The most octets of a download: what goes to no part is held in memory, and so is what comes over several control connections.
+    fn limit_over<S: ClientSession>(&self, seat: &S, to: Option<&str>) -> u64 {
+        if to.is_none() || seat.ahead() > 0 {
+            limit_held(self.mirror.limit)
+        } else {
+            self.mirror.limit
+        }
+    }
+
+    /// The control connection ended in the middle of a download, which goes on over another one.
+    fn cut_off(&mut self, downloading: Downloading<'a, R>, to: Option<&str>) -> Trouble {
+        match copied_name(self.alloc, to) {
+            Ok(to) => {
+                self.cut = Some(Cut { downloading, to });
+                Trouble::Lost
+            }
+            Err(AllocError) => {
+                self.discard(&downloading, to);
+                Trouble::Memory
+            }
+        }
+    }
+
+    /// Removes the part of a download, where it has one.
+    fn discard(&self, downloading: &Downloading<'a, R>, to: Option<&str>) {
+        if let Some(to) = to {
+            discard(self.rt, self.mirror, to, downloading);
+        }
+    }
+
+    /// Removes the part of what was cut off, where nothing goes on any more.
+    pub(crate) fn give_up(&mut self) {
+        if let Some(cut) = self.cut.take() {
+            if let Some(to) = &cut.to {
+                discard(self.rt, self.mirror, to.as_str(), &cut.downloading);
+            }
+        }
+    }
+}
