@@ -65,11 +65,11 @@ pub const QUIET: Word<'static> = Word {
     help: "tells errors alone: no progress, no notes, no summary",
 };
 
-/// The most octets of a file that is held in memory.
+/// The most octets of a file.
 pub const LIMIT: Word<'static> = Word {
     name: "limit",
-    form: Form::Else(Value::Number("OCTETS", 0, MOST_OCTETS), "1073741824"),
-    help: "the most octets of a file, which is held in memory",
+    form: Form::Given(Value::Number("OCTETS", 0, MOST_OCTETS)),
+    help: "the most octets of a file; of one that is held in memory 1 GiB where none are said",
 };
 
 /// How fast a transfer may be.
@@ -314,9 +314,12 @@ pub fn openings_of(matches: &ArgMatches<'_>) -> Openings {
     Openings::new(chosen(matches, "extended", Opening::Extended, other))
 }
 
-/// The most octets that a file may have, as `--limit` says; refused where they are no number.
+/// The most octets that a file may have, as `--limit` says, and any number where it is not there; refused where they are no number.
 pub fn limit_in<'a>(matches: &'a ArgMatches<'_>) -> Result<u64, Refusal<'a>> {
     let limit = text_in(matches, "limit");
+    if limit.is_empty() {
+        return Ok(u64::MAX);
+    }
     match octets_of(limit) {
         Some(octets) => Ok(octets),
         None => Err(Refusal::of("--limit <OCTETS>", limit, "decimal digits alone are wanted")),
