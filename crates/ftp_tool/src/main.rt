@@ -20,7 +20,7 @@ use programs::Programs;
 use several::{check_places, goes_into, is_any_matched, sources_of, uploads_of};
 use std::alloc::{AllocError, Global};
 use std::env::Env;
-use std::fs::Files;
+use std::fs::{File, Files};
 use std::io::{Eprint, IsTerminal, Write};
 use std::net::{Net, TcpListener, TcpStream};
 use std::process::ExitCode;
@@ -46,7 +46,7 @@ where
         + Print
         + Eprint
         + Env
-        + Files
+        + Files<File = File>
         + AllocGlobal
         + Clock
         + RandomSource

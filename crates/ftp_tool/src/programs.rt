@@ -10,7 +10,7 @@ use ftp_tool_serve::Serving;
 use ftp_tool_status::Status;
 use ftp_tool_words::User;
 use std::env::Env;
-use std::fs::Files;
+use std::fs::{File, Files};
 use std::io::Write;
 use std::net::{Net, TcpListener, TcpStream};
 use std::random::RandomSource;
@@ -49,7 +49,7 @@ where
         + Print
         + Eprint
         + Env
-        + Files
+        + Files<File = File>
         + AllocGlobal
         + Clock
         + RandomSource
