@@ -1,17 +1,22 @@
 // What a download of the octets 0123456789 asks of a server that answers so, and how it stands then.
 use crate::seat::played;
 use crate::tries::Row;
-use ftp_facts::{Moment, Text};
+use ftp_facts::Moment;
 use ftp_operation::Answer;
 use ftp_tool_connection::{Openings, SessionFault};
+use ftp_tool_local::{LocalFiles, OpenPart, Reading, read_from};
 use ftp_tool_status::Arrival;
 use ftp_tool_transfer::{Downloading, Stamp};
 use rows_base::Paper;
-use std::alloc::{AllocError, Global};
+use std::alloc::Global;
 use std::io;
+use std::io::{Error, ErrorKind, Write};
 
 /// The most octets that the file may have.
 const LIMIT: u64 = 100;
+
+/// The file of this end.
+const FILE: &str = "came";
 
 /// How many octets the file had.
 const TOTAL: u64 = 10;
@@ -36,19 +41,23 @@ fn stamp_of(known: Known) -> Stamp {
     }
 }
 
-/// Tells a download what is known.
+/// Tells a download what is known, and the part to which its octets go.
 fn tell(
-    rt: &HostRuntime,
     downloading: &mut Downloading<'_, HostRuntime>,
     known: Known,
-) -> Result<(), AllocError> {
+    part: OpenPart,
+) -> io::Result<()> {
     match (known, Moment::new(5)) {
-        (Known::Listed, Some(moment)) => downloading.expect(TOTAL, moment),
         (Known::Kept, Some(moment)) => {
-            let octets = Text::copy_of(rt.alloc(), b"0123")?;
-            downloading.begin_with(octets, TOTAL, moment)?;
+            let mut writer = part.writer();
+            writer.write_all(b"0123")?;
+            downloading.go_on_in(part, 4, TOTAL, Some(moment));
         }
-        _ => {}
+        (Known::Listed, Some(moment)) => {
+            downloading.pour_into(part);
+            downloading.expect(TOTAL, moment);
+        }
+        _ => downloading.pour_into(part),
     }
     Ok(())
 }
@@ -63,10 +72,13 @@ pub(crate) fn put(
     let openings = Openings::new(row.opening);
     let mut downloading = Downloading::new(rt, rt.alloc(), "a", row.how, &openings)?;
     downloading.put_terms(LIMIT, stamp_of(known));
-    tell(rt, &mut downloading, known)?;
+    let Some(part) = rt.begin_part(FILE, false)? else {
+        return Err(Error::from(ErrorKind::InvalidInput));
+    };
+    tell(&mut downloading, known, part)?;
     let answer = played(rt.alloc(), paper, row, &mut downloading);
     put_end(paper, &downloading, &answer);
-    Ok(())
+    put_part(rt, paper, &downloading)
 }
 
 /// Puts how a download stands that was answered so.
@@ -84,10 +96,23 @@ fn put_end(
         _ => paper.put(b"another"),
     }
     paper.put(b" ");
-    for piece in downloading.came().pieces() {
-        paper.put(piece.as_slice());
+}
+
+/// Puts what the part of a download has, and removes it.
+fn put_part(
+    rt: &HostRuntime,
+    paper: &mut Paper,
+    downloading: &Downloading<'_, HostRuntime>,
+) -> io::Result<()> {
+    if let Some(part) = downloading.came().part() {
+        let name = rt.name_of_part(FILE, part)?;
+        if let Reading::Content(content) = read_from(rt, name.as_str(), 0, LIMIT)? {
+            paper.put(content.octets.as_slice());
+        }
+        rt.discard_part(FILE, part)?;
     }
     paper.line(b"");
+    Ok(())
 }
 
 fn put_arrival(paper: &mut Paper, arrival: Arrival) {

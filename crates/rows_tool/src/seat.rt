@@ -1,10 +1,17 @@
 // Somebody who answers what a row says, and writes what was asked.
 use crate::tries::Row;
+use ftp_client_stream::Carries;
 use ftp_facts::{Moment, Text};
 use ftp_operation::{Answer, How, Op};
 use ftp_tool_connection::{ClientSession, Ending, Request, SessionFault, SessionTask};
 use rows_base::{Paper, cut, found, number, split};
 use std::alloc::Global;
+use std::cell::Cell;
+use std::io::ErrorKind;
+use std::mem;
+
+/// How many reads or writes of a file are made at most.
+const MOST_WRITES: u32 = 1_000;
 
 /// What is answered.
 #[derive(Clone, Copy)]
@@ -49,13 +56,28 @@ struct Seat<'a> {
 impl<'a> ClientSession for Seat<'a> {
     fn answer(&mut self, request: Request) -> Answer<Global> {
         put(self.paper, &request);
-        let told = self.next();
-        if is_opened(told) {
-            self.opened = self.opened.saturating_add(1);
+        self.answered(&request)
+    }
+
+    fn answer_carried<T: Carries + Drop>(
+        &mut self,
+        request: Request,
+        home: &Cell<Option<T>>,
+    ) -> Answer<Global> {
+        put(self.paper, &request);
+        let mut carried = home.replace(None);
+        if let (Request::Drawn(_, _), Some(carried)) = (&request, &mut carried) {
+            put_given(self.alloc, self.paper, carried);
         }
-        self.ending = ending_of(told);
-        self.came = came_of(self.alloc, told, start_of(&request));
-        answer_of(self.alloc, told, start_of(&request))
+        let mut answer = self.answered(&request);
+        if let Some(carried) = &mut carried {
+            hand_over(
+                taken(self.alloc, &mut answer, &mut self.came).as_slice(),
+                carried,
+            );
+        }
+        home.set(carried);
+        answer
     }
 
     fn came(&self) -> &[u8] {
@@ -72,6 +94,17 @@ impl<'a> ClientSession for Seat<'a> {
 }
 
 impl<'a> Seat<'a> {
+    /// What is answered to what was put.
+    fn answered(&mut self, request: &Request) -> Answer<Global> {
+        let told = self.next();
+        if is_opened(told) {
+            self.opened = self.opened.saturating_add(1);
+        }
+        self.ending = ending_of(told);
+        self.came = came_of(self.alloc, told, start_of(request));
+        answer_of(self.alloc, told, start_of(request))
+    }
+
     /// What is answered next.
     fn next(&mut self) -> Told {
         if self.row.told.is_empty() {
@@ -226,6 +259,10 @@ fn put(paper: &mut Paper, request: &Request) {
         Request::One(Some(Op::PutFrom(_, from, octets, how))) => {
             put_octets(paper, *how, *from, octets.as_slice())
         }
+        Request::Drawn(Some(Op::Put(_, _, how)), _) => put_octets(paper, *how, 0, b""),
+        Request::Drawn(Some(Op::PutFrom(_, from, _, how)), _) => put_octets(
+            paper, *how, *from, b"",
+        ),
         Request::One(Some(Op::Size(_, _))) => paper.put(b" size"),
         Request::One(Some(Op::Modified(_))) => paper.put(b" moment"),
         Request::Download(Some(Op::Get(_, how) | Op::GetFrom(_, _, how)), _) => {
@@ -249,4 +286,38 @@ fn put_octets(paper: &mut Paper, how: How, from: u64, octets: &[u8]) {
     put_place(paper, how, from);
     paper.put(b":");
     paper.put(octets);
+}
+
+/// Puts the octets that go in the place of some.
+fn put_given<T: Carries>(alloc: Global, paper: &mut Paper, carried: &mut T) {
+    let mut link: Vec<u8, Global> = Vec::new(alloc);
+    for _ in 0..MOST_WRITES {
+        match carried.give(&mut link, b"-") {
+            Err(error) if error.kind() == ErrorKind::Interrupted => {}
+            _ => break,
+        }
+    }
+    paper.put(link.as_slice());
+}
+
+/// The octets of an answer, or those that came before its control connection ended, which neither has then.
+fn taken(alloc: Global, answer: &mut Answer<Global>, came: &mut Text<Global>) -> Text<Global> {
+    let none = Text::from_vec(Vec::new(alloc));
+    match answer {
+        Answer::Octets(octets) => mem::replace(octets, none),
+        Answer::Broken { got, mark: _ } => mem::replace(got, none),
+        _ => mem::replace(came, none),
+    }
+}
+
+/// Hands octets that come to what carries them.
+fn hand_over<T: Carries>(octets: &[u8], carried: &mut T) {
+    let mut link = octets;
+    let mut room = [0; 4];
+    for _ in 0..MOST_WRITES {
+        match carried.hear(&mut link, &mut room) {
+            Err(error) if error.kind() == ErrorKind::Interrupted => {}
+            _ => break,
+        }
+    }
 }

@@ -3,7 +3,7 @@ use crate::seat::played;
 use crate::tries::Row;
 use ftp_operation::Answer;
 use ftp_tool_connection::{LastReply, Openings, SessionFault};
-use ftp_tool_local::{Reading, read_from};
+use ftp_tool_local::LocalFiles;
 use ftp_tool_transfer::{Source, Uploading};
 use rows_base::Paper;
 use std::alloc::Global;
@@ -13,14 +13,12 @@ use std::io::{Error, ErrorKind};
 /// A file of ten octets.
 const FILE: &str = "ten";
 
-const LIMIT: u64 = 10;
-
 /// Puts what an upload asks, and its status.
 pub(crate) fn put(rt: &HostRuntime, paper: &mut Paper, row: Row<'_>) -> io::Result<()> {
-    let Reading::Content(content) = read_from(rt, FILE, 0, LIMIT)? else {
+    let Some(opened) = rt.open_source(FILE, 0)? else {
         return Err(Error::from(ErrorKind::InvalidInput));
     };
-    let source = Source::file(FILE, content);
+    let source = Source::file(FILE, opened);
     let openings = Openings::new(row.opening);
     let mut uploading = Uploading::new(rt, rt.alloc(), source, "a", row.how, &openings);
     let answer = played(rt.alloc(), paper, row, &mut uploading);
