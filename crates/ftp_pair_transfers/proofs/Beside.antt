@@ -1,0 +1,106 @@
+-- A world beside both drives while files are put and fetched: what it holds of both, what is so of each end's data connection, and that it rests.
+use Rattle.std.proofs.Common.{◌≡◌, ℕ, true, false, List, [], ◌++◌, None, option_to_list, refl, ap, ◌∙◌}
+use Rattle.ftp_control.specs.Deeds.{Stand}
+use Rattle.ftp_control.specs.Lane.{Lane}
+use Rattle.ftp_client_drive.specs.Side.{client_side}
+use Rattle.ftp_client_model.specs.Calls as near
+use Rattle.ftp_client_model.specs.Calls.{data_closed, report_of}
+use Rattle.ftp_client_model.specs.View.{View as Near}
+use Rattle.ftp_operation.specs.Answer.{Said}
+use Rattle.ftp_server_drive.specs.Side.{server_side}
+use Rattle.ftp_server_model.specs.Calls.{clock_step}
+use Rattle.ftp_server_model.specs.Machine.{Reading}
+use Rattle.ftp_server_model.specs.View.{Session, View as Far}
+use Rattle.ftp_pair_world.specs.Agreement.{Order}
+use Rattle.ftp_pair_world.specs.Claims.{AreUnmarked}
+use Rattle.ftp_pair_world.specs.Events.{is_closed_by_near}
+use Rattle.ftp_pair_world.specs.World.{Stands, World}
+use Rattle.ftp_pair_drives.specs.Between.{Between, Hold}
+use Rattle.ftp_pair_drives.proofs.Taken.{taken, taken_none}
+use Rattle.ftp_pair_drives.proofs.Worlds.{LeadsOn}
+use Rattle.ftp_pair_data.specs.Ahead.{Ahead, Fits, Listened, far_ahead, is_asked, is_open}
+use Rattle.ftp_pair_data.proofs.Ahead.{Keeps, keeps}
+use Rattle.ftp_pair_data.proofs.Moves.{Rested}
+use Rattle.ftp_pair_data.proofs.Served.{rests}
+use Rattle.ftp_pair_downloads.proofs.Beside.{Holds, Takes, is_had, is_sound}
+use Rattle.ftp_pair_downloads.proofs.NearForms.{wants_rest}
+use Rattle.ftp_pair_downloads.proofs.Stands.{ClientFetches, ServerServes}
+use Rattle.ftp_pair_transfers.proofs.Known.{is_near_held, is_ready}
+
+-- ---- the relation
+
+-- it holds what both ends hold and what lies between them, its server ahead of the drive's by what is due; so many ports were told by the drive; and one that
+-- the client alone has closed is one of which the server made something
+pub record IsBeside (moment : ℕ) (ahead : Ahead) (between : Between) (told : ℕ) (server : Stand server_side) (client : Stand client_side) (reports : List Said)
+    (w : World) : Type 0 where
+  pub fits : Fits ahead server.owner.end.server.view.session.connection
+  pub near : w.near ≡ data_closed (taken client.owner.end.view)
+  pub far : w.far ≡ clock_step moment (far_ahead ahead server.owner.end.server.view)
+  pub to_server : w.control_to_server ≡ server.unheard ++ between.control.to_server
+  pub to_client : w.control_to_client ≡ client.unheard ++ between.control.to_client
+  pub rising : w.data_to_server ≡ server.owner.lane.untold ++ (between.data_ways.to_server ++ client.owner.lane.unwritten)
+  pub falling : w.data_to_client ≡ client.owner.lane.untold ++ (between.data_ways.to_client ++ server.owner.lane.unwritten)
+  pub listens : Listened ahead told w.listens
+  pub reported : w.reports ≡ reports ++ option_to_list (report_of client.owner.end.view)
+  pub control : w.control ≡ Stands
+  pub unready : is_closed_by_near w.link ≡ true → is_ready w.far.session.connection ≡ false
+  pub marks : AreUnmarked w.marks
+  pub cutoff : w.cutoff ≡ None
+
+-- what came to the server and was not told is of one that stands, is had and is sound; of one that is over none is open
+pub record Comes (hold : Hold) (s : Session) (lane : Lane) : Type 0 where
+  pub bare : lane.stands ≡ false → lane.untold ≡ []
+  pub spare : is_had hold ≡ false → lane.untold ≡ []
+  pub over : is_sound lane.fate ≡ false → lane.untold ≡ []
+  pub shut : is_sound lane.fate ≡ false → is_open s.connection ≡ false
+
+-- what an end gave is on its way over what it has alone
+pub record Writes (hold : Hold) (lane : Lane) : Type 0 where
+  pub spare : is_had hold ≡ false → lane.unwritten ≡ []
+  pub bare : lane.stands ≡ false → lane.unwritten ≡ []
+
+-- the client has what it holds of the link; one that is to close, or was told of its end, holds none
+pub record Keeping (hold : Hold) (n : Near) (lane : Lane) (w : World) : Type 0 where
+  pub had : is_near_held w.link ≡ true → is_had hold ≡ true
+  pub shut : n.closing ≡ true → is_near_held w.link ≡ false
+  pub over : is_sound lane.fate ≡ false → is_near_held w.link ≡ false
+
+-- all of these
+pub record Together (moment : ℕ) (ahead : Ahead) (between : Between) (told : ℕ) (server : Stand server_side) (client : Stand client_side) (reports : List Said)
+    (w : World) : Type 0 where
+  pub beside : IsBeside moment ahead between told server client reports w
+  pub holds : Holds ahead between.far server.owner.end.server.view.session
+  pub comes : Comes between.far server.owner.end.server.view.session server.owner.lane
+  pub serves : Writes between.far server.owner.lane
+  pub takes : Takes client.owner.lane
+  pub gives : Writes between.near client.owner.lane
+  pub keeping : Keeping between.near client.owner.end.view client.owner.lane w
+
+-- events lead on to a world that is so again
+pub record Goes (read : Reading) (begun : List Order) (between : Between) (told : ℕ) (server : Stand server_side) (client : Stand client_side)
+    (reports : List Said) (w : World) : Type 0 where
+  pub world : World
+  pub leads : LeadsOn read begun w world
+  pub moment : ℕ
+  pub ahead : Ahead
+  pub together : Together moment ahead between told server client reports world
+
+-- ---- it rests
+
+pub rested : (moment : ℕ) (ahead : Ahead) (between : Between) (told : ℕ) (server : Stand server_side) (client : Stand client_side) (reports : List Said)
+    (w : World) → IsBeside moment ahead between told server client reports w → ServerServes server.owner → ClientFetches client.owner → Rested w
+rested moment ahead between told server client reports w b serves asks =
+    let v : Far = server.owner.end.server.view in
+    let n : Near = client.owner.end.view in
+    let kept : Keeps ahead v = keeps ahead v b.fits in
+    record {
+      near_rests = ap (λ u. rests (near.wants u)) b.near ∙ wants_rest (data_closed (taken n)) asks.sound asks.dials refl;
+      near_open = ap (λ (u : Near). u.closing) b.near;
+      none = ap report_of b.near ∙ taken_none n;
+      runs = record {
+        running = ap (λ (f : Far). f.session.life) b.far ∙ kept.life ∙ serves.running;
+        none_waits = ap (λ (f : Far). f.waiting) b.far ∙ kept.waiting ∙ serves.none_waits;
+      };
+      far_open = ap (λ (f : Far). f.session.closing) b.far;
+      none_asked = ap (λ (f : Far). is_asked f.session.connection) b.far ∙ kept.told;
+    }

@@ -1,0 +1,221 @@
+-- A client that puts files hears octets, as an event of a world.
+use Rattle.std.proofs.Common.{◌≡◌, ℕ, ◌<◌, ◌≤◌, true, false, true≢false, List, [], ◌∷◌, ◌++◌, length, take, drop, option_to_list, refl, sym, ap, ap₂, subst, ◌∙◌, append_assoc, append-nil, arith, length-append}
+use Rattle.std.proofs.lemmas.List.{take-append-le}
+use Rattle.ftp_control.specs.Deeds.{Heard, HearsNext, Stand}
+use Rattle.ftp_control.specs.Lane.{Lane}
+use Rattle.ftp_client_drive.specs.Side.{client_side}
+use Rattle.ftp_client_model.specs.Calls as near
+use Rattle.ftp_client_model.specs.Calls.{data_closed, report_of}
+use Rattle.ftp_client_model.specs.View.{View as Near}
+use Rattle.ftp_direct.specs.Direct.{State}
+use Rattle.ftp_ends.specs.Octets.{has_octets}
+use Rattle.ftp_operation.specs.Answer.{Said}
+use Rattle.ftp_server_drive.specs.Side.{server_side}
+use Rattle.ftp_server_model.specs.Machine.{IsReading, Reading}
+use Rattle.ftp_server_model.specs.View.{View as Far}
+use Rattle.ftp_pair_world.specs.Agreement.{Order}
+use Rattle.ftp_pair_world.specs.Claims.{AreUnmarked}
+use Rattle.ftp_pair_world.specs.World.{World}
+use Rattle.ftp_pair_agreement.specs.Over.{OverRuns}
+use Rattle.ftp_pair_drives.specs.Alone.{ClientIsCalm}
+use Rattle.ftp_pair_drives.specs.Between.{Between, Hold}
+use Rattle.ftp_pair_drives.proofs.Taken.{HearsAlike, hears_alike, taken}
+use Rattle.ftp_pair_data.specs.Ahead.{Ahead, Listened}
+use Rattle.ftp_pair_data.specs.Honest.{is_unaborted}
+use Rattle.ftp_pair_data.proofs.Moves.{Rested, drop_front, near_hears, take_front}
+use Rattle.ftp_pair_data.proofs.Served.{rests, settled}
+use Rattle.ftp_client_model.specs.Calls.{is_sound as is_sound_at}
+use Rattle.ftp_pair_downloads.proofs.Beside.{Takes, is_false, is_sound, unclosed}
+use Rattle.ftp_pair_downloads.proofs.ClientMoves.{is_unaborted_same}
+use Rattle.ftp_pair_downloads.proofs.NearForms.{wants_rest}
+use Rattle.ftp_pair_downloads.proofs.Plain.{IsPlainly, plain_unaborted}
+use Rattle.ftp_pair_downloads.proofs.Stands.{ClientFetches, ServerServes, has_port}
+use Rattle.ftp_pair_transfers.specs.Deeds.{IsAsking}
+use Rattle.ftp_pair_transfers.proofs.Beside.{Goes, Keeping, Together, Writes, rested}
+use Rattle.ftp_pair_transfers.proofs.ClientStays.{client_keeps}
+use Rattle.ftp_pair_transfers.proofs.Known.{AreCarried, Known, is_near_held, is_ready}
+use Rattle.ftp_pair_transfers.proofs.Running.{hears_closing, hears_sound}
+use Rattle.ftp_pair_transfers.proofs.Settling.{NearSettles, near_settles}
+
+module _ (read : Reading) (server : Stand server_side) (old new : Stand client_side) (reports : List Said) (w : World)
+    (calm : ClientIsCalm old.owner new.owner) (serves : ServerServes server.owner) (before : ClientFetches old.owner) (plain : IsPlainly new.owner.end.view)
+    (known : Known w) where
+  abbrev v : Near
+  v = old.owner.end.view
+
+  abbrev u : Near
+  u = new.owner.end.view
+
+  -- events lead on to a world that is so again, and the client has not failed
+  abbrev Went : Between → ℕ → Type 0
+  Went between told = Goes read [] between told server new (reports ++ []) w × (is_sound_at u.standing ≡ true)
+
+  -- ---- octets are heard
+
+  -- so many
+  heard_is : (octets : List ℕ) → HearsNext octets old new → u ≡ near.hears v octets
+  heard_is octets did =
+      (did.hears.0.0.0 calm).0 ∙ ap (λ o. near.hears v o) (ap (take (length octets)) did.next ∙ take_front octets new.unheard)
+
+  -- which leaves its lane
+  heard_gives : (octets : List ℕ) (hold : Hold) → HearsNext octets old new → Writes hold old.owner.lane → Writes hold new.owner.lane
+  heard_gives octets hold did gives = record {
+    spare = λ e. ap (λ (l : Lane). l.unwritten) did.hears.1 ∙ gives.spare e;
+    bare = λ e. ap (λ (l : Lane). l.unwritten) did.hears.1 ∙ gives.bare (ap (λ (l : Lane). l.stands) (sym did.hears.1) ∙ e);
+  }
+
+  heard_takes : (octets : List ℕ) → HearsNext octets old new → Takes old.owner.lane → Takes new.owner.lane
+  heard_takes octets did takes = record {
+    bare = λ e. ap (λ (l : Lane). l.untold) did.hears.1 ∙ takes.bare (ap (λ (l : Lane). l.stands) (sym did.hears.1) ∙ e);
+    over = λ e. ap (λ (l : Lane). l.untold) did.hears.1 ∙ takes.over (ap (λ (l : Lane). is_sound l.fate) (sym did.hears.1) ∙ e);
+  }
+
+  heard_over : (octets : List ℕ) → HearsNext octets old new → (is_sound old.owner.lane.fate ≡ false → is_near_held w.link ≡ false)
+      → is_sound new.owner.lane.fate ≡ false → is_near_held w.link ≡ false
+  heard_over octets did over e = over (ap (λ (l : Lane). is_sound l.fate) (sym did.hears.1) ∙ e)
+
+  module _ (reads : IsReading read) (from : State) (begun : List Order) (puts : AreCarried begun) (runs : OverRuns read from begun w) (octet : ℕ)
+      (octets : List ℕ) (moment : ℕ) (ahead : Ahead) (between : Between) (told : ℕ) (t : Together moment ahead between told server old reports w)
+      (did : HearsNext (octet ∷ octets) old new) (open_now : old.owner.end.view.closing ≡ false) where
+    abbrev all : List ℕ
+    all = octet ∷ octets
+
+    abbrev rest : List ℕ
+    rest = new.unheard ++ between.control.to_client
+
+    r : Rested w
+    r = rested moment ahead between told server old reports w t.beside serves before
+
+    queue : w.control_to_client ≡ all ++ rest
+    queue = t.beside.to_client ∙ ap (λ a. a ++ between.control.to_client) did.next ∙ append_assoc all new.unheard between.control.to_client
+
+    near_is : w.near ≡ taken v
+    near_is = t.beside.near ∙ unclosed (taken v) open_now
+
+    is : u ≡ near.hears v all
+    is = heard_is all did
+
+    same : HearsAlike all v
+    same = hears_alike all v
+
+    heard : near.hears w.near all ≡ near.hears (taken v) all
+    heard = ap (λ n. near.hears n all) near_is
+
+    -- its report aside it heard the same
+    taken_is : taken (near.hears w.near all) ≡ taken u
+    taken_is = ap taken heard ∙ same.view ∙ ap taken (sym is)
+
+    first : take (length all) w.control_to_client ≡ all
+    first = ap (take (length all)) queue ∙ take_front all rest
+
+    behind : drop (length all) w.control_to_client ≡ rest
+    behind = ap (drop (length all)) queue ∙ drop_front all rest
+
+    pushed_near : near.hears w.near (take (length all) w.control_to_client) ≡ near.hears w.near all
+    pushed_near = ap (near.hears w.near) first
+
+    enough : (k : ℕ) → k < length all → k ≤ length old.unheard
+    enough k less = subst (λ a. k ≤ length a) (sym did.next) (omega (arith, less, length-append all new.unheard))
+
+    may : (k : ℕ) → k < length all → near.may_hear (near.hears w.near (take k w.control_to_client)) ≡ true
+    may k less =
+        ap₂ (λ n q. near.may_hear (near.hears n (take k q))) near_is t.beside.to_client
+        ∙ ap (λ q. near.may_hear (near.hears (taken v) q)) (take-append-le k old.unheard between.control.to_client (enough k less))
+        ∙ (hears_alike (take k old.unheard) v).may ∙ (did.hears.0.0.0 calm).1 k less
+
+    unaborted : is_unaborted w.near.job ≡ true
+    unaborted = ap (λ (n : Near). is_unaborted n.job) near_is ∙ is_unaborted_same v ∙ before.unaborted
+
+    unaborted_then : is_unaborted (near.hears w.near (take (length all) w.control_to_client)).job ≡ true
+    unaborted_then =
+        ap (λ (n : Near). is_unaborted n.job) pushed_near ∙ sym (is_unaborted_same (near.hears w.near all)) ∙ ap (λ (n : Near). is_unaborted n.job) taken_is
+        ∙ is_unaborted_same u ∙ plain_unaborted u plain
+
+    -- it has not failed
+    sound : is_sound_at u.standing ≡ true
+    sound =
+        ap (λ (n : Near). is_sound_at n.standing) (sym taken_is) ∙ ap (λ (n : Near). is_sound_at n.standing) (sym pushed_near)
+        ∙ hears_sound read reads from begun puts w (length all) runs t.beside.control t.beside.unready unaborted unaborted_then
+
+    wants : rests (near.wants (data_closed (near.hears w.near all))) ≡ true
+    wants =
+        let x : Near = near.hears w.near all in
+        wants_rest (data_closed x) (ap (λ (n : Near). is_sound_at n.standing) taken_is ∙ sound)
+        (ap (λ (n : Near). has_port n.connection) taken_is ∙ plain.port) refl
+
+    abbrev now : World
+    now = record w { near = near.hears w.near all; control_to_client = rest; taken = all }
+
+    -- of the server's link something was made, since a reply is on its way
+    unready : is_ready w.far.session.connection ≡ false
+    unready = is_false (is_ready w.far.session.connection) (λ e. true≢false (ap has_octets (sym queue ∙ known.ready e)))
+
+    s : NearSettles now (settled now)
+    s =
+        near_settles now r.far_open r.none_asked (λ e. known.still (known.left e))
+        (λ e. hears_closing read reads from begun puts w (length all) runs t.beside.control t.beside.unready unaborted unaborted_then
+        (ap (λ (n : Near). n.closing) pushed_near ∙ e))
+
+    unwritten : new.owner.lane.unwritten ≡ old.owner.lane.unwritten
+    unwritten = ap (λ (l : Lane). l.unwritten) did.hears.1
+
+    keeping : Keeping between.near u new.owner.lane (settled now)
+    keeping = record {
+      had = λ e. t.keeping.had (s.held e);
+      shut = λ e. s.closed (ap (λ (n : Near). n.closing) taken_is ∙ e);
+      over = λ e. is_false (is_near_held (settled now).link) (λ o. true≢false (sym (s.held o) ∙ heard_over all did t.keeping.over e));
+    }
+
+    client_hears : Went between told
+    client_hears =
+        let b = t.beside in (
+          record {
+            world = settled now;
+            leads = near_hears read octet octets rest w r queue may wants;
+            moment = moment;
+            ahead = ahead;
+            together = record {
+              beside = record {
+                fits = b.fits;
+                near = s.near ∙ ap data_closed taken_is;
+                far = s.far ∙ b.far;
+                to_server = s.same.to_server ∙ b.to_server;
+                to_client = s.same.to_client;
+                rising = s.same.rising ∙ b.rising ∙ ap (λ o. server.owner.lane.untold ++ (between.data_ways.to_server ++ o)) (sym unwritten);
+                falling = s.same.falling ∙ b.falling
+                    ∙ ap (λ (l : Lane). l.untold ++ (between.data_ways.to_client ++ server.owner.lane.unwritten)) (sym did.hears.1);
+                listens = subst (Listened ahead told) (sym s.same.listens) b.listens;
+                reported = s.reports ∙ ap₂ (λ r n. r ++ option_to_list (report_of n)) b.reported heard
+                    ∙ append_assoc reports (option_to_list (report_of v)) (option_to_list (report_of (near.hears (taken v) all)))
+                    ∙ ap (λ l. reports ++ l) same.report ∙ ap (λ n. reports ++ option_to_list (report_of n)) (sym is)
+                    ∙ ap (λ r. r ++ option_to_list (report_of u)) (sym (append-nil reports));
+                control = s.same.control ∙ b.control;
+                unready = λ e. ap (λ (f : Far). is_ready f.session.connection) s.far ∙ unready;
+                marks = subst AreUnmarked (sym s.same.marks) b.marks;
+                cutoff = s.same.cutoff ∙ b.cutoff;
+              };
+              holds = t.holds;
+              comes = t.comes;
+              serves = t.serves;
+              takes = heard_takes all did t.takes;
+              gives = heard_gives all between.near did t.gives;
+              keeping = keeping;
+            };
+          },
+          sound,
+        )
+
+  -- none or some
+  pub client_heard : (reads : IsReading read) (from : State) (begun : List Order) → AreCarried begun → OverRuns read from begun w
+      → (octets : List ℕ) → IsAsking (Heard octets) old.owner → (moment : ℕ) (ahead : Ahead) (between : Between) (told : ℕ)
+      → Together moment ahead between told server old reports w → HearsNext octets old new → Went between told
+  client_heard reads from begun puts runs [] may moment ahead between told t did = (
+    client_keeps read server old new reports w calm known moment ahead between between told t (heard_is [] did) refl
+        (ap (λ a. a ++ between.control.to_client) did.next)
+        (ap (λ (l : Lane). server.owner.lane.untold ++ (between.data_ways.to_server ++ l.unwritten)) (sym did.hears.1))
+        (ap (λ (l : Lane). l.untold ++ (between.data_ways.to_client ++ server.owner.lane.unwritten)) (sym did.hears.1)) refl
+        (heard_takes [] did t.takes) (heard_gives [] between.near did t.gives) t.keeping.had (heard_over [] did t.keeping.over),
+    ap (λ (n : Near). is_sound_at n.standing) (heard_is [] did) ∙ before.sound,
+  )
+  client_heard reads from begun puts runs (octet ∷ octets) may moment ahead between told t did =
+      client_hears reads from begun puts runs octet octets moment ahead between told t did may

@@ -1,0 +1,345 @@
+-- Deeds of a client that puts files for which nothing happens in a world: octets are read or written, its report is taken, it is looked at or waited for, a
+-- data connection is left, and a close is told.
+use Rattle.std.proofs.Common.{◌≡◌, ◌⊎◌, inl, inr, ℕ, Bool, true, false, true≢false, List, [], ◌++◌, Option, option_to_list, refl, sym, ap, ap₂, subst, ◌∙◌, append_assoc, append-nil}
+use Rattle.std.specs.Prelude.{◌≢◌}
+use Rattle.ftp_ends.specs.declared.link.Wants.{Wants}
+use Rattle.ftp_ends.specs.declared.link.Wants.TheVariants as Want
+use Rattle.ftp_control.specs.Asking.{Asked, Ended as EndedBy, Shut}
+use Rattle.ftp_control.specs.Deeds.{Calls, ReadsNext, Stand}
+use Rattle.ftp_control.specs.Lane.{IsEnded, Lane}
+use Rattle.ftp_control.specs.Machine.{Aside, Closed, Got, Left, LetGo, MayLeave, Waited, Wrote, leaves}
+use Rattle.ftp_control.specs.declared.whole.Fate.{Fate}
+use Rattle.ftp_control.specs.declared.whole.Fate.TheVariants.{Sound, Failed, Broken, Over}
+use Rattle.ftp_client_drive.specs.Side.{Reporting, client_side, is_under_way}
+use Rattle.ftp_client_model.specs.Calls as near
+use Rattle.ftp_client_model.specs.Calls.{data_closed, is_busy, report_of}
+use Rattle.ftp_client_model.specs.View.{View as Near}
+use Rattle.ftp_operation.specs.Answer.{Said}
+use Rattle.ftp_server_drive.specs.Side.{server_side}
+use Rattle.ftp_server_model.specs.Machine.{Reading}
+use Rattle.ftp_pair_world.specs.World.{World}
+use Rattle.ftp_pair_drives.specs.Alone.{ClientIsCalm}
+use Rattle.ftp_pair_drives.specs.Between.{Between, Can, Has_ended, Hold, Near as TheClient}
+use Rattle.ftp_pair_drives.specs.Touches.{Ends, Takes as TakesOctets, Writes as WritesOctets}
+use Rattle.ftp_pair_agreement.proofs.Chunks.{both_empty}
+use Rattle.ftp_pair_drives.proofs.Taken.{reports_is, taken, taken_none, taken_twice, taken_wants}
+use Rattle.ftp_pair_drives.proofs.Worlds.{leads_none}
+use Rattle.ftp_pair_data.specs.Ahead.{Ahead}
+use Rattle.ftp_pair_data.proofs.Known.{is_receive}
+use Rattle.ftp_pair_data.proofs.Served.{rests}
+use Rattle.ftp_pair_downloads.proofs.Beside.{Holds, Takes, both, is_false, is_had, is_sound, unclosed}
+use Rattle.ftp_pair_downloads.proofs.NearForms.{idle_free, wants_rest}
+use Rattle.ftp_pair_downloads.proofs.Stands.{ClientFetches}
+use Rattle.ftp_pair_transfers.proofs.NearForms.{is_accept, never_accepts}
+use Rattle.ftp_pair_transfers.proofs.Beside.{Comes, Goes, Keeping, Together, Writes}
+use Rattle.ftp_pair_transfers.proofs.Known.{Known, is_near_held}
+
+module _ (read : Reading) (server : Stand server_side) (old new : Stand client_side) (reports : List Said) (w : World)
+    (calm : ClientIsCalm old.owner new.owner) (known : Known w) where
+  abbrev v : Near
+  v = old.owner.end.view
+
+  abbrev u : Near
+  u = new.owner.end.view
+
+  abbrev Climbs : Between → Between → Type 0
+  Climbs between next = server.owner.lane.untold ++ (between.data_ways.to_server ++ old.owner.lane.unwritten)
+      ≡ server.owner.lane.untold ++ (next.data_ways.to_server ++ new.owner.lane.unwritten)
+
+  abbrev Falls : Between → Between → Type 0
+  Falls between next = old.owner.lane.untold ++ (between.data_ways.to_client ++ server.owner.lane.unwritten)
+      ≡ new.owner.lane.untold ++ (next.data_ways.to_client ++ server.owner.lane.unwritten)
+
+  -- a world stays beside
+  pub client_stays : (moment : ℕ) (ahead : Ahead) (between next : Between) (told : ℕ) (more : List Said)
+      → Together moment ahead between told server old reports w → data_closed (taken v) ≡ data_closed (taken u)
+      → option_to_list (report_of v) ≡ more ++ option_to_list (report_of u)
+      → next.control.to_server ≡ between.control.to_server → old.unheard ++ between.control.to_client ≡ new.unheard ++ next.control.to_client
+      → Climbs between next → Falls between next → next.far ≡ between.far → Takes new.owner.lane → Writes next.near new.owner.lane
+      → Keeping next.near u new.owner.lane w → Goes read [] next told server new (reports ++ more) w
+  client_stays moment ahead between next told more t is said other queue climbs falls hold takes gives keeping = record {
+    world = w;
+    leads = leads_none read w;
+    moment = moment;
+    ahead = ahead;
+    together = record {
+      beside = record {
+        fits = t.beside.fits;
+        near = t.beside.near ∙ is;
+        far = t.beside.far;
+        to_server = t.beside.to_server ∙ ap (λ q. server.unheard ++ q) (sym other);
+        to_client = t.beside.to_client ∙ queue;
+        rising = t.beside.rising ∙ climbs;
+        falling = t.beside.falling ∙ falls;
+        listens = t.beside.listens;
+        reported = t.beside.reported ∙ ap (λ l. reports ++ l) said ∙ sym (append_assoc reports more (option_to_list (report_of u)));
+        control = t.beside.control;
+        unready = t.beside.unready;
+        marks = t.beside.marks;
+        cutoff = t.beside.cutoff;
+      };
+      holds = subst (λ (h : Hold). Holds ahead h server.owner.end.server.view.session) (sym hold) t.holds;
+      comes = subst (λ (h : Hold). Comes h server.owner.end.server.view.session server.owner.lane) (sym hold) t.comes;
+      serves = subst (λ (h : Hold). Writes h server.owner.lane) (sym hold) t.serves;
+      takes = takes;
+      gives = gives;
+      keeping = keeping;
+    };
+  }
+
+  -- the client holds the same
+  pub client_keeps : (moment : ℕ) (ahead : Ahead) (between next : Between) (told : ℕ) → Together moment ahead between told server old reports w → u ≡ v
+      → next.control.to_server ≡ between.control.to_server → old.unheard ++ between.control.to_client ≡ new.unheard ++ next.control.to_client
+      → Climbs between next → Falls between next → next.far ≡ between.far → Takes new.owner.lane → Writes next.near new.owner.lane
+      → (is_near_held w.link ≡ true → is_had next.near ≡ true) → (is_sound new.owner.lane.fate ≡ false → is_near_held w.link ≡ false)
+      → Goes read [] next told server new (reports ++ []) w
+  client_keeps moment ahead between next told t is other queue climbs falls hold takes gives had over =
+      client_stays moment ahead between next told [] t (ap (λ n. data_closed (taken n)) (sym is)) (ap (λ n. option_to_list (report_of n)) (sym is)) other queue
+      climbs falls hold takes gives (record { had = had; shut = λ e. t.keeping.shut (ap (λ (n : Near). n.closing) (sym is) ∙ e); over = over })
+
+  -- by a call that moves no control octets
+  client_idle : (moment : ℕ) (ahead : Ahead) (between next : Between) (told : ℕ) → Together moment ahead between told server old reports w → u ≡ v
+      → new.unheard ≡ old.unheard → next.control ≡ between.control → Climbs between next → Falls between next → next.far ≡ between.far
+      → Takes new.owner.lane → Writes next.near new.owner.lane → (is_near_held w.link ≡ true → is_had next.near ≡ true)
+      → (is_sound new.owner.lane.fate ≡ false → is_near_held w.link ≡ false) → Goes read [] next told server new (reports ++ []) w
+  client_idle moment ahead between next told t is unheard control climbs falls hold takes gives had over =
+      client_keeps moment ahead between next told t is (ap (λ c. c.to_server) control) (ap₂ (λ a c. a ++ c.to_client) (sym unheard) (sym control))
+      climbs falls hold takes gives had over
+
+  same_lane : (between : Between) → new.owner.lane ≡ old.owner.lane → Climbs between between
+  same_lane between lane = ap (λ (l : Lane). server.owner.lane.untold ++ (between.data_ways.to_server ++ l.unwritten)) (sym lane)
+
+  same_falls : (between : Between) → new.owner.lane ≡ old.owner.lane → Falls between between
+  same_falls between lane = ap (λ (l : Lane). l.untold ++ (between.data_ways.to_client ++ server.owner.lane.unwritten)) (sym lane)
+
+  same_over : new.owner.lane.fate ≡ old.owner.lane.fate → (is_sound old.owner.lane.fate ≡ false → is_near_held w.link ≡ false)
+      → is_sound new.owner.lane.fate ≡ false → is_near_held w.link ≡ false
+  same_over fate over e = over (ap is_sound (sym fate) ∙ e)
+
+  -- ---- a client that takes no octets
+
+  -- has none before it
+  none_falls : (moment : ℕ) (ahead : Ahead) (between : Between) (told : ℕ) → Together moment ahead between told server old reports w
+      → is_receive (near.wants v) ≡ false → w.data_to_client ≡ []
+  none_falls moment ahead between told t none = by v.closing refl
+    where
+      by : (closing : Bool) → v.closing ≡ closing → w.data_to_client ≡ []
+      by true is = known.ended (t.keeping.shut is)
+      by false is =
+          let n : w.near ≡ taken v = t.beside.near ∙ unclosed (taken v) is in
+          known.falls (ap (λ x. is_receive (near.wants x)) n ∙ ap is_receive (taken_wants v) ∙ none)
+
+  -- so nothing came that it was not told
+  none_untold : (moment : ℕ) (ahead : Ahead) (between : Between) (told : ℕ) → Together moment ahead between told server old reports w
+      → w.data_to_client ≡ [] → old.owner.lane.untold ≡ []
+  none_untold moment ahead between told t none =
+      (both_empty old.owner.lane.untold (between.data_ways.to_client ++ server.owner.lane.unwritten) (sym t.beside.falling ∙ none)).0
+
+  -- ---- the deeds
+
+  -- octets are read
+  pub client_read : (octets : List ℕ) (moment : ℕ) (ahead : Ahead) (between next : Between) (told : ℕ) → Together moment ahead between told server old reports w
+      → ReadsNext octets old new → between.control.to_client ≡ octets ++ next.control.to_client → next.control.to_server ≡ between.control.to_server
+      → next.data_ways ≡ between.data_ways → next.far ≡ between.far → next.near ≡ between.near → Goes read [] next told server new (reports ++ []) w
+  client_read octets moment ahead between next told t did front other ways hold near =
+      let lane : new.owner.lane ≡ old.owner.lane = ap (λ o. o.lane) did.owner in
+      client_keeps moment ahead between next told t (ap (λ o. o.end.view) did.owner) other
+      (ap₂ (λ a b. a ++ b) did.heard front ∙ ap (λ a. a ++ next.control.to_client) (sym did.unheard))
+      (same_lane between lane ∙ ap (λ d. server.owner.lane.untold ++ (d.to_server ++ new.owner.lane.unwritten)) (sym ways))
+      (same_falls between lane ∙ ap (λ d. new.owner.lane.untold ++ (d.to_client ++ server.owner.lane.unwritten)) (sym ways)) hold
+      (subst Takes (sym lane) t.takes) (subst (λ (h : Hold). Writes h new.owner.lane) (sym near) (subst (Writes between.near) (sym lane) t.gives))
+      (λ e. ap is_had near ∙ t.keeping.had e) (same_over (ap (λ (l : Lane). l.fate) lane) t.keeping.over)
+
+  -- its report is taken
+  pub client_reports : (said : Option Said) (moment : ℕ) (ahead : Ahead) (between : Between) (told : ℕ)
+      → Together moment ahead between told server old reports w
+      → Calls {side = client_side} (Aside (Reporting said)) old new → Goes read [] between told server new (reports ++ option_to_list said) w
+  client_reports said moment ahead between told t did =
+      let is : u ≡ taken v = did.0.0.1.0 ∙ reports_is v in
+      let lane : new.owner.lane ≡ old.owner.lane = did.0.1 in
+      let none : option_to_list (report_of u) ≡ [] = ap (λ n. option_to_list (report_of n)) is ∙ ap option_to_list (taken_none v) in
+      client_stays moment ahead between between told (option_to_list said) t (ap data_closed (sym (taken_twice v)) ∙ ap (λ n. data_closed (taken n)) (sym is))
+      (ap option_to_list (sym did.0.0.0) ∙ sym (append-nil (option_to_list said)) ∙ ap (λ l. option_to_list said ++ l) (sym none)) refl
+      (ap (λ (s : Stand client_side). s.unheard ++ between.control.to_client) (sym did.1)) (same_lane between lane) (same_falls between lane) refl
+      (subst Takes (sym lane) t.takes) (subst (Writes between.near) (sym lane) t.gives)
+      (record {
+        had = t.keeping.had;
+        shut = λ e. t.keeping.shut (ap (λ (n : Near). n.closing) (sym is) ∙ e);
+        over = same_over (ap (λ (l : Lane). l.fate) lane) t.keeping.over;
+      })
+
+  -- it is waited at
+  pub client_waited : (lost : Bool) (moment : ℕ) (ahead : Ahead) (between : Between) (told : ℕ) → Together moment ahead between told server old reports w
+      → Calls {side = client_side} (Waited lost) old new → Goes read [] between told server new (reports ++ []) w
+  client_waited lost moment ahead between told t did =
+      let held = did.0.1.holds in
+      client_idle moment ahead between between told t (ap (λ c. c.view) did.0.0) (ap (λ (s : Stand client_side). s.unheard) did.1) refl
+      (ap (λ o. server.owner.lane.untold ++ (between.data_ways.to_server ++ o)) (sym held.unwritten))
+      (ap (λ o. o ++ (between.data_ways.to_client ++ server.owner.lane.unwritten)) (sym held.untold)) refl
+      (record { bare = λ e. held.untold ∙ t.takes.bare (sym held.stands ∙ e); over = λ e. held.untold ∙ t.takes.over (ap is_sound (sym held.fate) ∙ e) })
+      (record { spare = λ e. held.unwritten ∙ t.gives.spare e; bare = λ e. held.unwritten ∙ t.gives.bare (sym held.stands ∙ e) })
+      t.keeping.had (same_over held.fate t.keeping.over)
+
+  -- octets come
+  pub client_got : (octets : List ℕ) (moment : ℕ) (ahead : Ahead) (between next : Between) (told : ℕ) → Together moment ahead between told server old reports w
+      → Calls {side = client_side} (Got octets) old new → Can TheClient (TakesOctets octets) between next → Goes read [] next told server new (reports ++ []) w
+  client_got octets moment ahead between next told t did can =
+      let got = did.0.1 in
+      let near : next.near ≡ between.near = ap (λ (m : Between). m.near) can.2 in
+      let has : is_had next.near ≡ true = ap is_had near ∙ ap is_had can.0 in
+      let falls : Falls between next =
+      ap₂ (λ a b. a ++ (b ++ server.owner.lane.unwritten)) got.told can.1
+      ∙ append_assoc octets next.data_ways.to_client server.owner.lane.unwritten
+      ∙ ap (λ a. a ++ (next.data_ways.to_client ++ server.owner.lane.unwritten)) (sym got.untold) in
+      client_idle moment ahead between next told t (ap (λ c. c.view) did.0.0) (ap (λ (s : Stand client_side). s.unheard) did.1)
+      (ap (λ (m : Between). m.control) can.2)
+      (ap₂ (λ (m : Between) o. server.owner.lane.untold ++ (m.data_ways.to_server ++ o)) (sym can.2) (sym got.unwritten)) falls
+      (ap (λ (m : Between). m.far) can.2)
+      (record {
+        bare = λ e. absurd (both (got.stands ∙ got.is_open.0) e);
+        over = λ e. absurd (both (ap is_sound (got.fate ∙ got.is_open.1)) e);
+      })
+      (record { spare = λ e. absurd (both has e); bare = λ e. absurd (both (got.stands ∙ got.is_open.0) e) })
+      (λ e. has) (same_over got.fate t.keeping.over)
+
+  -- octets that came are let go: there are none
+  pub client_lets : (octets : List ℕ) (moment : ℕ) (ahead : Ahead) (between : Between) (told : ℕ) → Together moment ahead between told server old reports w
+      → Calls {side = client_side} (LetGo octets) old new → Goes read [] between told server new (reports ++ []) w
+  client_lets octets moment ahead between told t did =
+      let lane = did.0.1.1 in
+      let none : old.owner.lane.untold ≡ [] =
+      none_untold moment ahead between told t (none_falls moment ahead between told t (not_receive (near.wants v) did.0.0.1)) in
+      let octets_none : new.owner.lane.untold ≡ [] = (both_empty octets new.owner.lane.untold (sym did.0.1.0 ∙ none)).1 in
+      let unwritten : new.owner.lane.unwritten ≡ old.owner.lane.unwritten = ap (λ (l : Lane). l.unwritten) lane in
+      client_idle moment ahead between between told t (ap (λ c. c.view) did.0.0.0) (ap (λ (s : Stand client_side). s.unheard) did.1) refl
+      (ap (λ o. server.owner.lane.untold ++ (between.data_ways.to_server ++ o)) (sym unwritten))
+      (ap (λ o. o ++ (between.data_ways.to_client ++ server.owner.lane.unwritten)) (none ∙ sym octets_none)) refl
+      (record { bare = λ e. octets_none; over = λ e. octets_none })
+      (record { spare = λ e. unwritten ∙ t.gives.spare e; bare = λ e. unwritten ∙ t.gives.bare (ap (λ (l : Lane). l.stands) (sym lane) ∙ e) })
+      t.keeping.had (same_over (ap (λ (l : Lane). l.fate) lane) t.keeping.over)
+    where
+      not_receive : (q : Wants) → q ≢ Want.Receive → is_receive q ≡ false
+      not_receive Want.Receive none = absurd (none refl)
+      not_receive Want.Nothing none = refl
+      not_receive Want.Listen none = refl
+      not_receive Want.Accept none = refl
+      not_receive (Want.Connect endpoint) none = refl
+      not_receive Want.Send none = refl
+      not_receive Want.CloseData none = refl
+      not_receive Want.CloseAll none = refl
+
+  -- octets are written
+  pub client_wrote : (octets : List ℕ) (moment : ℕ) (ahead : Ahead) (between next : Between) (told : ℕ)
+      → Together moment ahead between told server old reports w
+      → Calls {side = client_side} (Wrote octets) old new → Can TheClient (WritesOctets octets) between next
+      → Goes read [] next told server new (reports ++ []) w
+  client_wrote octets moment ahead between next told t did can =
+      let wrote = did.0.1 in
+      let near : next.near ≡ between.near = ap (λ (m : Between). m.near) can.1 in
+      let has : is_had next.near ≡ true = ap is_had near ∙ ap is_had can.0 in
+      let climbs : Climbs between next =
+      ap (λ o. server.owner.lane.untold ++ (between.data_ways.to_server ++ o)) wrote.first
+      ∙ ap (λ o. server.owner.lane.untold ++ o) (sym (append_assoc between.data_ways.to_server octets new.owner.lane.unwritten))
+      ∙ ap (λ (m : Between). server.owner.lane.untold ++ (m.data_ways.to_server ++ new.owner.lane.unwritten)) (sym can.1) in
+      client_idle moment ahead between next told t (ap (λ c. c.view) did.0.0) (ap (λ (s : Stand client_side). s.unheard) did.1)
+      (ap (λ (m : Between). m.control) can.1) climbs
+      (ap₂ (λ (m : Between) o. o ++ (m.data_ways.to_client ++ server.owner.lane.unwritten)) (sym can.1) (sym wrote.untold))
+      (ap (λ (m : Between). m.far) can.1)
+      (record {
+        bare = λ e. absurd (both (wrote.stands ∙ wrote.is_open.0) e);
+        over = λ e. wrote.untold ∙ t.takes.over (ap is_sound (sym wrote.fate) ∙ e);
+      })
+      (record {
+        spare = λ e. absurd (both has e);
+        bare = λ e. absurd (both (wrote.stands ∙ wrote.is_open.0) e);
+      })
+      (λ e. has) (same_over wrote.fate t.keeping.over)
+
+  -- a close is told
+  pub client_closed : (moment : ℕ) (ahead : Ahead) (between : Between) (told : ℕ) → Together moment ahead between told server old reports w
+      → Calls {side = client_side} Closed old new → Goes read [] between told server new (reports ++ []) w
+  client_closed moment ahead between told t did =
+      let is : u ≡ data_closed v = did.0.0.0 in
+      let lane : new.owner.lane ≡ old.owner.lane = did.0.1.0 in
+      client_stays moment ahead between between told [] t (ap (λ n. data_closed (taken n)) (sym is)) (ap (λ n. option_to_list (report_of n)) (sym is)) refl
+      (ap (λ (s : Stand client_side). s.unheard ++ between.control.to_client) (sym did.1)) (same_lane between lane) (same_falls between lane) refl
+      (subst Takes (sym lane) t.takes) (subst (Writes between.near) (sym lane) t.gives)
+      (record {
+        had = t.keeping.had;
+        shut = λ e. absurd (both e (ap (λ (n : Near). n.closing) is));
+        over = same_over (ap (λ (l : Lane). l.fate) lane) t.keeping.over;
+      })
+
+  -- the port alone is left
+  pub client_shuts : (moment : ℕ) (ahead : Ahead) (between : Between) (told : ℕ) → Together moment ahead between told server old reports w
+      → Calls {side = client_side} (Left Shut) old new → Goes read [] between told server new (reports ++ []) w
+  client_shuts moment ahead between told t did =
+      let left = did.0.1 in
+      let fallen : old.owner.lane.stands ≡ false = is_false old.owner.lane.stands (λ e. absurd (stood e left.ended)) in
+      let empty : old.owner.lane.unwritten ≡ [] = t.gives.bare fallen in
+      let none : old.owner.lane.untold ≡ [] = t.takes.bare fallen in
+      client_idle moment ahead between between told t (ap (λ c. c.view) did.0.0) (ap (λ (s : Stand client_side). s.unheard) did.1) refl
+      (ap (λ o. server.owner.lane.untold ++ (between.data_ways.to_server ++ o)) (empty ∙ sym left.unwritten))
+      (ap (λ o. o ++ (between.data_ways.to_client ++ server.owner.lane.unwritten)) (none ∙ sym left.untold)) refl
+      (record { bare = λ e. left.untold; over = λ e. left.untold }) (record { spare = λ e. left.unwritten; bare = λ e. left.unwritten }) t.keeping.had
+      (λ e. absurd (both (ap is_sound left.fate) e))
+    where
+      is_shut : Asked → Bool
+      is_shut Shut = true
+      is_shut asked = false
+
+      stood : old.owner.lane.stands ≡ true → IsEnded old.owner.lane.stands old.owner.lane.left old.owner.lane.written old.owner.lane.unwritten Shut → ⊥
+      stood is ended =
+          elim (subst (λ s. IsEnded s old.owner.lane.left old.owner.lane.written old.owner.lane.unwritten Shut) is ended) [
+            | inl one ↦ true≢false (ap is_shut one.1)
+            | inr other ↦ true≢false (ap is_shut other)
+          ]
+
+  -- one that leaves what it has holds it no more in a world
+  left_held : (asks : ClientFetches old.owner) (asked : Asked) (moment : ℕ) (ahead : Ahead) (between : Between) (told : ℕ)
+      → Together moment ahead between told server old reports w → Calls {side = client_side} (Left asked) old new → is_near_held w.link ≡ false
+  left_held asks asked moment ahead between told t did = by_fate old.owner.lane.fate refl did.0.2.0
+    where
+      idle : is_under_way v.job ≡ false → is_near_held w.link ≡ false
+      idle done = ap is_near_held (known.idle (ap is_busy t.beside.near ∙ idle_free v done)).link
+
+      -- one that wants no close, has not failed and has no port of its own goes on without a link only as it dials, so that none stands
+      dials : v.closing ≡ false → (q : Wants) → near.wants v ≡ q → rests q ≡ true → is_accept q ≡ false → leaves q ≡ true → is_near_held w.link ≡ false
+      dials apart (Want.Connect endpoint) is quiet alone e =
+          ap is_near_held (known.dials endpoint (ap near.wants (t.beside.near ∙ unclosed (taken v) apart) ∙ taken_wants v ∙ is)).link
+      dials apart Want.CloseData is quiet alone e = absurd (true≢false (sym quiet))
+      dials apart Want.Accept is quiet alone e = absurd (true≢false alone)
+      dials apart Want.Nothing is quiet alone e = absurd (true≢false (sym e))
+      dials apart Want.Listen is quiet alone e = absurd (true≢false (sym e))
+      dials apart Want.Receive is quiet alone e = absurd (true≢false (sym e))
+      dials apart Want.Send is quiet alone e = absurd (true≢false (sym e))
+      dials apart Want.CloseAll is quiet alone e = absurd (true≢false (sym e))
+
+      by : (closing : Bool) → v.closing ≡ closing → (leaves (near.wants v) ≡ true) ⊎ (is_under_way v.job ≡ false) → is_near_held w.link ≡ false
+      by true is may = t.keeping.shut is
+      by false is may = elim may [
+        | inl leaving ↦ dials is (near.wants v) refl (wants_rest v asks.sound asks.dials is) (never_accepts v asks.sound asks.dials is) leaving
+        | inr done ↦ idle done
+      ]
+
+      by_fate : (fate : Fate) → old.owner.lane.fate ≡ fate → MayLeave (is_under_way v.job ≡ false) (near.wants v) fate → is_near_held w.link ≡ false
+      by_fate Sound is may = by v.closing refl may
+      by_fate Failed is may = t.keeping.over (ap is_sound is)
+      by_fate Broken is may = t.keeping.over (ap is_sound is)
+      by_fate Over is may = t.keeping.over (ap is_sound is)
+
+  -- a data connection is left by an end
+  pub client_ends : (asks : ClientFetches old.owner) (left written : Option (List ℕ)) (moment : ℕ) (ahead : Ahead) (between next : Between) (told : ℕ)
+      → Together moment ahead between told server old reports w → Calls {side = client_side} (Left (EndedBy left written)) old new
+      → Can TheClient Ends between next → Goes read [] next told server new (reports ++ []) w
+  client_ends asks left written moment ahead between next told t did can =
+      let lane = did.0.1 in
+      let free : is_near_held w.link ≡ false = left_held asks (EndedBy left written) moment ahead between told t did in
+      let none : old.owner.lane.untold ≡ [] = none_untold moment ahead between told t (known.ended free) in
+      let hold : next.near ≡ Has_ended = ap (λ (m : Between). m.near) can.1 in
+      client_idle moment ahead between next told t (ap (λ c. c.view) did.0.0) (ap (λ (s : Stand client_side). s.unheard) did.1)
+      (ap (λ (m : Between). m.control) can.1)
+      (ap₂ (λ (m : Between) o. server.owner.lane.untold ++ (m.data_ways.to_server ++ o)) (sym can.1) (did.0.2.1.0 ∙ sym lane.unwritten))
+      (ap₂ (λ (m : Between) o. o ++ (m.data_ways.to_client ++ server.owner.lane.unwritten)) (sym can.1) (none ∙ sym lane.untold))
+      (ap (λ (m : Between). m.far) can.1) (record { bare = λ e. lane.untold; over = λ e. lane.untold })
+      (record { spare = λ e. lane.unwritten; bare = λ e. lane.unwritten }) (λ e. absurd (both e free)) (λ e. free)

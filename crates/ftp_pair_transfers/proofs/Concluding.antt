@@ -1,0 +1,103 @@
+-- What follows of a world that holds what both drives hold: agreement, and the direct run.
+use Rattle.std.proofs.Common.{◌≡◌, ℕ, false, List, [], ◌∷◌, ◌++◌, length, Option, Some, None, option_to_list, ap, ap₂, subst, ◌∙◌, append_assoc, append-nil}
+use Rattle.ftp_control.specs.Deeds.{Deed, Other}
+use Rattle.ftp_control.specs.Machine.{Aside}
+use Rattle.ftp_client_drive.specs.Side.{Starting, client_side}
+use Rattle.ftp_client_model.specs.Calls.{control_end, data_closed, report_of}
+use Rattle.ftp_client_model.specs.View.{View as Near}
+use Rattle.ftp_operation.specs.Answer.{Said}
+use Rattle.ftp_server_model.specs.View.{View as Far}
+use Rattle.ftp_server_model.proofs.LinesDecided.{reading_exists}
+use Rattle.ftp_tree.specs.Tree.{Table}
+use Rattle.ftp_pair_world.specs.Agreement.{Agrees, AreSingle, Order, Single, Tries, WorldAgrees}
+use Rattle.ftp_pair_world.specs.Claims.{state_of, world_of}
+use Rattle.ftp_pair_world.specs.Events.{is_parted}
+use Rattle.ftp_pair_world.specs.World.{Mark}
+use Rattle.ftp_pair_world.proofs.AgreementLemmas.{unmarked_is_direct}
+use Rattle.ftp_pair_agreement.proofs.Theorems.{agrees-always}
+use Rattle.ftp_pair_drives.specs.Alone.{begun_by, reports_in}
+use Rattle.ftp_pair_drives.specs.Between.{client_deeds}
+use Rattle.ftp_pair_drives.proofs.Taken.{cut_alike, free_none, reports_is, taken}
+use Rattle.ftp_pair_drives.proofs.Worlds.{LeadsOn, leads_then}
+use Rattle.ftp_pair_data.proofs.Ahead.{keeps}
+use Rattle.ftp_pair_transfers.specs.Deeds.{begun_at, number_in}
+use Rattle.ftp_pair_transfers.specs.Claims.{TransfersAgree, TransfersAreTheDirectRun, TransfersPartingAgree}
+use Rattle.ftp_pair_downloads.proofs.Parting.{cut_report, parts}
+use Rattle.ftp_pair_transfers.proofs.Simulating.{transfers_are_of_worlds}
+
+-- no deed begins an upload over breaks as an order of its own
+by_single : (moment : ℕ) (deed : Deed client_side) → AreSingle (begun_by moment deed)
+by_single moment (Other (Aside (Starting op))) = tt
+by_single moment deed = tt
+
+-- orders after orders
+both_single : (front given : List Order) → AreSingle front → AreSingle given → AreSingle (front ++ given)
+both_single [] given one other = other
+both_single (Single op moment ∷ front) given one other = both_single front given one other
+both_single (Tries upload moment ∷ front) given one other = absurd one
+
+-- none of all deeds does
+in_single : (moments : ℕ → ℕ) (deeds : List (Deed client_side)) → AreSingle (begun_at moments deeds)
+in_single moments [] = tt
+in_single moments (deed ∷ before) =
+    both_single (begun_at moments before) (begun_by (moments (number_in before)) deed) (in_single moments before) (by_single (moments (number_in before)) deed)
+
+-- the world agrees, and so do they
+pub transfers_agree : TransfersAgree
+transfers_agree b fair moments timed turns between server client did =
+    let o = transfers_are_of_worlds reading_exists.0 reading_exists.1 b fair moments timed turns between server client did in
+    let w = o.world in
+    let s = o.both in
+    let v : Far = server.owner.end.server.view in
+    let begun : List Order = begun_at moments (client_deeds turns) in
+    let agree : WorldAgrees (state_of b) begun w = agrees-always reading_exists.0 reading_exists.1 b fair o.events begun w o.timed o.leads in
+    let said : List Said = reports_in (client_deeds turns) ++ option_to_list (report_of client.owner.end.view) in
+    let table : w.far.session.table ≡ v.session.table = ap (λ (f : Far). f.session.table) s.far ∙ (keeps s.ahead v s.fits).table in (
+      w.marks,
+      s.marks,
+      subst (λ (t : Table). Agrees (state_of b) begun w.marks None said t) table
+          (subst (λ (r : List Said). Agrees (state_of b) begun w.marks None r w.far.session.table) s.reported
+          (subst (λ (c : Option ℕ). Agrees (state_of b) begun w.marks c w.reports w.far.session.table) s.cutoff agree)),
+    )
+
+-- one more event ends the control connection for both
+pub transfers_parting_agree : TransfersPartingAgree
+transfers_parting_agree b fair moments timed turns between server client did =
+    let read = reading_exists.0 in
+    let o = transfers_are_of_worlds read reading_exists.1 b fair moments timed turns between server client did in
+    let w = o.world in
+    let s = o.both in
+    let f : Far = server.owner.end.server.view in
+    let v : Near = client.owner.end.view in
+    let begun : List Order = begun_at moments (client_deeds turns) in
+    let reports : List Said = reports_in (client_deeds turns) in
+    let p = parts read w (ap is_parted s.control) in
+    let to_there : LeadsOn read begun (world_of b) w = record { events = o.events; timed = o.timed; leads = o.leads } in
+    let all = subst (λ (l : List Order). LeadsOn read l (world_of b) p.new) (append-nil begun)
+    (leads_then read begun [] (world_of b) w p.new to_there p.leads) in
+    let agree : WorldAgrees (state_of b) begun p.new = agrees-always read reading_exists.1 b fair all.events begun p.new all.timed all.leads in
+    let near_is : report_of (control_end w.near) ≡ report_of (control_end (taken v)) =
+    ap (λ n. report_of (control_end n)) (s.near ∙ ap data_closed (reports_is v)) ∙ cut_report false (taken v) in
+    let told : p.new.reports ≡ reports ++ option_to_list (report_of (control_end v)) =
+    p.reports ∙ ap₂ (λ r n. r ++ option_to_list n) s.reported near_is
+    ∙ append_assoc reports (option_to_list (report_of v)) (option_to_list (report_of (control_end (taken v)))) ∙ ap (λ l. reports ++ l) (cut_alike v) in
+    let table : p.new.far.session.table ≡ f.session.table =
+    p.table ∙ ap (λ (x : Far). x.session.table) s.far ∙ (keeps s.ahead f s.fits).table in (
+      w.marks,
+      s.marks,
+      subst (λ (t : Table). Agrees (state_of b) begun w.marks (Some (length w.marks)) (reports ++ option_to_list (report_of (control_end v))) t) table
+          (subst (λ (r : List Said). Agrees (state_of b) begun w.marks (Some (length w.marks)) r p.new.far.session.table) told
+          (subst (λ (c : Option ℕ). Agrees (state_of b) begun w.marks c p.new.reports p.new.far.session.table) p.cutoff
+          (subst (λ (m : List (List Mark)). Agrees (state_of b) begun m p.new.cutoff p.new.reports p.new.far.session.table) p.marks agree))),
+    )
+
+-- agreement without marks is the direct run, where all is reported
+pub transfers_are_the_direct_run : TransfersAreTheDirectRun
+transfers_are_the_direct_run b fair moments timed turns between server client did free told =
+    let agree = transfers_agree b fair moments timed turns between server client did in
+    let reports : List Said = reports_in (client_deeds turns) in
+    let none : reports ++ option_to_list (report_of client.owner.end.view) ≡ reports =
+    ap (λ o. reports ++ option_to_list o) (free_none client.owner.end.view free) ∙ append-nil reports in
+    let begun : List Order = begun_at moments (client_deeds turns) in
+    unmarked_is_direct (state_of b) begun agree.0 reports server.owner.end.server.view.session.table (in_single moments (client_deeds turns)) agree.1 told
+    (subst (λ (r : List Said). Agrees (state_of b) begun agree.0 None r server.owner.end.server.view.session.table) none agree.2)

@@ -1,0 +1,424 @@
+-- Deeds of a server that takes files that are events of a world: octets are said, and an octet is heard.
+use Rattle.std.proofs.Common.{◌≡◌, inl, inr, ℕ, suc, ◌≤◌, Bool, true, false, true≢false, List, [], ◌∷◌, ◌++◌, length, drop, refl, sym, ap, ap₂, subst, ◌∙◌, append_assoc, take-append-drop, arith}
+use Rattle.ftp_control.specs.Deeds.{HearsNext, Says as SaysNext, Stand}
+use Rattle.ftp_control.specs.Lane.{Lane}
+use Rattle.ftp_control.specs.Machine.{waits}
+use Rattle.ftp_client_drive.specs.Side.{client_side}
+use Rattle.ftp_ends.specs.Octets.{has_octets}
+use Rattle.ftp_operation.specs.Answer.{Said}
+use Rattle.ftp_server_drive.specs.Side.{ends_line, server_side}
+use Rattle.ftp_server_model.specs.Calls as far
+use Rattle.ftp_server_model.specs.Calls.{clock_step, close_step, control_step, given_step, wants_of}
+use Rattle.ftp_server_model.specs.Machine.{IsReading, Reading, hears_octet, is_transferring, may_hear}
+use Rattle.ftp_server_model.specs.View.{Session, Transfer, View as Far}
+use Rattle.ftp_server_model.specs.declared.session.ServerLink.{ServerLink}
+use Rattle.ftp_server_model.specs.declared.session.ServerLink.TheVariants as Data
+use Rattle.ftp_server_model.specs.declared.session.Way.TheVariants as Ways
+use Rattle.ftp_pair_world.specs.Claims.{AreUnmarked}
+use Rattle.ftp_pair_world.specs.World.{World, port_at}
+use Rattle.ftp_pair_world.specs.Events.{is_closed_by_near}
+use Rattle.ftp_pair_drives.specs.Alone.{ServerIsCalm}
+use Rattle.ftp_pair_drives.specs.Between.{Between, Far as TheServer, Hold, sent}
+use Rattle.ftp_pair_drives.proofs.Moments.{octet_moment}
+use Rattle.ftp_pair_drives.proofs.ServerSteps.{HearsAt, hears_at}
+use Rattle.ftp_pair_data.specs.Ahead.{Ahead, Fits, Level, Listened, Listens, Opens, accepts, ahead_of, far_ahead, is_asked, is_open}
+use Rattle.ftp_pair_data.proofs.Ahead.{Keeps, closed_is, far_is, keeps, says_after}
+use Rattle.ftp_pair_data.proofs.Hearing.{Turns, at_link, is_aimed, is_dialled, octet_opened, octet_turns}
+use Rattle.ftp_pair_data.proofs.Moves.{Rested, far_hears, far_says}
+use Rattle.ftp_pair_data.proofs.Served.{Runs, far_wants, settled}
+use Rattle.ftp_pair_data.proofs.Settling.{FarSettles, far_settles, fits_next, next_ahead}
+use Rattle.ftp_pair_downloads.proofs.Beside.{Holds, both, is_ahead, is_called, is_false, is_had, is_sound}
+use Rattle.ftp_pair_downloads.proofs.FarForms.{called_speaks, first_of_some, quiet_of, same_opens, waiting_open, waits_unasked}
+use Rattle.ftp_pair_downloads.proofs.ServerStays.{none_later}
+use Rattle.ftp_pair_downloads.proofs.Stands.{ClientFetches, ServerServes}
+use Rattle.ftp_pair_transfers.proofs.Beside.{Comes, Goes, Together, Writes, rested}
+use Rattle.ftp_pair_transfers.proofs.FarForms.{upload_takes}
+use Rattle.ftp_pair_transfers.proofs.Known.{Known, is_near_held}
+use Rattle.ftp_pair_transfers.proofs.ServerStays.{server_stays}
+use Rattle.ftp_pair_transfers.proofs.Settling.{far_held}
+
+-- with these and those to say
+abbrev owing : List ℕ → Far → Far
+owing octets v = record v { owed = octets }
+
+-- some octets are not none
+no_octets : (octet : ℕ) (octets queue : List ℕ) → queue ≡ octet ∷ octets → queue ≡ [] → ⊥
+no_octets octet octets queue some none = true≢false (ap has_octets (sym some ∙ none))
+
+-- a world that is next is ahead by no opening
+next_not : (asked : Bool) (port : ℕ) → is_ahead (next_ahead asked port) ≡ false
+next_not true port = refl
+next_not false port = refl
+
+module _ (read : Reading) (reads : IsReading read) (old new : Stand server_side) (client : Stand client_side) (reports : List Said) (w : World)
+    (calm : ServerIsCalm old.owner new.owner) (before : ServerServes old.owner) (asks : ClientFetches client.owner) (known : Known w)
+    (runs_on : (octet : ℕ) (queue : List ℕ) → w.control_to_server ≡ octet ∷ queue → Runs (hears_octet read w.far octet)) where
+  abbrev v : Far
+  v = old.owner.end.server.view
+
+  abbrev u : Far
+  u = new.owner.end.server.view
+
+  -- ---- octets are said
+
+  pub server_said : (octets : List ℕ) (moment : ℕ) (ahead : Ahead) (between next : Between) (told : ℕ) → Together moment ahead between told old client reports w
+      → SaysNext octets old new → next ≡ record between { control = sent TheServer octets between.control } → Goes read [] next told new client reports w
+  server_said octets moment ahead between next told t says can =
+      let b = t.beside in
+      let count = says.gives.count in
+      let rest : List ℕ = drop count v.owed in
+      let is : u ≡ owing rest v = says.gives.gave.0.done calm ∙ none_later (control_step count v) before.none_waits in
+      let link : u.session ≡ v.session = ap (λ (f : Far). f.session) is in
+      let g : Far = far_ahead ahead (owing rest v) in
+      let owed : v.owed ≡ octets ++ rest = sym (take-append-drop count v.owed) ∙ ap (λ o. o ++ rest) (sym says.gives.owed) in
+      let whole : w.far ≡ clock_step moment (owing (octets ++ g.owed) g) =
+      b.far ∙ ap (λ o. clock_step moment (far_ahead ahead (owing o v))) owed ∙ ap (clock_step moment) (says_after ahead v b.fits octets rest) in
+      let more : w.far.owed ≡ octets ++ g.owed = ap (λ (f : Far). f.owed) whole in
+      let lane : new.owner.lane ≡ old.owner.lane = says.gives.lane in
+      record {
+        world = _;
+        leads = far_says read octets g.owed w (rested moment ahead between told old client reports w b before asks) more;
+        moment = moment;
+        ahead = ahead;
+        together = record {
+          beside = record {
+            fits = subst (λ (s : Session). Fits ahead s.connection) (sym link) b.fits;
+            near = b.near;
+            far = ap (λ (f : Far). owing g.owed f) whole ∙ ap (λ f. clock_step moment (far_ahead ahead f)) (sym is);
+            to_server = b.to_server ∙ ap₂ (λ a (m : Between). a ++ m.control.to_server) (sym says.unheard) (sym can);
+            to_client = ap (λ q. q ++ octets) b.to_client ∙ append_assoc client.unheard between.control.to_client octets
+                ∙ ap (λ (m : Between). client.unheard ++ m.control.to_client) (sym can);
+            rising = b.rising ∙ ap₂ (λ (m : Between) (l : Lane). l.untold ++ (m.data_ways.to_server ++ client.owner.lane.unwritten)) (sym can) (sym lane);
+            falling = b.falling ∙ ap₂ (λ (m : Between) (l : Lane). client.owner.lane.untold ++ (m.data_ways.to_client ++ l.unwritten)) (sym can) (sym lane);
+            listens = b.listens;
+            reported = b.reported;
+            control = b.control;
+            unready = b.unready;
+            marks = b.marks;
+            cutoff = b.cutoff;
+          };
+          holds = subst (λ (m : Between). Holds ahead m.far u.session) (sym can) (subst (Holds ahead between.far) (sym link) t.holds);
+          comes = subst (λ (m : Between). Comes m.far u.session new.owner.lane) (sym can)
+              (subst (λ (x : Session). Comes between.far x new.owner.lane) (sym link) (subst (Comes between.far v.session) (sym lane) t.comes));
+          serves = subst (λ (m : Between). Writes m.far new.owner.lane) (sym can) (subst (Writes between.far) (sym lane) t.serves);
+          takes = t.takes;
+          gives = subst (λ (m : Between). Writes m.near client.owner.lane) (sym can) t.gives;
+          keeping = record { had = λ e. ap (λ (m : Between). is_had m.near) can ∙ t.keeping.had e; shut = t.keeping.shut; over = t.keeping.over };
+        };
+      }
+
+  -- ---- an octet is heard
+
+  -- the server once it heard this
+  abbrev heard_far : ℕ → Far
+  heard_far octet = hears_octet read v octet
+
+  -- so it did, and its data connection turned so
+  record Heard (octet : ℕ) : Type 0 where
+    m : ℕ
+    is : u ≡ clock_step m (heard_far octet)
+    turns : Turns v.session.connection (heard_far octet)
+    lane : new.owner.lane.untold ≡ old.owner.lane.untold
+    unwritten : new.owner.lane.unwritten ≡ old.owner.lane.unwritten
+    comes : (hold : Hold) → Comes hold v.session old.owner.lane → Comes hold u.session new.owner.lane
+    writes : (hold : Hold) → Writes hold old.owner.lane → Writes hold new.owner.lane
+
+  module _ (octet : ℕ) (moment : ℕ) (between : Between) (told : ℕ) (next : old.unheard ≡ octet ∷ new.unheard) where
+    abbrev now : World
+    now = record w { far = hears_octet read w.far octet; control_to_server = new.unheard ++ between.control.to_server; taken = octet ∷ [] }
+
+    abbrev port : ℕ
+    port = port_at w.listens
+
+    -- events lead on to a world that is so again, and the server serves
+    abbrev Went : Type 0
+    Went = Goes read [] between told new client reports w × ServerServes new.owner
+
+    -- an octet that is on its way
+    on_way : (ahead : Ahead) → Together moment ahead between told old client reports w
+        → w.control_to_server ≡ octet ∷ (new.unheard ++ between.control.to_server)
+    on_way ahead t = t.beside.to_server ∙ ap (λ a. a ++ between.control.to_server) next
+
+    runs : (ahead : Ahead) → Together moment ahead between told old client reports w → Runs (hears_octet read w.far octet)
+    runs ahead t = runs_on octet (new.unheard ++ between.control.to_server) (on_way ahead t)
+
+    -- nor is a link left by the client alone
+    unclosed_now : (ahead : Ahead) → Together moment ahead between told old client reports w → is_closed_by_near w.link ≡ false
+    unclosed_now ahead t =
+        is_false (is_closed_by_near w.link)
+        (λ e. no_octets octet (new.unheard ++ between.control.to_server) w.control_to_server (on_way ahead t)
+        (known.lines (upload_takes w.far.session.connection (known.closed e)).busy))
+
+    -- a world's server that heard it is as the drive's, or is ahead by an opening
+    finish : (ahead onward : Ahead) → (t : Together moment ahead between told old client reports w) → (h : Heard octet)
+        → may_hear w.far ≡ true → Runs (hears_octet read w.far octet)
+        → ((f : FarSettles now (settled now)) → (settled now).far ≡ clock_step moment (far_ahead onward u)) → Fits onward u.session.connection
+        → ((f : FarSettles now (settled now)) → Listened onward told (settled now).listens)
+        → (is_called between.far ≡ true → accepts u.session.connection ≡ true → is_ahead onward ≡ true)
+        → (is_ahead onward ≡ true → is_called between.far ≡ true)
+        → Goes read [] between told new client reports w
+    finish ahead onward t h may runs far fits listens called opened =
+        let b = t.beside in
+        let r : Rested w = rested moment ahead between told old client reports w b before asks in
+        let queue : w.control_to_server ≡ octet ∷ (new.unheard ++ between.control.to_server) = b.to_server ∙ ap (λ a. a ++ between.control.to_server) next in
+        let f : FarSettles now (settled now) = far_settles now r.none r.near_open (unclosed_now ahead t) in
+        let session : u.session ≡ (heard_far octet).session = ap (λ (x : Far). x.session) h.is in
+        record {
+          world = settled now;
+          leads = far_hears read octet (new.unheard ++ between.control.to_server) w r queue may runs;
+          moment = moment;
+          ahead = onward;
+          together = record {
+            beside = record {
+              fits = fits;
+              near = f.near ∙ b.near;
+              far = far f;
+              to_server = f.same.to_server;
+              to_client = f.same.to_client ∙ b.to_client;
+              rising = f.same.data_to_server ∙ b.rising ∙ ap (λ o. o ++ (between.data_ways.to_server ++ client.owner.lane.unwritten)) (sym h.lane);
+              falling = f.same.data_to_client ∙ b.falling
+                  ∙ ap (λ o. client.owner.lane.untold ++ (between.data_ways.to_client ++ o)) (sym h.unwritten);
+              listens = listens f;
+              reported = f.reports ∙ b.reported;
+              control = f.same.control ∙ b.control;
+              unready = λ e. absurd (both e f.same.link);
+              marks = subst AreUnmarked (sym f.same.marks) b.marks;
+              cutoff = f.same.cutoff ∙ b.cutoff;
+            };
+            holds = record {
+              shut = λ e. is_false (is_open u.session.connection)
+                  (λ o. both e (ap (λ (s : Session). s.closing) session ∙ (h.turns.opened (ap (λ (s : Session). is_open s.connection) (sym session) ∙ o)).1));
+              had = λ e. t.holds.had (h.turns.opened (ap (λ (s : Session). is_open s.connection) (sym session) ∙ e)).0;
+              called = called;
+              opened = opened;
+            };
+            comes = h.comes between.far t.comes;
+            serves = h.writes between.far t.serves;
+            takes = t.takes;
+            gives = t.gives;
+            keeping = record {
+              had = λ e. t.keeping.had (far_held now r.near_open e);
+              shut = λ e. is_false (is_near_held (settled now).link) (λ o. both (far_held now r.near_open o) (t.keeping.shut e));
+              over = λ e. is_false (is_near_held (settled now).link) (λ o. both (far_held now r.near_open o) (t.keeping.over e));
+            };
+          };
+        }
+
+    -- as the drive's
+    finish_level : (ahead : Ahead) → (t : Together moment ahead between told old client reports w) → (h : Heard octet) → may_hear w.far ≡ true
+        → hears_octet read w.far octet ≡ clock_step moment u → w.listens ≡ told
+        → (is_called between.far ≡ true → accepts u.session.connection ≡ true → ⊥) → Went
+    finish_level ahead t h may is count none =
+        let asked : Bool = is_asked u.session.connection in
+        let onward : Ahead = next_ahead asked port in
+        let fits : Fits onward u.session.connection = fits_next u.session.connection port in (
+          finish ahead onward t h may (runs ahead t)
+              (λ f. f.far ∙ ap (λ (x : Far). far_ahead (next_ahead (is_asked x.session.connection) port) x) is ∙ (keeps onward u fits).clock moment)
+              fits
+              (λ f. subst (λ n. Listened onward n (settled now).listens) count
+              (subst (λ (x : Far). Listened (next_ahead (is_asked x.session.connection) port) w.listens (settled now).listens) is f.listens))
+              (λ c e. absurd (none c e)) (λ e. absurd (both e (next_not asked port))),
+          record {
+            running = ap (λ (f : Far). f.session.life) (sym is) ∙ (runs ahead t).running;
+            none_waits = ap (λ (f : Far). f.waiting) (sym is) ∙ (runs ahead t).none_waits;
+          },
+        )
+
+    -- ahead by an opening
+    finish_ahead : (t : Together moment Opens between told old client reports w) → (h : Heard octet) → may_hear w.far ≡ true
+        → hears_octet read w.far octet ≡ clock_step moment (ahead_of Opens (heard_far octet)) → accepts (heard_far octet).session.connection ≡ true
+        → Went
+    finish_ahead t h may is waits =
+        let x : Far = heard_far octet in
+        let unclosed : x.session.closing ≡ false = (h.turns.accepted waits).1 in
+        let kept : Keeps Opens x = keeps Opens x waits in
+        let ahead_is : far_ahead Opens x ≡ close_step (ahead_of Opens x) = far_is Opens x unclosed in
+        let unasked : is_asked (ahead_of Opens x).session.connection ≡ false = ap (λ (f : Far). is_asked f.session.connection) (sym ahead_is) ∙ kept.told in
+        let next_is : (y : Far) → y ≡ clock_step moment (ahead_of Opens x)
+        → far_ahead (next_ahead (is_asked y.session.connection) port) y ≡ clock_step moment (close_step (ahead_of Opens x)) = λ y e.
+        ap (λ (f : Far). far_ahead (next_ahead (is_asked f.session.connection) port) f) e
+        ∙ ap (λ a. far_ahead (next_ahead a port) (clock_step moment (ahead_of Opens x))) unasked in (
+          finish Opens Opens t h may (runs Opens t)
+              (λ f. f.far ∙ next_is (hears_octet read w.far octet) is ∙ ap (clock_step moment) (sym ahead_is) ∙ ap (clock_step moment) (sym (kept.clock h.m))
+              ∙ ap (λ y. clock_step moment (far_ahead Opens y)) (sym h.is))
+              (ap (λ (f : Far). accepts f.session.connection) h.is ∙ waits)
+              (λ f. subst (λ n. Listened Opens n (settled now).listens) t.beside.listens
+              (subst (λ a. Listened (next_ahead a port) w.listens (settled now).listens) (ap (λ (f : Far). is_asked f.session.connection) is ∙ unasked)
+              f.listens))
+              (λ c e. refl) (λ e. t.holds.opened refl),
+          record {
+            running = ap (λ (f : Far). f.session.life) h.is ∙ sym kept.life ∙ ap (λ (f : Far). f.session.life) ahead_is
+                ∙ ap (λ (f : Far). f.session.life) (sym is) ∙ (runs Opens t).running;
+            none_waits = ap (λ (f : Far). f.waiting) h.is ∙ sym kept.waiting ∙ ap (λ (f : Far). f.waiting) ahead_is
+                ∙ ap (λ (f : Far). f.waiting) (sym is) ∙ (runs Opens t).none_waits;
+          },
+        )
+
+    -- by how far a world is ahead
+    hears_so : (ahead : Ahead) → Together moment ahead between told old client reports w → HearsNext (octet ∷ []) old new
+        → Went
+    hears_so ahead t did = by ahead t
+      where
+        heard : HearsAt read (octet ∷ []) v u
+        heard = hears_at read reads (ends_line old.unheard) (octet ∷ []) old.owner.end new.owner.end did.hears.0.1 calm before.none_waits
+
+        waits_now : waits (far.wants v) ≡ true
+        waits_now = did.hears.2 refl
+
+        unclosed : v.session.closing ≡ false
+        unclosed = waiting_open v waits_now
+
+        unasked : is_asked v.session.connection ≡ false
+        unasked = waits_unasked v.session.connection (sym (ap waits (far_wants v before.running unclosed)) ∙ waits_now)
+
+        queue : (ahead : Ahead) → Together moment ahead between told old client reports w
+            → w.control_to_server ≡ octet ∷ (new.unheard ++ between.control.to_server)
+        queue ahead t = t.beside.to_server ∙ ap (λ a. a ++ between.control.to_server) next
+
+        -- an octet is on its way, so no transfer is under way there
+        still_there : (ahead : Ahead) → Together moment ahead between told old client reports w → is_transferring w.far.session.connection ≡ false
+        still_there ahead t =
+            is_false (is_transferring w.far.session.connection)
+            (λ e. no_octets octet (new.unheard ++ between.control.to_server) w.control_to_server (queue ahead t) (known.lines e))
+
+        -- so its data connection turns
+        turns_of : is_transferring v.session.connection ≡ false → Turns v.session.connection (heard_far octet)
+        turns_of still =
+            subst (λ f. Turns v.session.connection (hears_octet read f octet)) (ap (λ c. record v { session = record v.session { closing = c } })
+            (sym unclosed))
+            (octet_turns read octet v.session.connection (quiet_of v.session.connection unasked still) v)
+
+        -- of a server at which no transfer is under way
+        heard_of : is_transferring v.session.connection ≡ false → Heard octet
+        heard_of still = record {
+          m = heard.moment;
+          is = heard.is ∙ octet_moment read octet heard.moment v still;
+          turns = turns_of still;
+          lane = ap (λ (l : Lane). l.untold) did.hears.1;
+          unwritten = ap (λ (l : Lane). l.unwritten) did.hears.1;
+          writes = λ hold writes. record {
+            spare = λ e. ap (λ (l : Lane). l.unwritten) did.hears.1 ∙ writes.spare e;
+            bare = λ e. ap (λ (l : Lane). l.unwritten) did.hears.1 ∙ writes.bare (ap (λ (l : Lane). l.stands) (sym did.hears.1) ∙ e);
+          };
+          comes = λ hold c.
+              let turned : Turns v.session.connection (heard_far octet) = turns_of still in
+              let session : u.session ≡ (heard_far octet).session =
+              ap (λ (x : Far). x.session) heard.is ∙ ap (λ (x : Far). x.session) (octet_moment read octet heard.moment v still) in
+              record {
+                bare = λ e. ap (λ (l : Lane). l.untold) did.hears.1 ∙ c.bare (ap (λ (l : Lane). l.stands) (sym did.hears.1) ∙ e);
+                spare = λ e. ap (λ (l : Lane). l.untold) did.hears.1 ∙ c.spare e;
+                over = λ e. ap (λ (l : Lane). l.untold) did.hears.1 ∙ c.over (ap (λ (l : Lane). is_sound l.fate) (sym did.hears.1) ∙ e);
+                shut = λ e. is_false (is_open u.session.connection)
+                    (λ o. both (turned.opened (ap (λ (x : Session). is_open x.connection) (sym session) ∙ o)).0
+                    (c.shut (ap (λ (l : Lane). is_sound l.fate) (sym did.hears.1) ∙ e)));
+              };
+        }
+
+        by_level : Together moment Level between told old client reports w → Went
+        by_level t =
+            let wf : w.far ≡ clock_step moment v = t.beside.far ∙ ap (clock_step moment) (closed_is v unclosed) in
+            let still : is_transferring v.session.connection ≡ false =
+            ap (λ (f : Far). is_transferring f.session.connection) (sym wf) ∙ still_there Level t in
+            let got : Heard octet = heard_of still in
+            finish_level Level t got (ap may_hear wf ∙ heard.may.0)
+            (ap (λ f. hears_octet read f octet) wf ∙ octet_moment read octet moment v still ∙ ap (clock_step moment) (sym got.is)) t.beside.listens
+            (λ c e. true≢false (sym (t.holds.called c (got.turns.accepted (ap (λ (f : Far). accepts f.session.connection) (sym got.is) ∙ e)).0)))
+
+        -- it waits for who comes, before a line
+        by_passive : Together moment Opens between told old client reports w → v.session.connection ≡ Data.Passive
+            → Went
+        by_passive t link =
+            let vp : v ≡ at_link Data.Passive false v = λ i. record v { session = record v.session { connection = link i; closing = unclosed i } } in
+            let still : is_transferring v.session.connection ≡ false = ap is_transferring link in
+            let got : Heard octet = heard_of still in
+            let wf : w.far ≡ clock_step moment (at_link Data.Ready false v) = t.beside.far ∙ ap (λ f. clock_step moment (far_ahead Opens f)) vp in
+            let may : may_hear w.far ≡ true = ap may_hear wf ∙ heard.may.0 in
+            let there : hears_octet read w.far octet ≡ clock_step moment (ahead_of Opens (heard_far octet)) =
+            ap (λ f. hears_octet read f octet) wf ∙ octet_moment read octet moment (at_link Data.Ready false v) refl
+            ∙ ap (clock_step moment) (octet_opened read octet v) ∙ ap (λ f. clock_step moment (ahead_of Opens (hears_octet read f octet))) (sym vp) in
+            by_waits t got may there (accepts (heard_far octet).session.connection) refl
+            (is_false (is_open (heard_far octet).session.connection) (λ e. both (got.turns.opened e).0 (ap is_open link)))
+            (is_false (is_dialled (heard_far octet).session.connection) (λ e. both (got.turns.dialled e) (ap is_aimed link)))
+          where
+            by_waits : (t : Together moment Opens between told old client reports w) → (got : Heard octet) → may_hear w.far ≡ true
+                → hears_octet read w.far octet ≡ clock_step moment (ahead_of Opens (heard_far octet)) → (waits : Bool)
+                → accepts (heard_far octet).session.connection ≡ waits
+                → is_open (heard_far octet).session.connection ≡ false → is_dialled (heard_far octet).session.connection ≡ false → Went
+            by_waits t got may there true is none_open none_dialled = finish_ahead t got may there is
+            by_waits t got may there false is none_open none_dialled =
+                finish_level Opens t got may
+                (there ∙ ap (clock_step moment)
+                (same_opens (heard_far octet).session.connection is none_open none_dialled (heard_far octet).session.closing (heard_far octet))
+                ∙ ap (clock_step moment) (sym got.is)) t.beside.listens
+                (λ c e. both (ap (λ (f : Far). accepts f.session.connection) (sym got.is) ∙ e) is)
+
+        -- behind one: none comes onward
+        by_opening : Together moment Opens between told old client reports w → (transfer : Transfer)
+            → v.session.connection ≡ Data.Opening transfer Ways.Accept → Went
+        by_opening t transfer link =
+            let vp : v ≡ at_link (Data.Opening transfer Ways.Accept) false v =
+            λ i. record v { session = record v.session { connection = link i; closing = unclosed i } } in
+            let wf : w.far ≡ clock_step moment (far_ahead Opens (at_link (Data.Opening transfer Ways.Accept) false v)) =
+            t.beside.far ∙ ap (λ f. clock_step moment (far_ahead Opens f)) vp in
+            elim (called_speaks transfer v) [
+              | inl moves ↦ absurd (both (ap (λ (f : Far). is_transferring f.session.connection) wf ∙ moves) (still_there Opens t))
+              | inr says ↦ absurd (spoken wf says)
+            ]
+          where
+            spoken : w.far ≡ clock_step moment (far_ahead Opens (at_link (Data.Opening transfer Ways.Accept) false v))
+                → has_octets (far_ahead Opens (at_link (Data.Opening transfer Ways.Accept) false v)).owed ≡ true → ⊥
+            spoken wf says =
+                let first = first_of_some w.far.owed (ap (λ (f : Far). has_octets f.owed) wf ∙ says) in
+                no_octets octet (new.unheard ++ between.control.to_server) w.control_to_server (queue Opens t) (known.says first.0 first.1 first.2)
+
+        by_link : Together moment Opens between told old client reports w → (link : ServerLink Transfer) → v.session.connection ≡ link
+            → accepts link ≡ true → Went
+        by_link t Data.Passive is e = by_passive t is
+        by_link t (Data.Opening transfer Ways.Accept) is e = by_opening t transfer is
+        by_link t (Data.Opening transfer (Ways.Connect endpoint)) is e = absurd (true≢false (sym e))
+        by_link t Data.Free is e = absurd (true≢false (sym e))
+        by_link t (Data.Asked verb) is e = absurd (true≢false (sym e))
+        by_link t (Data.Active endpoint) is e = absurd (true≢false (sym e))
+        by_link t Data.Ready is e = absurd (true≢false (sym e))
+        by_link t (Data.Transferring transfer) is e = absurd (true≢false (sym e))
+
+        by : (ahead : Ahead) → Together moment ahead between told old client reports w → Went
+        by Level t = by_level t
+        by (Listens other) t = absurd (both t.beside.fits unasked)
+        by Opens t = by_link t v.session.connection refl t.beside.fits
+
+  -- none is heard, or one
+  pub server_heard : (octets : List ℕ) (moment : ℕ) (ahead : Ahead) (between : Between) (told : ℕ) → Together moment ahead between told old client reports w
+      → HearsNext octets old new → Goes read [] between told new client reports w × ServerServes new.owner
+  server_heard [] moment ahead between told t did =
+      let heard = hears_at read reads (ends_line old.unheard) [] old.owner.end new.owner.end did.hears.0.1 calm before.none_waits in
+      let session : u.session ≡ v.session = ap (λ (f : Far). f.session) heard.is in
+      let untold : new.owner.lane.untold ≡ old.owner.lane.untold = ap (λ (l : Lane). l.untold) did.hears.1 in (
+        server_stays read old new client reports w calm before known moment ahead ahead between between told told t
+            (subst (λ (s : Session). Fits ahead s.connection) (sym session) t.beside.fits)
+            (ap (clock_step moment) (sym ((keeps ahead v t.beside.fits).clock heard.moment)) ∙ ap (λ f. clock_step moment (far_ahead ahead f)) (sym heard.is))
+            (λ l. l) (ap (λ a. a ++ between.control.to_server) did.next) refl
+            (ap (λ o. o ++ (between.data_ways.to_server ++ client.owner.lane.unwritten)) (sym untold))
+            (ap (λ (l : Lane). client.owner.lane.untold ++ (between.data_ways.to_client ++ l.unwritten)) (sym did.hears.1)) refl
+            (subst (Holds ahead between.far) (sym session) t.holds)
+            (record {
+              bare = λ e. untold ∙ t.comes.bare (ap (λ (l : Lane). l.stands) (sym did.hears.1) ∙ e);
+              spare = λ e. untold ∙ t.comes.spare e;
+              over = λ e. untold ∙ t.comes.over (ap (λ (l : Lane). is_sound l.fate) (sym did.hears.1) ∙ e);
+              shut = λ e. ap (λ (s : Session). is_open s.connection) session
+                  ∙ t.comes.shut (ap (λ (l : Lane). is_sound l.fate) (sym did.hears.1) ∙ e);
+            })
+            (record {
+              spare = λ e. ap (λ (l : Lane). l.unwritten) did.hears.1 ∙ t.serves.spare e;
+              bare = λ e. ap (λ (l : Lane). l.unwritten) did.hears.1 ∙ t.serves.bare (ap (λ (l : Lane). l.stands) (sym did.hears.1) ∙ e);
+            }),
+        record {
+          running = ap (λ (f : Far). f.session.life) heard.is ∙ before.running;
+          none_waits = ap (λ (f : Far). f.waiting) heard.is ∙ before.none_waits;
+        },
+      )
+  server_heard (octet ∷ []) moment ahead between told t did = hears_so octet moment between told did.next ahead t did
+  server_heard (octet ∷ more ∷ octets) moment ahead between told t did = absurd (too_many octets did.hears.0.0)
+    where
+      too_many : (octets : List ℕ) → suc (suc (length octets)) ≤ 1 → ⊥
+      too_many octets few = omega (arith, few)

@@ -1,0 +1,514 @@
+-- Deeds of a server that takes files for which nothing happens in a world: octets are read, it is looked at or waited for, a data connection is left, a close
+-- or a port is told, and who came is accepted.
+use Rattle.std.proofs.Common.{◌≡◌, ◌⊎◌, inl, inr, ℕ, Bool, true, false, true≢false, List, [], ◌∷◌, ◌++◌, Option, Some, refl, sym, ap, ap₂, subst, ◌∙◌, append_assoc}
+use Rattle.std.specs.Prelude.{◌≢◌}
+use Rattle.ftp_endpoint.specs.declared.host.Host.{Host}
+use Rattle.ftp_ends.specs.Link.{is_accepting, same_host}
+use Rattle.ftp_ends.specs.declared.link.Wants.{Wants}
+use Rattle.ftp_ends.specs.declared.link.Wants.TheVariants as Want
+use Rattle.ftp_control.specs.Asking.{Asked, Came, Ended as EndedBy, Shut}
+use Rattle.ftp_control.specs.Deeds.{Calls, ReadsNext, Stand}
+use Rattle.ftp_control.specs.Lane.{IsEnded, IsOpened, Lane}
+use Rattle.ftp_control.specs.Machine.{Aside, Closed, Got, Left, LetGo, Listening, MayLeave, Opened, Waited, Wrote, leaves}
+use Rattle.ftp_control.specs.declared.whole.Fate.{Fate}
+use Rattle.ftp_control.specs.declared.whole.Fate.TheVariants.{Sound, Failed, Broken, Over}
+use Rattle.ftp_control.specs.declared.whole.Rest.{Rest}
+use Rattle.ftp_client_drive.specs.Side.{client_side}
+use Rattle.ftp_operation.specs.Answer.{Said}
+use Rattle.ftp_server_drive.specs.Side.{server_side}
+use Rattle.ftp_server_model.specs.Calls as far
+use Rattle.ftp_server_model.specs.Calls.{clock_step, close_step, is_upload, listening_step, opened_step, wants_of}
+use Rattle.ftp_server_model.specs.Machine.{Reading}
+use Rattle.ftp_server_model.specs.View.{Session, View as Far}
+use Rattle.ftp_server_model.specs.declared.session.ServerLink.TheVariants as Data
+use Rattle.ftp_pair_world.specs.World.{World, next_listen, port_at}
+use Rattle.ftp_pair_agreement.proofs.Chunks.{both_empty}
+use Rattle.ftp_pair_drives.specs.Alone.{ServerIsCalm}
+use Rattle.ftp_pair_drives.specs.Between.{Awaits, Between, Can, Far as TheServer, Has, Has_ended, Hold, IsOver}
+use Rattle.ftp_pair_drives.specs.Touches.{Accepts, Ends, Listens as ListensAt, Takes as TakesOctets, Writes as WritesOctets}
+use Rattle.ftp_pair_drives.proofs.Worlds.{leads_none}
+use Rattle.ftp_pair_data.specs.Ahead.{Ahead, Fits, Level, Listened, Listens, Opens, accepts, ahead_of, far_ahead, is_asked, is_open}
+use Rattle.ftp_pair_data.proofs.Ahead.{far_is, keeps, listened_level, opened_level}
+use Rattle.ftp_pair_data.proofs.Served.{far_wants}
+use Rattle.ftp_pair_downloads.proofs.Beside.{Holds, both, is_called, is_false, is_had, is_sound}
+use Rattle.ftp_pair_downloads.proofs.FarForms.{accepts_accepts, asked_apart, asked_listens, is_listen, leaves_open, never_all, no_close, opened_is, opened_shut, told_passive}
+use Rattle.ftp_pair_downloads.proofs.ServerStays.{none_later}
+use Rattle.ftp_pair_downloads.proofs.Stands.{ServerServes}
+use Rattle.ftp_pair_transfers.proofs.Beside.{Comes, Goes, Together, Writes}
+use Rattle.ftp_pair_transfers.proofs.FarForms.{is_receive, receives_upload, shut_untaken}
+use Rattle.ftp_pair_transfers.proofs.Known.{Known}
+
+-- an end that has none had none
+not_had : (hold : Hold) → IsOver hold → is_had hold ≡ false
+not_had Has over = absurd over
+not_had hold over = refl
+
+-- one that was called has none
+called_spare : (hold : Hold) → is_called hold ≡ true → is_had hold ≡ false
+called_spare Has e = absurd (true≢false (sym e))
+called_spare hold e = refl
+
+module _ (read : Reading) (old new : Stand server_side) (client : Stand client_side) (reports : List Said) (w : World)
+    (calm : ServerIsCalm old.owner new.owner) (before : ServerServes old.owner) (known : Known w) where
+  abbrev v : Far
+  v = old.owner.end.server.view
+
+  abbrev u : Far
+  u = new.owner.end.server.view
+
+  -- what lies between is this now, and what came to the server
+  abbrev Climbs : Between → Between → Type 0
+  Climbs between next = old.owner.lane.untold ++ (between.data_ways.to_server ++ client.owner.lane.unwritten)
+      ≡ new.owner.lane.untold ++ (next.data_ways.to_server ++ client.owner.lane.unwritten)
+
+  -- and of what goes to the client
+  abbrev Falls : Between → Between → Type 0
+  Falls between next = client.owner.lane.untold ++ (between.data_ways.to_client ++ old.owner.lane.unwritten)
+      ≡ client.owner.lane.untold ++ (next.data_ways.to_client ++ new.owner.lane.unwritten)
+
+  -- a world stays beside
+  pub server_stays : (moment : ℕ) (ahead onward : Ahead) (between next : Between) (told count : ℕ) → Together moment ahead between told old client reports w
+      → Fits onward u.session.connection → clock_step moment (far_ahead ahead v) ≡ clock_step moment (far_ahead onward u)
+      → (Listened ahead told w.listens → Listened onward count w.listens)
+      → old.unheard ++ between.control.to_server ≡ new.unheard ++ next.control.to_server → next.control.to_client ≡ between.control.to_client
+      → Climbs between next → Falls between next → next.near ≡ between.near → Holds onward next.far u.session → Comes next.far u.session new.owner.lane
+      → Writes next.far new.owner.lane → Goes read [] next count new client reports w
+  server_stays moment ahead onward between next told count t fits far listens queue other climbs falls near holds comes serves = record {
+    world = w;
+    leads = leads_none read w;
+    moment = moment;
+    ahead = onward;
+    together = record {
+      beside = record {
+        fits = fits;
+        near = t.beside.near;
+        far = t.beside.far ∙ far;
+        to_server = t.beside.to_server ∙ queue;
+        to_client = t.beside.to_client ∙ ap (λ q. client.unheard ++ q) (sym other);
+        rising = t.beside.rising ∙ climbs;
+        falling = t.beside.falling ∙ falls;
+        listens = listens t.beside.listens;
+        reported = t.beside.reported;
+        control = t.beside.control;
+        unready = t.beside.unready;
+        marks = t.beside.marks;
+        cutoff = t.beside.cutoff;
+      };
+      holds = holds;
+      comes = comes;
+      serves = serves;
+      takes = t.takes;
+      gives = subst (λ (h : Hold). Writes h client.owner.lane) (sym near) t.gives;
+      keeping = record { had = λ e. ap is_had near ∙ t.keeping.had e; shut = t.keeping.shut; over = t.keeping.over };
+    };
+  }
+
+  -- the server holds the same, but for a moment that it may have been told
+  server_keeps : (moment : ℕ) (ahead : Ahead) (between next : Between) (told : ℕ) → Together moment ahead between told old client reports w
+      → clock_step moment (far_ahead ahead v) ≡ clock_step moment (far_ahead ahead u) → u.session ≡ v.session
+      → old.unheard ++ between.control.to_server ≡ new.unheard ++ next.control.to_server → next.control.to_client ≡ between.control.to_client
+      → Climbs between next → Falls between next → next.far ≡ between.far → next.near ≡ between.near → Comes between.far v.session new.owner.lane
+      → Writes between.far new.owner.lane → Goes read [] next told new client reports w
+  server_keeps moment ahead between next told t far session queue other climbs falls hold near comes serves =
+      server_stays moment ahead ahead between next told told t (subst (λ (s : Session). Fits ahead s.connection) (sym session) t.beside.fits) far (λ l. l)
+      queue other climbs falls near
+      (subst (λ (h : Hold). Holds ahead h u.session) (sym hold) (subst (λ (s : Session). Holds ahead between.far s) (sym session) t.holds))
+      (subst (λ (h : Hold). Comes h u.session new.owner.lane) (sym hold) (subst (λ (s : Session). Comes between.far s new.owner.lane) (sym session) comes))
+      (subst (λ (h : Hold). Writes h new.owner.lane) (sym hold) serves)
+
+  -- where it is the same end and lane
+  same_lane : (between : Between) → new.owner.lane ≡ old.owner.lane → Climbs between between
+  same_lane between lane = ap (λ (l : Lane). l.untold ++ (between.data_ways.to_server ++ client.owner.lane.unwritten)) (sym lane)
+
+  same_falls : (between : Between) → new.owner.lane ≡ old.owner.lane → Falls between between
+  same_falls between lane = ap (λ (l : Lane). client.owner.lane.untold ++ (between.data_ways.to_client ++ l.unwritten)) (sym lane)
+
+  -- where nothing is written or given
+  same_unwritten : (between : Between) → new.owner.lane.unwritten ≡ old.owner.lane.unwritten → Falls between between
+  same_unwritten between is = ap (λ o. client.owner.lane.untold ++ (between.data_ways.to_client ++ o)) (sym is)
+
+  same_writes : (hold : Hold) → new.owner.lane.unwritten ≡ old.owner.lane.unwritten → new.owner.lane.stands ≡ old.owner.lane.stands
+      → Writes hold old.owner.lane → Writes hold new.owner.lane
+  same_writes hold is stands writes = record { spare = λ e. is ∙ writes.spare e; bare = λ e. is ∙ writes.bare (sym stands ∙ e) }
+
+  same_comes : (hold : Hold) → new.owner.lane ≡ old.owner.lane → Comes hold v.session old.owner.lane → Comes hold v.session new.owner.lane
+  same_comes hold lane comes = subst (Comes hold v.session) (sym lane) comes
+
+  -- octets are read
+  pub server_read : (octets : List ℕ) (moment : ℕ) (ahead : Ahead) (between next : Between) (told : ℕ) → Together moment ahead between told old client reports w
+      → ReadsNext octets old new → between.control.to_server ≡ octets ++ next.control.to_server → next.control.to_client ≡ between.control.to_client
+      → next.data_ways ≡ between.data_ways → next.far ≡ between.far → next.near ≡ between.near → Goes read [] next told new client reports w
+  server_read octets moment ahead between next told t did front other ways hold near =
+      let lane : new.owner.lane ≡ old.owner.lane = ap (λ o. o.lane) did.owner in
+      let is : u ≡ v = ap (λ o. o.end.server.view) did.owner in
+      server_keeps moment ahead between next told t (ap (λ f. clock_step moment (far_ahead ahead f)) (sym is)) (ap (λ (f : Far). f.session) is)
+      (ap₂ (λ a b. a ++ b) did.heard front ∙ ap (λ a. a ++ next.control.to_server) (sym did.unheard)) other
+      (same_lane between lane ∙ ap (λ d. new.owner.lane.untold ++ (d.to_server ++ client.owner.lane.unwritten)) (sym ways))
+      (same_falls between lane ∙ ap (λ d. client.owner.lane.untold ++ (d.to_client ++ new.owner.lane.unwritten)) (sym ways)) hold near
+      (same_comes between.far lane t.comes) (subst (Writes between.far) (sym lane) t.serves)
+
+  -- a call that leaves the end as it is
+  server_idle : (moment : ℕ) (ahead : Ahead) (between next : Between) (told : ℕ) → Together moment ahead between told old client reports w → u ≡ v
+      → new.unheard ≡ old.unheard → next.control ≡ between.control → Climbs between next → Falls between next → next.far ≡ between.far
+      → next.near ≡ between.near → Comes between.far v.session new.owner.lane → Writes between.far new.owner.lane → Goes read [] next told new client reports w
+  server_idle moment ahead between next told t is unheard control climbs falls hold near comes serves =
+      server_keeps moment ahead between next told t (ap (λ f. clock_step moment (far_ahead ahead f)) (sym is)) (ap (λ (f : Far). f.session) is)
+      (ap₂ (λ a c. a ++ c.to_server) (sym unheard) (sym control)) (ap (λ c. c.to_client) control) climbs falls hold near comes serves
+
+  -- it is asked whether it is done
+  pub server_aside : (moment : ℕ) (ahead : Ahead) (between : Between) (told : ℕ) → Together moment ahead between told old client reports w
+      → Calls {side = server_side} (Aside tt) old new → Goes read [] between told new client reports w
+  server_aside moment ahead between told t did =
+      let lane : new.owner.lane ≡ old.owner.lane = did.0.1 in
+      server_idle moment ahead between between told t (ap (λ at. at.server.view) did.0.0.0) (ap (λ (s : Stand server_side). s.unheard) did.1) refl
+      (same_lane between lane) (same_falls between lane) refl refl (same_comes between.far lane t.comes) (subst (Writes between.far) (sym lane) t.serves)
+
+  -- it is waited at
+  pub server_waited : (lost : Bool) (moment : ℕ) (ahead : Ahead) (between : Between) (told : ℕ) → Together moment ahead between told old client reports w
+      → Calls {side = server_side} (Waited lost) old new → Goes read [] between told new client reports w
+  server_waited lost moment ahead between told t did =
+      let held = did.0.1.holds in
+      server_idle moment ahead between between told t (ap (λ at. at.server.view) did.0.0) (ap (λ (s : Stand server_side). s.unheard) did.1) refl
+      (ap (λ o. o ++ (between.data_ways.to_server ++ client.owner.lane.unwritten)) (sym held.untold)) (same_unwritten between held.unwritten) refl refl
+      (record {
+        bare = λ e. held.untold ∙ t.comes.bare (sym held.stands ∙ e);
+        spare = λ e. held.untold ∙ t.comes.spare e;
+        over = λ e. held.untold ∙ t.comes.over (ap is_sound (sym held.fate) ∙ e);
+        shut = λ e. t.comes.shut (ap is_sound (sym held.fate) ∙ e);
+      })
+      (same_writes between.far held.unwritten held.stands t.serves)
+
+  -- ---- a server that takes no octets
+
+  -- has none before it
+  none_there : (moment : ℕ) (ahead : Ahead) (between : Between) (told : ℕ) → Together moment ahead between told old client reports w
+      → is_upload v.session.connection ≡ false → old.owner.lane.untold ≡ []
+  none_there moment ahead between told t none = by ahead t
+    where
+      first : (front rest : List ℕ) → w.data_to_server ≡ front ++ rest → w.data_to_server ≡ [] → front ≡ []
+      first front rest is empty = (both_empty front rest (sym is ∙ empty)).0
+
+      by : (ahead : Ahead) → Together moment ahead between told old client reports w → old.owner.lane.untold ≡ []
+      by Level t =
+          first old.owner.lane.untold (between.data_ways.to_server ++ client.owner.lane.unwritten) t.beside.rising
+          (known.still (ap (λ (f : Far). is_upload f.session.connection) t.beside.far ∙ none))
+      by Opens t = t.comes.spare (called_spare between.far (t.holds.opened refl))
+      by (Listens port) t =
+          first old.owner.lane.untold (between.data_ways.to_server ++ client.owner.lane.unwritten) t.beside.rising
+          (known.still (ap (λ (f : Far). is_upload f.session.connection) t.beside.far
+          ∙ ap is_upload (told_passive v.session.connection t.beside.fits port v)))
+
+  -- octets that came are let go: there are none
+  pub server_lets : (octets : List ℕ) (moment : ℕ) (ahead : Ahead) (between : Between) (told : ℕ) → Together moment ahead between told old client reports w
+      → Calls {side = server_side} (LetGo octets) old new → Goes read [] between told new client reports w
+  server_lets octets moment ahead between told t did =
+      let lane = did.0.1.1 in
+      let none : old.owner.lane.untold ≡ [] = none_there moment ahead between told t (untaken v.session.closing refl) in
+      let empty : new.owner.lane.untold ≡ [] = (both_empty octets new.owner.lane.untold (sym did.0.1.0 ∙ none)).1 in
+      server_idle moment ahead between between told t (ap (λ at. at.server.view) did.0.0.0) (ap (λ (s : Stand server_side). s.unheard) did.1) refl
+      (ap (λ o. o ++ (between.data_ways.to_server ++ client.owner.lane.unwritten)) (none ∙ sym empty))
+      (same_unwritten between (ap (λ (l : Lane). l.unwritten) lane)) refl refl
+      (record { bare = λ e. empty; spare = λ e. empty; over = λ e. empty; shut = λ e. t.comes.shut (ap (λ (l : Lane). is_sound l.fate) (sym lane) ∙ e) })
+      (same_writes between.far (ap (λ (l : Lane). l.unwritten) lane) (ap (λ (l : Lane). l.stands) lane) t.serves)
+    where
+      not_receive : (q : Wants) → q ≢ Want.Receive → is_receive q ≡ false
+      not_receive Want.Receive none = absurd (none refl)
+      not_receive Want.Nothing none = refl
+      not_receive Want.Listen none = refl
+      not_receive Want.Accept none = refl
+      not_receive (Want.Connect endpoint) none = refl
+      not_receive Want.Send none = refl
+      not_receive Want.CloseData none = refl
+      not_receive Want.CloseAll none = refl
+
+      untaken : (closing : Bool) → v.session.closing ≡ closing → is_upload v.session.connection ≡ false
+      untaken true is = shut_untaken v.session.connection (t.holds.shut is)
+      untaken false is =
+          sym (receives_upload v.session.connection) ∙ ap is_receive (sym (far_wants v before.running is)) ∙ not_receive (far.wants v) did.0.0.1
+
+  -- octets come
+  pub server_got : (octets : List ℕ) (moment : ℕ) (ahead : Ahead) (between next : Between) (told : ℕ) → Together moment ahead between told old client reports w
+      → Calls {side = server_side} (Got octets) old new → Can TheServer (TakesOctets octets) between next → Goes read [] next told new client reports w
+  server_got octets moment ahead between next told t did can =
+      let got = did.0.1 in
+      let has : is_had between.far ≡ true = ap is_had can.0 in
+      let climbs : Climbs between next =
+      ap₂ (λ a b. a ++ (b ++ client.owner.lane.unwritten)) got.told can.1
+      ∙ append_assoc octets next.data_ways.to_server client.owner.lane.unwritten
+      ∙ ap (λ a. a ++ (next.data_ways.to_server ++ client.owner.lane.unwritten)) (sym got.untold) in
+      server_idle moment ahead between next told t (ap (λ at. at.server.view) did.0.0) (ap (λ (s : Stand server_side). s.unheard) did.1)
+      (ap (λ (m : Between). m.control) can.2) climbs
+      (ap₂ (λ (m : Between) o. client.owner.lane.untold ++ (m.data_ways.to_client ++ o)) (sym can.2) (sym got.unwritten))
+      (ap (λ (m : Between). m.far) can.2) (ap (λ (m : Between). m.near) can.2)
+      (record {
+        bare = λ e. absurd (both (got.stands ∙ got.is_open.0) e);
+        spare = λ e. absurd (both has e);
+        over = λ e. absurd (both (ap is_sound (got.fate ∙ got.is_open.1)) e);
+        shut = λ e. absurd (both (ap is_sound (got.fate ∙ got.is_open.1)) e);
+      })
+      (same_writes between.far got.unwritten got.stands t.serves)
+
+  -- octets are written
+  pub server_wrote : (octets : List ℕ) (moment : ℕ) (ahead : Ahead) (between next : Between) (told : ℕ)
+      → Together moment ahead between told old client reports w
+      → Calls {side = server_side} (Wrote octets) old new → Can TheServer (WritesOctets octets) between next → Goes read [] next told new client reports w
+  server_wrote octets moment ahead between next told t did can =
+      let wrote = did.0.1 in
+      let has : is_had between.far ≡ true = ap is_had can.0 in
+      let falls : Falls between next =
+      ap (λ o. client.owner.lane.untold ++ (between.data_ways.to_client ++ o)) wrote.first
+      ∙ ap (λ o. client.owner.lane.untold ++ o) (sym (append_assoc between.data_ways.to_client octets new.owner.lane.unwritten))
+      ∙ ap (λ (m : Between). client.owner.lane.untold ++ (m.data_ways.to_client ++ new.owner.lane.unwritten)) (sym can.1) in
+      server_idle moment ahead between next told t (ap (λ at. at.server.view) did.0.0) (ap (λ (s : Stand server_side). s.unheard) did.1)
+      (ap (λ (m : Between). m.control) can.1)
+      (ap₂ (λ (m : Between) o. o ++ (m.data_ways.to_server ++ client.owner.lane.unwritten)) (sym can.1) (sym wrote.untold)) falls
+      (ap (λ (m : Between). m.far) can.1) (ap (λ (m : Between). m.near) can.1)
+      (record {
+        bare = λ e. absurd (both (wrote.stands ∙ wrote.is_open.0) e);
+        spare = λ e. absurd (both has e);
+        over = λ e. wrote.untold ∙ t.comes.over (ap is_sound (sym wrote.fate) ∙ e);
+        shut = λ e. t.comes.shut (ap is_sound (sym wrote.fate) ∙ e);
+      })
+      (record { spare = λ e. absurd (both has e); bare = λ e. absurd (both (wrote.stands ∙ wrote.is_open.0) e) })
+
+  -- it is told that a close is done
+  pub server_closed : (moment : ℕ) (ahead : Ahead) (between : Between) (told : ℕ) → Together moment ahead between told old client reports w
+      → Calls {side = server_side} Closed old new → Goes read [] between told new client reports w
+  server_closed moment ahead between told t did =
+      let lane : new.owner.lane ≡ old.owner.lane = did.0.1.0 in
+      let is : u ≡ close_step v = did.0.0.0.done calm ∙ none_later (close_step v) before.none_waits in
+      let link : u.session.connection ≡ v.session.connection = ap (λ (f : Far). f.session.connection) is in
+      server_stays moment ahead ahead between between told told t (subst (Fits ahead) (sym link) t.beside.fits)
+      (ap (λ f. clock_step moment (far_ahead ahead f)) (sym is)) (λ l. l)
+      (ap (λ (s : Stand server_side). s.unheard ++ between.control.to_server) (sym did.1)) refl (same_lane between lane) (same_falls between lane) refl
+      (record {
+        shut = λ e. absurd (both e (ap (λ (f : Far). f.session.closing) is));
+        had = λ e. t.holds.had (ap is_open (sym link) ∙ e);
+        called = λ c e. t.holds.called c (ap accepts (sym link) ∙ e);
+        opened = t.holds.opened;
+      })
+      (record {
+        bare = λ e. ap (λ (l : Lane). l.untold) lane ∙ t.comes.bare (ap (λ (l : Lane). l.stands) (sym lane) ∙ e);
+        spare = λ e. ap (λ (l : Lane). l.untold) lane ∙ t.comes.spare e;
+        over = λ e. ap (λ (l : Lane). l.untold) lane ∙ t.comes.over (ap (λ (l : Lane). is_sound l.fate) (sym lane) ∙ e);
+        shut = λ e. ap is_open link ∙ t.comes.shut (ap (λ (l : Lane). is_sound l.fate) (sym lane) ∙ e);
+      })
+      (subst (Writes between.far) (sym lane) t.serves)
+
+  -- ---- a port
+
+  -- it is told that
+  pub server_listens : (port : ℕ) (moment : ℕ) (ahead : Ahead) (between next : Between) (told : ℕ) → Together moment ahead between told old client reports w
+      → Calls {side = server_side} (Listening port) old new → Can TheServer (ListensAt (Some port)) between next → port ≡ port_at told
+      → Goes read [] next (next_listen told) new client reports w
+  server_listens port moment ahead between next told t did can same = by ahead t
+    where
+      unclosed : v.session.closing ≡ false
+      unclosed = no_close v Want.Listen did.0.2.0 refl
+
+      asked : is_asked v.session.connection ≡ true
+      asked = sym (asked_listens v.session.connection) ∙ ap is_listen (sym (far_wants v before.running unclosed)) ∙ ap is_listen did.0.2.0
+
+      kept : far_ahead (Listens port) v ≡ close_step (listening_step port v)
+      kept = far_is (Listens port) v unclosed
+
+      is : u ≡ listening_step port v
+      is = did.0.0.0.done calm ∙ none_later (listening_step port v)
+          (ap (λ (f : Far). f.waiting) (sym kept) ∙ (keeps (Listens port) v asked).waiting ∙ before.none_waits)
+
+      passive : u.session.connection ≡ Data.Passive
+      passive = ap (λ (f : Far). f.session.connection) is
+          ∙ ap (λ c. (listening_step port (record v { session = record v.session { closing = c } })).session.connection) unclosed
+          ∙ told_passive v.session.connection asked port v
+
+      empty : old.owner.lane.untold ≡ []
+      empty = t.comes.spare (not_had between.far can.0)
+
+      untold : new.owner.lane.untold ≡ []
+      untold = ap (λ (l : Lane). l.untold) did.0.1.1 ∙ empty
+
+      none : old.owner.lane.unwritten ≡ []
+      none = t.serves.spare (not_had between.far can.0)
+
+      unwritten : new.owner.lane.unwritten ≡ []
+      unwritten = ap (λ (l : Lane). l.unwritten) did.0.1.1 ∙ none
+
+      hold : next.far ≡ Awaits port
+      hold = ap (λ (m : Between). m.far) can.1
+
+      by : (ahead : Ahead) → Together moment ahead between told old client reports w → Goes read [] next (next_listen told) new client reports w
+      by Level t = absurd (both asked t.beside.fits)
+      by Opens t = absurd (both t.beside.fits (asked_apart v.session.connection asked))
+      by (Listens other) t =
+          let port_is : other ≡ port = t.beside.listens.1 ∙ sym same in
+          server_stays moment (Listens other) Level between next told (next_listen told) t (ap is_asked passive)
+          (ap (λ p. clock_step moment (far_ahead (Listens p) v)) port_is ∙ ap (clock_step moment) (sym (listened_level port v unclosed))
+          ∙ ap (λ f. clock_step moment (far_ahead Level f)) (sym is)) (λ l. l.0)
+          (ap₂ (λ (s : Stand server_side) (m : Between). s.unheard ++ m.control.to_server) (sym did.1) (sym can.1))
+          (ap (λ (m : Between). m.control.to_client) can.1)
+          (ap₂ (λ o (m : Between). o ++ (m.data_ways.to_server ++ client.owner.lane.unwritten)) (empty ∙ sym untold) (sym can.1))
+          (ap₂ (λ o (m : Between). client.owner.lane.untold ++ (m.data_ways.to_client ++ o)) (none ∙ sym unwritten) (sym can.1))
+          (ap (λ (m : Between). m.near) can.1)
+          (record {
+            shut = λ e. ap is_open passive;
+            had = λ e. absurd (both e (ap is_open passive));
+            called = λ c e. absurd (both c (ap is_called hold));
+            opened = λ e. absurd (true≢false (sym e));
+          })
+          (record { bare = λ e. untold; spare = λ e. untold; over = λ e. untold; shut = λ e. ap is_open passive })
+          (record { spare = λ e. unwritten; bare = λ e. unwritten })
+
+  -- ---- who came
+
+  -- is accepted
+  pub server_accepts : (host from : Host) (left written at_first so_far : Option (List ℕ)) (rest : Rest) (moment : ℕ) (ahead : Ahead) (between next : Between)
+      (told : ℕ) → Together moment ahead between told old client reports w
+      → Calls {side = server_side} (Opened host (Came from left written ∷ []) at_first so_far rest) old new → Can TheServer (Accepts from) between next
+      → same_host host v.footing.peer ≡ true → Goes read [] next told new client reports w
+  server_accepts host from left written at_first so_far rest moment ahead between next told t did can same = by ahead t
+    where
+      wants : far.wants v ≡ Want.Accept
+      wants = did.0.2.0
+
+      unclosed : v.session.closing ≡ false
+      unclosed = no_close v Want.Accept wants refl
+
+      waits : accepts v.session.connection ≡ true
+      waits = sym (accepts_accepts v.session.connection) ∙ ap is_accepting (sym (far_wants v before.running unclosed)) ∙ ap is_accepting wants
+
+      level : far_ahead Level (opened_step host v) ≡ far_ahead Opens v
+      level = opened_level host v waits unclosed same
+
+      is : u ≡ opened_step host v
+      is = did.0.0.0.0.done calm ∙ none_later (opened_step host v)
+          (ap (λ (f : Far). f.waiting) level ∙ (keeps Opens v waits).waiting ∙ before.none_waits)
+
+      fits : is_asked u.session.connection ≡ false
+      fits = ap (λ (f : Far). is_asked f.session.connection) is ∙ ap (λ (f : Far). is_asked f.session.connection) level ∙ (keeps Opens v waits).told
+
+      opened : u ≡ ahead_of Opens v
+      opened = is ∙ opened_is host v same
+
+      shut : u.session.closing ≡ true → is_open u.session.connection ≡ false
+      shut = subst (λ (f : Far). f.session.closing ≡ true → is_open f.session.connection ≡ false)
+          (ap (λ c. ahead_of Opens (record v { session = record v.session { closing = c } })) (sym unclosed) ∙ sym opened)
+          (opened_shut v.session.connection waits v)
+
+      hold : next.far ≡ Has
+      hold = ap (λ (m : Between). m.far) can.1
+
+      had : IsOpened host (Came from left written ∷ []) at_first so_far rest old.owner.lane new.owner.lane
+      had = did.0.1
+
+      empty : old.owner.lane.untold ≡ new.owner.lane.untold
+      empty = t.comes.bare had.none ∙ sym had.untold
+
+      by : (ahead : Ahead) → Together moment ahead between told old client reports w → Goes read [] next told new client reports w
+      by Level t = absurd (true≢false (sym (t.holds.called (ap is_called can.0) waits)))
+      by (Listens port) t = absurd (both waits (asked_apart v.session.connection t.beside.fits))
+      by Opens t =
+          server_stays moment Opens Level between next told told t fits
+          (ap (clock_step moment) (sym level) ∙ ap (λ f. clock_step moment (far_ahead Level f)) (sym is)) (λ l. l)
+          (ap₂ (λ (s : Stand server_side) (m : Between). s.unheard ++ m.control.to_server) (sym did.1) (sym can.1))
+          (ap (λ (m : Between). m.control.to_client) can.1)
+          (ap₂ (λ o (m : Between). o ++ (m.data_ways.to_server ++ client.owner.lane.unwritten)) empty (sym can.1))
+          (ap₂ (λ o (m : Between). client.owner.lane.untold ++ (m.data_ways.to_client ++ o)) (t.serves.bare had.none ∙ sym had.unwritten) (sym can.1))
+          (ap (λ (m : Between). m.near) can.1)
+          (record {
+            shut = shut;
+            had = λ e. ap is_had hold;
+            called = λ c e. absurd (both c (ap is_called hold));
+            opened = λ e. absurd (true≢false (sym e));
+          })
+          (record {
+            bare = λ e. had.untold;
+            spare = λ e. had.untold;
+            over = λ e. had.untold;
+            shut = λ e. absurd (both (ap is_sound had.fate) e);
+          })
+          (record { spare = λ e. had.unwritten; bare = λ e. had.unwritten })
+
+  -- ---- a data connection is left
+
+  -- one that leaves what it has has none open
+  left_shut : (asked : Asked) (moment : ℕ) (ahead : Ahead) (between : Between) (told : ℕ) → Together moment ahead between told old client reports w
+      → Calls {side = server_side} (Left asked) old new → is_open v.session.connection ≡ false
+  left_shut asked moment ahead between told t did = by_fate old.owner.lane.fate refl did.0.2.0
+    where
+      by : (closing : Bool) → v.session.closing ≡ closing → (leaves (far.wants v) ≡ true) ⊎ (far.wants v ≡ Want.CloseAll)
+          → is_open v.session.connection ≡ false
+      by true is may = t.holds.shut is
+      by false is may =
+          let wants : far.wants v ≡ wants_of v.session.connection = far_wants v before.running is in
+          elim may [
+            | inl one ↦ leaves_open v.session.connection (sym (ap leaves wants) ∙ one)
+            | inr other ↦ absurd (never_all v.session.connection (sym wants ∙ other))
+          ]
+
+      by_fate : (fate : Fate) → old.owner.lane.fate ≡ fate → MayLeave (far.wants v ≡ Want.CloseAll) (far.wants v) fate → is_open v.session.connection ≡ false
+      by_fate Sound is may = by v.session.closing refl may
+      by_fate Failed is may = t.comes.shut (ap is_sound is)
+      by_fate Broken is may = t.comes.shut (ap is_sound is)
+      by_fate Over is may = t.comes.shut (ap is_sound is)
+
+  -- the port alone
+  pub server_shuts : (moment : ℕ) (ahead : Ahead) (between : Between) (told : ℕ) → Together moment ahead between told old client reports w
+      → Calls {side = server_side} (Left Shut) old new → Goes read [] between told new client reports w
+  server_shuts moment ahead between told t did =
+      let left = did.0.1 in
+      let fallen : old.owner.lane.stands ≡ false = is_false old.owner.lane.stands (λ e. absurd (stood e left.ended)) in
+      let empty : old.owner.lane.untold ≡ [] = t.comes.bare fallen in
+      let unsent : old.owner.lane.unwritten ≡ [] = t.serves.bare fallen in
+      server_idle moment ahead between between told t (ap (λ at. at.server.view) did.0.0) (ap (λ (s : Stand server_side). s.unheard) did.1) refl
+      (ap (λ o. o ++ (between.data_ways.to_server ++ client.owner.lane.unwritten)) (empty ∙ sym left.untold)) (same_unwritten between (left.unwritten
+      ∙ sym unsent)) refl refl
+      (record {
+        bare = λ e. left.untold;
+        spare = λ e. left.untold;
+        over = λ e. left.untold;
+        shut = λ e. absurd (both (ap is_sound left.fate) e);
+      })
+      (record { spare = λ e. left.unwritten; bare = λ e. left.unwritten })
+    where
+      is_shut : Asked → Bool
+      is_shut Shut = true
+      is_shut asked = false
+
+      stood : old.owner.lane.stands ≡ true → IsEnded old.owner.lane.stands old.owner.lane.left old.owner.lane.written old.owner.lane.unwritten Shut → ⊥
+      stood is ended =
+          elim (subst (λ s. IsEnded s old.owner.lane.left old.owner.lane.written old.owner.lane.unwritten Shut) is ended) [
+            | inl one ↦ true≢false (ap is_shut one.1)
+            | inr other ↦ true≢false (ap is_shut other)
+          ]
+
+  -- by an end
+  pub server_ends : (left written : Option (List ℕ)) (moment : ℕ) (ahead : Ahead) (between next : Between) (told : ℕ)
+      → Together moment ahead between told old client reports w → Calls {side = server_side} (Left (EndedBy left written)) old new
+      → Can TheServer Ends between next → Goes read [] next told new client reports w
+  server_ends left written moment ahead between next told t did can =
+      let lane = did.0.1 in
+      let is : u ≡ v = ap (λ at. at.server.view) did.0.0 in
+      let session : u.session ≡ v.session = ap (λ (f : Far). f.session) is in
+      let hold : next.far ≡ Has_ended = ap (λ (m : Between). m.far) can.1 in
+      let none_open : is_open v.session.connection ≡ false = left_shut (EndedBy left written) moment ahead between told t did in
+      let empty : old.owner.lane.untold ≡ [] = none_there moment ahead between told t (shut_untaken v.session.connection none_open) in
+      server_stays moment ahead ahead between next told told t (subst (λ (s : Session). Fits ahead s.connection) (sym session) t.beside.fits)
+      (ap (λ f. clock_step moment (far_ahead ahead f)) (sym is)) (λ l. l)
+      (ap₂ (λ (s : Stand server_side) (m : Between). s.unheard ++ m.control.to_server) (sym did.1) (sym can.1))
+      (ap (λ (m : Between). m.control.to_client) can.1)
+      (ap₂ (λ o (m : Between). o ++ (m.data_ways.to_server ++ client.owner.lane.unwritten)) (empty ∙ sym lane.untold) (sym can.1))
+      (ap₂ (λ o (m : Between). client.owner.lane.untold ++ (m.data_ways.to_client ++ o)) (did.0.2.1.0 ∙ sym lane.unwritten) (sym can.1))
+      (ap (λ (m : Between). m.near) can.1)
+      (record {
+        shut = λ e. ap (λ (s : Session). is_open s.connection) session ∙ none_open;
+        had = λ e. absurd (both e (ap (λ (s : Session). is_open s.connection) session ∙ none_open));
+        called = λ c e. absurd (both c (ap is_called hold));
+        opened = λ e. absurd (both (t.holds.opened e) (ap is_called can.0));
+      })
+      (record {
+        bare = λ e. lane.untold;
+        spare = λ e. lane.untold;
+        over = λ e. lane.untold;
+        shut = λ e. ap (λ (s : Session). is_open s.connection) session ∙ none_open;
+      })
+      (record { spare = λ e. lane.unwritten; bare = λ e. lane.unwritten })

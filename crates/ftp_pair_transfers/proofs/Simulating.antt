@@ -1,0 +1,512 @@
+-- Two drives that put and fetch files, as a list of a world's events: deed by deed.
+use Rattle.std.proofs.Common.{◌≡◌, ℕ, Bool, true, false, true≢false, List, [], ◌∷◌, ◌++◌, take, Option, Some, None, option_to_list, refl, sym, ap, ap₂, subst, ◌∙◌, append-nil}
+use Rattle.ftp_control.specs.Asking.{Came, Connected, Ended as EndedBy, Shut}
+use Rattle.ftp_control.specs.Deeds.{Deed, Done, Heard, Led, Other, Read, Said as Says, Stand}
+use Rattle.ftp_control.specs.Machine.{Aside, Closed, End, Gave, Got, Left, LetGo, Listening, Opened, Received, Waited, Wrote}
+use Rattle.ftp_client_drive.specs.Side.{Reporting, Starting, client_side}
+use Rattle.ftp_client_model.specs.Calls as near
+use Rattle.ftp_client_model.specs.Calls.{is_sound}
+use Rattle.ftp_client_model.specs.View.{View as Near}
+use Rattle.ftp_client_model.specs.Plan.{count_of}
+use Rattle.ftp_operation.specs.Answer.{Said}
+use Rattle.ftp_operation.specs.declared.op.How.{How}
+use Rattle.ftp_operation.specs.declared.op.Op.{Op}
+use Rattle.ftp_operation.specs.declared.op.Op.TheVariants as Ops
+use Rattle.ftp_server_drive.specs.Side.{server_side}
+use Rattle.ftp_server_model.specs.Calls as far
+use Rattle.ftp_server_model.specs.Machine.{IsReading, Reading, hears, hears_octet}
+use Rattle.ftp_pair_world.specs.Agreement.{Order, Single, Tries}
+use Rattle.ftp_pair_world.specs.Claims.{Beginning, IsFair, state_of, world_of}
+use Rattle.ftp_pair_world.specs.World.{World}
+use Rattle.ftp_pair_agreement.specs.Over.{OverRuns}
+use Rattle.ftp_pair_drives.specs.Alone.{ClientIsCalm, begun_by, reported_by, reports_in}
+use Rattle.ftp_pair_drives.specs.Between.{Between, CanTurn, Client, Happened, Server, Turn, client_deeds, nothing_yet, server_deeds}
+use Rattle.ftp_pair_drives.specs.Claims.{Begins}
+use Rattle.ftp_pair_drives.proofs.Simulating.{reported_is}
+use Rattle.ftp_pair_drives.proofs.Taken.{reports_is, taken}
+use Rattle.ftp_pair_drives.proofs.Worlds.{LeadsOn, leads_none, leads_then}
+use Rattle.ftp_pair_data.specs.Ahead.{Ahead, Level, far_ahead, is_asked, is_open}
+use Rattle.ftp_pair_data.specs.Honest.{is_unaborted}
+use Rattle.ftp_pair_data.proofs.Running.{all_runs}
+use Rattle.ftp_pair_data.proofs.Served.{Runs}
+use Rattle.ftp_pair_downloads.specs.Deeds.{ArePorts, listened_in}
+use Rattle.ftp_pair_downloads.proofs.Beside.{both}
+use Rattle.ftp_pair_downloads.proofs.ClientMoves.{is_unaborted_same}
+use Rattle.ftp_pair_downloads.proofs.NearForms.{starts_standing}
+use Rattle.ftp_pair_downloads.proofs.Plain.{IsPlain, IsPlainly, plain_unaborted, starts_plain}
+use Rattle.ftp_pair_downloads.proofs.Plainly.{deed_plain, deed_sound}
+use Rattle.ftp_pair_downloads.proofs.Serves.{deed_serves}
+use Rattle.ftp_pair_downloads.proofs.Stands.{ClientFetches, ServerServes}
+use Rattle.ftp_pair_transfers.specs.Claims.{TransfersAreOfWorlds}
+use Rattle.ftp_pair_transfers.specs.Deeds.{AreMoments, AreToldAt, ClientTransfers, AsksAlong, IsCarried, IsTransferred, IsToldAt, ServerTransfers, ServesAlong, begun_at, last_of, number_in}
+use Rattle.ftp_pair_transfers.proofs.Beside.{Goes, Together}
+use Rattle.ftp_pair_transfers.proofs.ClientDials.{client_dials}
+use Rattle.ftp_pair_transfers.proofs.ClientGiving.{client_gave, gave_plain, gave_sound}
+use Rattle.ftp_pair_transfers.proofs.ClientHears.{client_heard}
+use Rattle.ftp_pair_transfers.proofs.ClientMoves.{client_begins, client_said}
+use Rattle.ftp_pair_transfers.proofs.ClientStays.{client_closed, client_ends, client_got, client_lets, client_read, client_reports, client_shuts, client_waited, client_wrote}
+use Rattle.ftp_pair_transfers.proofs.ClientTaking.{client_received}
+use Rattle.ftp_pair_transfers.proofs.ClientTold.{client_told_end}
+use Rattle.ftp_pair_transfers.proofs.Known.{AreCarried, Known}
+use Rattle.ftp_pair_transfers.proofs.Running.{hears_serving, world_known, world_timed}
+use Rattle.ftp_pair_transfers.proofs.ServerGiving.{server_gave}
+use Rattle.ftp_pair_transfers.proofs.ServerMoves.{server_heard, server_said}
+use Rattle.ftp_pair_transfers.proofs.ServerStays.{server_accepts, server_aside, server_closed, server_ends, server_got, server_lets, server_listens, server_read, server_shuts, server_waited, server_wrote}
+use Rattle.ftp_pair_transfers.proofs.ServerTaking.{server_received, server_told_end}
+
+-- the ports of the deeds before one are those of a world too
+earlier : (deed : Deed server_side) (before : List (Deed server_side)) → ArePorts (deed ∷ before) → ArePorts before
+earlier (Other (Listening port)) before ports = ports.0
+earlier deed before ports = ports
+
+-- ---- what was begun
+
+-- orders after orders
+both_carried : (front given : List Order) → AreCarried front → AreCarried given → AreCarried (front ++ given)
+both_carried [] given one other = other
+both_carried (Single op moment ∷ front) given one other = (one.0, both_carried front given one.1 other)
+both_carried (Tries upload moment ∷ front) given one other = absurd one
+
+-- a deed begins such an operation, or nothing
+by_carried : (moment : ℕ) (deed : Deed client_side) (old new : client_side.End) → ClientTransfers deed old new → AreCarried (begun_by moment deed)
+by_carried moment (Other (Aside (Starting op))) old new is = (is.0.0.0, tt)
+by_carried moment deed old new is = tt
+
+-- so all deeds do
+pub in_carried : (moments : ℕ → ℕ) (deeds : List (Deed client_side)) (start now : Stand client_side) (led : Led deeds start now) → AsksAlong deeds start now led
+    → AreCarried (begun_at moments deeds)
+in_carried moments [] start now led gives = tt
+in_carried moments (deed ∷ before) start now led gives =
+    both_carried (begun_at moments before) (begun_by (moments (number_in before)) deed) (in_carried moments before start led.0 led.1 gives.0)
+    (by_carried (moments (number_in before)) deed led.0.owner now.owner gives.1)
+
+-- one that begins an operation stands as before
+starts_sound : (op : Op (List ℕ)) (old new : Stand client_side) → ClientIsCalm old.owner new.owner → Done (Other (Aside (Starting op))) old new
+    → is_sound old.owner.end.view.standing ≡ true → is_sound new.owner.end.view.standing ≡ true
+starts_sound op old new calm did sound =
+    ap (λ (n : Near). is_sound n.standing) (did.0.0.1.0.0 calm) ∙ ap is_sound (starts_standing op old.owner.end.view) ∙ sound
+
+-- an operation that is begun is plain
+transferred_plain : (op : Op (List ℕ)) → IsTransferred op → IsPlain op
+transferred_plain op is = record { dials = is.1; count = by op is.0 }
+  where
+    is_there : Option How → Bool
+    is_there None = false
+    is_there (Some how) = true
+
+    none : (how : How) → ◌≡◌ {A = Option How} (Some how) None → ⊥
+    none how e = true≢false (ap is_there e)
+
+    by : (op : Op (List ℕ)) → IsCarried op → count_of op ≡ None
+    by (Ops.Peek path count how) put = absurd (none how put)
+    by op put = refl
+
+module _ (read : Reading) (reads : IsReading read) (moments : ℕ → ℕ) (timed : AreMoments moments) (b : Beginning) (fair : IsFair b) where
+  -- after deeds, a world is beside both drives
+  pub record Reached (begun : List Order) (between : Between) (told : ℕ) (server : Stand server_side) (client : Stand client_side)
+      (reports : List Said) : Type 0 where
+    pub world : World
+    pub leads : LeadsOn read begun (world_of b) world
+    pub last : ℕ
+    pub ahead : Ahead
+    pub together : Together last ahead between told server client reports world
+    pub serves : ServerServes server.owner
+    pub plain : IsPlainly client.owner.end.view
+    pub sound : is_sound client.owner.end.view.standing ≡ true
+
+  -- how a client stands
+  fetches : (client : Stand client_side) → IsPlainly client.owner.end.view → is_sound client.owner.end.view.standing ≡ true → ClientFetches client.owner
+  fetches client plain sound = record { sound = sound; dials = plain.port; unaborted = plain_unaborted client.owner.end.view plain }
+
+  -- what is known of it
+  module _ (deeds : List (Deed client_side)) (between : Between) (told : ℕ) (server : Stand server_side) (client : Stand client_side) (reports : List Said)
+      (o : Reached (begun_at moments deeds) between told server client reports) (puts : AreCarried (begun_at moments deeds)) where
+    asks : ClientFetches client.owner
+    asks = fetches client o.plain o.sound
+
+    runs : OverRuns read (state_of b) (begun_at moments deeds) o.world
+    runs = all_runs read reads b fair o.leads.events (begun_at moments deeds) o.world o.leads.timed o.leads.leads
+
+    unaborted : is_unaborted o.world.near.job ≡ true
+    unaborted = ap (λ (n : Near). is_unaborted n.job) o.together.beside.near ∙ is_unaborted_same client.owner.end.view ∙ asks.unaborted
+
+    known : Known o.world
+    known = world_known read reads (state_of b) (begun_at moments deeds) puts o.world runs o.together.beside.control o.together.beside.unready unaborted
+
+    -- its server that hears an octet goes on
+    hears_on : (octet : ℕ) (queue : List ℕ) → o.world.control_to_server ≡ octet ∷ queue → Runs (hears_octet read o.world.far octet)
+    hears_on octet queue is =
+        subst (λ q. Runs (hears read o.world.far (take 1 q))) is
+        (hears_serving read reads (state_of b) (begun_at moments deeds) puts o.world 1 runs o.together.beside.control o.together.beside.unready unaborted)
+
+  -- ---- a deed
+
+  -- of the server
+  server_goes : (deed : Deed server_side) (old new : Stand server_side) → ServerTransfers deed old.owner new.owner → (deeds : List (Deed client_side))
+      → AreCarried (begun_at moments deeds) → (before : List (Deed server_side)) → ArePorts (deed ∷ before) → (p q : Between) → CanTurn (Server deed) p q
+      → (client : Stand client_side) (reports : List Said) → (o : Reached (begun_at moments deeds) p (listened_in before) old client reports)
+      → (did : Done deed old new) → IsToldAt deed old new did (last_of moments (number_in deeds))
+      → Goes read [] q (listened_in (deed ∷ before)) new client reports o.world × ServerServes new.owner
+  server_goes (Heard octets) old new is deeds puts before ports p q can client reports o did told =
+      subst (λ (m : Between). Goes read [] m (listened_in before) new client reports o.world × ServerServes new.owner) (sym can)
+      (server_heard read reads old new client reports o.world is.1 o.serves (asks deeds p (listened_in before) old client reports o puts)
+      (known deeds p (listened_in before) old client reports o puts) (hears_on deeds p (listened_in before) old client reports o puts) octets o.last o.ahead p
+      (listened_in before) o.together did)
+  server_goes (Says octets) old new is deeds puts before ports p q can client reports o did told = (
+    server_said read reads old new client reports o.world is.1 o.serves (asks deeds p (listened_in before) old client reports o puts)
+        (known deeds p (listened_in before) old client reports o puts) (hears_on deeds p (listened_in before) old client reports o puts) octets
+        o.last o.ahead p q (listened_in before) o.together did can,
+    deed_serves (Says octets) tt old new (tt, is.1) did o.serves,
+  )
+  server_goes (Read octets) old new is deeds puts before ports p q can client reports o did told = (
+    server_read read old new client reports o.world is.1 o.serves (known deeds p (listened_in before) old client reports o puts) octets o.last o.ahead p q
+        (listened_in before) o.together did can.0
+        (ap (λ (m : Between). m.control.to_client) can.1) (ap (λ (m : Between). m.data_ways) can.1) (ap (λ (m : Between). m.far) can.1) (ap (λ
+        (m : Between). m.near) can.1),
+    deed_serves (Read octets) tt old new (tt, is.1) did o.serves,
+  )
+  server_goes (Other (Aside tt)) old new is deeds puts before ports p q can client reports o did told = (
+    subst (λ (m : Between). Goes read [] m (listened_in before) new client reports o.world) (sym can)
+        (server_aside read old new client reports o.world is.1 o.serves (known deeds p (listened_in before) old client reports o puts) o.last o.ahead p
+        (listened_in before) o.together did),
+    deed_serves (Other (Aside tt)) tt old new (tt, is.1) did o.serves,
+  )
+  server_goes (Other (Listening port)) old new is deeds puts before ports p q can client reports o did told = (
+    server_listens read old new client reports o.world is.1 o.serves (known deeds p (listened_in before) old client reports o puts) port o.last o.ahead p q
+        (listened_in before) o.together did can ports.1,
+    deed_serves (Other (Listening port)) tt old new (tt, is.1) did o.serves,
+  )
+  server_goes (Other (Opened host (Came from left written ∷ []) at_first so_far rest)) old new is deeds puts before ports p q can client reports o did told = (
+    server_accepts read old new client reports o.world is.1 o.serves (known deeds p (listened_in before) old client reports o puts) host from left written
+        at_first so_far rest o.last o.ahead p q (listened_in before)
+        o.together did can is.0,
+    deed_serves (Other (Opened host (Came from left written ∷ []) at_first so_far rest)) tt old new is did o.serves,
+  )
+  server_goes (Other (Got octets)) old new is deeds puts before ports p q can client reports o did told = (
+    server_got read old new client reports o.world is.1 o.serves (known deeds p (listened_in before) old client reports o puts) octets o.last o.ahead p q
+        (listened_in before) o.together did can,
+    record {
+      running = ap (λ at. at.server.view.session.life) did.0.0 ∙ o.serves.running;
+      none_waits = ap (λ at. at.server.view.waiting) did.0.0 ∙ o.serves.none_waits;
+    },
+  )
+  server_goes (Other (Received octets count)) old new is deeds puts before ports p q can client reports o did told =
+      subst (λ (m : Between). Goes read [] m (listened_in before) new client reports o.world × ServerServes new.owner) (sym can)
+      (server_received read reads (state_of b) (begun_at moments deeds) puts old new client reports o.world is.1 o.serves
+      (asks deeds p (listened_in before) old client reports o puts) (known deeds p (listened_in before) old client reports o puts)
+      (runs deeds p (listened_in before) old client reports o puts) octets count o.last o.ahead p (listened_in before) did o.together)
+  server_goes (Other End) old new is deeds puts before ports p q can client reports o did told =
+      server_told_end read reads (state_of b) (begun_at moments deeds) puts old new client reports o.world is.1 o.serves
+      (asks deeds p (listened_in before) old client reports o puts) (known deeds p (listened_in before) old client reports o puts)
+      (runs deeds p (listened_in before) old client reports o puts) o.last o.ahead p q (listened_in before) did can
+      (λ takes. world_timed read reads (state_of b) moments deeds puts o.world (runs deeds p (listened_in before) old client reports o puts)
+      o.together.beside.control o.together.beside.unready (unaborted deeds p (listened_in before) old client reports o puts) takes
+      ∙ sym told) o.together
+  server_goes (Other (Gave count octets rest)) old new is deeds puts before ports p q can client reports o did told = (
+    subst (λ (m : Between). Goes read [] m (listened_in before) new client reports o.world) (sym can)
+        (server_gave read old new client reports o.world is.1 o.serves (asks deeds p (listened_in before) old client reports o puts)
+        (known deeds p (listened_in before) old client reports o puts) count octets rest o.last p (listened_in before) did o.ahead o.together),
+    deed_serves (Other (Gave count octets rest)) tt old new (tt, is.1) did o.serves,
+  )
+  server_goes (Other (Wrote octets)) old new is deeds puts before ports p q can client reports o did told = (
+    server_wrote read old new client reports o.world is.1 o.serves (known deeds p (listened_in before) old client reports o puts) octets o.last o.ahead p q
+        (listened_in before) o.together did can,
+    deed_serves (Other (Wrote octets)) tt old new (tt, is.1) did o.serves,
+  )
+  server_goes (Other (Waited lost)) old new is deeds puts before ports p q can client reports o did told = (
+    subst (λ (m : Between). Goes read [] m (listened_in before) new client reports o.world) (sym can)
+        (server_waited read old new client reports o.world is.1 o.serves (known deeds p (listened_in before) old client reports o puts) lost o.last o.ahead p
+        (listened_in before) o.together did),
+    deed_serves (Other (Waited lost)) tt old new (tt, is.1) did o.serves,
+  )
+  server_goes (Other (LetGo octets)) old new is deeds puts before ports p q can client reports o did told = (
+    subst (λ (m : Between). Goes read [] m (listened_in before) new client reports o.world) (sym can)
+        (server_lets read old new client reports o.world is.1 o.serves (known deeds p (listened_in before) old client reports o puts) octets o.last o.ahead p
+        (listened_in before) o.together did),
+    deed_serves (Other (LetGo octets)) tt old new (tt, is.1) did o.serves,
+  )
+  server_goes (Other (Left (EndedBy left written))) old new is deeds puts before ports p q can client reports o did told = (
+    server_ends read old new client reports o.world is.1 o.serves (known deeds p (listened_in before) old client reports o puts) left written o.last o.ahead
+        p q (listened_in before) o.together did can,
+    deed_serves (Other (Left (EndedBy left written))) tt old new (tt, is.1) did o.serves,
+  )
+  server_goes (Other (Left Shut)) old new is deeds puts before ports p q can client reports o did told = (
+    subst (λ (m : Between). Goes read [] m (listened_in before) new client reports o.world) (sym can)
+        (server_shuts read old new client reports o.world is.1 o.serves (known deeds p (listened_in before) old client reports o puts) o.last o.ahead p
+        (listened_in before) o.together did),
+    deed_serves (Other (Left Shut)) tt old new (tt, is.1) did o.serves,
+  )
+  server_goes (Other Closed) old new is deeds puts before ports p q can client reports o did told = (
+    subst (λ (m : Between). Goes read [] m (listened_in before) new client reports o.world) (sym can)
+        (server_closed read old new client reports o.world is.1 o.serves (known deeds p (listened_in before) old client reports o puts) o.last o.ahead p
+        (listened_in before) o.together did),
+    deed_serves (Other Closed) tt old new (tt, is.1) did o.serves,
+  )
+  server_goes deed old new is deeds puts before ports p q can client reports o did told = absurd is.0
+
+  -- of the client
+  client_goes : (deed : Deed client_side) (old new : Stand client_side) → ClientTransfers deed old.owner new.owner → (deeds : List (Deed client_side))
+      → AreCarried (begun_at moments deeds) → (p q : Between) → CanTurn (Client deed) p q → (told : ℕ) (server : Stand server_side) (reports : List Said)
+      → (o : Reached (begun_at moments deeds) p told server old reports) → IsPlainly new.owner.end.view → Done deed old new
+      → Goes read (begun_by (moments (number_in deeds)) deed) q told server new (reports ++ reported_by deed) o.world
+      × (is_sound new.owner.end.view.standing ≡ true)
+  client_goes (Heard octets) old new is deeds puts p q can told server reports o plain did =
+      subst (λ (m : Between). Goes read [] m told server new (reports ++ []) o.world × (is_sound new.owner.end.view.standing ≡ true)) (sym can)
+      (client_heard read server old new reports o.world is.1 o.serves (asks deeds p told server old reports o puts) plain
+      (known deeds p told server old reports o puts) reads (state_of b) (begun_at moments deeds) puts
+      (runs deeds p told server old reports o puts) octets is.0 o.last o.ahead p told
+      o.together did)
+  client_goes (Says octets) old new is deeds puts p q can told server reports o plain did = (
+    client_said read server old new reports o.world is.1 o.serves (asks deeds p told server old reports o puts)
+        (fetches new plain (deed_sound (Says octets) tt old new (tt, is.1) did o.sound)) (known deeds p told server old reports o puts) octets o.last o.ahead
+        p q told
+        o.together did can,
+    deed_sound (Says octets) tt old new (tt, is.1) did o.sound,
+  )
+  client_goes (Read octets) old new is deeds puts p q can told server reports o plain did = (
+    client_read read server old new reports o.world is.1 (known deeds p told server old reports o puts) octets o.last o.ahead p q told o.together did
+        can.0 (ap (λ (m : Between). m.control.to_server) can.1) (ap (λ (m : Between). m.data_ways) can.1) (ap (λ (m : Between). m.far) can.1) (ap (λ
+        (m : Between). m.near) can.1),
+    deed_sound (Read octets) tt old new (tt, is.1) did o.sound,
+  )
+  client_goes (Other (Aside (Reporting said))) old new is deeds puts p q can told server reports o plain did = (
+    subst (λ (l : List Said). Goes read [] q told server new (reports ++ l) o.world) (sym (reported_is said))
+        (subst (λ (m : Between). Goes read [] m told server new (reports ++ option_to_list said) o.world) (sym can)
+        (client_reports read server old new reports o.world is.1 (known deeds p told server old reports o puts) said o.last o.ahead p told o.together did)),
+    deed_sound (Other (Aside (Reporting said))) tt old new (tt, is.1) did o.sound,
+  )
+  client_goes (Other (Aside (Starting op))) old new is deeds puts p q can told server reports o plain did = (
+    subst (λ (m : Between). Goes read (Single op (moments (number_in deeds)) ∷ []) m told server new (reports ++ []) o.world) (sym can)
+        (client_begins read server old new reports o.world is.1 o.serves (asks deeds p told server old reports o puts)
+        (fetches new plain (starts_sound op old new is.1 did o.sound)) (known deeds p told server old reports o puts) op (moments (number_in deeds))
+        (timed (number_in deeds)) o.last
+        o.ahead p told o.together is.0.1 did),
+    starts_sound op old new is.1 did o.sound,
+  )
+  client_goes (Other (Opened host (Connected endpoint left written ∷ []) at_first so_far rest)) old new is deeds puts p q can told server reports o plain
+      did = (
+        client_dials read server old new reports o.world is.1 o.serves (asks deeds p told server old reports o puts)
+            (fetches new plain (deed_sound (Other (Opened host (Connected endpoint left written ∷ []) at_first so_far rest)) tt old new (tt, is.1) did o.sound))
+            (known deeds p told server old reports o puts) host endpoint left written
+            at_first so_far rest o.last p q told did can o.ahead o.together,
+        deed_sound (Other (Opened host (Connected endpoint left written ∷ []) at_first so_far rest)) tt old new (tt, is.1) did o.sound,
+      )
+  client_goes (Other (Gave count octets rest)) old new is deeds puts p q can told server reports o plain did = (
+    subst (λ (m : Between). Goes read [] m told server new (reports ++ []) o.world) (sym can)
+        (client_gave read server old new reports o.world is.1 o.serves (asks deeds p told server old reports o puts)
+        (known deeds p told server old reports o puts) count octets rest o.last o.ahead p told did o.together),
+    gave_sound read server old new reports o.world is.1 o.serves (asks deeds p told server old reports o puts)
+        (known deeds p told server old reports o puts) count octets rest o.last o.ahead p told did o.together,
+  )
+  client_goes (Other (Wrote octets)) old new is deeds puts p q can told server reports o plain did = (
+    client_wrote read server old new reports o.world is.1 (known deeds p told server old reports o puts) octets o.last o.ahead p q told
+        o.together did can,
+    ap (λ c. is_sound c.view.standing) did.0.0 ∙ o.sound,
+  )
+  client_goes (Other (Got octets)) old new is deeds puts p q can told server reports o plain did = (
+    client_got read server old new reports o.world is.1 (known deeds p told server old reports o puts) octets o.last o.ahead p q told o.together did can,
+    deed_sound (Other (Got octets)) tt old new (tt, is.1) did o.sound,
+  )
+  client_goes (Other (Received octets count)) old new is deeds puts p q can told server reports o plain did = (
+    subst (λ (m : Between). Goes read [] m told server new (reports ++ []) o.world) (sym can)
+        (client_received read server old new reports o.world is.1 o.serves (asks deeds p told server old reports o puts)
+        (fetches new plain (deed_sound (Other (Received octets count)) tt old new (tt, is.1) did o.sound)) (known deeds p told server old reports o puts) octets
+        count o.last o.ahead p told o.together did),
+    deed_sound (Other (Received octets count)) tt old new (tt, is.1) did o.sound,
+  )
+  client_goes (Other End) old new is deeds puts p q can told server reports o plain did =
+      client_told_end read server old new reports o.world is.1 o.serves (asks deeds p told server old reports o puts) plain
+      (known deeds p told server old reports o puts) o.last o.ahead p q told o.together did can reads (state_of b) (begun_at moments deeds) puts
+      (runs deeds p told server old reports o puts)
+  client_goes (Other (Waited lost)) old new is deeds puts p q can told server reports o plain did = (
+    subst (λ (m : Between). Goes read [] m told server new (reports ++ []) o.world) (sym can)
+        (client_waited read server old new reports o.world is.1 (known deeds p told server old reports o puts) lost o.last o.ahead p told o.together did),
+    deed_sound (Other (Waited lost)) tt old new (tt, is.1) did o.sound,
+  )
+  client_goes (Other (LetGo octets)) old new is deeds puts p q can told server reports o plain did = (
+    subst (λ (m : Between). Goes read [] m told server new (reports ++ []) o.world) (sym can)
+        (client_lets read server old new reports o.world is.1 (known deeds p told server old reports o puts) octets o.last o.ahead p told o.together did),
+    deed_sound (Other (LetGo octets)) tt old new (tt, is.1) did o.sound,
+  )
+  client_goes (Other (Left (EndedBy left written))) old new is deeds puts p q can told server reports o plain did = (
+    client_ends read server old new reports o.world is.1 (known deeds p told server old reports o puts)
+        (asks deeds p told server old reports o puts) left written o.last o.ahead p q told o.together
+        did can,
+    deed_sound (Other (Left (EndedBy left written))) tt old new (tt, is.1) did o.sound,
+  )
+  client_goes (Other (Left Shut)) old new is deeds puts p q can told server reports o plain did = (
+    subst (λ (m : Between). Goes read [] m told server new (reports ++ []) o.world) (sym can)
+        (client_shuts read server old new reports o.world is.1 (known deeds p told server old reports o puts) o.last o.ahead p told o.together did),
+    deed_sound (Other (Left Shut)) tt old new (tt, is.1) did o.sound,
+  )
+  client_goes (Other Closed) old new is deeds puts p q can told server reports o plain did = (
+    subst (λ (m : Between). Goes read [] m told server new (reports ++ []) o.world) (sym can)
+        (client_closed read server old new reports o.world is.1 (known deeds p told server old reports o puts) o.last o.ahead p told o.together did),
+    deed_sound (Other Closed) tt old new (tt, is.1) did o.sound,
+  )
+  client_goes deed old new is deeds puts p q can told server reports o plain did = absurd is.0
+
+  -- the client stays plain
+  client_plain : (deed : Deed client_side) (old new : Stand client_side) → ClientTransfers deed old.owner new.owner → (deeds : List (Deed client_side))
+      → AreCarried (begun_at moments deeds) → (p : Between) (told : ℕ) (server : Stand server_side) (reports : List Said)
+      → Reached (begun_at moments deeds) p told server old reports → Done deed old new → IsPlainly new.owner.end.view
+  client_plain (Heard octets) old new is deeds puts p told server reports o did = deed_plain old new (Heard octets) (tt, is.1) did o.plain
+  client_plain (Says octets) old new is deeds puts p told server reports o did = deed_plain old new (Says octets) (tt, is.1) did o.plain
+  client_plain (Read octets) old new is deeds puts p told server reports o did = deed_plain old new (Read octets) (tt, is.1) did o.plain
+  client_plain (Other (Aside (Reporting said))) old new is deeds puts p told server reports o did =
+      deed_plain old new (Other (Aside (Reporting said))) (tt, is.1) did o.plain
+  client_plain (Other (Aside (Starting op))) old new is deeds puts p told server reports o did =
+      subst IsPlainly (sym (did.0.0.1.0.0 is.1)) (starts_plain op old.owner.end.view (transferred_plain op is.0.0) o.plain)
+  client_plain (Other (Opened host (Connected endpoint left written ∷ []) at_first so_far rest)) old new is deeds puts p told server reports o did =
+      deed_plain old new (Other (Opened host (Connected endpoint left written ∷ []) at_first so_far rest)) (tt, is.1) did o.plain
+  client_plain (Other (Gave count octets rest)) old new is deeds puts p told server reports o did =
+      gave_plain read server old new reports o.world is.1 o.serves (asks deeds p told server old reports o puts)
+      (known deeds p told server old reports o puts) count octets rest o.last o.ahead p told did o.together o.plain
+  client_plain (Other (Wrote octets)) old new is deeds puts p told server reports o did = subst (λ c. IsPlainly c.view) (sym did.0.0) o.plain
+  client_plain (Other (Got octets)) old new is deeds puts p told server reports o did = deed_plain old new (Other (Got octets)) (tt, is.1) did o.plain
+  client_plain (Other (Received octets count)) old new is deeds puts p told server reports o did =
+      deed_plain old new (Other (Received octets count)) (tt, is.1) did o.plain
+  client_plain (Other End) old new is deeds puts p told server reports o did = deed_plain old new (Other End) (tt, is.1) did o.plain
+  client_plain (Other (Waited lost)) old new is deeds puts p told server reports o did = deed_plain old new (Other (Waited lost)) (tt, is.1) did o.plain
+  client_plain (Other (LetGo octets)) old new is deeds puts p told server reports o did = deed_plain old new (Other (LetGo octets)) (tt, is.1) did o.plain
+  client_plain (Other (Left (EndedBy left written))) old new is deeds puts p told server reports o did =
+      deed_plain old new (Other (Left (EndedBy left written))) (tt, is.1) did o.plain
+  client_plain (Other (Left Shut)) old new is deeds puts p told server reports o did = deed_plain old new (Other (Left Shut)) (tt, is.1) did o.plain
+  client_plain (Other Closed) old new is deeds puts p told server reports o did = deed_plain old new (Other Closed) (tt, is.1) did o.plain
+  client_plain deed old new is deeds puts p told server reports o did = absurd is.0
+
+  -- ---- one after another
+
+  -- as a session begins
+  starts_so : (server : Stand server_side) (client : Stand client_side) → Begins b server client → server.owner.lane.untold ≡ []
+      → client.owner.lane.unwritten ≡ [] → server.owner.lane.unwritten ≡ [] → client.owner.lane.untold ≡ [] → Reached [] nothing_yet 0 server client []
+  starts_so server client begins untold unwritten far_unwritten near_untold = record {
+    world = world_of b;
+    leads = leads_none read (world_of b);
+    last = 0;
+    ahead = Level;
+    together = record {
+      beside = record {
+        fits = ap (λ f. is_asked f.session.connection) begins.server_view;
+        near = ap (λ n. near.data_closed (taken n)) (sym begins.client_view);
+        far = ap (λ f. far.clock_step 0 (far_ahead Level f)) (sym begins.server_view);
+        to_server = ap (λ q. q ++ []) (sym begins.server_unheard);
+        to_client = ap (λ q. q ++ []) (sym begins.client_unheard);
+        rising = ap₂ (λ q r. q ++ ([] ++ r)) (sym untold) (sym unwritten);
+        falling = ap₂ (λ q r. q ++ ([] ++ r)) (sym near_untold) (sym far_unwritten);
+        listens = refl;
+        reported = ap (λ n. option_to_list (near.report_of n)) (sym begins.client_view);
+        control = refl;
+        unready = λ e. absurd (true≢false (sym e));
+        marks = tt;
+        cutoff = refl;
+      };
+      holds = record {
+        shut = λ e. ap (λ f. is_open f.session.connection) begins.server_view;
+        had = λ e. absurd (both e (ap (λ f. is_open f.session.connection) begins.server_view));
+        called = λ c e. absurd (true≢false (sym c));
+        opened = λ e. absurd (true≢false (sym e));
+      };
+      comes = record {
+        bare = λ e. untold;
+        spare = λ e. untold;
+        over = λ e. untold;
+        shut = λ e. ap (λ f. is_open f.session.connection) begins.server_view;
+      };
+      serves = record { spare = λ e. far_unwritten; bare = λ e. far_unwritten };
+      takes = record { bare = λ e. near_untold; over = λ e. near_untold };
+      gives = record { spare = λ e. unwritten; bare = λ e. unwritten };
+      keeping = record {
+        had = λ e. absurd (true≢false (sym e));
+        shut = λ e. absurd (both e (ap (λ n. n.closing) begins.client_view));
+        over = λ e. refl;
+      };
+    };
+    serves = record { running = ap (λ f. f.session.life) begins.server_view; none_waits = ap (λ f. f.waiting) begins.server_view };
+    plain = subst IsPlainly (sym begins.client_view) (record { job = tt; port = refl; run = refl });
+    sound = ap (λ n. is_sound n.standing) begins.client_view;
+  }
+
+  -- deed by deed
+  pub reaches : (turns : List Turn) (between : Between) → Happened turns between
+      → (server_start server : Stand server_side) (client_start client : Stand client_side) → Begins b server_start client_start
+      → server_start.owner.lane.untold ≡ [] → client_start.owner.lane.unwritten ≡ []
+      → server_start.owner.lane.unwritten ≡ [] → client_start.owner.lane.untold ≡ []
+      → (server_led : Led (server_deeds turns) server_start server) (client_led : Led (client_deeds turns) client_start client)
+      → ServesAlong (server_deeds turns) server_start server server_led → AsksAlong (client_deeds turns) client_start client client_led
+      → ArePorts (server_deeds turns) → AreToldAt moments turns server_start server server_led
+      → Reached (begun_at moments (client_deeds turns)) between (listened_in (server_deeds turns)) server client (reports_in (client_deeds turns))
+  reaches [] between happened server_start server client_start client begins untold unwritten far_unwritten near_untold server_led client_led takes gives
+      ports told =
+      subst (λ (m : Between). Reached [] m 0 server client []) (sym happened)
+      (subst (λ (s : Stand server_side). Reached [] nothing_yet 0 s client []) (sym server_led)
+      (subst (λ (c : Stand client_side). Reached [] nothing_yet 0 server_start c []) (sym client_led)
+      (starts_so server_start client_start begins untold unwritten far_unwritten near_untold)))
+  reaches (Server deed ∷ before) between happened server_start server client_start client begins untold unwritten far_unwritten near_untold server_led
+      client_led takes gives ports
+      told =
+      let o = reaches before happened.0 happened.1 server_start server_led.0 client_start client begins untold unwritten far_unwritten near_untold
+      server_led.1 client_led takes.0
+      gives (earlier deed (server_deeds before) ports) told.0 in
+      let begun : List Order = begun_at moments (client_deeds before) in
+      let went = server_goes deed server_led.0 server takes.1 (client_deeds before) (in_carried moments
+      (client_deeds before) client_start client client_led gives)
+      (server_deeds before) ports happened.0 between happened.2 client (reports_in (client_deeds before)) o server_led.2 told.1 in
+      record {
+        world = went.0.world;
+        leads = subst (λ l. LeadsOn read l (world_of b) went.0.world) (append-nil begun)
+            (leads_then read begun [] (world_of b) o.world went.0.world o.leads went.0.leads);
+        last = went.0.moment;
+        ahead = went.0.ahead;
+        together = went.0.together;
+        serves = went.1;
+        plain = o.plain;
+        sound = o.sound;
+      }
+  reaches (Client deed ∷ before) between happened server_start server client_start client begins untold unwritten far_unwritten near_untold server_led
+      client_led takes gives ports
+      told =
+      let o = reaches before happened.0 happened.1 server_start server client_start client_led.0 begins untold unwritten far_unwritten near_untold server_led
+      client_led.1 takes gives.0
+      ports told in
+      let begun : List Order = begun_at moments (client_deeds before) in
+      let puts = in_carried moments (client_deeds before) client_start client_led.0 client_led.1 gives.0 in
+      let plain = client_plain deed client_led.0 client gives.1 (client_deeds before) puts happened.0 (listened_in (server_deeds before)) server
+      (reports_in (client_deeds before)) o client_led.2 in
+      let went = client_goes deed client_led.0 client gives.1 (client_deeds before) puts happened.0 between happened.2 (listened_in
+      (server_deeds before)) server
+      (reports_in (client_deeds before)) o plain client_led.2 in
+      record {
+        world = went.0.world;
+        leads = leads_then read begun (begun_by (moments (number_in (client_deeds before))) deed) (world_of b) o.world went.0.world o.leads went.0.leads;
+        last = went.0.moment;
+        ahead = went.0.ahead;
+        together = went.0.together;
+        serves = o.serves;
+        plain = plain;
+        sound = went.1;
+      }
+
+-- events of a world lead to what both drives hold
+pub transfers_are_of_worlds : TransfersAreOfWorlds
+transfers_are_of_worlds read reads b fair moments timed turns between server client did =
+    let o = reaches read reads moments timed b fair turns between did.happened did.server_start server did.client_start client did.begins did.untold
+    did.unwritten did.server_unwritten did.client_untold did.server_led did.client_led did.takes did.gives did.ports did.told in
+    let s = o.together.beside in
+    record {
+      events = o.leads.events;
+      timed = o.leads.timed;
+      world = o.world;
+      leads = o.leads.leads;
+      both = record {
+        moment = o.last;
+        ahead = o.ahead;
+        fits = s.fits;
+        near = s.near ∙ ap near.data_closed (sym (reports_is client.owner.end.view));
+        far = s.far;
+        reported = s.reported;
+        control = s.control;
+        marks = s.marks;
+        cutoff = s.cutoff;
+      };
+    }

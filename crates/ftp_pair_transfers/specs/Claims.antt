@@ -1,0 +1,80 @@
+-- What is claimed of two drives by their deeds, in any order in which each can happen, where whole files were put and fetched, and listings, over passive
+-- data connections: a list of the world's events leads from the beginning to what both ends hold; so there is agreement, and the direct run.
+use Rattle.std.specs.Prelude.{◌≡◌, ℕ, false, List, [], ◌++◌, length, None, Some, option_to_list}
+use Rattle.ftp_control.specs.Deeds.{Led, Stand}
+use Rattle.ftp_client_drive.specs.Side.{client_side}
+use Rattle.ftp_client_model.specs.Calls.{control_end, is_busy, report_of}
+use Rattle.ftp_pair_drives.specs.Alone.{reports_in}
+use Rattle.ftp_pair_drives.specs.Between.{Between, Happened, Turn, client_deeds, server_deeds}
+use Rattle.ftp_pair_drives.specs.Claims.{Begins}
+use Rattle.ftp_pair_downloads.specs.Claims.{HoldsBoth}
+use Rattle.ftp_pair_downloads.specs.Deeds.{ArePorts}
+use Rattle.ftp_pair_transfers.specs.Deeds.{AreMoments, AreToldAt, AsksAlong, ServesAlong, begun_at}
+use Rattle.ftp_pair_world.specs.Agreement.{Agrees, Leads}
+use Rattle.ftp_pair_world.specs.Claims.{AreAnswers, AreTimed, AreUnmarked, Beginning, IsFair, state_of, world_of}
+use Rattle.ftp_pair_world.specs.Events.{Event}
+use Rattle.ftp_pair_world.specs.World.{Mark, World}
+use Rattle.ftp_server_drive.specs.Side.{server_side}
+use Rattle.ftp_server_model.specs.Machine.{IsReading, Reading}
+
+-- one server's drive and drives of one client did these deeds in this order, each when it could be done, and at these moments; as they began no octet of a
+-- data connection was on its way or in hand
+pub record DidTransfer (b : Beginning) (moments : ℕ → ℕ) (turns : List Turn) (between : Between) (server : Stand server_side)
+    (client : Stand client_side) : Type 0 where
+  pub server_start : Stand server_side
+  pub client_start : Stand client_side
+  pub begins : Begins b server_start client_start
+  pub untold : server_start.owner.lane.untold ≡ []
+  pub unwritten : client_start.owner.lane.unwritten ≡ []
+  pub server_unwritten : server_start.owner.lane.unwritten ≡ []
+  pub client_untold : client_start.owner.lane.untold ≡ []
+  pub happened : Happened turns between
+  pub server_led : Led (server_deeds turns) server_start server
+  pub client_led : Led (client_deeds turns) client_start client
+  pub takes : ServesAlong (server_deeds turns) server_start server server_led
+  pub gives : AsksAlong (client_deeds turns) client_start client client_led
+  pub ports : ArePorts (server_deeds turns)
+  pub told : AreToldAt moments turns server_start server server_led
+
+-- events of a world lead from the beginning to one that holds what both ends hold, and began the same operations at these moments
+pub record TransferIsOfWorld (read : Reading) (b : Beginning) (moments : ℕ → ℕ) (turns : List Turn) (server : Stand server_side)
+    (client : Stand client_side) : Type 0 where
+  pub events : List Event
+  pub timed : AreTimed events
+  pub world : World
+  pub leads : Leads read (world_of b) events (begun_at moments (client_deeds turns)) world
+  pub both : HoldsBoth server client (reports_in (client_deeds turns)) world
+
+-- so it is of any such deeds
+abbrev pub TransfersAreOfWorlds : Type 0
+TransfersAreOfWorlds =
+    (read : Reading) → IsReading read → (b : Beginning) → IsFair b → (moments : ℕ → ℕ) → AreMoments moments
+    → (turns : List Turn) (between : Between) (server : Stand server_side) (client : Stand client_side)
+    → DidTransfer b moments turns between server client → TransferIsOfWorld read b moments turns server client
+
+-- so reports and map agree with what was begun, a report that was not taken yet among them
+abbrev pub TransfersAgree : Type 0
+TransfersAgree =
+    (b : Beginning) → IsFair b → (moments : ℕ → ℕ) → AreMoments moments
+    → (turns : List Turn) (between : Between) (server : Stand server_side) (client : Stand client_side)
+    → DidTransfer b moments turns between server client → (marks : List (List Mark)) × AreUnmarked marks
+    × Agrees (state_of b) (begun_at moments (client_deeds turns)) marks None
+    (reports_in (client_deeds turns) ++ option_to_list (report_of client.owner.end.view)) server.owner.end.server.view.session.table
+
+-- so they do where both ends are told then, whatever was on its way, that the control connection ended: an operation that has no report is lost
+abbrev pub TransfersPartingAgree : Type 0
+TransfersPartingAgree =
+    (b : Beginning) → IsFair b → (moments : ℕ → ℕ) → AreMoments moments
+    → (turns : List Turn) (between : Between) (server : Stand server_side) (client : Stand client_side)
+    → DidTransfer b moments turns between server client → (marks : List (List Mark)) × AreUnmarked marks
+    × Agrees (state_of b) (begun_at moments (client_deeds turns)) marks (Some (length marks))
+    (reports_in (client_deeds turns) ++ option_to_list (report_of (control_end client.owner.end.view))) server.owner.end.server.view.session.table
+
+-- where each operation has its report, reports and map are those of the operations run directly
+abbrev pub TransfersAreTheDirectRun : Type 0
+TransfersAreTheDirectRun =
+    (b : Beginning) → IsFair b → (moments : ℕ → ℕ) → AreMoments moments
+    → (turns : List Turn) (between : Between) (server : Stand server_side) (client : Stand client_side)
+    → DidTransfer b moments turns between server client → is_busy client.owner.end.view ≡ false
+    → length (reports_in (client_deeds turns)) ≡ length (begun_at moments (client_deeds turns))
+    → AreAnswers (state_of b) (begun_at moments (client_deeds turns)) (reports_in (client_deeds turns)) server.owner.end.server.view.session.table

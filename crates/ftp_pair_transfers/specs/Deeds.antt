@@ -1,0 +1,125 @@
+-- The deeds of one server's drive and of drives of one client while whole files are put and fetched, and listings, over data connections that the server
+-- listens for, and the moments that the server is told as octets that were put end (RFC 959, sections 3.2 and 4.1.3).
+use Rattle.std.specs.Prelude.{◌≡◌, ⊤, ℕ, zero, suc, ◌≤◌, false, true, List, [], ◌∷◌, ◌++◌, None}
+use Rattle.ftp_control.specs.Asking.{Came, Connected, Ended as EndedBy, Shut}
+use Rattle.ftp_control.specs.Deeds.{Deed, Done, Heard, Said as Says, Read, Other, Stand, Led}
+use Rattle.ftp_control.specs.Machine.{Held, Aside, Closed, End, Gave, Got, Left, LetGo, Listening, Opened, Received, Waited, Wrote}
+use Rattle.ftp_client_drive.specs.Side.{Reporting, Starting, client_side}
+use Rattle.ftp_client_model.specs.Failing.{Client}
+use Rattle.ftp_client_model.specs.Plan.{how_of}
+use Rattle.ftp_operation.specs.declared.op.Op.{Op}
+use Rattle.ftp_operation.specs.declared.op.Op.TheVariants as Ops
+use Rattle.ftp_server_drive.specs.Side.{Timed, server_side}
+use Rattle.ftp_tree.specs.Sound.{last_second}
+use Rattle.ftp_pair_world.specs.Agreement.{Order}
+use Rattle.ftp_pair_drives.specs.Alone.{ClientIsCalm, ServerIsCalm, begun_by}
+use Rattle.ftp_pair_drives.specs.Between.{Client as ByClient, Server as ByServer, Turn, client_deeds, server_deeds}
+use Rattle.ftp_pair_downloads.specs.Deeds.{Along, IsPeer, is_dialling}
+
+-- ---- the server
+
+-- it hears and says; it listens at its ports, accepts its peer there, gives and writes octets, takes octets to the end that it is told, and leaves its data
+-- connections by an end: nothing of one fails
+abbrev pub IsServing : Deed server_side → Held Timed → Type 0
+IsServing (Heard octets) at = ⊤
+IsServing (Says octets) at = ⊤
+IsServing (Read octets) at = ⊤
+IsServing (Other (Aside asked)) at = ⊤
+IsServing (Other (Listening port)) at = ⊤
+IsServing (Other (Opened host (Came from left written ∷ []) at_first so_far rest)) at = IsPeer host at
+IsServing (Other (Got octets)) at = ⊤
+IsServing (Other (Received octets count)) at = ⊤
+IsServing (Other End) at = ⊤
+IsServing (Other (Gave count octets rest)) at = ⊤
+IsServing (Other (Wrote octets)) at = ⊤
+IsServing (Other (Waited lost)) at = ⊤
+IsServing (Other (LetGo octets)) at = ⊤
+IsServing (Other (Left (EndedBy left written))) at = ⊤
+IsServing (Other (Left Shut)) at = ⊤
+IsServing (Other Closed) at = ⊤
+IsServing deed at = ⊥
+
+-- so it does, and it was not refused memory, and no device of it failed or strayed
+abbrev pub ServerTransfers : Deed server_side → (old new : Held Timed) → Type 0
+ServerTransfers deed old new = IsServing deed old × ServerIsCalm old new
+
+abbrev pub ServesAlong : (deeds : List (Deed server_side)) (start now : Stand server_side) → Led deeds start now → Type 0
+ServesAlong deeds start now led = Along ServerTransfers deeds start now led
+
+-- ---- the client
+
+-- an operation without a transfer, or one that puts a whole file, in place of another or behind it, or brings a whole file or a listing
+abbrev pub IsCarried : Op (List ℕ) → Type 0
+IsCarried (Ops.Put path octets how) = ⊤
+IsCarried (Ops.Append path octets how) = ⊤
+IsCarried (Ops.Get path how) = ⊤
+IsCarried (Ops.List path how) = ⊤
+IsCarried (Ops.Names path how) = ⊤
+IsCarried op = how_of op ≡ None
+
+-- for which the client dials
+abbrev pub IsTransferred : Op (List ℕ) → Type 0
+IsTransferred op = IsCarried op × (is_dialling (how_of op) ≡ true)
+
+-- it begins such operations, once nothing is to be closed, and is asked for their reports; it dials, gives and writes octets, and takes octets to the end that
+-- it is told; it leaves each data connection by an end, and hears no octet before that where it is to close one: nothing of one fails
+abbrev pub IsAsking : Deed client_side → Held Client → Type 0
+IsAsking (Heard []) at = ⊤
+IsAsking (Heard (octet ∷ octets)) at = at.end.view.closing ≡ false
+IsAsking (Says octets) at = ⊤
+IsAsking (Read octets) at = ⊤
+IsAsking (Other (Aside (Reporting said))) at = ⊤
+IsAsking (Other (Aside (Starting op))) at = IsTransferred op × (at.end.view.closing ≡ false)
+IsAsking (Other (Opened host (Connected endpoint left written ∷ []) at_first so_far rest)) at = ⊤
+IsAsking (Other (Gave count octets rest)) at = ⊤
+IsAsking (Other (Wrote octets)) at = ⊤
+IsAsking (Other (Got octets)) at = ⊤
+IsAsking (Other (Received octets count)) at = ⊤
+IsAsking (Other End) at = ⊤
+IsAsking (Other (Waited lost)) at = ⊤
+IsAsking (Other (LetGo octets)) at = ⊤
+IsAsking (Other (Left (EndedBy left written))) at = ⊤
+IsAsking (Other (Left Shut)) at = ⊤
+IsAsking (Other Closed) at = ⊤
+IsAsking deed at = ⊥
+
+-- so it does, and it was not refused memory
+abbrev pub ClientTransfers : Deed client_side → (old new : Held Client) → Type 0
+ClientTransfers deed old new = IsAsking deed old × ClientIsCalm old new
+
+abbrev pub AsksAlong : (deeds : List (Deed client_side)) (start now : Stand client_side) → Led deeds start now → Type 0
+AsksAlong deeds start now led = Along ClientTransfers deeds start now led
+
+-- ---- moments
+
+-- how many operations were begun
+abbrev pub number_in : List (Deed client_side) → ℕ
+number_in [] = 0
+number_in (Other (Aside (Starting op)) ∷ before) = suc (number_in before)
+number_in (deed ∷ before) = number_in before
+
+-- what was begun, the n-th operation, from 0, at the n-th of these moments
+abbrev pub begun_at : (moments : ℕ → ℕ) → List (Deed client_side) → List Order
+begun_at moments [] = []
+begun_at moments (deed ∷ before) = begun_at moments before ++ begun_by (moments (number_in before)) deed
+
+-- that of the last of so many
+abbrev pub last_of : (moments : ℕ → ℕ) → ℕ → ℕ
+last_of moments zero = 0
+last_of moments (suc n) = moments n
+
+-- they are moments of the clock
+abbrev pub AreMoments : (ℕ → ℕ) → Type 0
+AreMoments moments = (n : ℕ) → moments n ≤ last_second
+
+-- the moment that the server is told right before a data connection's end
+abbrev pub IsToldAt : (deed : Deed server_side) (old new : Stand server_side) → Done deed old new → ℕ → Type 0
+IsToldAt (Other End) old new did moment = did.0.0.0 ≡ moment
+IsToldAt deed old new did moment = ⊤
+
+-- it is that of the operation that was begun last
+abbrev pub AreToldAt : (moments : ℕ → ℕ) (turns : List Turn) (start now : Stand server_side) → Led (server_deeds turns) start now → Type 0
+AreToldAt moments [] start now led = ⊤
+AreToldAt moments (ByServer deed ∷ before) start now led =
+    AreToldAt moments before start led.0 led.1 × IsToldAt deed led.0 now led.2 (last_of moments (number_in (client_deeds before)))
+AreToldAt moments (ByClient deed ∷ before) start now led = AreToldAt moments before start now led
