@@ -59,7 +59,7 @@ record Passes (front back : List ℕ) (place taker : ℕ) (rest : List ℕ) : Ty
   is : rest ≡ remove front at ++ place ∷ (back ++ taker ∷ [])
 
 -- the first that is ready stands before a place that is ready, or is that
-first_before :
+pub first_before :
     (ready : List Bool) (front back : List ℕ) (place at : ℕ) → is_ready ready place ≡ true
     → first_ready ready (front ++ place ∷ back) ≡ Some at → at ≤ length front
 unfolding first_ready

@@ -1,1 +1,3 @@
 pub mod FairLemmas
+pub mod RoundLemmas
+pub mod WaitLemmas

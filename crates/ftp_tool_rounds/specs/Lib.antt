@@ -1,2 +1,4 @@
 pub mod Order
 pub mod Fair
+pub mod Rounds
+pub mod Waits

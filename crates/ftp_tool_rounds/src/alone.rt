@@ -2,7 +2,7 @@
 ghost use Rattle.std.specs.Global.{Global};
 
 use crate::rows::Rows;
-use crate::seat::{Course, Seat};
+use crate::seat::{Course, Seat, Turn};
 use ftp_control::TURNS;
 use ftp_tool_looking::{Awaits, Leaving};
 use ftp_tool_sockets::monotonic_millis;
@@ -16,7 +16,7 @@ pub fn serve_alone<T, S: Seat<T>>(
 ) -> Result<bool, AllocError> {
     let mut rows = Rows::new(alloc, 1)?;
     for _ in 0..TURNS {
-        match session.turn(rows.take(0), tree) {
+        match session.turn(Turn::Next(0), rows.take(0), tree) {
             Course::Over => break,
             Course::More => {}
             Course::Later => await_session(&mut rows, session),

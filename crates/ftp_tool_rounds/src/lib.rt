@@ -11,10 +11,11 @@ mod rounds;
 mod rows;
 mod seat;
 mod table;
+mod waiting;
 
 pub use alone::serve_alone;
 pub use house::{Full, House, Input};
 pub use input::is_input_open;
 pub use order::Order;
 pub use rounds::serve_rounds;
-pub use seat::{Course, Seat, Seats};
+pub use seat::{Course, Seat, Seats, Turn};

@@ -1,21 +1,24 @@
 // The rounds: one poll, and then those who leave, a turn of each session that is ready, and the clients that came.
 ghost use Rattle.std.specs.Global.{Global};
+ghost use Rattle.std.specs.Prelude.{◌≡◌, ◌≢◌, ◌∷◌, [], ℕ, min, None, false, true};
+ghost use Rattle.ftp_control.specs.Asking.{Adds};
+ghost use Rattle.ftp_tool_rounds.specs.Order.{first_ready};
+ghost use Rattle.ftp_tool_rounds.specs.Rounds.{AreRounds, AreTaken, Comes, Gave, Goes, IsDone, LeavesAddress, LeavesPlace, Spares, Standing};
+ghost use Rattle.ftp_tool_rounds.specs.Rounds.{is_taken, place_of, standing, told_if};
 
 use crate::door::{Caller, Door};
 use crate::house::{Full, House};
 use crate::input::Heeded;
 use crate::order::Order;
 use crate::rows::Rows;
-use crate::seat::{Course, Seat, Seats};
+use crate::seat::{Course, Seat, Seats, Turn};
 use crate::table::{Table, Taken, awaits_at, spare_in};
+use crate::waiting::{MOST_SEATS, Waiting};
 use ftp_control::TURNS;
 use ftp_tool_looking::{Awaits, Leaving, Over};
 use ftp_tool_sockets::monotonic_millis;
 use std::alloc::{AllocError, Global};
 use std::net::{SocketAddr, TcpListener, TcpStream};
-
-/// The most seats.
-pub(crate) const MOST_SEATS: usize = 64;
 
 /// The most connections that are kept a moment behind their last reply; others are dropped at once.
 const MOST_LEAVING: usize = 64;
@@ -35,19 +38,24 @@ const FIRST_SEAT: usize = 2;
 
 /// Serves clients at a port, as many at once as the house has seats, over one tree, until the house has had its sessions or stops. Gives whether all of
 /// them went well.
+#[tactic(auto, using(crate::proofs::RoundLemmas::goes_rounds, crate::proofs::RoundLemmas::no_rounds, crate::proofs::RoundLemmas::rounds_begin))]
 pub fn serve_rounds<M: Seats>(
     alloc: Global,
     house: House,
     listener: &TcpListener,
     seats: &M,
     tree: &mut M::Tree,
-) -> Result<bool, AllocError> {
-    let mut rounds = Rounds::new(alloc, house, listener, seats)?;
+) -> Result<bool, AllocError>
+    ensures { AreRounds (min house.at_once 64) (M.Seat.history tree.old) (M.Seat.history tree.new) }
+{
+    let count = house.at_once.min(MOST_SEATS);
+    let mut order = Order::new(alloc, count)?;
+    let mut rounds = Rounds::new(alloc, house, count, listener, seats)?;
     for _ in 0..TURNS {
         if rounds.is_over() {
             break;
         }
-        rounds.round(tree);
+        rounds.round(&mut order, tree);
     }
     Ok(rounds.went_well)
 }
@@ -59,7 +67,6 @@ struct Rounds<'a, M: Seats> {
     door: Door<'a>,
     input: Heeded,
     table: Table<M::Seat>,
-    order: Order<Global>,
     leaving: Vec<Leaving, Global>,
     rows: Rows,
     went_well: bool,
@@ -73,7 +80,6 @@ impl<'a, M: Seats> Drop for Rounds<'a, M> {
             door: _,
             input: _,
             table: _,
-            order: _,
             leaving: _,
             rows: _,
             went_well: _,
@@ -82,16 +88,15 @@ impl<'a, M: Seats> Drop for Rounds<'a, M> {
 }
 
 impl<'a, M: Seats> Rounds<'a, M> {
-    /// Nobody is served yet.
+    /// Nobody is served yet, of so many seats.
     fn new(
         alloc: Global,
         house: House,
+        count: usize,
         listener: &'a TcpListener,
         seats: &'a M,
     ) -> Result<Rounds<'a, M>, AllocError> {
-        let count = house.at_once.min(MOST_SEATS);
         let table = Table::new(alloc, count)?;
-        let order = Order::new(alloc, count)?;
         let leaving = Vec::with_capacity(alloc, MOST_LEAVING)?;
         let rows = Rows::new(alloc, FIRST_SEAT + MOST_SEATS + MOST_LEAVING)?;
         Ok(Rounds {
@@ -100,7 +105,6 @@ impl<'a, M: Seats> Rounds<'a, M> {
             door: Door::new(listener),
             input: Heeded::new(house.input),
             table,
-            order,
             leaving,
             rows,
             went_well: true,
@@ -118,7 +122,9 @@ impl<'a, M: Seats> Rounds<'a, M> {
     }
 
     /// One round.
-    fn round(&mut self, tree: &mut M::Tree) {
+    fn round(&mut self, order: &mut Order<Global>, tree: &mut M::Tree)
+        ensures { (old : Standing) → IsDone old → old.order ≡ order.old → Goes (M.Seat.history tree.old) (M.Seat.history tree.new) old order.new }
+    {
         self.stop_some();
         self.await_all();
         self.rows.poll();
@@ -126,7 +132,7 @@ impl<'a, M: Seats> Rounds<'a, M> {
             self.input = self.input.read(self.rows.now());
         }
         self.let_go();
-        self.turns(tree);
+        self.turns(order, tree);
         self.welcome_all(tree);
     }
 
@@ -189,58 +195,96 @@ impl<'a, M: Seats> Rounds<'a, M> {
     }
 
     /// A turn of one session of each address, of those that are ready; and then, while the round is short, of the others.
-    fn turns(&mut self, tree: &mut M::Tree) {
-        let mut ready = self.ready();
-        let mut first = ready;
-        for _ in 0..MOST_SEATS {
-            let Some(place) = self.order.take(&first) else {
-                break;
-            };
-            self.pass_over(place, &mut first);
-            unset(&mut ready, place);
-            self.turn(place, tree);
-        }
-        self.other_turns(ready, tree);
+    fn turns(&mut self, order: &mut Order<Global>, tree: &mut M::Tree)
+        ensures { (old : Standing) → IsDone old → old.order ≡ order.old → Goes (M.Seat.history tree.old) (M.Seat.history tree.new) old order.new }
+    {
+        let ready = self.ready();
+        let hosts = self.hosts();
+        self.seats.begin_round(&ready, &hosts, tree);
+        let mut waiting = Waiting {
+            first: ready,
+            ready,
+            hosts,
+        };
+        self.first_turns(order, &mut waiting, tree);
+        self.other_turns(order, &mut waiting, tree);
     }
 
-    /// Turns of these sessions, until the round is long. Who is ready after that has a turn in the next one.
-    fn other_turns(&mut self, ready: [bool; MOST_SEATS], tree: &mut M::Tree) {
-        let mut ready = ready;
+    /// A turn of one session of each address.
+    #[tactic(auto, using(crate::proofs::RoundLemmas::comes_nothing))]
+    fn first_turns(&mut self, order: &mut Order<Global>, waiting: &mut Waiting, tree: &mut M::Tree)
+        requires first { AreTaken waiting.old.first self.old.table.seats.items }
+        requires ready { AreTaken waiting.old.ready self.old.table.seats.items }
+        ensures told { Comes (M.Seat.history tree.old) (M.Seat.history tree.new)
+            (standing waiting.old order.old false) (standing waiting.new order.new false) }
+        ensures done { first_ready waiting.new.first order.new ≡ None }
+        ensures taken { AreTaken waiting.new.ready self.new.table.seats.items }
+    {
+        while let Some(place) = order.take(&waiting.first) {
+            self.give(place, waiting, tree);
+        }
+    }
+
+    /// Turns of the others, until the round is long. Who is ready after that has a turn in the next one.
+    #[tactic(auto, using(crate::proofs::RoundLemmas::others_begin, crate::proofs::RoundLemmas::others_go))]
+    fn other_turns(&mut self, order: &mut Order<Global>, waiting: &mut Waiting, tree: &mut M::Tree)
+        requires done { first_ready waiting.old.first order.old ≡ None }
+        requires ready { AreTaken waiting.old.ready self.old.table.seats.items }
+        ensures { Goes (M.Seat.history tree.old) (M.Seat.history tree.new) (standing waiting.old order.old false) order.new }
+    {
         let until = self.rows.now().saturating_add(ROUND_MILLIS);
         for _ in 0..MOST_SEATS {
             if until <= monotonic_millis() {
                 return;
             }
-            let Some(place) = self.order.take(&ready) else {
+            let Some(place) = order.take(&waiting.ready) else {
                 return;
             };
-            unset(&mut ready, place);
-            self.turn(place, tree);
+            self.give(place, waiting, tree);
         }
     }
 
+    /// A turn of one that is ready, in order.
+    #[tactic(auto, using(crate::proofs::RoundLemmas::taken_place, crate::proofs::RoundLemmas::taken_address, crate::proofs::RoundLemmas::told_taken))]
+    fn give(&mut self, place: usize, waiting: &mut Waiting, tree: &mut M::Tree)
+        requires { is_taken self.old.table.seats.items place ≡ true }
+        ensures told { Adds (M.Seat.history tree.old) (M.Seat.history tree.new) (Gave place ∷ []) }
+        ensures first { LeavesAddress waiting.old.hosts place waiting.old.first waiting.new.first }
+        ensures ready { LeavesPlace place waiting.old.ready waiting.new.ready }
+        ensures hosts { waiting.new.hosts ≡ waiting.old.hosts }
+        ensures taken { AreTaken waiting.old.ready self.old.table.seats.items → AreTaken waiting.new.ready self.new.table.seats.items }
+        ensures taken_first { AreTaken waiting.old.first self.old.table.seats.items → AreTaken waiting.new.first self.new.table.seats.items }
+    {
+        waiting.had_turn(place);
+        self.turn(Turn::Next(place), tree);
+    }
+
     /// Who is ready.
-    fn ready(&self) -> [bool; MOST_SEATS] {
+    fn ready(&self) -> [bool; MOST_SEATS]
+        ensures { AreTaken result self.now.table.seats.items }
+    {
         let mut ready = [false; MOST_SEATS];
-        let seats = self.table.count();
-        for (place, is_ready) in ready.iter_mut().enumerate().take(seats) {
-            *is_ready = self.is_ready(place);
+        for place in 0..MOST_SEATS {
+            ready[place] = self.is_ready(place);
         }
         ready
     }
 
-    /// Passes over all sessions whose client counts as that of one place.
-    fn pass_over(&self, place: usize, ready: &mut [bool; MOST_SEATS]) {
-        let host = self.table.at(place).map(|taken| taken.host);
-        for (other, is_ready) in ready.iter_mut().enumerate() {
-            if *is_ready && self.table.at(other).map(|taken| taken.host) == host {
-                *is_ready = false;
+    /// As whom the client in each seat counts.
+    fn hosts(&self) -> [u128; MOST_SEATS] {
+        let mut hosts = [0; MOST_SEATS];
+        for (place, host) in hosts.iter_mut().enumerate() {
+            if let Some(taken) = self.table.at(place) {
+                *host = taken.host;
             }
         }
+        hosts
     }
 
     /// Whether a session goes on.
-    fn is_ready(&self, place: usize) -> bool {
+    fn is_ready(&self, place: usize) -> bool
+        ensures { result ≡ true → is_taken self.now.table.seats.items place ≡ true }
+    {
         let Some(taken) = self.table.at(place) else {
             return false;
         };
@@ -253,38 +297,50 @@ impl<'a, M: Seats> Rounds<'a, M> {
     }
 
     /// A turn of the session in a seat; that is free where it is over.
-    fn turn(&mut self, place: usize, tree: &mut M::Tree) {
+    fn turn(&mut self, turn: Turn, tree: &mut M::Tree)
+        ensures told { Adds (M.Seat.history tree.old) (M.Seat.history tree.new)
+            (told_if (is_taken self.old.table.seats.items (place_of turn)) turn) }
+        ensures others { (other : ℕ) → other ≢ place_of turn
+            → is_taken self.new.table.seats.items other ≡ is_taken self.old.table.seats.items other }
+    {
+        let place = turn.place();
         let told = self.rows.take(FIRST_SEAT.saturating_add(place));
-        let Some(taken) = self.table.at_mut(place) else {
-            return;
-        };
-        taken.course = taken.session.turn(told, tree);
-        if let Course::Over = taken.course {
-            self.free(place);
-        }
-    }
-
-    /// Frees a seat, whose session is over. A session is large, and a function pays at each call for the room of all that it may hold: so this one, which
-    /// drops one, and `seat`, which makes one, are no part of a turn and of a round.
-    #[inline(never)]
-    fn free(&mut self, place: usize) {
         let Some(mut taken) = self.table.free(place) else {
             return;
         };
+        taken.course = taken.session.turn(turn, told, tree);
+        match taken.course {
+            Course::Over => self.leave(taken),
+            Course::Later | Course::More => self.table.put(place, taken),
+        }
+    }
+
+    /// A session is over. A session is large, and a function pays at each call for the room of all that it may hold: so this one, which drops one, and
+    /// `seat`, which makes one, are no part of a turn and of a round.
+    #[inline(never)]
+    fn leave(&mut self, taken: Taken<M::Seat>)
+        ensures { self.new.table ≡ self.old.table }
+    {
+        let mut taken = taken;
         let (leaving, went_well) = taken.session.leave();
         self.went_well &= went_well;
         self.keep(leaving);
     }
 
     /// Keeps connections a moment behind their last reply.
-    fn keep(&mut self, leaving: Leaving) {
+    fn keep(&mut self, leaving: Leaving)
+        ensures { self.new.table ≡ self.old.table }
+    {
         if self.leaving.len() < MOST_LEAVING {
             let _kept = self.leaving.push(leaving);
         }
     }
 
     /// Takes the clients that came.
-    fn welcome_all(&mut self, tree: &mut M::Tree) {
+    #[tactic(auto, using(crate::proofs::RoundLemmas::spares_nothing, crate::proofs::RoundLemmas::spares_then, crate::proofs::RoundLemmas::spares_one))]
+    fn welcome_all(&mut self, tree: &mut M::Tree)
+        ensures { Spares (M.Seat.history tree.old) (M.Seat.history tree.new) }
+    {
         if !self.rows.is_told(DOOR) {
             return;
         }
@@ -304,7 +360,10 @@ impl<'a, M: Seats> Rounds<'a, M> {
     }
 
     /// A client came. Where there is no seat for it, another session is ended, if one may be.
-    fn welcome(&mut self, stream: TcpStream, peer: SocketAddr, tree: &mut M::Tree) {
+    #[tactic(auto, using(crate::proofs::RoundLemmas::spares_nothing, crate::proofs::RoundLemmas::spares_then, crate::proofs::RoundLemmas::spares_one))]
+    fn welcome(&mut self, stream: TcpStream, peer: SocketAddr, tree: &mut M::Tree)
+        ensures { Spares (M.Seat.history tree.old) (M.Seat.history tree.new) }
+    {
         let host = self.seats.host(peer);
         if let Some(why) = self.full(host) {
             self.spare(why, host, tree);
@@ -322,7 +381,10 @@ impl<'a, M: Seats> Rounds<'a, M> {
     }
 
     /// Ends the session that might be ended for another client for the longest time, if there is one: of those from its address, where that has too many.
-    fn spare(&mut self, why: Full, host: u128, tree: &mut M::Tree) {
+    #[tactic(auto, using(crate::proofs::RoundLemmas::spares_nothing, crate::proofs::RoundLemmas::spares_then, crate::proofs::RoundLemmas::spares_one))]
+    fn spare(&mut self, why: Full, host: u128, tree: &mut M::Tree)
+        ensures { Spares (M.Seat.history tree.old) (M.Seat.history tree.new) }
+    {
         let spare = match why {
             Full::House => spare_in(&self.table, None),
             Full::Host => spare_in(&self.table, Some(host)),
@@ -331,13 +393,13 @@ impl<'a, M: Seats> Rounds<'a, M> {
             if let Some(taken) = self.table.at(place) {
                 taken.session.patience().end(over);
             }
-            self.turn(place, tree);
+            self.turn(Turn::Last(place), tree);
         }
     }
 
     /// Seats a client; one that could not be seated counts as a session that failed.
     #[inline(never)]
-    fn seat(&mut self, stream: TcpStream, peer: SocketAddr, tree: &mut M::Tree) {
+    fn seat(&mut self, stream: TcpStream, peer: SocketAddr, tree: &M::Tree) {
         self.house.sessions = self.house.sessions.map(|count| count.saturating_sub(1));
         match self.seats.seat(stream, peer, tree) {
             Some(session) => self.table.take(session, self.seats.host(peer)),
@@ -350,12 +412,5 @@ impl<'a, M: Seats> Rounds<'a, M> {
         if let Some(line) = self.seats.turn_away(stream, peer, why) {
             self.keep(Leaving::new(Some(line), None));
         }
-    }
-}
-
-/// A place is not ready.
-fn unset(ready: &mut [bool; MOST_SEATS], place: usize) {
-    if let Some(is_ready) = ready.get_mut(place) {
-        *is_ready = false;
     }
 }

@@ -1,4 +1,8 @@
 // A session in a seat, and who seats clients, as the rounds see them.
+ghost use Rattle.std.specs.Prelude.{◌≡◌, ◌∷◌, [], List, None, Option};
+ghost use Rattle.ftp_control.specs.Asking.{Adds};
+ghost use Rattle.ftp_tool_rounds.specs.Rounds.{Deed, Began, deed_of, place_of};
+
 use crate::house::Full;
 use ftp_tool_looking::{Awaits, Leaving, Line, Patience};
 use std::alloc::Global;
@@ -17,10 +21,35 @@ pub enum Course {
     Over,
 }
 
+/// Whose turn it is.
+#[derive(Clone, Copy)]
+pub enum Turn {
+    /// That of the session in this seat, which is the next in order.
+    Next(usize),
+    /// One more of the session in this seat, which is ended for another client.
+    Last(usize),
+}
+
+impl Turn {
+    /// The seat.
+    pub fn place(self) -> usize
+        ensures { result ≡ place_of self }
+    {
+        match self {
+            Turn::Next(place) => place,
+            Turn::Last(place) => place,
+        }
+    }
+}
+
 /// A session over a tree `T`, which is lent to it for each turn. None of its calls waits.
 pub trait Seat<T>: Drop {
+    /// What was told of rounds and turns, the last one first, where a tree tells that.
+    ghost history: { T → Option (List Deed) } = { λ tree. None };
+
     /// Goes on until it waits, is over, or has had its part; `told` is what the last poll told of what it waited for.
-    fn turn(&mut self, told: Awaits, tree: &mut T) -> Course;
+    fn turn(&mut self, turn: Turn, told: Awaits, tree: &mut T) -> Course
+        ensures { Adds (history tree.old) (history tree.new) (deed_of turn ∷ []) };
 
     /// What it waits for.
     fn awaits(&self) -> Awaits;
@@ -52,6 +81,10 @@ pub trait Seats {
         peer: SocketAddr,
         tree: &Self::Tree,
     ) -> Option<Box<Self::Seat, Global>>;
+
+    /// A round begins, in which the sessions in these seats are ready, and whose clients count as these; who does not tell that does nothing.
+    fn begin_round(&self, ready: &[bool], hosts: &[u128], tree: &mut Self::Tree)
+        ensures { Adds (Self.Seat.history tree.old) (Self.Seat.history tree.new) (Began ready.now hosts.now ∷ []) };
 
     /// A client for whom there is no seat was told so, and its connection.
     fn turn_away(&self, stream: TcpStream, peer: SocketAddr, why: Full) -> Option<Rc<Line, Global>>;

@@ -1,5 +1,7 @@
 // The seats of all sessions.
 ghost use Rattle.std.specs.Global.{Global};
+ghost use Rattle.std.specs.Prelude.{◌≡◌, ◌≢◌, ◌↔◌, ℕ, IsTrue, IsSome};
+ghost use Rattle.ftp_tool_rounds.specs.Rounds.{is_taken};
 
 use crate::seat::{Course, Seat};
 use ftp_tool_looking::{Awaits, Over};
@@ -19,7 +21,7 @@ pub(crate) struct Taken<S: Drop> {
 /// Seats, each with a session or without.
 #[derive(Drop)]
 pub(crate) struct Table<S: Drop> {
-    seats: Vec<Option<Taken<S>>, Global>,
+    pub(crate) seats: Vec<Option<Taken<S>>, Global>,
 }
 
 impl<S: Drop> Table<S> {
@@ -51,17 +53,27 @@ impl<S: Drop> Table<S> {
     }
 
     /// The session in a seat.
-    pub(crate) fn at(&self, place: usize) -> Option<&Taken<S>> {
+    pub(crate) fn at(&self, place: usize) -> Option<&Taken<S>>
+        ensures { IsTrue (is_taken self.now.seats.items place) ↔ IsSome result }
+    {
         self.seats.get(place)?.as_ref()
     }
 
-    pub(crate) fn at_mut(&mut self, place: usize) -> Option<&mut Taken<S>> {
-        self.seats.get_mut(place)?.as_mut()
+    /// Frees a seat, and gives the session that had it.
+    pub(crate) fn free(&mut self, place: usize) -> Option<Taken<S>>
+        ensures had { IsTrue (is_taken self.old.seats.items place) ↔ IsSome result }
+        ensures others { (other : ℕ) → other ≢ place → is_taken self.new.seats.items other ≡ is_taken self.old.seats.items other }
+    {
+        self.seats.get_mut(place)?.take()
     }
 
-    /// Frees a seat.
-    pub(crate) fn free(&mut self, place: usize) -> Option<Taken<S>> {
-        self.seats.get_mut(place)?.take()
+    /// Puts back a session into its seat.
+    pub(crate) fn put(&mut self, place: usize, taken: Taken<S>)
+        ensures others { (other : ℕ) → other ≢ place → is_taken self.new.seats.items other ≡ is_taken self.old.seats.items other }
+    {
+        if let Some(seat) = self.seats.get_mut(place) {
+            *seat = Some(taken);
+        }
     }
 
     /// Takes a free seat; where there is none, the session is let go.

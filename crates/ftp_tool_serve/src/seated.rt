@@ -14,7 +14,7 @@ use ftp_server_several::Lends;
 use ftp_tool_guesses::Guesses;
 use ftp_tool_log::Lines;
 use ftp_tool_looking::{Awaits, Leaving, Limits, LineReader, PassivePorts, Patience};
-use ftp_tool_rounds::{Course, Seat};
+use ftp_tool_rounds::{Course, Seat, Turn};
 use ftp_tool_sockets::{Sockets, SystemWatch};
 use ftp_tree::Tree;
 use ftp_tree_disk::Explains;
@@ -141,7 +141,7 @@ where
     T: Tree<Global> + Explains,
     F: Lends<Global, T>,
 {
-    fn turn(&mut self, told: Awaits, tree: &mut T) -> Course {
+    fn turn(&mut self, _turn: Turn, told: Awaits, tree: &mut T) -> Course {
         self.journal.line().begin_turn(told);
         self.journal.begin(&self.clocked.server);
         let turned = some_turns(

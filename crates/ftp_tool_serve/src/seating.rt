@@ -88,6 +88,8 @@ where
         Box::new(self.rt.alloc(), session).ok()
     }
 
+    fn begin_round(&self, _ready: &[bool], _hosts: &[u128], _tree: &mut T) {}
+
     fn turn_away(
         &self,
         stream: TcpStream,

@@ -1,0 +1,70 @@
+// Who waits for a turn in a round.
+ghost use Rattle.std.specs.Prelude.{◌≡◌, ℕ, eqb, not, ◌&&◌};
+ghost use Rattle.ftp_tool_rounds.specs.Order.{is_ready};
+ghost use Rattle.ftp_tool_rounds.specs.Rounds.{LeavesAddress, LeavesPlace, host_in};
+
+/// The most seats.
+pub(crate) const MOST_SEATS: usize = 64;
+
+/// Who waits for a turn in a round.
+#[derive(Clone, Copy)]
+pub(crate) struct Waiting {
+    /// The sessions that are ready, and of whose address none had a turn.
+    pub(crate) first: [bool; MOST_SEATS],
+    /// The sessions that are ready and had none themselves.
+    pub(crate) ready: [bool; MOST_SEATS],
+    /// As whom the client of each counts.
+    pub(crate) hosts: [u128; MOST_SEATS],
+}
+
+impl Waiting {
+    /// One of them had a turn.
+    pub(crate) fn had_turn(&mut self, place: usize)
+        ensures first { LeavesAddress self.old.hosts place self.old.first self.new.first }
+        ensures ready { LeavesPlace place self.old.ready self.new.ready }
+        ensures hosts { self.new.hosts ≡ self.old.hosts }
+    {
+        let host = host_at(&self.hosts, place);
+        unset_host(&self.hosts, host, &mut self.first);
+        unset(&mut self.ready, place);
+    }
+}
+
+/// As whom the client in a place counts.
+fn host_at(hosts: &[u128], place: usize) -> u128
+    ensures { result ≡ host_in hosts.now place }
+{
+    hosts.get(place).copied().unwrap_or(0)
+}
+
+/// None that counts as this one is ready.
+fn unset_host(hosts: &[u128; MOST_SEATS], host: u128, ready: &mut [bool; MOST_SEATS])
+    ensures { (other : ℕ) → is_ready ready.new other ≡ is_ready ready.old other && not (eqb (host_in hosts.now other) host) }
+{
+    for other in 0..MOST_SEATS {
+        ready[other] = is_left(ready[other], hosts, other, host);
+    }
+}
+
+/// A place is not ready.
+fn unset(ready: &mut [bool; MOST_SEATS], place: usize)
+    ensures { LeavesPlace place ready.old ready.new }
+{
+    for other in 0..MOST_SEATS {
+        ready[other] = is_other(ready[other], other, place);
+    }
+}
+
+/// Whether one is ready and counts as another one than this.
+fn is_left(is_ready: bool, hosts: &[u128], one: usize, gone: u128) -> bool
+    ensures { result ≡ is_ready && not (eqb (host_in hosts.now one) gone) }
+{
+    is_ready && host_at(hosts, one) != gone
+}
+
+/// Whether one is ready and another one than this.
+fn is_other(is_ready: bool, one: usize, gone: usize) -> bool
+    ensures { result ≡ is_ready && not (eqb one gone) }
+{
+    is_ready && one != gone
+}
