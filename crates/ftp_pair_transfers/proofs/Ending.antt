@@ -40,7 +40,7 @@ none_to_close [] start now put none = ap (λ (s : Stand client_side). s.owner.en
 none_to_close (asked ∷ before) start now put none = ap (λ v. v.closing) put.2.drove.did.sums.led.2.0.0.0
 
 -- the deeds of a client's drives
-answers_go : (asked : List (Op (List ℕ) × Said)) (start now : Stand client_side) (put : AreTransferred asked start now) → start.owner.end.view.closing ≡ false
+pub answers_go : (asked : List (Op (List ℕ) × Said)) (start now : Stand client_side) (put : AreTransferred asked start now) → start.owner.end.view.closing ≡ false
     → Went ClientTransfers (deeds_in asked start now put) start now
 answers_go [] start now put none = (put, tt)
 answers_go (asked ∷ before) start now put none =
@@ -91,7 +91,7 @@ numbers_are (asked ∷ before) start now put =
     ∙ ap suc (numbers_are before start put.0 put.1)
 
 -- and these, at their moments
-orders_are : (moments : ℕ → ℕ) (asked : List (Op (List ℕ) × Said)) (start now : Stand client_side) (put : AreTransferred asked start now)
+pub orders_are : (moments : ℕ → ℕ) (asked : List (Op (List ℕ) × Said)) (start now : Stand client_side) (put : AreTransferred asked start now)
     → begun_at moments (deeds_in asked start now put) ≡ orders_at moments asked
 orders_are moments [] start now put = refl
 orders_are moments (asked ∷ before) start now put =
@@ -101,7 +101,7 @@ orders_are moments (asked ∷ before) start now put =
     ∙ ap (λ l. l ++ Single asked.0 (moments (length before)) ∷ []) (orders_are moments before start put.0 put.1)
 
 -- and report their answers
-answers_are : (asked : List (Op (List ℕ) × Said)) (start now : Stand client_side) (put : AreTransferred asked start now)
+pub answers_are : (asked : List (Op (List ℕ) × Said)) (start now : Stand client_side) (put : AreTransferred asked start now)
     → reports_in (deeds_in asked start now put) ≡ answers_of asked
 answers_are [] start now put = refl
 answers_are (asked ∷ before) start now put =
@@ -110,7 +110,7 @@ answers_are (asked ∷ before) start now put =
     ∙ ap (λ l. l ++ asked.1 ∷ []) (answers_are before start put.0 put.1)
 
 -- there are as many
-as_many : (moments : ℕ → ℕ) (asked : List (Op (List ℕ) × Said)) → length (answers_of asked) ≡ length (orders_at moments asked)
+pub as_many : (moments : ℕ → ℕ) (asked : List (Op (List ℕ) × Said)) → length (answers_of asked) ≡ length (orders_at moments asked)
 as_many moments [] = refl
 as_many moments (asked ∷ before) =
     let same = as_many moments before in
@@ -118,7 +118,7 @@ as_many moments (asked ∷ before) =
     ∙ sym (length-append (orders_at moments before) (Single asked.0 (moments (length before)) ∷ []))
 
 -- a client whose drives are over is not busy
-transferred_free : (b : Beginning) (server : Stand server_side) (asked : List (Op (List ℕ) × Said)) (start now : Stand client_side) → Begins b server start
+pub transferred_free : (b : Beginning) (server : Stand server_side) (asked : List (Op (List ℕ) × Said)) (start now : Stand client_side) → Begins b server start
     → AreTransferred asked start now → is_busy now.owner.end.view ≡ false
 transferred_free b server [] start now begins put = ap (λ (s : Stand client_side). is_busy s.owner.end.view) put ∙ ap is_busy begins.client_view
 transferred_free b server (asked ∷ before) start now begins put =

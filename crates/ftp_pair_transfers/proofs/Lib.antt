@@ -19,3 +19,5 @@ pub mod Ending
 pub mod ServerGiving
 pub mod ClientTaking
 pub mod ClientTold
+pub mod Resting
+pub mod Quitting

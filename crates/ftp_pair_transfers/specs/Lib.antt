@@ -1,3 +1,4 @@
 pub mod Deeds
 pub mod Claims
 pub mod Over
+pub mod Quitting

@@ -2,6 +2,7 @@
 //! and of a client's drive cites, in any order in which each can happen.
 ghost use Rattle.ftp_pair_transfers.specs.Claims.{TransfersAgree, TransfersAreOfWorlds, TransfersAreTheDirectRun, TransfersPartingAgree};
 ghost use Rattle.ftp_pair_transfers.specs.Over.{TransfersOverAreTheDirectRun};
+ghost use Rattle.ftp_pair_transfers.specs.Quitting.{TransfersThatQuitAreTheDirectRun};
 
 /// One server's drive and drives of one client that put and fetched whole files and listings over passive data connections, of which nothing failed, leave what
 /// a list of the world's events leads to from the beginning.
@@ -24,4 +25,10 @@ pub fn transfers_are_the_direct_run()
 /// answers and the map that is left are those of the operations run directly.
 pub fn transfers_over_are_the_direct_run()
     ensures { TransfersOverAreTheDirectRun }
+{}
+
+/// Where the program of a client that is logged in wrote QUIT after its last drive, and the server's drive is over after that, the answers and the map that is
+/// left are those of the operations run directly.
+pub fn transfers_that_quit_are_the_direct_run()
+    ensures { TransfersThatQuitAreTheDirectRun }
 {}

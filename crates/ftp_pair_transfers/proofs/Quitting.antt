@@ -1,0 +1,125 @@
+-- What both did before QUIT was written is the direct run, and after it the map stays.
+use Rattle.std.proofs.Common.{◌≡◌, ℕ, false, List, [], ◌∷◌, ◌++◌, drop, length, option_to_list, take, refl, sym, ap, subst, ◌∙◌, append-nil}
+use Rattle.ftp_client_drive.specs.Side.{client_side}
+use Rattle.ftp_client_model.specs.View.{View as Near}
+use Rattle.ftp_client_model.specs.declared.client.Standing.TheVariants as Standings
+use Rattle.ftp_client_model.specs.Calls.{is_busy}
+use Rattle.ftp_control.specs.Deeds.{Deed, Led, Stand}
+use Rattle.ftp_operation.specs.Answer.{Said}
+use Rattle.ftp_server_drive.specs.Side.{Timed, server_side}
+use Rattle.ftp_server_model.proofs.LinesDecided.{reading_exists}
+use Rattle.ftp_server_model.specs.Machine.{IsReading, Reading}
+use Rattle.ftp_server_model.specs.View.{View as Far}
+use Rattle.ftp_tree.specs.Tree.{Table}
+use Rattle.ftp_pair_world.specs.Agreement.{Order}
+use Rattle.ftp_pair_world.specs.Claims.{AreAnswers, Beginning, IsFair, state_of}
+use Rattle.ftp_pair_drives.specs.Alone.{reports_in}
+use Rattle.ftp_pair_drives.specs.Between.{Between, Turn, client_deeds}
+use Rattle.ftp_pair_drives.specs.Over.{answers_of}
+use Rattle.ftp_pair_drives.specs.Quitting.{HappenedAlone, quitting}
+use Rattle.ftp_pair_drives.proofs.Leaving.{quits_table}
+use Rattle.ftp_pair_drives.proofs.Quitting.{Quits}
+use Rattle.ftp_pair_drives.proofs.Taken.{free_none}
+use Rattle.ftp_pair_data.proofs.Running.{all_runs}
+use Rattle.ftp_pair_downloads.proofs.Ending.{Went}
+use Rattle.ftp_pair_quitting.specs.Quitting.{GaveAndLeft}
+use Rattle.ftp_pair_quitting.proofs.Closing.{AtQuit, at_quit, begins_quit}
+use Rattle.ftp_pair_quitting.proofs.Resting.{idle_at, rests_so}
+use Rattle.ftp_pair_transfers.specs.Claims.{DidTransfer}
+use Rattle.ftp_pair_transfers.specs.Deeds.{AreMoments, ClientTransfers, begun_at}
+use Rattle.ftp_pair_transfers.specs.Over.{orders_at}
+use Rattle.ftp_pair_transfers.specs.Quitting.{LeavesAlong, TransfersThatQuitAreTheDirectRun}
+use Rattle.ftp_pair_transfers.proofs.Concluding.{transfers_are_the_direct_run}
+use Rattle.ftp_pair_transfers.proofs.Ending.{answers_are, answers_go, as_many, orders_are, transferred_free}
+use Rattle.ftp_pair_transfers.proofs.Resting.{idles}
+use Rattle.ftp_pair_transfers.proofs.Simulating.{in_carried, reaches}
+
+-- ---- the last deeds
+
+-- all of a list, and none behind it
+take_all : (deeds : List (Deed server_side)) → take (length deeds) deeds ≡ deeds
+take_all [] = refl
+take_all (deed ∷ deeds) = ap (λ l. deed ∷ l) (take_all deeds)
+
+drop_all : (deeds : List (Deed server_side)) → drop (length deeds) deeds ≡ []
+drop_all [] = refl
+drop_all (deed ∷ deeds) = drop_all deeds
+
+-- as a session that fetched ends
+leaves_so : (deeds : List (Deed server_side)) (start now : Stand server_side) (led : Led deeds start now) → LeavesAlong deeds start now led
+    → GaveAndLeft (length deeds) deeds start now led
+leaves_so [] start now led leaves = tt
+leaves_so (deed ∷ before) start now led leaves = (leaves_so before start led.0 led.1 leaves.0, leaves.1.0, leaves.1.1)
+
+-- they keep the map
+finals_keep : (read : Reading) → IsReading read → (table : Table) (deeds : List (Deed server_side)) (start now : Stand server_side) (led : Led deeds start now)
+    → LeavesAlong deeds start now led → (old last : Between) → HappenedAlone deeds old last → Quits table start old → Quits table now last
+finals_keep read reads table deeds start now led leaves old last happened quits =
+    let q : AtQuit read reads (length deeds) deeds start now old last =
+    at_quit read reads (length deeds) deeds start now led (leaves_so deeds start now led leaves) old last
+    (subst (λ d. HappenedAlone d old last) (sym (take_all deeds)) happened) in
+    let same : q.mid ≡ start = subst (λ d. Led d start q.mid) (drop_all deeds) q.led in
+    q.quits table (subst (λ m. Quits table m old) (sym same) quits)
+
+-- ---- both
+
+-- where each operation has its report and the client is logged in, the server hears QUIT next
+quits_next : (read : Reading) → IsReading read → (b : Beginning) → IsFair b → (moments : ℕ → ℕ) → AreMoments moments
+    → (turns : List Turn) (between : Between) (server : Stand server_side) (client : Stand client_side)
+    → DidTransfer b moments turns between server client → is_busy client.owner.end.view ≡ false
+    → client.owner.end.view.standing ≡ Standings.Entered
+    → length (reports_in (client_deeds turns)) ≡ length (begun_at moments (client_deeds turns))
+    → Quits server.owner.end.server.view.session.table server (quitting between)
+quits_next read reads b fair moments timed turns between server client did free entered told =
+    let n : Near = client.owner.end.view in
+    let v : Far = server.owner.end.server.view in
+    let o = reaches read reads moments timed b fair turns between did.happened did.server_start server did.client_start client did.begins did.untold
+    did.unwritten did.server_unwritten did.client_untold did.server_led did.client_led did.takes did.gives did.ports did.told in
+    let w = o.world in
+    let s = o.together.beside in
+    let begun : List Order = begun_at moments (client_deeds turns) in
+    let runs = all_runs read reads b fair o.leads.events begun w o.leads.timed o.leads.leads in
+    let none = ap (λ r. reports_in (client_deeds turns) ++ option_to_list r) (free_none n free) ∙ append-nil (reports_in (client_deeds turns)) in
+    let all : length w.reports ≡ length begun = ap length s.reported ∙ ap length none ∙ told in
+    let standing : w.near.standing ≡ Standings.Entered = ap (λ (u : Near). u.standing) s.near ∙ entered in
+    let carried = in_carried moments (client_deeds turns) did.client_start client did.client_led did.gives in
+    let idle = idles read reads (state_of b) begun carried w s.unready s.cutoff all runs standing in
+    begins_quit server between o.serves (sym s.to_server ∙ idle.to_server) (rests_so o.ahead v s.fits (idle_at o.last w.far _ s.far idle.far))
+
+pub transfers_that_quit_are_the_direct_run : TransfersThatQuitAreTheDirectRun
+transfers_that_quit_are_the_direct_run b fair moments timed asked server over =
+    let read = reading_exists.0 in
+    let reads = reading_exists.1 in
+    let near = subst (λ d. Went ClientTransfers d over.client_start over.client) (sym over.client_is)
+    (answers_go asked over.client_start over.client over.put (ap (λ v. v.closing) over.begins.client_view)) in
+    let did : DidTransfer b moments over.turns over.between over.mid over.client = record {
+      server_start = over.server_start;
+      client_start = over.client_start;
+      begins = over.begins;
+      untold = over.untold;
+      unwritten = over.unwritten;
+      server_unwritten = over.server_unwritten;
+      client_untold = over.client_untold;
+      happened = over.happened;
+      server_led = over.server_led;
+      client_led = near.0;
+      takes = over.serves;
+      gives = near.1;
+      ports = over.ports;
+      told = over.told;
+    } in
+    let orders : begun_at moments (client_deeds over.turns) ≡ orders_at moments asked =
+    ap (begun_at moments) over.client_is ∙ orders_are moments asked over.client_start over.client over.put in
+    let answers : reports_in (client_deeds over.turns) ≡ answers_of asked =
+    ap reports_in over.client_is ∙ answers_are asked over.client_start over.client over.put in
+    let told = ap length answers ∙ as_many moments asked ∙ ap length (sym orders) in
+    let free = transferred_free b over.server_start asked over.client_start over.client over.begins over.put in
+    let direct = transfers_are_the_direct_run b fair moments timed over.turns over.between over.mid over.client did free told in
+    let quits = finals_keep read reads over.mid.owner.end.server.view.session.table over.finals over.mid over.off over.final_led over.leaves
+    (quitting over.between) over.last over.happened_last
+    (quits_next read reads b fair moments timed over.turns over.between over.mid over.client did free over.entered told) in
+    let table : server.owner.end.server.view.session.table ≡ over.mid.owner.end.server.view.session.table =
+    ap (λ (at : Timed). at.server.view.session.table) over.left.0.0 ∙ quits_table _ over.off over.last quits in
+    subst (λ (t : Table). AreAnswers (state_of b) (orders_at moments asked) (answers_of asked) t) (sym table)
+    (subst (λ (r : List Said). AreAnswers (state_of b) (orders_at moments asked) r over.mid.owner.end.server.view.session.table) answers
+    (subst (λ (o : List Order). AreAnswers (state_of b) o (reports_in (client_deeds over.turns)) over.mid.owner.end.server.view.session.table) orders direct))
