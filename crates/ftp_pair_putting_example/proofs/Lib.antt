@@ -1,0 +1,5 @@
+pub mod Putting
+pub mod PutMoves
+pub mod PutEnding
+pub mod PutPlayed
+pub mod PutFair
