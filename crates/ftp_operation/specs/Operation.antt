@@ -3,6 +3,8 @@ use Rattle.std.specs.Prelude.{ℕ, ◌&&◌, ◌||◌, ◌==◌, ◌^◌, Bool, 
 use Rattle.std.specs.List.{starts_with}
 use Rattle.ftp_endpoint.specs.Number.{digit_limit}
 pub use Rattle.ftp_path.specs.Path.{is_path_text}
+use Rattle.ftp_operation.specs.declared.op.ListVerb.{ListVerb}
+use Rattle.ftp_operation.specs.declared.op.ListVerb.TheVariants as Verbs
 use Rattle.ftp_operation.specs.declared.op.Op.{Op}
 use Rattle.ftp_operation.specs.declared.op.Op.TheVariants as Ops
 
@@ -14,9 +16,15 @@ is_optional_text text = (length text == 0) || is_path_text text
 abbrev pub is_number : ℕ → Bool
 is_number number = nat_lt number (10 ^ digit_limit)
 
--- a text that begins with `-` would be read as an option of the command for names (own choice)
+-- a text that begins with `-` would be read as an option of LIST and NLST (own choice)
 abbrev pub is_option : List ℕ → Bool
 is_option text = starts_with nat_eq text (45 ∷ [])
+
+-- a listing of this text can be asked for by a command: MLSD has no options
+abbrev pub may_be_listed : ListVerb → List ℕ → Bool
+may_be_listed Verbs.Mlsd text = is_optional_text text
+may_be_listed Verbs.List text = is_optional_text text && not (is_option text)
+may_be_listed Verbs.Nlst text = is_optional_text text && not (is_option text)
 
 -- whether an operation can be sent
 abbrev pub can_be_sent : Op (List ℕ) → Bool
@@ -38,6 +46,7 @@ can_be_sent (Ops.Modified path) = is_path_text path
 can_be_sent (Ops.Facts path) = is_optional_text path
 can_be_sent (Ops.List path how) = is_optional_text path
 can_be_sent (Ops.Names path how) = is_optional_text path && not (is_option path)
+can_be_sent (Ops.Text verb path how) = may_be_listed verb path
 
 -- the octets of a Put, which makes its file anew
 abbrev pub octets_put : {P : Type 0} → Op P → Option P

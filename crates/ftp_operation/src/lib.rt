@@ -10,6 +10,6 @@ mod sendable;
 
 pub use account::{Account, Accounts, AccountsFault, Login, RefusedAccounts};
 pub use answer::Answer;
-pub use op::{How, Op};
+pub use op::{How, ListVerb, Op};
 pub use rights::Rights;
 pub use sendable::{can_be_sent, is_number};

@@ -15,6 +15,14 @@ pub struct How {
     pub extended: bool,
 }
 
+/// The command by which a listing is asked for (RFC 959, section 4.1.3; RFC 3659, section 7).
+#[derive(Clone, Copy, Debug, PartialEq, Eq)]
+pub enum ListVerb {
+    List,
+    Nlst,
+    Mlsd,
+}
+
 /// An operation of a user; `P` is how a text is held. Path texts are those of `ftp_path`.
 pub enum Op<P> {
     /// Which directory is the current one.
@@ -46,6 +54,8 @@ pub enum Op<P> {
     List(P, How),
     /// The pathnames of a directory's files; an empty text is the current directory.
     Names(P, How),
+    /// The listing that a command gives, as text: its octets as they came, with LF at the end of each line; an empty text is the current directory.
+    Text(ListVerb, P, How),
 }
 
 /// By hand: a derived drop is proved again, variant by variant, wherever an operation is let go.
@@ -57,7 +67,8 @@ impl<P: Drop> Drop for Op<P> {
             Op::Rename(_, _) => {}
             Op::Put(_, _, _) | Op::Append(_, _, _) | Op::PutFrom(_, _, _, _) => {}
             Op::Get(_, _) | Op::GetFrom(_, _, _) | Op::Peek(_, _, _) | Op::Size(_, _) => {}
-            Op::Modified(_) | Op::Facts(_) | Op::List(_, _) | Op::Names(_, _) => {}
+            Op::Modified(_) | Op::Facts(_) => {}
+            Op::List(_, _) | Op::Names(_, _) | Op::Text(_, _, _) => {}
         }
     }
 }
