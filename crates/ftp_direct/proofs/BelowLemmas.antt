@@ -34,6 +34,7 @@ refused_alike table root cwd known rights (Ops.Modified text) = rw (under_all (u
 refused_alike table root cwd known rights (Ops.Facts text) = rw (under_all (under table root)) refl
 refused_alike table root cwd known rights (Ops.List text how) = rw (under_all (under table root)) refl
 refused_alike table root cwd known rights (Ops.Names text how) = rw (under_all (under table root)) refl
+refused_alike table root cwd known rights (Ops.Text verb text how) = rw (under_all (under table root)) refl
 
 -- it says the same
 said_alike : (table : Table) (root cwd : Names) (known : Bool) (rights : Rights) (op : Op (List ℕ)) (moment : ℕ)
@@ -56,6 +57,7 @@ said_alike table root cwd known rights (Ops.Modified text) moment = rw (under_al
 said_alike table root cwd known rights (Ops.Facts text) moment = rw (under_all (under table root)) refl
 said_alike table root cwd known rights (Ops.List text how) moment = rw (under_all (under table root)) refl
 said_alike table root cwd known rights (Ops.Names text how) moment = rw (under_all (under table root)) refl
+said_alike table root cwd known rights (Ops.Text verb text how) moment = rw (under_all (under table root)) refl
 
 -- what a state below a root is of one on the part: the part is put back, and all else is the same
 abbrev IsPutBack : Table → Names → State → State → Type 0
@@ -82,6 +84,7 @@ left_alike table root cwd known rights (Ops.Modified text) moment = rw (part-bac
 left_alike table root cwd known rights (Ops.Facts text) moment = rw (part-back table root) refl
 left_alike table root cwd known rights (Ops.List text how) moment = rw (part-back table root) refl
 left_alike table root cwd known rights (Ops.Names text how) moment = rw (part-back table root) refl
+left_alike table root cwd known rights (Ops.Text verb text how) moment = rw (part-back table root) refl
 
 -- no operation changes the root
 root_stays : (state : State) (op : Op (List ℕ)) (moment : ℕ) → (done state op moment).1.root ≡ state.root
@@ -103,6 +106,7 @@ root_stays state (Ops.Modified text) moment = refl
 root_stays state (Ops.Facts text) moment = refl
 root_stays state (Ops.List text how) moment = refl
 root_stays state (Ops.Names text how) moment = refl
+root_stays state (Ops.Text verb text how) moment = refl
 
 -- one answer and the state after it are of another, which stands at the root of the part
 record IsBelow (table : Table) (root : Names) (state own : State) : Type 0 where

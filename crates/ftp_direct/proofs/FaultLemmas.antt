@@ -4,6 +4,7 @@ use Rattle.std.specs.List.{filter}
 use Rattle.ftp_tree.specs.Tree.{Table}
 use Rattle.ftp_tree.specs.declared.fault.TreeFault.{TreeFault}
 use Rattle.ftp_tree.specs.declared.fault.TreeFault.TheVariants as Faults
+use Rattle.ftp_operation.specs.declared.op.ListVerb.TheVariants as Verbs
 use Rattle.ftp_operation.specs.declared.op.Op.{Op}
 use Rattle.ftp_operation.specs.declared.op.Op.TheVariants as Ops
 use Rattle.ftp_operation.specs.Answer.{Said, BadOperation, Refused}
@@ -112,6 +113,9 @@ refusal_no state (Ops.Modified text) = there_no _
 refusal_no state (Ops.Facts text) = there_no _
 refusal_no state (Ops.List text how) = listing_no _
 refusal_no state (Ops.Names text how) = there_no _
+refusal_no state (Ops.Text Verbs.Mlsd text how) = listing_no _
+refusal_no state (Ops.Text Verbs.List text how) = there_no _
+refusal_no state (Ops.Text Verbs.Nlst text how) = there_no _
 
 done_no : (state : State) (op : Op (List ℕ)) (moment : ℕ) → is_local_fault (done state op moment).0 ≡ false
 done_no state Ops.Where moment = refl
@@ -132,6 +136,7 @@ done_no state (Ops.Modified text) moment = refl
 done_no state (Ops.Facts text) moment = refl
 done_no state (Ops.List text how) moment = refl
 done_no state (Ops.Names text how) moment = refl
+done_no state (Ops.Text verb text how) moment = refl
 
 code_no : (why : Refusal) → is_fault (Some why) ≡ false → is_local_fault (Refused (code_of why)) ≡ false
 unfolding is_fault

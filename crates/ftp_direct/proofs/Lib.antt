@@ -1,9 +1,12 @@
 pub mod BelowLemmas
 pub mod DueLemmas
 pub mod FaultLemmas
+pub mod LengthLemmas
+pub mod ListLemmas
 pub mod ListingLemmas
 pub mod LookLemmas
 pub mod NodeLemmas
+pub mod NodeLineLemmas
 pub mod OntoLemmas
 pub mod OpenLemmas
 pub mod PieceLemmas

@@ -47,6 +47,7 @@ rights_come_first state (Ops.Modified text) = refl
 rights_come_first state (Ops.Facts text) = refl
 rights_come_first state (Ops.List text how) = refl
 rights_come_first state (Ops.Names text how) = refl
+rights_come_first state (Ops.Text verb text how) = refl
 
 -- the same is done, and the account keeps its rights
 done_alike : (state : State) (op : Op (List ℕ)) (moment : ℕ)
@@ -69,6 +70,7 @@ done_alike state (Ops.Modified text) moment = refl
 done_alike state (Ops.Facts text) moment = refl
 done_alike state (Ops.List text how) moment = refl
 done_alike state (Ops.Names text how) moment = refl
+done_alike state (Ops.Text verb text how) moment = refl
 
 chosen_alike : (why : Option Refusal) (state : State) (op : Op (List ℕ)) (moment : ℕ)
     → chosen why state (done state op moment)
@@ -160,6 +162,7 @@ module _ (table : Table) (root cwd : Names) (onto : Bool) where
   refused_else (Ops.Facts text) other = refl
   refused_else (Ops.List text how) other = refl
   refused_else (Ops.Names text how) other = refl
+  refused_else (Ops.Text verb text how) other = refl
 
   -- and the same is done
   done_else : (op : Op (List ℕ)) (moment : ℕ) → RenamesNothing op
@@ -182,6 +185,7 @@ module _ (table : Table) (root cwd : Names) (onto : Bool) where
   done_else (Ops.Facts text) moment other = refl
   done_else (Ops.List text how) moment other = refl
   done_else (Ops.Names text how) moment other = refl
+  done_else (Ops.Text verb text how) moment other = refl
 
   chosen_else : (why : Option Refusal) (op : Op (List ℕ)) (moment : ℕ) → RenamesNothing op
       → chosen why some (done some op moment) ≡ ((chosen why all (done all op moment)).0, record (chosen why all (done all op moment)).1 { rights = some.rights })
@@ -221,6 +225,7 @@ rights_stay state (Ops.Modified text) moment = refl
 rights_stay state (Ops.Facts text) moment = refl
 rights_stay state (Ops.List text how) moment = refl
 rights_stay state (Ops.Names text how) moment = refl
+rights_stay state (Ops.Text verb text how) moment = refl
 
 -- the first of two refusals is none where both are
 pub first_is_none : (one other : Option Refusal) → or_refused one other ≡ None → one ≡ None
@@ -264,6 +269,7 @@ done_looks state (Ops.Modified text) moment is none = refl
 done_looks state (Ops.Facts text) moment is none = refl
 done_looks state (Ops.List text how) moment is none = refl
 done_looks state (Ops.Names text how) moment is none = refl
+done_looks state (Ops.Text verb text how) moment is none = refl
 
 -- a map and rights that stay
 abbrev Looks : State → State → Type 0

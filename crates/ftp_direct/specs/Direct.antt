@@ -1,12 +1,12 @@
 -- The operations of a user, run directly on a map from paths to files and directories: the answer and the change of each, and a
 -- list of them in order. This is what a session of client and server is measured against; no command, reply or connection
 -- stands in it (RFC 959, section 4.1; RFC 3659). Each row is said of the part of the map that the user's account sees.
-use Rattle.std.specs.Prelude.{ℕ, ◌+◌, ◌==◌, ◌&&◌, ◌||◌, Bool, true, false, not, nat_eq, codes, List, [], ◌∷◌, ◌++◌, length, take, drop, Option, Some, None, if◌then◌else◌}
+use Rattle.std.specs.Prelude.{ℕ, ◌+◌, ◌==◌, ◌&&◌, ◌||◌, Bool, true, false, not, List, [], ◌∷◌, ◌++◌, length, take, drop, Option, Some, None, if◌then◌else◌}
 use Rattle.std.specs.Option.{is_some, option_map, option_or, unwrap_or}
-use Rattle.std.specs.List.{filter_map, find, ends_with, range_with_len}
+use Rattle.std.specs.List.{find, range_with_len}
 use Rattle.ftp_path.specs.Path.{parent, fits, resolved, text_of, Names, is_within}
 use Rattle.ftp_tree.specs.Map.{Node, Dir, File}
-use Rattle.ftp_tree.specs.Tree.{Table, node_at, octets_or_none, stamp_at, children, or_else, whenever, directory_refusal, made, removed, installed, moved, freed, under, with_part, make_refusal, remove_refusal, delete_refusal, file_refusal, source_refusal, target_refusal, room_refusal, octets_refusal}
+use Rattle.ftp_tree.specs.Tree.{Table, node_at, octets_or_none, stamp_at, or_else, whenever, directory_refusal, made, removed, installed, moved, freed, under, with_part, make_refusal, remove_refusal, delete_refusal, file_refusal, source_refusal, target_refusal, room_refusal, octets_refusal}
 use Rattle.ftp_tree.specs.declared.fault.TreeFault.{TreeFault}
 use Rattle.ftp_tree.specs.declared.fault.TreeFault.TheVariants as Faults
 use Rattle.ftp_repr.specs.Ascii.{asc}
@@ -18,11 +18,15 @@ use Rattle.ftp_operation.specs.Account.{Account}
 use Rattle.ftp_operation.specs.Rights.{all_rights, no_rights, may_put}
 use Rattle.ftp_operation.specs.declared.rights.Rights.{Rights}
 use Rattle.ftp_operation.specs.declared.op.How.{How}
+use Rattle.ftp_operation.specs.declared.op.ListVerb.{ListVerb}
+use Rattle.ftp_operation.specs.declared.op.ListVerb.TheVariants as Verbs
 use Rattle.ftp_operation.specs.declared.op.Op.{Op}
 use Rattle.ftp_operation.specs.declared.op.Op.TheVariants as Ops
 use Rattle.ftp_operation.specs.Operation.{can_be_sent, is_number}
 use Rattle.ftp_direct.specs.declared.refusal.Refusal.{Refusal}
 use Rattle.ftp_direct.specs.declared.refusal.Refusal.TheVariants.{BadParameter, NotLoggedIn, Unavailable, NotAllowed, TooMuch, BadName}
+pub use Rattle.ftp_direct.specs.Listing.{behind, child, entries_in, entry_at, entry_in, file_in, is_file, listed, names_for, perm_of, size_fact}
+use Rattle.ftp_direct.specs.Listing.{listing_file}
 use Rattle.ftp_direct.specs.Refusal.{code_of, name_refusal, listing_refusal}
 use Rattle.ftp_operation.specs.Answer.{Listed, Said, Done, Path, Octets, Number, Stamp, Entry, Entries, Names as NameList, Refused, BadOperation}
 
@@ -109,12 +113,6 @@ abbrev pub barred : (may : Bool) → Option Refusal
 barred true = None
 barred false = Some NotAllowed
 
--- a file stands there
-abbrev pub is_file : Option Node → Bool
-is_file None = false
-is_file (Some Dir) = false
-is_file (Some (File octets moment)) = true
-
 -- to put a file: the account may replace one that stands there, or put one where none does
 abbrev pub barred_put : State → Names → Option Refusal
 barred_put state path = barred (may_put state.rights (fits path && is_file (node_at (part state) path)))
@@ -140,6 +138,16 @@ put_refusal state path count = or_refused (refused_room (limited path (room_refu
 -- no file stands where a text leads
 abbrev pub refused_file : State → List ℕ → Option Refusal
 refused_file state text = refused_there (limited (named state text) (file_refusal (node_at (part state) (named state text))))
+
+-- why what stands at a path is not listed by a command: MLSD lists directories alone, LIST and NLST a file too
+abbrev pub refused_at : ListVerb → Names → Option Node → Option Refusal
+refused_at Verbs.Mlsd path node = refused_listing (limited path (directory_refusal node))
+refused_at Verbs.List path node = refused_there (limited path (absent_refusal node))
+refused_at Verbs.Nlst path node = refused_there (limited path (absent_refusal node))
+
+-- the same of the path that a text names which may be left out
+abbrev pub refused_text : ListVerb → State → List ℕ → Option Refusal
+refused_text verb state text = refused_at verb (named_or_here state text) (node_at (part state) (named_or_here state text))
 
 -- ---- places of a file
 
@@ -210,54 +218,11 @@ refusal state (Ops.Peek text count how) = refused_file state text
 refusal state (Ops.Size text how) = or_refused (refused_file state text) (refused_number (size_in how.representation.kind (file_of state text)))
 refusal state (Ops.Modified text) = refused_file state text
 refusal state (Ops.Facts text) = refused_there (limited (named_or_here state text) (absent_refusal (node_at (part state) (named_or_here state text))))
-refusal state (Ops.List text how) = refused_listing (limited (named_or_here state text) (directory_refusal (node_at (part state) (named_or_here state text))))
-refusal state (Ops.Names text how) = refused_there (limited (named_or_here state text) (absent_refusal (node_at (part state) (named_or_here state text))))
+refusal state (Ops.List text how) = refused_text Verbs.Mlsd state text
+refusal state (Ops.Names text how) = refused_text Verbs.Nlst state text
+refusal state (Ops.Text verb text how) = refused_text verb state text
 
 -- ---- what is answered
-
--- the permissions of a file, of a directory and of the root (RFC 3659, section 7.5.5; which are given is an own choice)
-abbrev pub perm_of : Names → Node → List ℕ
-perm_of path (File octets moment) = codes "adfrw"
-perm_of [] Dir = codes "celmp"
-perm_of (name ∷ names) Dir = codes "cdeflmp"
-
--- a size that can be said; a longer one is left out (own choice)
-abbrev pub size_fact : ℕ → Option ℕ
-size_fact count = if is_number count then Some count else None
-
--- the entry of what stands at a path, under a name
-abbrev pub listed : List ℕ → Names → Node → Listed
-listed name path (File octets moment) =
-    record { name = name; kind = Some (codes "file"); size = size_fact (length octets); modify = Some moment; perm = Some (perm_of path (File octets moment)) }
-listed name path Dir = record { name = name; kind = Some (codes "dir"); size = None; modify = None; perm = Some (perm_of path Dir) }
-
-unfoldable pub entry_at : Table → Names → List ℕ → Listed
-entry_at table path name = listed name path (unwrap_or (node_at table path) Dir)
-
--- the path of a name in a directory
-abbrev pub child : Names → List ℕ → Names
-child path name = path ++ name ∷ []
-
--- the entry of a name in a directory; nothing is said of a path past the limits of paths
-abbrev pub entry_in : Table → Names → List ℕ → Option Listed
-entry_in table path name = if fits (child path name) then Some (entry_at table (child path name) name) else None
-
--- the entries of a directory, in the order of the octets of their names
-unfoldable pub entries_in : Table → Names → List Listed
-entries_in table path = filter_map (entry_in table path) (children table path)
-
--- a name behind the text that names its directory, with a `/` between them
-abbrev pub behind : List ℕ → List ℕ → List ℕ
-behind text name = if (length text == 0) || ends_with nat_eq text (47 ∷ []) then text ++ name else text ++ 47 ∷ name
-
--- the pathname of a file in a directory; nothing is said of a path past the limits of paths
-abbrev pub file_in : Table → Names → List ℕ → List ℕ → Option (List ℕ)
-file_in table path text name = if fits (child path name) && is_file (node_at table (child path name)) then Some (behind text name) else None
-
--- pathnames that can be used as arguments: the one of a file, or those of the files of a directory in the order of the octets of
--- their names (RFC 1123, section 4.1.2.7)
-unfoldable pub names_for : Table → Names → List ℕ → List (List ℕ)
-names_for table path text = if is_file (node_at table path) then text ∷ [] else filter_map (file_in table path text) (children table path)
 
 -- a file put behind some octets that are kept
 abbrev pub put : State → Names → List ℕ → List ℕ → ℕ → Said × State
@@ -283,6 +248,7 @@ done state (Ops.Modified text) moment = (Stamp (unwrap_or (stamp_at (part state)
 done state (Ops.Facts text) moment = (Entry (entry_at (part state) (named_or_here state text) (text_of (named_or_here state text))), state)
 done state (Ops.List text how) moment = (Entries (entries_in (part state) (named_or_here state text)), state)
 done state (Ops.Names text how) moment = (NameList (names_for (part state) (named_or_here state text) text), state)
+done state (Ops.Text verb text how) moment = (Octets (listing_file verb (part state) (named_or_here state text) text), state)
 
 -- ---- operations in order
 

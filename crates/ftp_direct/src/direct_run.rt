@@ -15,6 +15,7 @@ use crate::reading::{get, get_from, modified, peek};
 use crate::refusal::{Refusal, tell};
 use crate::rights::barring;
 use crate::sizes::size;
+use crate::texts::text;
 use ftp_facts::{Moment, Text};
 use ftp_operation::{Accounts, Answer, Login, Op, Rights, can_be_sent};
 use ftp_tree::{Path, Tree};
@@ -153,5 +154,6 @@ fn due<A: Allocator + Copy, T: Tree<A>>(
         Op::Facts(text) => facts(alloc, tree, root, cwd, text),
         Op::List(text, _) => list(alloc, tree, root, cwd, text),
         Op::Names(text, _) => names(alloc, tree, root, cwd, text),
+        Op::Text(verb, path, _) => text(alloc, tree, root, cwd, *verb, path),
     }
 }

@@ -5,8 +5,10 @@
 mod direct_run;
 mod files;
 mod laws;
+mod list_line;
 mod listings;
 mod looking;
+mod node_line;
 mod nodes;
 mod offsets;
 mod opening;
@@ -15,15 +17,18 @@ mod reading;
 mod refusal;
 mod rights;
 mod sizes;
+mod texts;
 
 pub use direct_run::direct;
 pub use ftp_operation::{
-    Account, Accounts, AccountsFault, Answer, How, Login, Op, RefusedAccounts, Rights,
+    Account, Accounts, AccountsFault, Answer, How, ListVerb, Login, Op, RefusedAccounts, Rights,
 };
 pub use laws::{
     failures_are_told, lookers_change_nothing, offsets_lead, parts_are_apart, rights_come_first,
     steady_run,
 };
+pub use list_line::{put_dir_line, put_file_line};
+pub use node_line::{last_name, put_node};
 pub use nodes::{absent_fault, directory_fault, file_fault, is_dir, is_file, len_at};
 pub use offsets::{place_at, takes_offset};
 pub use places::{is_busy, is_held, move_to};

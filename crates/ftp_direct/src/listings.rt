@@ -67,7 +67,7 @@ pub(crate) fn list<A: Allocator + Copy, T: Tree<A>>(
 }
 
 /// How a listing is refused.
-fn listing_refusal(fault: TreeFault) -> Refusal
+pub(crate) fn listing_refusal(fault: TreeFault) -> Refusal
     ensures { result ≡ listing_refusal fault }
 {
     match fault {
@@ -159,7 +159,7 @@ fn size_fact<A: Allocator + Copy, T: Tree<A>>(
 }
 
 /// The entries of a directory.
-fn entries<A: Allocator + Copy, T: Tree<A>>(
+pub(crate) fn entries<A: Allocator + Copy, T: Tree<A>>(
     alloc: &A,
     tree: &T,
     root: &Path<A>,
@@ -193,7 +193,7 @@ fn entry_in<A: Allocator + Copy, T: Tree<A>>(
 }
 
 /// The text of a file, or the pathnames of a directory's files.
-fn pathnames<A: Allocator + Copy, T: Tree<A>>(
+pub(crate) fn pathnames<A: Allocator + Copy, T: Tree<A>>(
     alloc: &A,
     tree: &T,
     root: &Path<A>,
@@ -262,7 +262,7 @@ fn behind<A: Allocator + Copy>(alloc: &A, text: &[u8], name: &[u8]) -> Result<Te
 }
 
 /// The names in a directory, in the order of their octets.
-fn names_in<A: Allocator + Copy, T: Tree<A>>(
+pub(crate) fn names_in<A: Allocator + Copy, T: Tree<A>>(
     alloc: &A,
     tree: &T,
     root: &Path<A>,
@@ -279,7 +279,7 @@ fn names_in<A: Allocator + Copy, T: Tree<A>>(
 }
 
 /// Puts an item behind the others, if there is one.
-fn push_some<X: Drop, A: Allocator + Copy>(
+pub(crate) fn push_some<X: Drop, A: Allocator + Copy>(
     list: &mut Vec<X, A>,
     item: Option<X>,
 ) -> Result<(), AllocError>

@@ -92,6 +92,6 @@ pub(crate) fn barring<A: Allocator + Copy, T: Tree<A>>(
         Op::Where | Op::ChangeDir(_) | Op::Up => Ok(None),
         Op::Get(_, _) | Op::GetFrom(_, _, _) | Op::Peek(_, _, _) => Ok(None),
         Op::Size(_, _) | Op::Modified(_) | Op::Facts(_) => Ok(None),
-        Op::List(_, _) | Op::Names(_, _) => Ok(None),
+        Op::List(_, _) | Op::Names(_, _) | Op::Text(_, _, _) => Ok(None),
     }
 }

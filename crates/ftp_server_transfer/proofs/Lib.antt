@@ -3,7 +3,6 @@ pub mod EndLemmas
 pub mod LengthLemmas
 pub mod LimitLemmas
 pub mod StoredLemmas
-pub mod ListLemmas
 pub mod ListingLemmas
 pub mod MarkLemmas
 pub mod ReceiveLemmas

@@ -18,6 +18,7 @@ use Rattle.ftp_tree.specs.declared.tree.NodeKind.TheVariants as Kinds
 use Rattle.ftp_wire.specs.Encoding.{still_to_give}
 use Rattle.ftp_wire.specs.declared.encoder.Encoder.{Encoder}
 use Rattle.ftp_wire.proofs.EncodingLemmas.{behind_front}
+use Rattle.ftp_direct.proofs.NodeLineLemmas.{dir_lines_at, ended}
 use Rattle.ftp_direct.specs.Direct.{behind, child, entry_at, is_file, file_in, entry_in, entries_in, listed, names_for}
 use Rattle.ftp_server_model.specs.Listing.{child_line, node_line, list_line, list_lines, list_lines_at, last_name, lines_file, text_line}
 use Rattle.ftp_server_model.specs.Entries.{listed_line, if_chosen}
@@ -33,31 +34,7 @@ use Rattle.ftp_server_transfer.specs.declared.listing.Listing.{Listing}
 use Rattle.ftp_server_transfer.specs.Lines.{Puts, columns_of, entry_facts, entry_line, lines_from, lines_of, pathname_of}
 use Rattle.ftp_server_transfer.specs.declared.line.What.TheVariants as Whats
 
--- ---- what stands at a path
-
-pub file_lined : (name : List ℕ) (node : Option Node) (size moment : ℕ) → Some size ≡ option_map length (of_node octets_of node) → Some moment ≡ of_node moment_of node
-    → list_line (codes "-rw-r--r--") size moment name ≡ node_line name (unwrap_or node Dir)
-file_lined name None size moment s m = absurd (cc)
-file_lined name (Some Dir) size moment s m = absurd (cc)
-file_lined name (Some (File octets at)) size moment s m =
-    ap (λ k. list_line (codes "-rw-r--r--") k moment name) (ap (λ o. unwrap_or o 0) s)
-    ∙ ap (λ k. list_line (codes "-rw-r--r--") (length octets) k name) (ap (λ o. unwrap_or o 0) m)
-
-pub no_size : (name : List ℕ) (node : Option Node) → None ≡ option_map length (of_node octets_of node) → list_line (codes "drwxr-xr-x") 0 0 name ≡ node_line name (unwrap_or node Dir)
-no_size name None s = refl
-no_size name (Some Dir) s = refl
-no_size name (Some (File octets at)) s = absurd (cc)
-
-pub no_moment : (name : List ℕ) (node : Option Node) → None ≡ of_node moment_of node → list_line (codes "drwxr-xr-x") 0 0 name ≡ node_line name (unwrap_or node Dir)
-no_moment name None s = refl
-no_moment name (Some Dir) s = refl
-no_moment name (Some (File octets at)) s = absurd (cc)
-
 -- ---- a line and its end
-
--- a line that was put in two steps
-pub ended : (old mid new line : List ℕ) → mid ≡ old ++ line → new ≡ mid ++ 10 ∷ [] → new ≡ old ++ text_line line
-ended old mid new line put end = end ∙ ap (λ l. l ++ 10 ∷ []) put ∙ append_assoc old line (10 ∷ [])
 
 -- what was put, as lines
 pub put_is : (o : Option (List ℕ)) (old new : List ℕ) → Puts o old new → new ≡ old ++ lines_file (option_to_list o)
@@ -104,62 +81,7 @@ ends (x ∷ all) (suc n) none = omega (arith, ends all n none)
 pub no_more : {X : Type 0} (f : X → Option (List ℕ)) (all : List X) (n : ℕ) → None ≡ slice_get all n → lines_file (filter_map f (drop n all)) ≡ []
 no_more f all n none = ap (λ l. lines_file (filter_map f l)) (drop_all n all (ends all n none))
 
--- ---- the last name
-
-joined_last : (name : List ℕ) (names : Names) → joined (name ∷ names) ≡ joined (parent (name ∷ names)) ++ 47 ∷ last_name (name ∷ names)
-unfolding parent
-joined_last name [] = ap (λ l. 47 ∷ l) (append-nil name)
-joined_last name (second ∷ names) =
-    let shorter : suc (suc (length names)) - 1 ≡ suc (suc (length names) - 1) = omega arith in
-    ap (λ l. 47 ∷ (name ++ l)) (joined_last second names)
-    ∙ ap (λ l. 47 ∷ l) (sym (append_assoc name (joined (parent (second ∷ names))) (47 ∷ last_name (second ∷ names))))
-    ∙ ap (λ k. joined (take k (name ∷ second ∷ names)) ++ 47 ∷ last_name (second ∷ names)) (sym shorter)
-
-behind_seam : (xs : List ℕ) (c : ℕ) (ys : List ℕ) → drop (length xs + 1) (xs ++ c ∷ ys) ≡ ys
-behind_seam [] c ys = refl
-behind_seam (x ∷ xs) c ys = let more : suc (length xs) + 1 ≡ suc (length xs + 1) = omega arith in ap (λ k. drop k (x ∷ (xs ++ c ∷ ys))) more ∙ behind_seam xs c ys
-
-pub last_cut : (path : Names) (key above : List ℕ) → joined path ≡ key → joined (parent path) ≡ above → drop (min (length above + 1) (length key)) key ≡ last_name path
-last_cut [] key above is up =
-    let none : min (length above + 1) (length key) ≡ 0 = omega (arith, ap length is) in
-    ap (λ k. drop k key) none ∙ sym is
-last_cut (name ∷ names) key above is up =
-    let whole : key ≡ above ++ 47 ∷ last_name (name ∷ names) = sym is ∙ joined_last name names ∙ ap (λ l. l ++ 47 ∷ last_name (name ∷ names)) up in
-    let long : min (length above + 1) (length key) ≡ length above + 1 = omega (arith, ap length whole, length-append above (47 ∷ last_name (name ∷ names))) in
-    ap (λ k. drop k key) long ∙ ap (drop (length above + 1)) whole ∙ behind_seam above 47 (last_name (name ∷ names))
-
 -- ---- a file's own line
-
-pub own_line : (node : Option Node) (table : Table) (path : Names) → Some Kinds.File ≡ option_map kind_of node
-    → lines_file (list_lines_at node table path) ≡ text_line (node_line (last_name path) (unwrap_or node Dir))
-own_line None table path is = absurd (cc)
-own_line (Some Dir) table path is = absurd (cc)
-own_line (Some (File octets at)) table path is = append-nil (text_line (node_line (last_name path) (File octets at)))
-
-dir_lines : (node : Option Node) (table : Table) (path : Names) → option_map kind_of node ≡ Some Kinds.Dir
-    → list_lines_at node table path ≡ filter_map (child_line table path) (children table path)
-dir_lines None table path is = absurd (cc)
-dir_lines (Some Dir) table path is = refl
-dir_lines (Some (File octets at)) table path is = absurd (cc)
-
-no_lines : (node : Option Node) (table : Table) (path : Names) → None ≡ option_map kind_of node → list_lines_at node table path ≡ []
-no_lines None table path is = refl
-no_lines (Some Dir) table path is = absurd (cc)
-no_lines (Some (File octets at)) table path is = absurd (cc)
-
--- LIST: of a file its own line
-pub first_own : (table : Table) (path : Names) (name old mid new : List ℕ) → Some Kinds.File ≡ kind_at table path → name ≡ last_name path → old ≡ []
-    → mid ≡ old ++ node_line name (unwrap_or (node_at table path) Dir) → new ≡ mid ++ 10 ∷ [] → lines_file (list_lines table path) ≡ new
-unfolding kind_at
-first_own table path name old mid new is last none put end =
-    let node = unwrap_or (node_at table path) Dir in
-    own_line (node_at table path) table path is
-    ∙ sym (ended old mid new (node_line (last_name path) node) (put ∙ ap (λ n. old ++ node_line n node) last) end ∙ ap (λ l. l ++ text_line (node_line (last_name path) node)) none)
-
--- and where nothing stands none
-pub first_none : (table : Table) (path : Names) (old : List ℕ) → None ≡ kind_at table path → old ≡ [] → lines_file (list_lines table path) ≡ old
-unfolding kind_at
-first_none table path old is none = ap lines_file (no_lines (node_at table path) table path is) ∙ sym none
 
 -- NLST: of a file its text
 pub first_name : (table : Table) (path : Names) (text old mid new : List ℕ) → is_file (node_at table path) ≡ true → old ≡ [] → mid ≡ old ++ text → new ≡ mid ++ 10 ∷ []
@@ -227,7 +149,7 @@ unfolding kind_at
 of_lines {A} what table path is dir =
     let P : What A → Type 0 = λ w. lines_of w table path ≡ lines_from w path (entries_at table path) (Some 0) in
     subst P (sym is)
-    (dir_lines (node_at table path) table path dir
+    (dir_lines_at (node_at table path) table path dir
     ∙ of_directory {A = A} Whats.Lines (child_line table path) table path (λ name. child_shown path name (node_at table (child path name))))
 
 -- NLST

@@ -7,7 +7,6 @@ mod counted;
 mod download;
 mod ending;
 mod line;
-mod list_line;
 mod listing;
 mod named;
 mod stored;
@@ -16,7 +15,6 @@ mod upload;
 
 pub use download::Download;
 pub use line::{What, put_chosen};
-pub use list_line::{put_dir_line, put_file_line};
 pub use listing::{Listing, Made};
 pub use named::Named;
 pub use transfer::TreeTransfer;

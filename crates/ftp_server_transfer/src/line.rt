@@ -1,27 +1,25 @@
 // One line of a listing.
 ghost use Rattle.std.specs.Prelude.{◌≡◌, ◌+◌, ◌<◌, ◌≤◌, ◌++◌, [], IfOk, OnOk, true, length, Some, None, Option, is_some, if◌then◌else◌, List, ℕ};
-ghost use Rattle.std.specs.Option.{ForSome, unwrap_or};
+ghost use Rattle.std.specs.Option.{ForSome};
 ghost use Rattle.ftp_endpoint.specs.Number.{IsShort};
 ghost use Rattle.ftp_facts.specs.Fact.{IsOtherWord, IsValue};
 ghost use Rattle.ftp_facts.specs.declared.entry.EntryKind.TheVariants.{Other};
 ghost use Rattle.ftp_path.specs.Path.{fits, text_limit};
 ghost use Rattle.ftp_tree.specs.Entries.{shown_entry};
-ghost use Rattle.ftp_tree.specs.Map.{Dir};
-ghost use Rattle.ftp_tree.specs.Tree.{node_at, under};
 ghost use Rattle.ftp_operation.specs.Answer.{listed_of};
 ghost use Rattle.ftp_direct.specs.Direct.{behind, child, size_fact};
 ghost use Rattle.ftp_server_model.specs.Entries.{listed_line};
 ghost use Rattle.ftp_server_model.specs.Held.{lines_limit};
-ghost use Rattle.ftp_server_model.specs.Listing.{last_name, lines_file, node_line, text_line};
+ghost use Rattle.ftp_server_model.specs.Listing.{lines_file, text_line};
 ghost use Rattle.ftp_server_transfer.specs.Lines.{Puts, columns_of, entry_facts, entry_line, lines_from, pathname_of};
 
-use crate::list_line::{put_dir_line, put_file_line};
 use crate::named::Named;
+use ftp_direct::{put_dir_line, put_file_line};
 use ftp_facts::{Entry, EntryKind, Moment, Text, write_entry};
 use ftp_operation::is_number;
 use ftp_path::{Name, Path};
 use ftp_server_model::Facts;
-use ftp_tree::{DirEntries, DirEntry, FileFacts, Tree};
+use ftp_tree::{DirEntries, DirEntry, FileFacts};
 use std::alloc::{AllocError, Allocator};
 
 /// The most octets of a canonical text of a path (own choice).
@@ -197,29 +195,6 @@ fn size_fact(size: u64) -> Option<u64>
     if is_number(size) { Some(size) } else { None }
 }
 
-/// Puts the line of LIST for what stands at a path.
-pub(crate) fn put_node<A: Allocator + Copy, T: Tree<A>>(
-    tree: &T,
-    root: &Path<A>,
-    path: &Path<A>,
-    name: &[u8],
-    line: &mut Vec<u8, A>,
-) -> Result<(), AllocError>
-    ensures line { OnOk result (line.new.items ≡ line.old.items ++ node_line name.now (unwrap_or (node_at (under (T.table tree.now) root.now) path.now) Dir)) }
-    ensures few { OnOk result (length line.new.items ≤ length line.old.items + (100 + length name.now)) }
-{
-    let Some(size) = tree.size(root, path) else {
-        put_dir_line(name, line)?;
-        return Ok(());
-    };
-    let Some(moment) = tree.stamp(root, path) else {
-        put_dir_line(name, line)?;
-        return Ok(());
-    };
-    put_file_line(name, size, moment, line)?;
-    Ok(())
-}
-
 /// Puts the line of an entry with the facts in force.
 pub fn put_chosen<A: Allocator + Copy, B: Allocator + Copy>(
     entry: Entry<A>,
@@ -276,15 +251,4 @@ fn chosen_perm<A: Allocator + Copy>(chosen: bool, perm: Option<Text<A>>) -> Opti
     ensures fits { ForSome result IsValue }
 {
     if chosen { perm } else { None }
-}
-
-/// The last name of a path; no octets for the root.
-pub(crate) fn last_name<A: Allocator + Copy>(path: &Path<A>) -> &[u8]
-    ensures name { result.now ≡ last_name path.now }
-    ensures few { length result.now ≤ text_limit }
-{
-    let octets = path.key();
-    let start = path.parent_key().len() + 1;
-    let (_, name) = octets.split_at(start.min(octets.len()));
-    name
 }

@@ -8,8 +8,8 @@ ghost use Rattle.ftp_mode.specs.Wire.{wire};
 ghost use Rattle.ftp_direct.specs.Direct.{is_file, names_for};
 ghost use Rattle.ftp_server_transfer.specs.Lines.{lines_of, lines_from};
 
-use crate::line::{What, last_name, put_next, put_node};
-use ftp_direct::is_file;
+use crate::line::{What, put_next};
+use ftp_direct::{is_file, last_name, put_node};
 use ftp_path::Path;
 use ftp_settings::{Kind, Mode, Representation, Structure};
 use ftp_tree::{DirEntries, NodeKind, Tree};
@@ -225,7 +225,7 @@ fn put_own<A: Allocator + Copy, T: Tree<A>>(
 }
 
 /// The same of LIST.
-#[tactic(auto, using(crate::proofs::ListingLemmas::first_own, crate::proofs::ListingLemmas::first_none))]
+#[tactic(auto, using(ftp_direct::proofs::NodeLineLemmas::first_own, ftp_direct::proofs::NodeLineLemmas::first_none))]
 fn put_own_line<A: Allocator + Copy, T: Tree<A>>(
     tree: &T,
     root: &Path<A>,

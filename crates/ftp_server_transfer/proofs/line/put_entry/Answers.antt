@@ -2,7 +2,8 @@ use Rattle.std.proofs.Common.{◌+◌, ◌≤◌, [], ◌∷◌, ap, arith, leng
 use Rattle.ftp_tree.specs.Entries.{shown_entry}
 use Rattle.ftp_operation.specs.Answer.{listed_of}
 use Rattle.ftp_server_model.specs.Entries.{listed_line}
-use Rattle.ftp_server_transfer.proofs.LengthLemmas.{entry_few, name_short, put_few}
+use Rattle.ftp_server_transfer.proofs.LengthLemmas.{entry_few, name_short}
+use Rattle.ftp_direct.proofs.LengthLemmas.{put_few}
 use Rattle.ftp_server_transfer.proofs.line.put_entry.Goals as goal
 
 pub returns-clause-few : goal.returns-clause-few

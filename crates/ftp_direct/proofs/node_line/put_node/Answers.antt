@@ -1,7 +1,7 @@
 use Rattle.std.proofs.Common.{◌∙◌, ap, ◌++◌}
 use Rattle.ftp_tree.specs.Tree.{node_at, under, size_at, octets_at, stamp_at}
-use Rattle.ftp_server_transfer.proofs.ListingLemmas.{file_lined, no_size, no_moment}
-use Rattle.ftp_server_transfer.proofs.line.put_node.Goals as goal
+use Rattle.ftp_direct.proofs.NodeLineLemmas.{file_lined, no_size, no_moment}
+use Rattle.ftp_direct.proofs.node_line.put_node.Goals as goal
 
 pub returns-in_default-clause-line : goal.returns-in_default-clause-line
 unfolding size_at octets_at stamp_at

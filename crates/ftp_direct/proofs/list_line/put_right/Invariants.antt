@@ -1,5 +1,5 @@
 use Rattle.std.proofs.Common.{◌≡◌, ◌++◌, replicate}
-use Rattle.ftp_server_transfer.proofs.list_line.put_right.Given as goal
+use Rattle.ftp_direct.proofs.list_line.put_right.Given as goal
 
 abbrev pub invariant-loop : goal.invariant-loop
 invariant-loop g l = l.out.items ≡ l.fn.out.items ++ replicate l.counter 32

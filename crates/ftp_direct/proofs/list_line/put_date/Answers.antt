@@ -1,8 +1,8 @@
 use Rattle.std.proofs.Common.{◌≡◌, ◌+◌, ◌-◌, ◌*◌, ◌/◌, ◌∙◌, ◌++◌, ap, decimal, slice_index, take}
 use Rattle.ftp_facts.specs.Calendar.{month_and_place, year_and_place}
-use Rattle.ftp_server_model.specs.Listing.{month_word, right_in}
-use Rattle.ftp_server_transfer.proofs.ListLemmas.{dated, two_are}
-use Rattle.ftp_server_transfer.proofs.list_line.put_date.Goals as goal
+use Rattle.ftp_direct.specs.Listing.{month_word, right_in}
+use Rattle.ftp_direct.proofs.ListLemmas.{dated, two_are}
+use Rattle.ftp_direct.proofs.list_line.put_date.Goals as goal
 
 pub returns : goal.returns
 returns g c =

@@ -1,6 +1,6 @@
 // The lines of LIST, as many clients read them (RFC 959, section 4.1.3; the form is an own choice).
 ghost use Rattle.std.specs.Prelude.{◌≡◌, ◌≤◌, ◌+◌, ◌-◌, ◌*◌, ◌++◌, [], OnOk, codes, length};
-ghost use Rattle.ftp_server_model.specs.Listing.{date_text, list_line, month_word, right_in};
+ghost use Rattle.ftp_direct.specs.Listing.{date_text, list_line, month_word, right_in};
 
 use ftp_facts::{Moment, moment_text};
 use itoa::Buffer;

@@ -1,8 +1,8 @@
 use Rattle.std.proofs.Common.{◌+◌, [], codes, length}
-use Rattle.ftp_server_model.specs.Listing.{list_line}
-use Rattle.ftp_server_transfer.proofs.LengthLemmas.{dir_few, put_few}
-use Rattle.ftp_server_transfer.proofs.ListLemmas.{behind}
-use Rattle.ftp_server_transfer.proofs.list_line.put_dir_line.Goals as goal
+use Rattle.ftp_direct.specs.Listing.{list_line}
+use Rattle.ftp_direct.proofs.LengthLemmas.{dir_few, put_few}
+use Rattle.ftp_direct.proofs.ListLemmas.{behind}
+use Rattle.ftp_direct.proofs.list_line.put_dir_line.Goals as goal
 
 pub returns-clause-line : goal.returns-clause-line
 returns-clause-line g c =

@@ -1,8 +1,8 @@
 use Rattle.std.proofs.Common.{◌≡◌, ◌∙◌, ap, sym, arith, rules, min, ◌+◌, length, length-drop, drop}
 use Rattle.ftp_path.proofs.PathLemmas.{kept-le}
 use Rattle.ftp_path.specs.Path.{joined, parent}
-use Rattle.ftp_server_transfer.proofs.ListingLemmas.{last_cut}
-use Rattle.ftp_server_transfer.proofs.line.last_name.Goals as goal
+use Rattle.ftp_direct.proofs.NodeLineLemmas.{last_cut}
+use Rattle.ftp_direct.proofs.node_line.last_name.Goals as goal
 
 pub returns-clause-name : goal.returns-clause-name
 returns-clause-name g c =

@@ -1,6 +1,6 @@
 use Rattle.std.proofs.Common.{◌≡◌, ◌-◌, ◌*◌, ◌∙◌, ap, codes, drop, take}
 use Rattle.std.proofs.lemmas.List.{drop_min, take_min}
-use Rattle.ftp_server_transfer.proofs.list_line.month_word.Goals as goal
+use Rattle.ftp_direct.proofs.list_line.month_word.Goals as goal
 
 pub returns : goal.returns
 returns c =

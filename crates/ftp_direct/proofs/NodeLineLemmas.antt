@@ -1,0 +1,148 @@
+-- The line of LIST of what stands at a path, and the last name of one.
+use Rattle.std.proofs.Common.{◌≡◌, ℕ, suc, ◌+◌, ◌-◌, min, Bool, true, false, List, [], ◌∷◌, ◌++◌, length, take, drop, map, Option, Some, None, refl, ap, sym, ◌∙◌, arith, append_assoc, append-nil, length-append}
+use Rattle.std.specs.Prelude.{codes, decimal, flat_map, if◌then◌else◌}
+use Rattle.std.specs.List.{filter_map}
+use Rattle.std.specs.Option.{option_map, unwrap_or}
+use Rattle.ftp_path.specs.Path.{Names, fits, joined, parent}
+use Rattle.ftp_facts.specs.Entry.{digits_of, entry_line, facts_of, listed_of, word_of}
+use Rattle.ftp_facts.specs.Fact.{facts_text, space}
+use Rattle.ftp_facts.specs.Moment.{moment_digits}
+use Rattle.ftp_facts.specs.declared.entry.Entry.{Entry}
+use Rattle.ftp_facts.specs.declared.moment.Moment.{Moment}
+use Rattle.ftp_tree.specs.Map.{Node, Dir, File, octets_of, moment_of, of_node}
+use Rattle.ftp_tree.specs.Tree.{Table, node_at, children, kind_of, kind_at}
+use Rattle.ftp_tree.specs.declared.tree.NodeKind.TheVariants as Kinds
+use Rattle.ftp_direct.specs.Listing.{child, child_line, entry_text, fact_line, last_name, lines_file, list_line, list_lines, list_lines_at, node_line, text_line}
+
+-- ---- what stands at a path
+
+pub file_lined : (name : List ℕ) (node : Option Node) (size moment : ℕ) → Some size ≡ option_map length (of_node octets_of node) → Some moment ≡ of_node moment_of node
+    → list_line (codes "-rw-r--r--") size moment name ≡ node_line name (unwrap_or node Dir)
+file_lined name None size moment s m = absurd (cc)
+file_lined name (Some Dir) size moment s m = absurd (cc)
+file_lined name (Some (File octets at)) size moment s m =
+    ap (λ k. list_line (codes "-rw-r--r--") k moment name) (ap (λ o. unwrap_or o 0) s)
+    ∙ ap (λ k. list_line (codes "-rw-r--r--") (length octets) k name) (ap (λ o. unwrap_or o 0) m)
+
+pub no_size : (name : List ℕ) (node : Option Node) → None ≡ option_map length (of_node octets_of node) → list_line (codes "drwxr-xr-x") 0 0 name ≡ node_line name (unwrap_or node Dir)
+no_size name None s = refl
+no_size name (Some Dir) s = refl
+no_size name (Some (File octets at)) s = absurd (cc)
+
+pub no_moment : (name : List ℕ) (node : Option Node) → None ≡ of_node moment_of node → list_line (codes "drwxr-xr-x") 0 0 name ≡ node_line name (unwrap_or node Dir)
+no_moment name None s = refl
+no_moment name (Some Dir) s = refl
+no_moment name (Some (File octets at)) s = absurd (cc)
+
+-- ---- the last name
+
+joined_last : (name : List ℕ) (names : Names) → joined (name ∷ names) ≡ joined (parent (name ∷ names)) ++ 47 ∷ last_name (name ∷ names)
+unfolding parent
+joined_last name [] = ap (λ l. 47 ∷ l) (append-nil name)
+joined_last name (second ∷ names) =
+    let shorter : suc (suc (length names)) - 1 ≡ suc (suc (length names) - 1) = omega arith in
+    ap (λ l. 47 ∷ (name ++ l)) (joined_last second names)
+    ∙ ap (λ l. 47 ∷ l) (sym (append_assoc name (joined (parent (second ∷ names))) (47 ∷ last_name (second ∷ names))))
+    ∙ ap (λ k. joined (take k (name ∷ second ∷ names)) ++ 47 ∷ last_name (second ∷ names)) (sym shorter)
+
+behind_seam : (xs : List ℕ) (c : ℕ) (ys : List ℕ) → drop (length xs + 1) (xs ++ c ∷ ys) ≡ ys
+behind_seam [] c ys = refl
+behind_seam (x ∷ xs) c ys = let more : suc (length xs) + 1 ≡ suc (length xs + 1) = omega arith in ap (λ k. drop k (x ∷ (xs ++ c ∷ ys))) more ∙ behind_seam xs c ys
+
+pub last_cut : (path : Names) (key above : List ℕ) → joined path ≡ key → joined (parent path) ≡ above → drop (min (length above + 1) (length key)) key ≡ last_name path
+last_cut [] key above is up =
+    let none : min (length above + 1) (length key) ≡ 0 = omega (arith, ap length is) in
+    ap (λ k. drop k key) none ∙ sym is
+last_cut (name ∷ names) key above is up =
+    let whole : key ≡ above ++ 47 ∷ last_name (name ∷ names) = sym is ∙ joined_last name names ∙ ap (λ l. l ++ 47 ∷ last_name (name ∷ names)) up in
+    let long : min (length above + 1) (length key) ≡ length above + 1 = omega (arith, ap length whole, length-append above (47 ∷ last_name (name ∷ names))) in
+    ap (λ k. drop k key) long ∙ ap (drop (length above + 1)) whole ∙ behind_seam above 47 (last_name (name ∷ names))
+
+-- a line that was put in two steps
+pub ended : (old mid new line : List ℕ) → mid ≡ old ++ line → new ≡ mid ++ 10 ∷ [] → new ≡ old ++ text_line line
+ended old mid new line put end = end ∙ ap (λ l. l ++ 10 ∷ []) put ∙ append_assoc old line (10 ∷ [])
+
+-- ---- a file's own line
+
+pub own_line : (node : Option Node) (table : Table) (path : Names) → Some Kinds.File ≡ option_map kind_of node
+    → lines_file (list_lines_at node table path) ≡ text_line (node_line (last_name path) (unwrap_or node Dir))
+own_line None table path is = absurd (cc)
+own_line (Some Dir) table path is = absurd (cc)
+own_line (Some (File octets at)) table path is = append-nil (text_line (node_line (last_name path) (File octets at)))
+
+pub dir_lines_at : (node : Option Node) (table : Table) (path : Names) → option_map kind_of node ≡ Some Kinds.Dir
+    → list_lines_at node table path ≡ filter_map (child_line table path) (children table path)
+dir_lines_at None table path is = absurd (cc)
+dir_lines_at (Some Dir) table path is = refl
+dir_lines_at (Some (File octets at)) table path is = absurd (cc)
+
+no_lines : (node : Option Node) (table : Table) (path : Names) → None ≡ option_map kind_of node → list_lines_at node table path ≡ []
+no_lines None table path is = refl
+no_lines (Some Dir) table path is = absurd (cc)
+no_lines (Some (File octets at)) table path is = absurd (cc)
+
+-- LIST: of a file its own line
+pub first_own : (table : Table) (path : Names) (name old mid new : List ℕ) → Some Kinds.File ≡ kind_at table path → name ≡ last_name path → old ≡ []
+    → mid ≡ old ++ node_line name (unwrap_or (node_at table path) Dir) → new ≡ mid ++ 10 ∷ [] → lines_file (list_lines table path) ≡ new
+unfolding kind_at
+first_own table path name old mid new is last none put end =
+    let node = unwrap_or (node_at table path) Dir in
+    own_line (node_at table path) table path is
+    ∙ sym (ended old mid new (node_line (last_name path) node) (put ∙ ap (λ n. old ++ node_line n node) last) end ∙ ap (λ l. l ++ text_line (node_line (last_name path) node)) none)
+
+-- and where nothing stands none
+pub first_none : (table : Table) (path : Names) (old : List ℕ) → None ≡ kind_at table path → old ≡ [] → lines_file (list_lines table path) ≡ old
+unfolding kind_at
+first_none table path old is none = ap lines_file (no_lines (node_at table path) table path is) ∙ sym none
+
+-- ---- the lines as they are put together
+
+-- of a file
+pub file_lines : (table : Table) (path : Names) (name line : List ℕ) → Some Kinds.File ≡ kind_at table path → name ≡ last_name path
+    → line ≡ node_line name (unwrap_or (node_at table path) Dir) → line ∷ [] ≡ list_lines table path
+unfolding kind_at
+file_lines table path name line is last put = ap (λ l. l ∷ []) (put ∙ ap (λ n. node_line n (unwrap_or (node_at table path) Dir)) last) ∙ of_file (node_at table path) is
+  where
+    of_file : (node : Option Node) → Some Kinds.File ≡ option_map kind_of node → node_line (last_name path) (unwrap_or node Dir) ∷ [] ≡ list_lines_at node table path
+    of_file None is = absurd (cc)
+    of_file (Some Dir) is = absurd (cc)
+    of_file (Some (File octets at)) is = refl
+
+-- of a directory
+pub dir_lines : (table : Table) (path : Names) (lines : List (List ℕ)) → Some Kinds.Dir ≡ kind_at table path
+    → lines ≡ filter_map (child_line table path) (children table path) → lines ≡ list_lines table path
+unfolding kind_at
+dir_lines table path lines is put = put ∙ sym (dir_lines_at (node_at table path) table path (sym is))
+
+-- of nothing
+pub none_lines : (table : Table) (path : Names) (lines : List (List ℕ)) → None ≡ kind_at table path → lines ≡ [] → lines ≡ list_lines table path
+unfolding kind_at
+none_lines table path lines is put = put ∙ sym (no_lines (node_at table path) table path is)
+
+-- ---- MLSD
+
+stamped : (modify : Option Moment) → option_map digits_of modify ≡ option_map moment_digits (option_map (λ moment. moment.seconds) modify)
+stamped None = refl
+stamped (Some moment) = refl
+
+-- an entry as it is written tells all its facts
+pub written_line : {A : Type 0} (entry : Entry A) (old mid new : List ℕ) → mid ≡ old ++ entry_line entry → new ≡ mid ++ 10 ∷ [] → new ≡ old ++ entry_text entry
+written_line entry old mid new put end =
+    ended old mid new (entry_line entry) put end
+    ∙ ap (λ modify. old ++ text_line (facts_text (facts_of (option_map word_of entry.kind) (option_map decimal entry.size) modify entry.perm) ++ space ∷ entry.name)) (stamped entry.modify)
+
+-- entries as a file
+pub entries_as_file : {A : Type 0} (entries : List (Entry A)) → flat_map entry_text entries ≡ lines_file (map fact_line (map listed_of entries))
+entries_as_file [] = refl
+entries_as_file (entry ∷ entries) = ap (λ rest. entry_text entry ++ rest) (entries_as_file entries)
+
+-- ---- a name in a directory
+
+pub no_child_line : (table : Table) (path : Names) (name : List ℕ) → fits (child path name) ≡ false → None ≡ child_line table path name
+no_child_line table path name long = ap (λ b. if b then Some (node_line name (unwrap_or (node_at table (child path name)) Dir)) else None) (sym long)
+
+pub child_line_is : (table : Table) (path : Names) (name : List ℕ) (at : Names) (line : List ℕ) → at ≡ child path name → fits at ≡ true
+    → line ≡ node_line name (unwrap_or (node_at table at) Dir) → Some line ≡ child_line table path name
+child_line_is table path name at line is short put =
+    ap Some (put ∙ ap (λ p. node_line name (unwrap_or (node_at table p) Dir)) is)
+    ∙ ap (λ b. if b then Some (node_line name (unwrap_or (node_at table (child path name)) Dir)) else None) (sym short ∙ ap fits is)
