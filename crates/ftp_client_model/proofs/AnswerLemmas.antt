@@ -62,10 +62,12 @@ answer_small (Ops.GetFrom path offset how) texts = tt
 answer_small (Ops.Peek path count how) texts = tt
 answer_small (Ops.List path how) texts = tt
 answer_small (Ops.Names path how) texts = tt
+answer_small (Ops.Text verb path how) texts = tt
 
 content_small : (op : Op (List ℕ)) (octets : List ℕ) → IsSmallIf (content_answer op octets)
 content_small (Ops.List path how) octets = mapped Entries _ (λ x. tt)
 content_small (Ops.Names path how) octets = mapped Names _ (λ x. tt)
+content_small (Ops.Text verb path how) octets = tt
 content_small (Ops.Peek path count how) octets = tt
 content_small Ops.Where octets = tt
 content_small (Ops.ChangeDir path) octets = tt
@@ -122,6 +124,7 @@ off_small Endings.Clean (Ops.Modified path) flow = cut_small (Ops.Modified path)
 off_small Endings.Clean (Ops.Facts path) flow = cut_small (Ops.Facts path) flow
 off_small Endings.Clean (Ops.List path how) flow = cut_small (Ops.List path how) flow
 off_small Endings.Clean (Ops.Names path how) flow = cut_small (Ops.Names path how) flow
+off_small Endings.Clean (Ops.Text verb path how) flow = cut_small (Ops.Text verb path how) flow
 
 refusal_small : (ending : Ending) (code : ℕ) (op : Op (List ℕ)) (flow : Flow) → IsSmallIf (refused_answer ending code op flow)
 refusal_small ending code op flow =

@@ -140,6 +140,7 @@ alone_le (Ops.Modified path) = omega arith
 alone_le (Ops.Facts path) = omega arith
 alone_le (Ops.List path how) = omega arith
 alone_le (Ops.Names path how) = omega arith
+alone_le (Ops.Text verb path how) = omega arith
 
 if_le : (b : Bool) (one other : Step) (n : ℕ) → steps_left one ≤ n → steps_left other ≤ n → steps_left (if b then one else other) ≤ n
 if_le true one other n le also = le

@@ -13,6 +13,7 @@ use Rattle.ftp_command.specs.declared.command.Command.{Command}
 use Rattle.ftp_command.specs.declared.command.Command.TheVariants as Commands
 use Rattle.ftp_ends.specs.Link.{is_v6}
 use Rattle.ftp_operation.specs.Operation.{can_be_sent, is_number, is_option, is_optional_text}
+use Rattle.ftp_operation.specs.declared.op.ListVerb.TheVariants as Verbs
 use Rattle.ftp_operation.specs.declared.op.Op.{Op}
 use Rattle.ftp_operation.specs.declared.op.Op.TheVariants as Ops
 use Rattle.ftp_settings.specs.declared.representation.Representation.{Representation}
@@ -69,6 +70,13 @@ own (Ops.List path how) can = (given_text path can, tt)
 own (Ops.Names path how) can =
     let both = and_parts (is_optional_text path) (not (is_option path)) can in
     (listed_text path both.0 (not-true (is_option path) both.1), tt)
+own (Ops.Text Verbs.Mlsd path how) can = (given_text path can, tt)
+own (Ops.Text Verbs.List path how) can =
+    let both = and_parts (is_optional_text path) (not (is_option path)) can in
+    (listed_text path both.0 (not-true (is_option path) both.1), tt)
+own (Ops.Text Verbs.Nlst path how) can =
+    let both = and_parts (is_optional_text path) (not (is_option path)) can in
+    (listed_text path both.0 (not-true (is_option path) both.1), tt)
 
 -- ---- the commands before it
 
@@ -104,6 +112,7 @@ restart_line (Ops.Modified path) can = tt
 restart_line (Ops.Facts path) can = tt
 restart_line (Ops.List path how) can = tt
 restart_line (Ops.Names path how) can = tt
+restart_line (Ops.Text verb path how) can = tt
 
 source_line : (op : Op (List ℕ)) → can_be_sent op ≡ true → HasOne (source_command op)
 source_line (Ops.Rename from to) can = ((and_parts (is_path_text from) (is_path_text to) can).0, tt)
@@ -124,6 +133,7 @@ source_line (Ops.Modified path) can = tt
 source_line (Ops.Facts path) can = tt
 source_line (Ops.List path how) can = tt
 source_line (Ops.Names path how) can = tt
+source_line (Ops.Text verb path how) can = tt
 
 -- a host that is none of IPv6 is one of IPv4
 is_v4 : (host : Host) → is_v6 host ≡ false → IsV4 host

@@ -48,6 +48,7 @@ flow_of (Ops.GetFrom path offset how) = Some (download_flow (settings_of how))
 flow_of (Ops.Peek path count how) = Some (download_flow (settings_of how))
 flow_of (Ops.List path how) = Some (download_flow (listing_settings how.representation.mode))
 flow_of (Ops.Names path how) = Some (download_flow (listing_settings how.representation.mode))
+flow_of (Ops.Text verb path how) = Some (download_flow (listing_settings how.representation.mode))
 flow_of other = None
 
 -- the last restart marker that is a number of 1 to 18 digits (own choice); others are passed over
@@ -77,7 +78,8 @@ has_enough op flow = has_settled (count_of op) flow
 
 -- ---- what came of it
 
--- the content that a download says: octets, entries or names; of a Peek the first octets; none where a line of a listing says none
+-- the content that a download says: octets, of a file or of a listing as text; entries or names, and none where a line of a listing says none; of a Peek
+-- the first octets
 abbrev pub content_answer : Op (List ℕ) → List ℕ → Option Said
 content_answer (Ops.List path how) octets = option_map Entries (entries_value octets)
 content_answer (Ops.Names path how) octets = option_map Names (names_value octets)

@@ -5,6 +5,8 @@ use Rattle.ftp_command.specs.declared.command.Command.TheVariants as Commands
 use Rattle.ftp_command.specs.declared.command.Passive.TheVariants as Passives
 use Rattle.ftp_endpoint.specs.declared.endpoint.Endpoint.{Endpoint}
 use Rattle.ftp_operation.specs.declared.op.How.{How}
+use Rattle.ftp_operation.specs.declared.op.ListVerb.{ListVerb}
+use Rattle.ftp_operation.specs.declared.op.ListVerb.TheVariants as Verbs
 use Rattle.ftp_operation.specs.declared.op.Op.{Op}
 use Rattle.ftp_operation.specs.declared.op.Op.TheVariants as Ops
 use Rattle.ftp_settings.specs.declared.representation.Mode.{Mode}
@@ -32,6 +34,7 @@ how_of (Ops.GetFrom path offset how) = Some how
 how_of (Ops.Peek path count how) = Some how
 how_of (Ops.List path how) = Some how
 how_of (Ops.Names path how) = Some how
+how_of (Ops.Text verb path how) = Some how
 how_of other = None
 
 -- the settings that a transfer asks for; a listing goes in type A and file structure
@@ -47,6 +50,7 @@ listing_settings mode = record { kind = Kinds.Ascii; structure = Structures.File
 abbrev pub asked_settings : Op (List ℕ) → Option Representation
 asked_settings (Ops.List path how) = Some (listing_settings how.representation.mode)
 asked_settings (Ops.Names path how) = Some (listing_settings how.representation.mode)
+asked_settings (Ops.Text verb path how) = Some (listing_settings how.representation.mode)
 asked_settings (Ops.Size path how) = Some (record { kind = how.representation.kind; structure = Structures.File; mode = Modes.Stream })
 asked_settings (Ops.Put path octets how) = Some (settings_of how)
 asked_settings (Ops.Append path octets how) = Some (settings_of how)
@@ -167,6 +171,12 @@ abbrev pub optional : List ℕ → Option (List ℕ)
 optional [] = None
 optional (c ∷ text) = Some (c ∷ text)
 
+-- the command that gives a listing
+abbrev pub list_command : ListVerb → Option (List ℕ) → Command (List ℕ)
+list_command Verbs.List path = Commands.List path
+list_command Verbs.Nlst path = Commands.Nlst path
+list_command Verbs.Mlsd path = Commands.Mlsd path
+
 -- the operation's own command, which ends it: a row an operation
 abbrev pub own_command : Op (List ℕ) → Command (List ℕ)
 own_command Ops.Where = Commands.Pwd
@@ -187,6 +197,7 @@ own_command (Ops.Modified path) = Commands.Mdtm path
 own_command (Ops.Facts path) = Commands.Mlst (optional path)
 own_command (Ops.List path how) = Commands.Mlsd (optional path)
 own_command (Ops.Names path how) = Commands.Nlst (optional path)
+own_command (Ops.Text verb path how) = list_command verb (optional path)
 
 -- TYPE, STRU or MODE, of the settings wanted
 abbrev pub setting_command : Step → Representation → Option (Command (List ℕ))

@@ -1,12 +1,12 @@
 // The command of each step (RFC 959, section 4.1; RFC 2428; RFC 3659).
 ghost use Rattle.std.specs.Prelude.{◌≡◌, IfOk};
-ghost use Rattle.ftp_client_model.specs.Plan.{optional, own_command, passive_command, port_command, restart_command, set_command, setting_command, source_command};
+ghost use Rattle.ftp_client_model.specs.Plan.{list_command, optional, own_command, passive_command, port_command, restart_command, set_command, setting_command, source_command};
 
 use ftp_client_model::client::Step;
 use ftp_command::{Argument, Command, Passive};
 use ftp_endpoint::Endpoint;
 use ftp_facts::Text;
-use ftp_operation::Op;
+use ftp_operation::{ListVerb, Op};
 use ftp_settings::Representation;
 use std::alloc::{AllocError, Allocator};
 
@@ -36,8 +36,23 @@ pub fn own_command<A: Allocator + Copy>(
         Op::Facts(path) => Command::Mlst(optional(path, alloc)?),
         Op::List(path, _) => Command::Mlsd(optional(path, alloc)?),
         Op::Names(path, _) => Command::Nlst(optional(path, alloc)?),
+        Op::Text(verb, path, _) => list_command(*verb, optional(path, alloc)?),
     };
     Ok(command)
+}
+
+/// The command that gives a listing.
+fn list_command<A: Allocator + Copy>(
+    verb: ListVerb,
+    path: Option<Argument<A>>,
+) -> Command<Argument<A>>
+    ensures { result ≡ list_command verb path }
+{
+    match verb {
+        ListVerb::List => Command::List(path),
+        ListVerb::Nlst => Command::Nlst(path),
+        ListVerb::Mlsd => Command::Mlsd(path),
+    }
 }
 
 /// RNFR, of a rename.

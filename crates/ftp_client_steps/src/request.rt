@@ -14,7 +14,7 @@ pub fn how_of<A: Allocator + Copy>(op: &Op<Text<A>>) -> Option<How>
     match op {
         Op::Put(_, _, how) | Op::Append(_, _, how) | Op::PutFrom(_, _, _, how) => Some(*how),
         Op::Get(_, how) | Op::GetFrom(_, _, how) | Op::Peek(_, _, how) => Some(*how),
-        Op::List(_, how) | Op::Names(_, how) => Some(*how),
+        Op::List(_, how) | Op::Names(_, how) | Op::Text(_, _, how) => Some(*how),
         _ => None,
     }
 }
@@ -36,7 +36,8 @@ pub fn asked_settings<A: Allocator + Copy>(op: &Op<Text<A>>) -> Option<Represent
     ensures { result ≡ asked_settings op.now }
 {
     match op {
-        Op::List(_, how) | Op::Names(_, how) => Some(listing_settings(how.representation.mode)),
+        Op::List(_, how) | Op::Names(_, how) | Op::Text(_, _, how) =>
+            Some(listing_settings(how.representation.mode)),
         Op::Size(_, how) => Some(Representation {
             kind: how.representation.kind,
             structure: Structure::File,

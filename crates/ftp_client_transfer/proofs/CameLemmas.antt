@@ -36,6 +36,7 @@ cut_came (Ops.Modified path) d mark = refl
 cut_came (Ops.Facts path) d mark = refl
 cut_came (Ops.List path how) d mark = refl
 cut_came (Ops.Names path how) d mark = refl
+cut_came (Ops.Text verb path how) d mark = refl
 
 -- nor has one that got nothing
 none_is : (enough : Bool) (count : ℕ) (mark : Option ℕ) → [] ≡ octets_in (if enough then Some (Octets (take count [])) else Some (Broken [] mark))
@@ -62,3 +63,4 @@ none_came (Ops.Modified path) left mark = refl
 none_came (Ops.Facts path) left mark = refl
 none_came (Ops.List path how) left mark = refl
 none_came (Ops.Names path how) left mark = refl
+none_came (Ops.Text verb path how) left mark = refl

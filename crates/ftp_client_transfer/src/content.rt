@@ -10,8 +10,8 @@ use ftp_facts::Text;
 use ftp_operation::{Answer, Op};
 use std::alloc::{AllocError, Allocator};
 
-/// What the octets of a whole download answer; `None` where a line of a listing says nothing. Those of a file go into the answer
-/// themselves, and none is copied.
+/// What the octets of a whole download answer; `None` where a line of a listing says nothing. Those of a file, or of a listing as text, go into the
+/// answer themselves, and none is copied.
 pub(crate) fn content_in<A: Allocator + Copy>(
     op: &Op<Text<A>>,
     octets: Vec<u8, A>,

@@ -44,7 +44,7 @@ impl<A: Allocator + Copy> ClientTransfer<A> for OperationTransfer<A> {
                 let download = Download::new(how.representation, *alloc);
                 Ok(Some(OperationTransfer::Download(download)))
             }
-            Op::List(_, how) | Op::Names(_, how) => {
+            Op::List(_, how) | Op::Names(_, how) | Op::Text(_, _, how) => {
                 let settings = listing_settings(how.representation.mode);
                 let download = Download::new(settings, *alloc);
                 Ok(Some(OperationTransfer::Download(download)))
