@@ -3,14 +3,14 @@ use Rattle.std.proofs.Common.{◌≡◌, ◌≤◌, ℕ, true, List, Some, None,
 use Rattle.ftp_operation.specs.Operation.{can_be_sent}
 use Rattle.ftp_operation.specs.declared.op.Op.{Op}
 use Rattle.ftp_operation.specs.declared.op.Op.TheVariants as Ops
-use Rattle.ftp_pair_dialogues.specs.Fetches.{Ask, IsAsk, IsFetch, IsStore, IsTimely, download_ask, list_ask, names_ask}
+use Rattle.ftp_pair_dialogues.specs.Fetches.{Ask, IsAsk, IsFetch, IsStore, IsTimely, download_ask, list_ask, names_ask, text_ask}
 use Rattle.ftp_pair_dialogues.specs.Peeks.{peek_ask}
 use Rattle.ftp_tree.specs.Sound.{last_second}
 use Rattle.ftp_pair_dialogues.specs.Uploads.{Anew, Behind, From, upload_ask}
 use Rattle.ftp_pair_dialogues.proofs.Uploads.{upload_is_ask}
 use Rattle.ftp_pair_agreement.proofs.Downloads.{download_is_ask}
 use Rattle.ftp_pair_agreement.proofs.PeekAsks.{peek_is_ask}
-use Rattle.ftp_pair_dialogues.proofs.Listings.{list_is_ask, names_is_ask}
+use Rattle.ftp_pair_dialogues.proofs.Listings.{list_is_ask, names_is_ask, text_is_ask}
 
 -- an operation that is begun at a moment, as what it asks for
 pub record IsAskOf (op : Op (List ℕ)) (moment : ℕ) : Type 0 where
@@ -41,6 +41,7 @@ ask_of (Ops.Modified text) moment fetches can = absurd fetches
 ask_of (Ops.Facts text) moment fetches can = absurd fetches
 ask_of (Ops.List text how) moment fetches can = record { ask = list_ask text how; good = list_is_ask text how can; op_is = refl; timely = tt }
 ask_of (Ops.Names text how) moment fetches can = record { ask = names_ask text how; good = names_is_ask text how can; op_is = refl; timely = tt }
+ask_of (Ops.Text verb text how) moment fetches can = record { ask = text_ask verb text how; good = text_is_ask verb text how can; op_is = refl; timely = tt }
 
 -- so is an upload
 pub store_of : (op : Op (List ℕ)) (moment : ℕ) → IsStore op → can_be_sent op ≡ true → moment ≤ last_second → IsAskOf op moment
@@ -65,3 +66,4 @@ store_of (Ops.Modified text) moment plain can dated = absurd plain
 store_of (Ops.Facts text) moment plain can dated = absurd plain
 store_of (Ops.List text how) moment plain can dated = absurd plain
 store_of (Ops.Names text how) moment plain can dated = absurd plain
+store_of (Ops.Text verb text how) moment plain can dated = absurd plain

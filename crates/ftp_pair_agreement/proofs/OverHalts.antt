@@ -48,6 +48,7 @@ store_done (Ops.Modified text) now moment store = absurd store
 store_done (Ops.Facts text) now moment store = absurd store
 store_done (Ops.List text how) now moment store = absurd store
 store_done (Ops.Names text how) now moment store = absurd store
+store_done (Ops.Text verb text how) now moment store = absurd store
 
 -- what is settled of octets that came for an upload would be an answer of octets
 store_settled : (op : Op (List ℕ)) (content : List ℕ) (said : Said) → IsStore op → content_answer op content ≡ Some said → gives_octets said ≡ true
@@ -69,6 +70,7 @@ store_settled (Ops.Modified text) content said store is = absurd store
 store_settled (Ops.Facts text) content said store is = absurd store
 store_settled (Ops.List text how) content said store is = absurd store
 store_settled (Ops.Names text how) content said store is = absurd store
+store_settled (Ops.Text verb text how) content said store is = absurd store
 
 -- so no upload is halted
 store_halted : (now : State) (ask : Ask) (own : List Mark) (moment : ℕ) (w : World) → IsStore ask.op → AtHalt now ask own w → ⊥

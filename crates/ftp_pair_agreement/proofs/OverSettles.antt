@@ -137,6 +137,7 @@ store_up (Ops.Modified text) settings store is = store
 store_up (Ops.Facts text) settings store is = store
 store_up (Ops.List text how) settings store is = store
 store_up (Ops.Names text how) settings store is = store
+store_up (Ops.Text verb text how) settings store is = store
 
 -- so it was begun at the moment that the server has
 rises_at : (op : Op (List ℕ)) (sends : Direction) (settings : Representation) → IsStore op → flow_of op ≡ Some (carrying sends settings) → (a b : ℕ) → IsTimely sends a → IsTimely sends b → a ≡ b
@@ -163,6 +164,7 @@ store_how (Ops.Modified text) store none = store
 store_how (Ops.Facts text) store none = store
 store_how (Ops.List text how) store none = store
 store_how (Ops.Names text how) store none = store
+store_how (Ops.Text verb text how) store none = store
 
 -- no mark is among none
 no_mark : (mark : Mark) → IsAmong mark [] → ⊥

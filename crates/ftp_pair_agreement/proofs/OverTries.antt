@@ -154,3 +154,4 @@ module _ (u : OverBreaks) where
         by_store (Ops.Facts text) store put = absurd store
         by_store (Ops.List text how) store put = absurd store
         by_store (Ops.Names text how) store put = absurd store
+        by_store (Ops.Text verb text how) store put = absurd store

@@ -25,3 +25,4 @@ three_kinds (Ops.Modified path) = inl refl
 three_kinds (Ops.Facts path) = inl refl
 three_kinds (Ops.List path how) = inr (inl tt)
 three_kinds (Ops.Names path how) = inr (inl tt)
+three_kinds (Ops.Text verb path how) = inr (inl tt)

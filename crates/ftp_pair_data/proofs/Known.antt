@@ -65,6 +65,7 @@ unfolding has
 whole_plan (Ops.Get path given) how whole is = (refl, refl)
 whole_plan (Ops.List path given) how whole is = (refl, refl)
 whole_plan (Ops.Names path given) how whole is = (refl, refl)
+whole_plan (Ops.Text verb path given) how whole is = (refl, refl)
 whole_plan op how whole is = absurd (true≢false (sym (ap has is) ∙ ap has whole))
 
 down_only : (ask : Ask) → falls (Some (carrying ask.sends ask.settings)) ≡ true → ask.sends ≡ Down

@@ -16,4 +16,5 @@ abbrev pub IsWhole : Op (List ℕ) → Type 0
 IsWhole (Ops.Get path how) = ⊤
 IsWhole (Ops.List path how) = ⊤
 IsWhole (Ops.Names path how) = ⊤
+IsWhole (Ops.Text verb path how) = ⊤
 IsWhole op = how_of op ≡ None

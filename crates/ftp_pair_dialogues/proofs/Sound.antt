@@ -292,6 +292,7 @@ module _ (state : State) (moment : ℕ) (sound : IsSound state) (known : state.k
   done-sound (Ops.Facts text) alone can none = sound
   done-sound (Ops.List text how) alone can none = absurd (cc)
   done-sound (Ops.Names text how) alone can none = absurd (cc)
+  done-sound (Ops.Text verb text how) alone can none = absurd (cc)
 
 -- a sound state is so behind the answer to each operation without a transfer, refused or not
 pub each-stays-sound : EachStaysSound

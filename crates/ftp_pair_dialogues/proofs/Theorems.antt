@@ -35,6 +35,7 @@ each-leads read state (Ops.Modified text) moment n f reads alone can sound stand
 each-leads read state (Ops.Facts text) moment n f reads alone can sound stands = single_leads read (Ops.Facts text) _ (facts read text reads can) state n f stands moment can sound
 each-leads read state (Ops.List path how) moment n f reads alone can sound stands = absurd (cc)
 each-leads read state (Ops.Names path how) moment n f reads alone can sound stands = absurd (cc)
+each-leads read state (Ops.Text verb path how) moment n f reads alone can sound stands = absurd (cc)
 
 -- so it does where it is begun in the login, or behind it
 pub operation-leads : OperationLeads

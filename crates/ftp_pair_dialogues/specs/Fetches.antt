@@ -16,6 +16,8 @@ use Rattle.ftp_mode.specs.Wire.{wire as wire_of}
 use Rattle.ftp_operation.specs.Answer.{Said, Done, Octets, Refused, Entries, Names as NameList}
 use Rattle.ftp_operation.specs.Operation.{can_be_sent}
 use Rattle.ftp_operation.specs.declared.op.How.{How}
+use Rattle.ftp_operation.specs.declared.op.ListVerb.{ListVerb}
+use Rattle.ftp_operation.specs.declared.op.ListVerb.TheVariants as Verbs
 use Rattle.ftp_operation.specs.declared.op.Op.{Op}
 use Rattle.ftp_operation.specs.declared.rights.Rights.{Rights}
 use Rattle.ftp_operation.specs.declared.op.Op.TheVariants as Ops
@@ -26,10 +28,11 @@ use Rattle.ftp_tree.specs.Tree.{Table, installed, octets_or_none, octets_refusal
 use Rattle.ftp_tree.specs.declared.fault.TreeFault.{TreeFault}
 use Rattle.ftp_tree.specs.declared.fault.TreeFault.TheVariants as Faults
 use Rattle.ftp_direct.specs.declared.refusal.Refusal.{Refusal}
-use Rattle.ftp_direct.specs.Direct.{State, barred_put, changed, done, entries_in, file_of, named, named_or_here, names_for, offset_refusal, or_refused, part, place_at, put_refusal, refusal, refused_file, refused_name, refused_octets, refused_there}
+use Rattle.ftp_direct.specs.Listing.{lines_for}
+use Rattle.ftp_direct.specs.Direct.{State, barred_put, changed, done, entries_in, file_of, named, named_or_here, names_for, offset_refusal, or_refused, part, place_at, put_refusal, refusal, refused_file, refused_name, refused_octets, refused_text, refused_there}
 use Rattle.ftp_client_model.specs.Dialogue.{judged}
 use Rattle.ftp_client_model.specs.Octets.{content_answer, download_flow, flow_of, has_enough, upload_text, written}
-use Rattle.ftp_client_model.specs.Plan.{asked_settings, count_of, how_of, is_extended, listing_settings, offset_of, optional, own_command, settings_of}
+use Rattle.ftp_client_model.specs.Plan.{asked_settings, count_of, how_of, is_extended, list_command, listing_settings, offset_of, optional, own_command, settings_of}
 use Rattle.ftp_client_model.specs.View.{View as Near, Flow, Sending, Receiving, Job, Doing, Transferring, Told}
 use Rattle.ftp_client_model.specs.declared.client.Abort.TheVariants as Aborts
 use Rattle.ftp_client_model.specs.declared.client.ClientLink.{ClientLink as NearConnection}
@@ -41,7 +44,7 @@ use Rattle.ftp_client_model.specs.declared.client.Standing.TheVariants as Standi
 use Rattle.ftp_client_model.specs.declared.client.Step.TheVariants as Steps
 use Rattle.ftp_server_model.specs.Act.{act, is_in}
 use Rattle.ftp_server_model.specs.Keep.{kept_count, kept_of as kept_octets, lacks}
-use Rattle.ftp_server_model.specs.Listing.{entry_lines, listing_wire, name_lines}
+use Rattle.ftp_server_model.specs.Listing.{listing_wire}
 use Rattle.ftp_server_model.specs.Machine.{is_abor}
 use Rattle.ftp_server_model.specs.Replies.{extended_text, passive_text}
 use Rattle.ftp_server_model.specs.Transfer.{file_wire, misplaced, transfer_starts}
@@ -59,7 +62,7 @@ use Rattle.ftp_server_model.specs.declared.session.Life.TheVariants as Lives
 use Rattle.ftp_server_model.specs.declared.session.Pending.{Pending}
 use Rattle.ftp_server_model.specs.declared.session.Pending.TheVariants as Pendings
 use Rattle.ftp_server_model.specs.declared.session.Transfer.TheVariants as Transfers
-use Rattle.ftp_pair_world.specs.Outcome.{download_of, fetched, mark_in, upload_of}
+use Rattle.ftp_pair_world.specs.Outcome.{download_of, fetched, mark_in, text_by, upload_of}
 use Rattle.ftp_pair_dialogues.specs.Dialogue.{Ends, IsSound, is_aside}
 
 -- ---- what is asked for
@@ -71,6 +74,7 @@ IsFetch (Ops.GetFrom text offset how) = Unit {0}
 IsFetch (Ops.Peek text count how) = Unit {0}
 IsFetch (Ops.List text how) = Unit {0}
 IsFetch (Ops.Names text how) = Unit {0}
+IsFetch (Ops.Text verb text how) = Unit {0}
 IsFetch other = ⊥
 
 -- an upload
@@ -304,35 +308,32 @@ download_ask offset text how = record {
 
 -- ---- listings: lines that end in LF, in type A (RFC 959, section 4.1.3; RFC 3659, section 7)
 
--- entries, one a line
-abbrev pub list_ask : List ℕ → How → Ask
-list_ask text how = record {
-  op = Ops.List text how;
+-- what a command gives, and the answer that is read of it
+abbrev pub listing_ask : Op (List ℕ) → ListVerb → List ℕ → How → (State → Said) → Ask
+listing_ask op verb text how said = record {
+  op = op;
   how = how;
   settings = listing_settings how.representation.mode;
   offset = None;
-  command = Commands.Mlsd (optional text);
-  why = λ state. refusal state (Ops.List text how);
+  command = list_command verb (optional text);
+  why = λ state. refused_text verb state text;
   sends = Down;
   listed = true;
-  wire = λ state. listing_wire how.representation.mode (entry_lines all_facts (part state) (named_or_here state text));
-  said = λ state. Entries (entries_in (part state) (named_or_here state text));
+  wire = λ state. listing_wire how.representation.mode (lines_for verb (part state) (named_or_here state text) text);
+  said = said;
 }
+
+-- entries, one a line
+abbrev pub list_ask : List ℕ → How → Ask
+list_ask text how = listing_ask (Ops.List text how) Verbs.Mlsd text how (λ state. Entries (entries_in (part state) (named_or_here state text)))
 
 -- pathnames, one a line
 abbrev pub names_ask : List ℕ → How → Ask
-names_ask text how = record {
-  op = Ops.Names text how;
-  how = how;
-  settings = listing_settings how.representation.mode;
-  offset = None;
-  command = Commands.Nlst (optional text);
-  why = λ state. refusal state (Ops.Names text how);
-  sends = Down;
-  listed = true;
-  wire = λ state. listing_wire how.representation.mode (name_lines (part state) (named_or_here state text) text);
-  said = λ state. NameList (names_for (part state) (named_or_here state text) text);
-}
+names_ask text how = listing_ask (Ops.Names text how) Verbs.Nlst text how (λ state. NameList (names_for (part state) (named_or_here state text) text))
+
+-- the text of either, or of LIST
+abbrev pub text_ask : ListVerb → List ℕ → How → Ask
+text_ask verb text how = listing_ask (Ops.Text verb text how) verb text how (λ state. Octets (text_by verb state text))
 
 -- ---- what is so of what is asked for
 

@@ -61,5 +61,6 @@ fn op_of<A: Allocator + Copy>(op: &Op<Text<A>>, alloc: A) -> Result<Op<Text<A>>,
         Op::Facts(path) => Ok(Op::Facts(own(path, alloc)?)),
         Op::List(path, how) => Ok(Op::List(own(path, alloc)?, *how)),
         Op::Names(path, how) => Ok(Op::Names(own(path, alloc)?, *how)),
+        Op::Text(verb, path, how) => Ok(Op::Text(*verb, own(path, alloc)?, *how)),
     }
 }

@@ -6,7 +6,10 @@ use Rattle.ftp_operation.specs.Answer.{Said, Broken as BrokenOff, Unopened as No
 use Rattle.ftp_direct.specs.declared.refusal.Refusal.TheVariants as Refusals
 use Rattle.ftp_direct.specs.Direct.{State, answer, first_refusal, named, named_or_here, part, changed, file_of, skipped}
 use Rattle.ftp_operation.specs.Operation.{can_be_sent}
+use Rattle.ftp_direct.specs.Listing.{listing_file}
 use Rattle.ftp_operation.specs.declared.op.How.{How}
+use Rattle.ftp_operation.specs.declared.op.ListVerb.{ListVerb}
+use Rattle.ftp_operation.specs.declared.op.ListVerb.TheVariants as Verbs
 use Rattle.ftp_operation.specs.declared.op.Op.{Op}
 use Rattle.ftp_operation.specs.declared.op.Op.TheVariants as Ops
 use Rattle.ftp_mode.specs.Laws.{settled_content}
@@ -18,8 +21,6 @@ use Rattle.ftp_wire.specs.Decoder.{Decoder, no_octets, octet_says, decoded_octet
 use Rattle.ftp_settings.specs.Representation.{form_of, has_markers}
 use Rattle.ftp_client_model.specs.Octets.{written, upload_text, last_mark}
 use Rattle.ftp_client_model.specs.Plan.{settings_of, listing_settings, how_of}
-use Rattle.ftp_server_model.specs.Listing.{lines_file, entry_lines, name_lines}
-use Rattle.ftp_server_model.specs.View.{all_facts}
 use Rattle.ftp_settings.specs.declared.representation.Representation.{Representation}
 
 -- what a lost operation did: nothing, all, or what the front of its wire lets stand
@@ -60,13 +61,9 @@ pub record Fetched : Type 0 where
   pub octets : List ℕ
   pub asked : Option ℕ
 
--- the file that MLSD sends where all facts are in force (`ftp_server_model`, `Listing`)
-abbrev pub listing_text : State → List ℕ → List ℕ
-listing_text state text = lines_file (entry_lines all_facts (part state) (named_or_here state text))
-
--- the file that NLST sends
-abbrev pub names_text : State → List ℕ → List ℕ
-names_text state text = lines_file (name_lines (part state) (named_or_here state text) text)
+-- the file that a command sends as a listing, MLSD where all facts are in force
+abbrev pub text_by : ListVerb → State → List ℕ → List ℕ
+text_by verb state text = listing_file verb (part state) (named_or_here state text) text
 
 -- octets that all are asked for
 abbrev pub fetched : Representation → ℕ → List ℕ → Fetched
@@ -78,8 +75,9 @@ download_of state (Ops.Get text how) = Some (fetched (settings_of how) 0 (file_o
 download_of state (Ops.GetFrom text offset how) =
     Some (fetched (settings_of how) offset (drop (skipped state (named state text) how offset) (file_of state text)))
 download_of state (Ops.Peek text count how) = Some (record (fetched (settings_of how) 0 (file_of state text)) { asked = Some count })
-download_of state (Ops.List text how) = Some (fetched (listing_settings how.representation.mode) 0 (listing_text state text))
-download_of state (Ops.Names text how) = Some (fetched (listing_settings how.representation.mode) 0 (names_text state text))
+download_of state (Ops.List text how) = Some (fetched (listing_settings how.representation.mode) 0 (text_by Verbs.Mlsd state text))
+download_of state (Ops.Names text how) = Some (fetched (listing_settings how.representation.mode) 0 (text_by Verbs.Nlst state text))
+download_of state (Ops.Text verb text how) = Some (fetched (listing_settings how.representation.mode) 0 (text_by verb state text))
 download_of state other = None
 
 -- its one written text; the server sends own markers wherever the settings allow them
