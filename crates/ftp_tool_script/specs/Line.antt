@@ -32,7 +32,7 @@ use Rattle.ftp_tool_script.specs.declared.verb.Giving.TheVariants.{Put, Append}
 use Rattle.ftp_tool_script.specs.declared.verb.Verb.{Verb}
 use Rattle.ftp_tool_script.specs.declared.verb.Verb.TheVariants as verbs
 use Rattle.ftp_tool_script.specs.Field.{field_value}
-use Rattle.ftp_tool_script.specs.Verb.{is_named}
+use Rattle.ftp_tool_script.specs.Verb.{is_named, list_verb_value}
 use Rattle.ftp_tool_script.specs.declared.verb.TheConstants.{VERBS}
 
 -- what is read is the value, seen so; where it is refused there is none, or memory ran out
@@ -159,6 +159,11 @@ put_from_in fields = option_map (λ t. Once (Ops.PutFrom t.1 t.2 t.3 t.0)) (givi
 abbrev pub upload_in : List (List ℕ) → Option (Order (List ℕ))
 upload_in fields = option_map (λ t. Tries t.1 t.2 t.0) (giving_in fields)
 
+-- the listing as text of the fields behind its verb: a command, how, and a path
+abbrev pub text_in : List (List ℕ) → Option (Order (List ℕ))
+text_in [] = None
+text_in (word ∷ fields) = and_then (list_verb_value word) (λ verb. option_map (λ t. Once (Ops.Text verb t.1 t.0)) (taking_in fields))
+
 -- what is asked by a verb and the fields behind it
 abbrev pub order_with : Verb → List (List ℕ) → Option (Order (List ℕ))
 order_with (verbs.Alone verb) fields = option_map (λ _. Once (alone_op verb)) (none_in fields)
@@ -169,6 +174,7 @@ order_with (verbs.Part verb) fields = option_map (λ t. Once (part_op verb t.0 t
 order_with (verbs.Giving verb) fields = option_map (λ t. Once (giving_op verb t.0 t.1 t.2)) (giving_in fields)
 order_with verbs.GivingFrom fields = put_from_in fields
 order_with verbs.Upload fields = upload_in fields
+order_with verbs.Text fields = text_in fields
 
 -- what fields ask: the first is a verb's word
 abbrev pub order_in : List (List ℕ) → Option (Order (List ℕ))

@@ -1,6 +1,7 @@
 -- Worked rows: what lines and scripts say, and what is reported. Each is a theorem that computes.
 use Rattle.std.specs.Prelude.{◌≡◌, true, false, codes, [], ◌∷◌, ◌++◌, Some, None, Ok, Err}
 use Rattle.ftp_operation.specs.declared.op.How.{How}
+use Rattle.ftp_operation.specs.declared.op.ListVerb.TheVariants as Lists
 use Rattle.ftp_operation.specs.declared.op.Op.TheVariants as Ops
 use Rattle.ftp_settings.specs.declared.representation.Kind.TheVariants.{Ascii, Image}
 use Rattle.ftp_settings.specs.declared.representation.Structure.TheVariants.{File, Record}
@@ -44,6 +45,10 @@ TransfersSaid =
     × (order_value (codes "size ARBaem f") ≡ Some (Once (Ops.Size (codes "f") other)))
     × (order_value (codes "list IFSpn f") ≡ Some (Once (Ops.List (codes "f") plain)))
     × (order_value (codes "names IFSpn f") ≡ Some (Once (Ops.Names (codes "f") plain)))
+    × (order_value (codes "text mlsd IFSpn f") ≡ Some (Once (Ops.Text Lists.Mlsd (codes "f") plain)))
+    × (order_value (codes "text list IFSpn f") ≡ Some (Once (Ops.Text Lists.List (codes "f") plain)))
+    × (order_value (codes "text nlst ARBaem f") ≡ Some (Once (Ops.Text Lists.Nlst (codes "f") other)))
+    × (order_value (codes "text IFSpn f") ≡ None)
 
 -- a login, a script, the same without the end of its last line, a faulty third line before a last one without its end, a login alone that lacks
 -- its end, and a script without a line

@@ -1,6 +1,8 @@
 -- The words that begin a line of a script (own choice).
-use Rattle.std.specs.Prelude.{ℕ, Bool, List, nat_eq, codes}
+use Rattle.std.specs.Prelude.{ℕ, Bool, List, Option, Some, None, nat_eq, codes, if◌then◌else◌}
 use Rattle.std.specs.Cmp.Lexicographic.{pointwise}
+use Rattle.ftp_operation.specs.declared.op.ListVerb.{ListVerb}
+use Rattle.ftp_operation.specs.declared.op.ListVerb.TheVariants as Lists
 use Rattle.ftp_tool_script.specs.declared.verb.Alone.TheVariants.{Where, Up}
 use Rattle.ftp_tool_script.specs.declared.verb.OnPath.TheVariants.{ChangeDir, MakeDir, RemoveDir, Delete, Modified, Facts}
 use Rattle.ftp_tool_script.specs.declared.verb.Taking.TheVariants.{Get, Size, Entries, Names}
@@ -30,7 +32,15 @@ word_of (verbs.Giving Put) = codes "put"
 word_of (verbs.Giving Append) = codes "append"
 word_of verbs.GivingFrom = codes "putfrom"
 word_of verbs.Upload = codes "upload"
+word_of verbs.Text = codes "text"
 
 -- a word is that of a verb
 abbrev pub is_named : List ℕ → Verb → Bool
 is_named word verb = pointwise nat_eq word (word_of verb)
+
+-- the command that a word names
+abbrev pub list_verb_value : List ℕ → Option ListVerb
+list_verb_value word =
+    if pointwise nat_eq word (codes "mlsd") then Some Lists.Mlsd
+    else (if pointwise nat_eq word (codes "list") then Some Lists.List
+    else (if pointwise nat_eq word (codes "nlst") then Some Lists.Nlst else None))

@@ -1,15 +1,16 @@
 // A line: a login or an order.
-ghost use Rattle.std.specs.Prelude.{◌≡◌, map, IfOk};
+ghost use Rattle.std.specs.Prelude.{◌≡◌, map, option_map, IfOk};
 ghost use Rattle.std.specs.List.{slice_split};
-ghost use Rattle.ftp_tool_script.specs.Line.{Reads, alone_op, giving_op, is_space, login_in, login_value, login_with, order_in, order_value, order_with, part_op, path_op, put_from_in, taking_op, upload_in};
+ghost use Rattle.ftp_tool_script.specs.Line.{Reads, alone_op, giving_op, is_space, login_in, login_value, login_with, order_in, order_value, order_with, part_op, path_op, put_from_in, taking_in, taking_op, text_in, upload_in};
+ghost use Rattle.ftp_tool_script.specs.declared.order.Order.TheVariants.{Once};
 
 use crate::cut::pieces_at;
 use crate::fault::LineFault;
 use crate::order::Order;
 use crate::parts::{giving, giving_from, none, pair, path, taking, taking_from};
-use crate::verb::{Alone, Giving, OnPath, Part, Taking, Verb, verb_of};
+use crate::verb::{Alone, Giving, OnPath, Part, Taking, Verb, list_verb_of, verb_of};
 use ftp_facts::Text;
-use ftp_operation::{How, Login, Op};
+use ftp_operation::{How, ListVerb, Login, Op};
 use std::alloc::{AllocError, Allocator};
 
 /// What a line asks, given without its end.
@@ -70,6 +71,7 @@ fn order_with<A: Allocator + Copy>(
         },
         Verb::GivingFrom => put_from_in(alloc, fields),
         Verb::Upload => upload_in(alloc, fields),
+        Verb::Text => text_in(alloc, fields),
     }
 }
 
@@ -89,6 +91,33 @@ fn upload_in<A: Allocator + Copy>(alloc: A, fields: &[&[u8]]) -> Result<Order<Te
 {
     match giving(alloc, fields) {
         Ok((how, path, octets)) => Ok(Order::Tries { path, octets, how }),
+        Err(fault) => Err(fault),
+    }
+}
+
+/// The listing as text of the fields behind its verb.
+fn text_in<A: Allocator + Copy>(alloc: A, fields: &[&[u8]]) -> Result<Order<Text<A>>, LineFault>
+    ensures { Reads (λ order. order) result (text_in (map (λ field. field.now) fields.now)) }
+{
+    match fields {
+        [word, fields @ ..] => match list_verb_of(word) {
+            Some(verb) => text_by(alloc, verb, fields),
+            None => Err(LineFault::Unfit),
+        },
+        [] => Err(LineFault::Unfit),
+    }
+}
+
+/// The listing as text by a command, of the fields behind that.
+fn text_by<A: Allocator + Copy>(
+    alloc: A,
+    verb: ListVerb,
+    fields: &[&[u8]],
+) -> Result<Order<Text<A>>, LineFault>
+    ensures { Reads (λ order. order) result (option_map (λ t. Once (Op.Text verb t.1 t.0)) (taking_in (map (λ field. field.now) fields.now))) }
+{
+    match taking(alloc, fields) {
+        Ok((how, path)) => Ok(Order::Once(Op::Text(verb, path, how))),
         Err(fault) => Err(fault),
     }
 }

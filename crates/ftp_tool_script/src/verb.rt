@@ -1,7 +1,9 @@
 // The words that begin a line.
 ghost use Rattle.std.specs.Prelude.{◌≡◌, find};
-ghost use Rattle.ftp_tool_script.specs.Verb.{is_named, word_of};
+ghost use Rattle.ftp_tool_script.specs.Verb.{is_named, list_verb_value, word_of};
 ghost use Rattle.ftp_tool_script.specs.declared.verb.TheConstants.{VERBS};
+
+use ftp_operation::ListVerb;
 
 /// A verb with nothing behind it.
 #[derive(Clone, Copy)]
@@ -59,9 +61,11 @@ pub(crate) enum Verb {
     GivingFrom,
     /// Over breaks.
     Upload,
+    /// A listing as text.
+    Text,
 }
 
-const VERBS: [Verb; 19] = [
+const VERBS: [Verb; 20] = [
     Verb::Alone(Alone::Where),
     Verb::Alone(Alone::Up),
     Verb::OnPath(OnPath::ChangeDir),
@@ -81,6 +85,7 @@ const VERBS: [Verb; 19] = [
     Verb::Giving(Giving::Append),
     Verb::GivingFrom,
     Verb::Upload,
+    Verb::Text,
 ];
 
 /// The verb of a word.
@@ -125,5 +130,21 @@ fn word_of(verb: Verb) -> &'static [u8]
         Verb::Giving(Giving::Append) => b"append",
         Verb::GivingFrom => b"putfrom",
         Verb::Upload => b"upload",
+        Verb::Text => b"text",
+    }
+}
+
+/// The command that a word names.
+pub(crate) fn list_verb_of(word: &[u8]) -> Option<ListVerb>
+    ensures { result ≡ list_verb_value word.now }
+{
+    if word == b"mlsd".as_slice() {
+        Some(ListVerb::Mlsd)
+    } else if word == b"list".as_slice() {
+        Some(ListVerb::List)
+    } else if word == b"nlst".as_slice() {
+        Some(ListVerb::Nlst)
+    } else {
+        None
     }
 }

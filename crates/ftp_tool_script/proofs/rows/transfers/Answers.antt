@@ -4,4 +4,4 @@ use Rattle.ftp_tool_script.proofs.rows.transfers.Goals as goal
 
 pub returns : goal.returns
 unfolding order_value
-returns c = (refl, refl, refl, refl, refl, refl, refl, refl, refl, refl)
+returns c = (refl, refl, refl, refl, refl, refl, refl, refl, refl, refl, refl, refl, refl, refl)
