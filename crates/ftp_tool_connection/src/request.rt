@@ -46,7 +46,7 @@ impl Drop for Request {
 /// The most that the data connection of a request may bring.
 pub(crate) fn most_of(request: &Request) -> Most {
     match request {
-        Request::One(Some(Op::List(_, _) | Op::Names(_, _))) => Most {
+        Request::One(Some(Op::List(_, _) | Op::Names(_, _) | Op::Text(_, _, _))) => Most {
             octets: MOST_LISTED,
             lines: Some(MOST_ENTRIES),
         },

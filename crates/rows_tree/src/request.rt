@@ -3,7 +3,7 @@ use crate::accounts::text;
 use crate::verb::Verb;
 use crate::words::split;
 use ftp_facts::Text;
-use ftp_operation::{How, Op};
+use ftp_operation::{How, ListVerb, Op};
 use ftp_settings::{Kind, Mode, Representation, Structure};
 use rows_base::number;
 use std::alloc::Allocator;
@@ -103,5 +103,8 @@ pub fn operation<A: Allocator + Copy>(alloc: A, verb: Verb, words: &[u8]) -> Op<
         Verb::Facts => Op::Facts(text(alloc, path)),
         Verb::List => Op::List(text(alloc, path), asked.how),
         Verb::Names => Op::Names(text(alloc, path), asked.how),
+        Verb::Mlsd => Op::Text(ListVerb::Mlsd, text(alloc, path), asked.how),
+        Verb::Lines => Op::Text(ListVerb::List, text(alloc, path), asked.how),
+        Verb::Nlst => Op::Text(ListVerb::Nlst, text(alloc, path), asked.how),
     }
 }

@@ -22,6 +22,9 @@ pub enum Verb {
     Facts,
     List,
     Names,
+    Mlsd,
+    Lines,
+    Nlst,
 }
 
 const VERBS: &[(&'static [u8], Verb)] = &[
@@ -42,6 +45,9 @@ const VERBS: &[(&'static [u8], Verb)] = &[
     (b"facts", Verb::Facts),
     (b"list", Verb::List),
     (b"names", Verb::Names),
+    (b"mlsd", Verb::Mlsd),
+    (b"lines", Verb::Lines),
+    (b"nlst", Verb::Nlst),
 ];
 
 /// What a word says; another word than these asks where one is.
