@@ -4,6 +4,9 @@ use Rattle.std.specs.List.{list_any}
 use Rattle.ftp_facts.specs.declared.entry.Entry.{Entry}
 use Rattle.ftp_facts.specs.declared.entry.EntryKind.{EntryKind}
 use Rattle.ftp_facts.specs.declared.entry.EntryKind.TheVariants as Kinds
+use Rattle.ftp_tool_listing.specs.declared.item.Item.{Item}
+use Rattle.ftp_tool_listing.specs.declared.item.Kind.{Kind}
+use Rattle.ftp_tool_listing.specs.declared.item.Kind.TheVariants as Stands
 use Rattle.ftp_tool_listing.specs.Lines.{is_listed, without_slash}
 use Rattle.ftp_tool_listing.specs.Name.{is_name}
 use Rattle.ftp_tool_listing.specs.Pattern.{matches, question, star}
@@ -34,3 +37,13 @@ bare_name path name = if is_name name then name else without_slash (drop (length
 -- a name of a directory's listing is chosen by a pattern
 abbrev pub is_chosen_name : (pattern path name : List ℕ) → Bool
 is_chosen_name pattern path name = is_listed path name && matches pattern (bare_name path name)
+
+-- what is fetched by a pattern
+abbrev pub is_fetched : Kind → Bool
+is_fetched (Stands.File facts) = true
+is_fetched Stands.Other = true
+is_fetched kind = false
+
+-- what stands under a name is chosen by a pattern
+abbrev pub is_chosen_item : {A : Type 0} → (pattern : List ℕ) → Item A → Bool
+is_chosen_item pattern item = (is_fetched item.kind && is_name item.name) && matches pattern item.name

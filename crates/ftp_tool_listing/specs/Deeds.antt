@@ -68,6 +68,7 @@ file_onto rules source (Some (Kinds.File target)) = file_onto_file rules.check r
 file_onto rules source (Some Kinds.Dir) = in_place rules.extra Does.RemoveDir (Does.Copy source) Reasons.Directory
 file_onto rules source (Some Kinds.Other) = in_place rules.extra Does.RemoveFile (Does.Copy source) Reasons.Neither
 file_onto rules source (Some Kinds.Excluded) = Many.Nothing
+file_onto rules source (Some Kinds.Odd) = Many.One (Does.Refuse Reasons.Odd)
 
 -- a directory of the source, where this stands in the target
 abbrev pub dir_onto : Rules → Option Kind → Deeds
@@ -76,6 +77,7 @@ dir_onto rules (Some (Kinds.File target)) = in_place rules.extra Does.RemoveFile
 dir_onto rules (Some Kinds.Dir) = Many.One Does.Enter
 dir_onto rules (Some Kinds.Other) = in_place rules.extra Does.RemoveFile Does.MakeDir Reasons.Neither
 dir_onto rules (Some Kinds.Excluded) = Many.Nothing
+dir_onto rules (Some Kinds.Odd) = Many.One (Does.Refuse Reasons.Odd)
 
 -- what stands in the source, where this stands in the target
 abbrev pub onto : Rules → Kind → Option Kind → Deeds
@@ -83,10 +85,16 @@ onto rules (Kinds.File source) target = file_onto rules source target
 onto rules Kinds.Dir target = dir_onto rules target
 onto rules Kinds.Other target = Many.One Does.PassOver
 onto rules Kinds.Excluded target = Many.Nothing
+onto rules Kinds.Odd target = Many.One (Does.Refuse Reasons.Odd)
+
+-- why an entry is refused whose name is none of a single file: a line that is no entry is told as that
+abbrev pub nameless : Kind → Reason
+nameless Kinds.Odd = Reasons.Odd
+nameless kind = Reasons.Name
 
 -- an entry of the source: only one with the name of a single file
 abbrev pub deeds_for : {A : Type 0} → Rules → Item A → Option Kind → Deeds
-deeds_for rules item target = if is_name item.name then onto rules item.kind target else Many.One (Does.Refuse Reasons.Name)
+deeds_for rules item target = if is_name item.name then onto rules item.kind target else Many.One (Does.Refuse (nameless item.kind))
 
 -- what stands in the target alone, where that is removed
 abbrev pub removal : Kind → Deeds
@@ -94,12 +102,13 @@ removal (Kinds.File facts) = Many.One Does.RemoveFile
 removal Kinds.Dir = Many.One Does.RemoveDir
 removal Kinds.Other = Many.One Does.RemoveFile
 removal Kinds.Excluded = Many.Nothing
+removal Kinds.Odd = Many.Nothing
 
 -- an entry of the target alone: as it stands, or removed
 abbrev pub alone : {A : Type 0} → Extra → Item A → Deeds
 alone Extras.Kept item = Many.Nothing
-alone Extras.Removed item = if is_name item.name then removal item.kind else Many.One (Does.Refuse Reasons.Name)
-alone Extras.Any item = if is_name item.name then removal item.kind else Many.One (Does.Refuse Reasons.Name)
+alone Extras.Removed item = if is_name item.name then removal item.kind else Many.One (Does.Refuse (nameless item.kind))
+alone Extras.Any item = if is_name item.name then removal item.kind else Many.One (Does.Refuse (nameless item.kind))
 
 -- an entry of the target, where this stands in the source
 abbrev pub removal_for : {A : Type 0} → Rules → Item A → Option Kind → Deeds

@@ -5,7 +5,7 @@ use Rattle.ftp_facts.specs.declared.entry.EntryKind.{EntryKind}
 use Rattle.ftp_facts.specs.declared.entry.EntryKind.TheVariants as Kinds
 use Rattle.ftp_facts.specs.declared.moment.Moment.{Moment}
 use Rattle.ftp_facts.specs.Moment.{moment_digits}
-use Rattle.ftp_tool_shown.specs.Shown.{digit}
+use Rattle.ftp_tool_shown.specs.Shown.{digit, shown}
 use Rattle.ftp_tool_listing.specs.Lines.{is_shown}
 use Rattle.ftp_tool_listing.specs.Name.{is_name}
 
@@ -71,3 +71,7 @@ name_json path name = if is_shown path name then name_line_json name else []
 -- the line of what is done of a path
 abbrev pub deed_json : (deed path : List ℕ) → List ℕ
 deed_json deed path = codes "{\"deed\":" ++ string deed ++ codes ",\"path\":" ++ string path ++ codes "}\n"
+
+-- a line that is no entry, as a terminal is to show it
+abbrev pub line_json : List ℕ → List ℕ
+line_json text = codes "{\"line\":" ++ (string (shown text) ++ codes "}\n")

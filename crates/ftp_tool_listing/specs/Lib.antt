@@ -10,3 +10,5 @@ pub mod Deeds
 pub mod Plan
 pub mod PlanRows
 pub mod Index
+pub mod Text
+pub mod UnixLine

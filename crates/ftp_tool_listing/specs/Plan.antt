@@ -1,7 +1,9 @@
 -- What a mirror does of a directory, by the listing of the source and that of the target (own choice).
-use Rattle.std.specs.Prelude.{ℕ, ◌++◌, List, [], ◌∷◌, length, flat_map, find, option_map, nat_eq, Bool, Option}
+use Rattle.std.specs.Prelude.{ℕ, ◌++◌, List, [], ◌∷◌, length, flat_map, find, option_map, nat_eq, ◌&&◌, Bool, true, false, not, Option, if◌then◌else◌}
+use Rattle.std.specs.List.{list_any}
 use Rattle.std.specs.Cmp.Lexicographic.{pointwise}
 use Rattle.ftp_tool_listing.specs.declared.item.Kind.{Kind}
+use Rattle.ftp_tool_listing.specs.declared.item.Kind.TheVariants as Kinds
 use Rattle.ftp_tool_listing.specs.declared.item.Item.{Item}
 use Rattle.ftp_tool_listing.specs.declared.item.Listing.{Listing}
 use Rattle.ftp_tool_listing.specs.declared.item.Listing.TheVariants as Listings
@@ -15,6 +17,12 @@ use Rattle.ftp_tool_listing.specs.declared.deeds.Deeds.{Deeds}
 use Rattle.ftp_tool_listing.specs.declared.deeds.Deeds.TheVariants as Many
 use Rattle.ftp_tool_listing.specs.declared.planning.Step.{Step}
 use Rattle.ftp_tool_listing.specs.Deeds.{deeds_for, removal_for}
+use Rattle.ftp_tool_listing.specs.Name.{is_name}
+
+-- a line that is no entry
+abbrev pub is_odd : Kind → Bool
+is_odd Kinds.Odd = true
+is_odd kind = false
 
 -- an entry has this name
 abbrev pub is_named : {A : Type 0} → List ℕ → Item A → Bool
@@ -47,9 +55,17 @@ abbrev pub guarded : {A : Type 0} → Extra → List (Item A) → List (Step A) 
 guarded Extras.Removed [] (first ∷ rest) = refused (Reasons.Emptied (length (first ∷ rest)))
 guarded extra source planned = planned
 
+-- a line that is no entry and tells no name: whatever stands in the target may be it
+abbrev pub is_unnamed : {A : Type 0} → Item A → Bool
+is_unnamed item = is_odd item.kind && not (is_name item.name)
+
+-- of all entries of the target: none is removed where the source has such a line
+abbrev pub clearing_all : {A : Type 0} → Rules → List (Item A) → List (Item A) → List (Step A)
+clearing_all rules source target = if list_any is_unnamed source then [] else flat_map (clearing rules source) target
+
 -- all that is done of whole listings: first of each entry of the source, and then of each of the target, both in their orders
 abbrev pub whole_plan : {A : Type 0} → Rules → List (Item A) → List (Item A) → List (Step A)
-whole_plan rules source target = guarded rules.extra source (flat_map (copying rules target) source ++ flat_map (clearing rules source) target)
+whole_plan rules source target = guarded rules.extra source (flat_map (copying rules target) source ++ clearing_all rules source target)
 
 abbrev pub plan : {A : Type 0} → Rules → Listing A → Listing A → List (Step A)
 plan rules (Listings.Whole source) (Listings.Whole target) = whole_plan rules source.items target.items

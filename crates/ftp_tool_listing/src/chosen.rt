@@ -1,9 +1,10 @@
 // Which files of a directory a pattern chooses.
 ghost use Rattle.std.specs.Prelude.{◌≡◌};
 ghost use Rattle.std.specs.List.{list_any};
-ghost use Rattle.ftp_tool_listing.specs.Chosen.{bare_name, is_chosen, is_chosen_name, is_dir_kind, is_pattern, is_wild};
+ghost use Rattle.ftp_tool_listing.specs.Chosen.{bare_name, is_chosen, is_chosen_item, is_chosen_name, is_dir_kind, is_fetched, is_pattern, is_wild};
 
 use crate::is_name;
+use crate::item::{Item, Kind};
 use crate::lines::{is_listed, without_slash};
 use crate::pattern::matches;
 use ftp_facts::{Entry, EntryKind, Text};
@@ -70,6 +71,38 @@ pub fn chosen_entries(
         }
     }
     in_order(alloc, chosen)
+}
+
+/// The same of what a directory has.
+pub fn chosen_items(
+    alloc: Global,
+    pattern: &[u8],
+    items: &[Item<Global>],
+) -> Result<Vec<Text<Global>, Global>, AllocError> {
+    let mut chosen = Vec::new(alloc);
+    for item in items {
+        if is_chosen_item(pattern, item) {
+            chosen.push(Text::copy_of(alloc, item.name.as_slice())?)?;
+        }
+    }
+    in_order(alloc, chosen)
+}
+
+/// Whether a pattern chooses what stands under a name: it is no directory, and no line that is no entry.
+pub fn is_chosen_item(pattern: &[u8], item: &Item<Global>) -> bool
+    ensures { result ≡ is_chosen_item pattern.now item.now }
+{
+    let name = item.name.as_slice();
+    is_fetched(item.kind) && is_name(name) && matches(pattern, name)
+}
+
+fn is_fetched(kind: Kind) -> bool
+    ensures { result ≡ is_fetched kind }
+{
+    match kind {
+        Kind::File(_) | Kind::Other => true,
+        Kind::Dir | Kind::Excluded | Kind::Odd => false,
+    }
 }
 
 /// The same of names that a server gives of the directory at a path.

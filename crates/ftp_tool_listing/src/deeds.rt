@@ -1,6 +1,6 @@
 // What is done of one name.
 ghost use Rattle.std.specs.Prelude.{◌≡◌};
-ghost use Rattle.ftp_tool_listing.specs.Deeds.{alone, deeds_for, differ, differs, dir_onto, file_onto, file_onto_file, in_place, is_later, is_untold, may_remove, onto, onto_by_facts, onto_by_octets, removal, removal_for};
+ghost use Rattle.ftp_tool_listing.specs.Deeds.{alone, deeds_for, differ, differs, dir_onto, file_onto, file_onto_file, in_place, is_later, is_untold, may_remove, nameless, onto, onto_by_facts, onto_by_octets, removal, removal_for};
 
 use crate::item::{Facts, Item, Kind};
 use crate::name::is_name;
@@ -55,6 +55,8 @@ pub enum Reason {
     Neither,
     /// A listing has more entries than are taken.
     CutOff,
+    /// A line of a listing is no entry.
+    Odd,
     /// The source lists nothing where the target has so many entries to be removed.
     Emptied(usize),
 }
@@ -71,6 +73,7 @@ impl Reason {
             Reason::Neither => {
                 "what stands there is neither file nor directory, and stays without --delete"
             }
+            Reason::Odd => "a line of the listing is no entry; it is left out",
             Reason::CutOff => "more than 1,000,000 entries are listed; nothing is done there",
             Reason::Emptied(_) => "the source lists nothing there, and what the target has stays",
         }
@@ -111,7 +114,17 @@ pub fn deeds_for(rules: Rules, item: &Item<Global>, target: Option<Kind>) -> Dee
     if is_name(item.name.as_slice()) {
         onto(rules, item.kind, target)
     } else {
-        Deeds::One(Deed::Refuse(Reason::Name))
+        Deeds::One(Deed::Refuse(nameless(item.kind)))
+    }
+}
+
+/// Why an entry is refused whose name is none of a single file.
+fn nameless(kind: Kind) -> Reason
+    ensures { result ≡ nameless kind }
+{
+    match kind {
+        Kind::Odd => Reason::Odd,
+        Kind::File(_) | Kind::Dir | Kind::Other | Kind::Excluded => Reason::Name,
     }
 }
 
@@ -123,6 +136,7 @@ fn onto(rules: Rules, source: Kind, target: Option<Kind>) -> Deeds
         Kind::Dir => dir_onto(rules, target),
         Kind::Other => Deeds::One(Deed::PassOver),
         Kind::Excluded => Deeds::Nothing,
+        Kind::Odd => Deeds::One(Deed::Refuse(Reason::Odd)),
     }
 }
 
@@ -136,6 +150,7 @@ fn file_onto(rules: Rules, source: Facts, target: Option<Kind>) -> Deeds
         Some(Kind::Dir) => in_place(rules.extra, Deed::RemoveDir, copy, Reason::Directory),
         Some(Kind::Other) => in_place(rules.extra, Deed::RemoveFile, copy, Reason::Neither),
         Some(Kind::Excluded) => Deeds::Nothing,
+        Some(Kind::Odd) => Deeds::One(Deed::Refuse(Reason::Odd)),
     }
 }
 
@@ -157,6 +172,7 @@ fn dir_onto(rules: Rules, target: Option<Kind>) -> Deeds
             )
         }
         Some(Kind::Excluded) => Deeds::Nothing,
+        Some(Kind::Odd) => Deeds::One(Deed::Refuse(Reason::Odd)),
     }
 }
 
@@ -243,7 +259,7 @@ fn alone(extra: Extra, item: &Item<Global>) -> Deeds
     match extra {
         Extra::Kept => Deeds::Nothing,
         Extra::Removed | Extra::Any if is_name(item.name.as_slice()) => removal(item.kind),
-        Extra::Removed | Extra::Any => Deeds::One(Deed::Refuse(Reason::Name)),
+        Extra::Removed | Extra::Any => Deeds::One(Deed::Refuse(nameless(item.kind))),
     }
 }
 
@@ -253,7 +269,7 @@ fn removal(kind: Kind) -> Deeds
     match kind {
         Kind::File(_) | Kind::Other => Deeds::One(Deed::RemoveFile),
         Kind::Dir => Deeds::One(Deed::RemoveDir),
-        Kind::Excluded => Deeds::Nothing,
+        Kind::Excluded | Kind::Odd => Deeds::Nothing,
     }
 }
 

@@ -18,6 +18,8 @@ pub enum Kind {
     Other,
     /// The mirror leaves it alone, whatever it is.
     Excluded,
+    /// A line of the listing that is no entry; the name is that in the line, if it has one.
+    Odd,
 }
 
 /// An entry of a directory.

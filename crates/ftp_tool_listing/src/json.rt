@@ -2,11 +2,12 @@
 ghost use Rattle.std.specs.Prelude.{◌≡◌, ◌≤◌, ◌++◌, OnOk, flat_map};
 ghost use Rattle.ftp_facts.specs.Moment.{moment_digits};
 ghost use Rattle.ftp_tool_shown.specs.Shown.{digit};
-ghost use Rattle.ftp_tool_listing.specs.Json.{deed_json, entry_json, entry_line_json, modified_member, name_json, name_line_json, octet_json, perm_member, size_member, stamp_member, stamped, string, type_member};
+ghost use Rattle.ftp_tool_listing.specs.Json.{deed_json, entry_json, entry_line_json, line_json, modified_member, name_json, name_line_json, octet_json, perm_member, size_member, stamp_member, stamped, string, type_member};
 
 use crate::is_name;
 use crate::lines::is_shown;
 use ftp_facts::{Entry, EntryKind, Moment, Text, moment_text};
+use ftp_tool_shown::put_shown;
 use itoa::Buffer;
 use std::alloc::{AllocError, Global};
 
@@ -45,6 +46,36 @@ fn put_entry_line(entry: &Entry<Global>, out: &mut Vec<u8, Global>) -> Result<()
     put_size(entry.size, out)?;
     put_modified(entry.modify, out)?;
     put_perm(&entry.perm, out)?;
+    out.extend_from_slice(b"}\n")
+}
+
+/// Appends lines that are no entries, for programs: each as a terminal is to show it.
+///
+/// Refused memory, a part of them may stand there.
+pub fn put_json_lines(
+    alloc: Global,
+    lines: &[Text<Global>],
+    out: &mut Vec<u8, Global>,
+) -> Result<(), AllocError>
+    ensures { OnOk result (out.new.items ≡ out.old.items ++ flat_map line_json lines.now) }
+{
+    for text in lines {
+        put_json_line(alloc, text.as_slice(), out)?;
+    }
+    Ok(())
+}
+
+fn put_json_line(
+    alloc: Global,
+    text: &[u8],
+    out: &mut Vec<u8, Global>,
+) -> Result<(), AllocError>
+    ensures { OnOk result (out.new.items ≡ out.old.items ++ line_json text.now) }
+{
+    let mut shown = Vec::new(alloc);
+    put_shown(text, &mut shown)?;
+    out.extend_from_slice(b"{\"line\":")?;
+    put_string(shown.as_slice(), out)?;
     out.extend_from_slice(b"}\n")
 }
 

@@ -12,16 +12,24 @@ mod long;
 mod name;
 mod pattern;
 mod planning;
+mod reading;
 pub mod rows;
+mod text;
+mod unix_line;
 
-pub use chosen::{chosen_entries, chosen_names, is_chosen, is_chosen_name, is_pattern};
+pub use chosen::{
+    chosen_entries, chosen_items, chosen_names, is_chosen, is_chosen_item, is_chosen_name, is_pattern,
+};
 pub use deeds::{
     Check, Deed, Deeds, Extra, Reason, Rules, Way, deeds_for, may_remove, removal_for,
 };
 pub use item::{Facts, Item, Kind, Listing};
-pub use json::{put_json_deed, put_json_entries, put_json_names};
-pub use lines::{put_entries, put_names, strange_entries, strange_names};
+pub use json::{put_json_deed, put_json_entries, put_json_lines, put_json_names};
+pub use lines::{put_entries, put_lines, put_names, strange_entries, strange_names};
 pub use long::put_long;
 pub use name::is_name;
 pub use pattern::{is_excluded, matches};
 pub use planning::{Step, plan};
+pub use reading::{items_of_columns, items_of_facts};
+pub use text::{TextListing, read_entries, read_lines};
+pub use unix_line::{UnixKind, UnixLine, read_unix_line};

@@ -62,6 +62,18 @@ pub(crate) fn put_line(octets: &[u8], out: &mut Vec<u8, Global>) -> Result<(), A
     out.extend_from_slice(b"\n")
 }
 
+/// Appends lines that are no entries, as a terminal is to show them, each with LF at its end.
+///
+/// Refused memory, a part of them may stand there.
+pub fn put_lines(lines: &[Text<Global>], out: &mut Vec<u8, Global>) -> Result<(), AllocError>
+    ensures { OnOk result (out.new.items ≡ out.old.items ++ flat_map line lines.now) }
+{
+    for text in lines {
+        put_line(text.as_slice(), out)?;
+    }
+    Ok(())
+}
+
 /// How many entries are left out.
 pub fn strange_entries(entries: &[Entry<Global>]) -> usize
     ensures { result ≡ count_by is_strange_entry entries.now }

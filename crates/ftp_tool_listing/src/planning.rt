@@ -1,10 +1,12 @@
 // What is done of a directory.
 ghost use Rattle.std.specs.Prelude.{◌≡◌, ◌++◌, IfOk, OnOk, flat_map};
-ghost use Rattle.ftp_tool_listing.specs.Plan.{clearing, copying, guarded, plan, refused, steps, whole_plan};
+ghost use Rattle.ftp_tool_listing.specs.Plan.{clearing, copying, guarded, is_odd, is_unnamed, plan, refused, steps, whole_plan};
+ghost use Rattle.std.specs.List.{list_any};
 
 use crate::deeds::{Deed, Deeds, Extra, Reason, Rules, deeds_for, removal_for};
 use crate::index::{kinds_of, stands};
-use crate::item::{Item, Listing};
+use crate::item::{Item, Kind, Listing};
+use crate::name::is_name;
 use ftp_facts::Text;
 use std::alloc::{AllocError, Allocator, Global};
 
@@ -44,7 +46,9 @@ fn whole_plan(
 {
     let mut planned = Vec::new(alloc);
     put_copying(alloc, rules, source, target, &mut planned)?;
-    put_clearing(alloc, rules, source, target, &mut planned)?;
+    if !has_unnamed(source) {
+        put_clearing(alloc, rules, source, target, &mut planned)?;
+    }
     guarded(alloc, rules.extra, source, planned)
 }
 
@@ -88,6 +92,25 @@ fn put_copying(
         put_steps(alloc, name, deeds, planned)?;
     }
     Ok(())
+}
+
+/// Whether a line of a listing is no entry and tells no name: whatever stands in the target may be it.
+fn has_unnamed(source: &[Item<Global>]) -> bool
+    ensures { result ≡ list_any is_unnamed source.now }
+{
+    source.iter().any(|item| is_unnamed(item))
+}
+
+fn is_unnamed(item: &Item<Global>) -> bool
+    ensures { result ≡ is_unnamed item.now }
+{
+    is_odd(item.kind) && !is_name(item.name.as_slice())
+}
+
+fn is_odd(kind: Kind) -> bool
+    ensures { result ≡ is_odd kind }
+{
+    matches!(kind, Kind::Odd)
 }
 
 fn put_clearing(

@@ -1,0 +1,27 @@
+-- A listing as text, line by line: entries, and lines that are none (own choice; RFC 3659, section 7).
+use Rattle.std.specs.Prelude.{ℕ, ◌==◌, Bool, true, false, List, [], ◌∷◌, length, is_none, filter, filter_map, Option, Some, None, codes, if◌then◌else◌}
+use Rattle.std.specs.List.{after_first, starts_with}
+use Rattle.std.specs.Prelude.{nat_eq}
+use Rattle.ftp_facts.specs.Fact.{space}
+use Rattle.ftp_facts.specs.Listed.{Listed, entry_value}
+use Rattle.ftp_facts.specs.Listing.{is_shown}
+
+-- the entries that lines of MLSD say, but those of the directory itself and of its parent
+abbrev pub entries_of : List (List ℕ) → List Listed
+entries_of lines = filter is_shown (filter_map entry_value lines)
+
+-- a line that says none
+abbrev pub is_odd : List ℕ → Bool
+is_odd line = is_none (entry_value line)
+
+-- those, as they came
+abbrev pub odd_of : List (List ℕ) → List (List ℕ)
+odd_of lines = filter is_odd lines
+
+-- the name in a line of MLSD that says no entry: what stands behind its first space (RFC 3659, section 7.2)
+abbrev pub odd_name : List ℕ → List ℕ
+odd_name line = after_first (λ octet. octet == space) line
+
+-- a line of LIST that counts blocks, as `ls -l` begins
+abbrev pub is_total : List ℕ → Bool
+is_total line = starts_with nat_eq line (codes "total ")
