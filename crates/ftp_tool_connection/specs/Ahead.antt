@@ -12,6 +12,7 @@ use Rattle.ftp_tool_connection.specs.declared.request.Request.TheVariants.{One, 
 -- what an operation without octets of a file asks of which path, where it is asked ahead: a listing, or that a file is removed
 abbrev pub ahead_of : Op (List ℕ) → Option (What × List ℕ)
 ahead_of (Ops.List path how) = Some (Whats.Listing, path)
+ahead_of (Ops.Text verb path how) = Some (Whats.Listing, path)
 ahead_of (Ops.Delete path) = Some (Whats.Removal, path)
 ahead_of op = None
 

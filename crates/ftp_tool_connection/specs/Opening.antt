@@ -2,6 +2,8 @@
 use Rattle.std.specs.Prelude.{ℕ, ◌==◌, ◌||◌, Bool, true, false, if◌then◌else◌}
 use Rattle.ftp_operation.specs.declared.answer.Answer.{Answer}
 use Rattle.ftp_operation.specs.declared.answer.Answer.TheVariants as Answers
+use Rattle.ftp_operation.specs.declared.op.ListVerb.{ListVerb}
+use Rattle.ftp_operation.specs.declared.op.ListVerb.TheVariants as Verbs
 use Rattle.ftp_tool_connection.specs.declared.opening.Opening.{Opening}
 use Rattle.ftp_tool_connection.specs.declared.opening.Opening.TheVariants as Openings
 use Rattle.ftp_tool_connection.specs.declared.opening.Stranger.{Stranger}
@@ -36,3 +38,8 @@ abbrev pub stranger_by : Opening → (is_active : Bool) → Stranger
 stranger_by opening true = Strangers.Came
 stranger_by Openings.FellBack false = Strangers.NamedBehind
 stranger_by opening false = Strangers.Named
+
+-- by which command a listing is asked for after such an answer: LIST where the server does not know MLSD (RFC 959, section 4.2.2)
+abbrev pub list_verb_by : {A : Type 0} → ListVerb → Answer A → ListVerb
+list_verb_by verb (Answers.Refused code) = if code == 500 || code == 502 then Verbs.List else verb
+list_verb_by verb answer = verb

@@ -1,8 +1,8 @@
-// By which commands data connections are asked for: what a server does not know is asked otherwise, from then on.
+// By which commands data connections and listings are asked for: what a server does not know is asked otherwise, from then on.
 ghost use Rattle.std.specs.Prelude.{◌≡◌};
-ghost use Rattle.ftp_tool_connection.specs.Opening.{asks_extended, opening_by, says_unknown, stranger_by};
+ghost use Rattle.ftp_tool_connection.specs.Opening.{asks_extended, list_verb_by, opening_by, says_unknown, stranger_by};
 
-use ftp_operation::{Answer, How};
+use ftp_operation::{Answer, How, ListVerb};
 use std::alloc::Global;
 use std::cell::Cell;
 
@@ -73,6 +73,7 @@ impl Opening {
 #[derive(Drop)]
 pub struct Openings {
     now: Cell<Opening>,
+    listing: Cell<ListVerb>,
 }
 
 impl Openings {
@@ -80,7 +81,21 @@ impl Openings {
     pub fn new(first: Opening) -> Openings {
         Openings {
             now: Cell::new(first),
+            listing: Cell::new(ListVerb::Mlsd),
         }
+    }
+
+    /// By which command the entries of a directory are asked for now: MLSD, or LIST where the server says that it does not know that.
+    pub fn list_verb(&self) -> ListVerb {
+        self.listing.get()
+    }
+
+    /// Takes in what was answered to a listing. Says whether the same is to be asked again, as `list_verb` then says.
+    pub fn hear_listing(&self, answer: &Answer<Global>) -> bool {
+        let after = list_verb_after(self.listing.get(), answer);
+        let is_other = is_mlsd(self.listing.get()) && !is_mlsd(after);
+        self.listing.set(after);
+        is_other
     }
 
     /// How a transfer goes now.
@@ -146,4 +161,18 @@ fn stranger_of(opening: Opening, is_active: bool) -> Stranger
         Opening::FellBack => Stranger::NamedBehind,
         Opening::ExtendedFirst | Opening::Extended | Opening::Plain => Stranger::Named,
     }
+}
+
+/// By which command a listing is asked for after such an answer: LIST where the server does not know MLSD (RFC 959, section 4.2.2).
+fn list_verb_after(verb: ListVerb, answer: &Answer<Global>) -> ListVerb
+    ensures { result ≡ list_verb_by verb answer.now }
+{
+    match answer {
+        Answer::Refused(UNKNOWN | NOT_IMPLEMENTED) => ListVerb::List,
+        _ => verb,
+    }
+}
+
+fn is_mlsd(verb: ListVerb) -> bool {
+    matches!(verb, ListVerb::Mlsd)
 }

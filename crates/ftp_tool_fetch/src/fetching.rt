@@ -150,7 +150,7 @@ where
     R: Print + Eprint,
 {
     let path = asked.place.path;
-    match listing_of(alloc, path, lines, answer)? {
+    match listing_of(alloc, path, lines, asked.openings.list_verb(), answer)? {
         Some(listing) => write(rt, listing),
         None => tell(rt, path, asked.stranger(), answer, noticed),
     }
@@ -164,6 +164,14 @@ fn write<R: Print + Eprint>(rt: &R, listing: Listing) -> io::Result<Status> {
             rt,
             "note: names that are none of a single file are left out: ",
             &listing.left_out,
+            "",
+        );
+    }
+    if listing.odd > 0 {
+        let _told = say(
+            rt,
+            "note: lines of the listing are no entries, and are shown as they came: ",
+            &listing.odd,
             "",
         );
     }

@@ -1,8 +1,9 @@
 // A listing, as it goes to standard output.
-use ftp_operation::Answer;
+use ftp_facts::{Entry, Text};
+use ftp_operation::{Answer, ListVerb};
 use ftp_tool_listing::{
-    put_entries, put_json_entries, put_json_names, put_long, put_names, strange_entries,
-    strange_names,
+    put_entries, put_json_entries, put_json_lines, put_json_names, put_lines, put_long, put_names,
+    read_entries, read_lines, strange_entries, strange_names,
 };
 use std::alloc::{AllocError, Global};
 
@@ -23,33 +24,99 @@ pub(crate) struct Listing {
     pub(crate) lines: Vec<u8, Global>,
     /// How many of its names are left out.
     pub(crate) left_out: usize,
+    /// How many of its lines are no entries, and are shown as they came.
+    pub(crate) odd: usize,
 }
 
-/// The listing of the directory at a path that an answer has, if it has one.
+/// The listing of the directory at a path that an answer has, if it has one; a text is of this command.
 pub(crate) fn listing_of(
     alloc: Global,
     path: &str,
     shape: Lines,
+    verb: ListVerb,
     answer: &Answer<Global>,
 ) -> Result<Option<Listing>, AllocError> {
+    match answer {
+        Answer::Octets(text) => Ok(Some(text_listing(alloc, shape, verb, text.as_slice())?)),
+        Answer::Entries(entries) => Ok(Some(entries_listing(alloc, shape, entries.as_slice())?)),
+        Answer::Names(names) => Ok(Some(names_listing(alloc, path, shape, names.as_slice())?)),
+        _ => Ok(None),
+    }
+}
+
+/// The listing of a text: of MLSD its entries, and then the lines that are none; of LIST its lines as they came.
+fn text_listing(
+    alloc: Global,
+    shape: Lines,
+    verb: ListVerb,
+    text: &[u8],
+) -> Result<Listing, AllocError> {
+    match verb {
+        ListVerb::Mlsd => {
+            let read = read_entries(alloc, text)?;
+            let mut listing = entries_listing(alloc, shape, read.entries.as_slice())?;
+            put_as_came(alloc, shape, read.odd.as_slice(), &mut listing.lines)?;
+            listing.odd = read.odd.len();
+            Ok(listing)
+        }
+        ListVerb::List | ListVerb::Nlst => {
+            let came = read_lines(alloc, text)?;
+            let mut lines = Vec::new(alloc);
+            put_as_came(alloc, shape, came.as_slice(), &mut lines)?;
+            Ok(Listing {
+                lines,
+                left_out: 0,
+                odd: 0,
+            })
+        }
+    }
+}
+
+/// Appends lines as they came, as a terminal is to show them.
+fn put_as_came(
+    alloc: Global,
+    shape: Lines,
+    came: &[Text<Global>],
+    lines: &mut Vec<u8, Global>,
+) -> Result<(), AllocError> {
+    match shape {
+        Lines::Json => put_json_lines(alloc, came, lines),
+        Lines::Facts | Lines::Long => put_lines(came, lines),
+    }
+}
+
+fn entries_listing(
+    alloc: Global,
+    shape: Lines,
+    entries: &[Entry<Global>],
+) -> Result<Listing, AllocError> {
     let mut lines = Vec::new(alloc);
-    let left_out = match answer {
-        Answer::Entries(entries) => {
-            match shape {
-                Lines::Facts => put_entries(alloc, entries.as_slice(), &mut lines)?,
-                Lines::Long => put_long(entries.as_slice(), &mut lines)?,
-                Lines::Json => put_json_entries(entries.as_slice(), &mut lines)?,
-            }
-            strange_entries(entries.as_slice())
-        }
-        Answer::Names(names) => {
-            match shape {
-                Lines::Json => put_json_names(path.as_bytes(), names.as_slice(), &mut lines)?,
-                _ => put_names(path.as_bytes(), names.as_slice(), &mut lines)?,
-            }
-            strange_names(path.as_bytes(), names.as_slice())
-        }
-        _ => return Ok(None),
-    };
-    Ok(Some(Listing { lines, left_out }))
+    match shape {
+        Lines::Facts => put_entries(alloc, entries, &mut lines)?,
+        Lines::Long => put_long(entries, &mut lines)?,
+        Lines::Json => put_json_entries(entries, &mut lines)?,
+    }
+    Ok(Listing {
+        lines,
+        left_out: strange_entries(entries),
+        odd: 0,
+    })
+}
+
+fn names_listing(
+    alloc: Global,
+    path: &str,
+    shape: Lines,
+    names: &[Text<Global>],
+) -> Result<Listing, AllocError> {
+    let mut lines = Vec::new(alloc);
+    match shape {
+        Lines::Json => put_json_names(path.as_bytes(), names, &mut lines)?,
+        Lines::Facts | Lines::Long => put_names(path.as_bytes(), names, &mut lines)?,
+    }
+    Ok(Listing {
+        lines,
+        left_out: strange_names(path.as_bytes(), names),
+        odd: 0,
+    })
 }

@@ -6,12 +6,12 @@ use crate::fetching::says_unknown;
 use crate::single::{Single, Wish};
 use crate::target::Target;
 use ftp_facts::Text;
-use ftp_operation::Answer;
+use ftp_operation::{Answer, ListVerb};
 use ftp_tool_connection::{
     ClientSession, Converses, Ending, LastReply, Logins, Phase, SessionFault, SessionTask, ask, at,
     told,
 };
-use ftp_tool_listing::{chosen_entries, chosen_names};
+use ftp_tool_listing::{Item, chosen_items, chosen_names, items_of_columns, items_of_facts};
 use ftp_tool_local::LocalFiles;
 use ftp_tool_shown::Shown;
 use ftp_tool_status::Status;
@@ -221,14 +221,23 @@ impl<'a, R: LocalFiles + Print + Eprint> Matching<'a, R> {
     ) -> Result<Option<Vec<Text<Global>, Global>>, AllocError> {
         let pattern = self.pattern.as_bytes();
         match answer {
-            Answer::Entries(entries) => {
-                Ok(Some(chosen_entries(self.alloc, pattern, entries.as_slice())?))
+            Answer::Octets(text) => {
+                let items = self.items(text.as_slice())?;
+                Ok(Some(chosen_items(self.alloc, pattern, items.as_slice())?))
             }
             Answer::Names(names) => {
                 let dir = self.dir.as_bytes();
                 Ok(Some(chosen_names(self.alloc, pattern, dir, names.as_slice())?))
             }
             _ => Ok(None),
+        }
+    }
+
+    /// What the directory has, by a listing of it as text.
+    fn items(&self, text: &[u8]) -> Result<Vec<Item<Global>, Global>, AllocError> {
+        match self.asked.openings.list_verb() {
+            ListVerb::Mlsd => items_of_facts(self.alloc, text),
+            ListVerb::List | ListVerb::Nlst => items_of_columns(self.alloc, text),
         }
     }
 

@@ -15,7 +15,7 @@ use std::io::{Eprint, Error, ErrorKind};
 /// What is wished for at a place.
 #[derive(Clone, Copy)]
 pub(crate) enum Wish<'a> {
-    /// The entries, with their facts.
+    /// The entries, as text: by MLSD with their facts, or by LIST where the server does not know that.
     Entries,
     Names,
     Simple(Simple<'a>),
@@ -122,11 +122,25 @@ impl<'a> Single<'a> {
         matches!(self.wish, Wish::Entries) && !says_directory(self.path)
     }
 
-    /// What the server answers; where it does not know how the data connection of a listing is asked for, to the same asked for otherwise.
+    /// What the server answers; where it does not know the command of a listing, to the same asked for by another one.
     pub(crate) fn asked<S: ClientSession>(
         &self,
         seat: &mut S,
     ) -> Result<Answer<Global>, AllocError> {
+        let answer = self.opened(seat)?;
+        if !self.is_listing() || !self.openings.hear_listing(&answer) {
+            return Ok(answer);
+        }
+        drop(answer);
+        self.opened(seat)
+    }
+
+    fn is_listing(&self) -> bool {
+        matches!(self.wish, Wish::Entries)
+    }
+
+    /// What the server answers; where it does not know how the data connection of a listing is asked for, to the same asked for otherwise.
+    fn opened<S: ClientSession>(&self, seat: &mut S) -> Result<Answer<Global>, AllocError> {
         let opened = seat.opened();
         let answer = seat.answer(self.request()?);
         if self.wish.is_simple() || !self.openings.hear(&answer, seat.opened() > opened) {
@@ -141,7 +155,7 @@ impl<'a> Single<'a> {
         let path = Text::copy_of(self.alloc, self.path.as_bytes())?;
         let how = self.openings.how(self.how);
         let op = match self.wish {
-            Wish::Entries => Op::List(path, how),
+            Wish::Entries => Op::Text(self.openings.list_verb(), path, how),
             Wish::Names => Op::Names(path, how),
             Wish::Simple(simple) => op_of(self.alloc, simple, path, how)?,
         };
