@@ -78,7 +78,7 @@ pub(crate) fn facts_here<R: Places>(rt: &R, folder: &str, below: &str) -> Option
     match rt.found(folder, below) {
         Ok(Some(found)) => match kind_of(&found) {
             Kind::File(facts) => Some(facts),
-            Kind::Dir | Kind::Other | Kind::Excluded => None,
+            Kind::Dir | Kind::Other | Kind::Excluded | Kind::Odd => None,
         },
         Ok(None) | Err(_) => None,
     }

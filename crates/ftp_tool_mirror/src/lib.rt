@@ -17,6 +17,7 @@ mod server;
 mod tally;
 mod telling;
 mod todo;
+mod told;
 mod trouble;
 mod walk;
 

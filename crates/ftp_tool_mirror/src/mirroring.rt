@@ -16,8 +16,8 @@ use std::time::Clock;
 /// How often a mirror goes on that got further over the control connections before.
 const ROUNDS: u32 = 1_000_000;
 
-/// What is told before the reply of a server that knows no MLSD.
-const NO_LISTING: &str = "error: the server has no machine listing, by which a mirror goes: ";
+/// What is told before the reply of a server that knows neither MLSD nor LIST.
+const NO_LISTING: &str = "error: the server lists nothing, by which a mirror goes: ";
 
 /// What is told before what the server said last.
 const ENDED: &str = "error: the control connection ended";

@@ -122,7 +122,7 @@ impl<'a, R: Machine> Walk<'a, R> {
     ) -> Result<bool, Trouble> {
         match self.mirror.rules.way {
             Way::Down => Ok(self.rt.found(self.mirror.folder, below)?.is_some()),
-            Way::Up => stands_there(seat, self.mirror.path(self.alloc, below)?),
+            Way::Up => stands_there(self.alloc, seat, self.mirror, below, true),
         }
     }
 

@@ -1,11 +1,11 @@
 // What stands in a directory of a server, and what is asked of it.
 use crate::asked::Mirror;
-use crate::folder::{MOST_ENTRIES, put_item};
+use crate::told::told_there;
 use crate::trouble::Trouble;
-use ftp_facts::{Entry, EntryKind, Text};
+use ftp_facts::Text;
 use ftp_operation::{Answer, Op};
 use ftp_tool_connection::{ClientSession, Ending, Request};
-use ftp_tool_listing::{Facts, Kind, Listing};
+use ftp_tool_listing::Listing;
 use std::alloc::{AllocError, Global};
 
 /// The codes of a server that does not know a command (RFC 959, section 4.2.2).
@@ -29,11 +29,33 @@ pub(crate) fn done_by<S: ClientSession>(seat: &mut S, op: Op<Text<Global>>) -> R
 
 /// Whether a server has something at a path, as it says of that alone (MLST, RFC 3659, section 7).
 pub(crate) fn stands_there<S: ClientSession>(
+    alloc: Global,
     seat: &mut S,
-    path: Text<Global>,
+    mirror: &Mirror<'_>,
+    below: &str,
+    is_dir: bool,
 ) -> Result<bool, Trouble> {
+    let path = mirror.path(alloc, below)?;
     match &seat.answer(Request::One(Some(Op::Facts(path)))) {
         Answer::Entry(_) => Ok(true),
+        Answer::Refused(MISSING) => Ok(false),
+        Answer::Refused(UNKNOWN | NOT_IMPLEMENTED) if !is_dir => {
+            file_stands_there(alloc, seat, mirror, below)
+        }
+        answer => Err(Trouble::of(answer)),
+    }
+}
+
+/// Whether a server that knows no MLST has a file at a path, as it says of that alone (SIZE, RFC 3659, section 4).
+fn file_stands_there<S: ClientSession>(
+    alloc: Global,
+    seat: &mut S,
+    mirror: &Mirror<'_>,
+    below: &str,
+) -> Result<bool, Trouble> {
+    let path = mirror.path(alloc, below)?;
+    match &seat.answer(Request::One(Some(Op::Size(path, mirror.how)))) {
+        Answer::Number(_) => Ok(true),
         Answer::Refused(MISSING) => Ok(false),
         answer => Err(Trouble::of(answer)),
     }
@@ -51,12 +73,7 @@ pub(crate) fn entries_there<S: ClientSession>(
         return Ok(Listing::CutOff);
     }
     match &answer {
-        Answer::Entries(entries) => Ok(items_of(
-            alloc,
-            entries.as_slice(),
-            below,
-            mirror.excluded,
-        )?),
+        Answer::Octets(text) => told_there(alloc, seat, mirror, below, text.as_slice()),
         Answer::Refused(code) if *code == UNKNOWN || *code == NOT_IMPLEMENTED => {
             Err(Trouble::NoListing(*code))
         }
@@ -64,8 +81,23 @@ pub(crate) fn entries_there<S: ClientSession>(
     }
 }
 
-/// What the server answers to the question for them; where it does not know how the data connection is asked for, to the same asked for otherwise.
+/// What the server answers to the question for them; where it does not know MLSD, to that by LIST.
 fn listed<S: ClientSession>(
+    alloc: Global,
+    seat: &mut S,
+    mirror: &Mirror<'_>,
+    below: &str,
+) -> Result<Answer<Global>, AllocError> {
+    let answer = opened(alloc, seat, mirror, below)?;
+    if !mirror.openings.hear_listing(&answer) {
+        return Ok(answer);
+    }
+    drop(answer);
+    opened(alloc, seat, mirror, below)
+}
+
+/// What the server answers; where it does not know how the data connection is asked for, to the same asked for otherwise.
+fn opened<S: ClientSession>(
     alloc: Global,
     seat: &mut S,
     mirror: &Mirror<'_>,
@@ -88,36 +120,6 @@ pub(crate) fn listing_request(
 ) -> Result<Request, AllocError> {
     let path = mirror.path(alloc, below)?;
     let how = mirror.openings.how(mirror.how);
-    Ok(Request::One(Some(Op::List(path, how))))
-}
-
-fn items_of(
-    alloc: Global,
-    entries: &[Entry<Global>],
-    below: &str,
-    excluded: &[&str],
-) -> Result<Listing<Global>, AllocError> {
-    if entries.len() >= MOST_ENTRIES {
-        return Ok(Listing::CutOff);
-    }
-    let mut items = Vec::new(alloc);
-    for entry in entries {
-        let name = entry.name.as_slice();
-        put_item(alloc, &mut items, name, kind_of(entry), below, excluded)?;
-    }
-    Ok(Listing::Whole(items))
-}
-
-fn kind_of(entry: &Entry<Global>) -> Kind {
-    match &entry.kind {
-        Some(EntryKind::File) => Kind::File(Facts {
-            size: entry.size,
-            moment: match entry.modify {
-                Some(moment) => Some(moment.seconds),
-                None => None,
-            },
-        }),
-        Some(EntryKind::Dir) => Kind::Dir,
-        _ => Kind::Other,
-    }
+    let verb = mirror.openings.list_verb();
+    Ok(Request::One(Some(Op::Text(verb, path, how))))
 }

@@ -237,7 +237,7 @@ impl Todo {
         item: &Item<Global>,
     ) -> Result<(), AllocError> {
         match (item.kind, std::str::from_utf8(item.name.as_slice())) {
-            (Kind::Excluded, _) | (_, Err(_)) => self.spare(number),
+            (Kind::Excluded | Kind::Odd, _) | (_, Err(_)) => self.spare(number),
             (Kind::Dir, Ok(name)) if is_name(name.as_bytes()) => {
                 let below = joined(self.alloc, below, name)?;
                 self.waiting.push(Work {

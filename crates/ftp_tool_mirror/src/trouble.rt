@@ -8,7 +8,7 @@ use std::io;
 pub(crate) enum Trouble {
     /// The server refuses it, by this code.
     Refused(u16),
-    /// The server has no machine listing: the code of its reply.
+    /// The server knows neither MLSD nor LIST: the code of its reply.
     NoListing(u16),
     /// The control connection ended.
     Lost,

@@ -193,9 +193,10 @@ impl<'a, R: Machine> Walk<'a, R> {
         &self,
         seat: &mut S,
         below: &str,
+        is_dir: bool,
     ) -> Result<bool, Trouble> {
         match self.mirror.rules.way {
-            Way::Down => stands_there(seat, self.mirror.path(self.alloc, below)?),
+            Way::Down => stands_there(self.alloc, seat, self.mirror, below, is_dir),
             Way::Up => self.stands_here(below),
         }
     }
@@ -217,7 +218,8 @@ impl<'a, R: Machine> Walk<'a, R> {
         deed: Deed,
         below: &str,
     ) -> Result<(), Trouble> {
-        if self.stands_at_source(seat, below)? {
+        let is_dir = matches!(deed, Deed::RemoveDir);
+        if self.stands_at_source(seat, below, is_dir)? {
             return Err(Trouble::Stands);
         }
         self.do_deed(seat, deed, below)
