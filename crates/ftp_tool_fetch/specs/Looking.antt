@@ -13,7 +13,6 @@ means_no_directory code = code == 501 || code == 550
 abbrev pub may_be_file : {A : Type 0} → Answer A → Bool
 may_be_file (Answers.Refused code) = means_no_directory code
 may_be_file (Answers.Entries entries) = length entries.items == 0
-may_be_file (Answers.Octets text) = length text == 0
 may_be_file answer = false
 
 -- the type of a file

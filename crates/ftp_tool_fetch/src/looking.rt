@@ -20,7 +20,6 @@ pub(crate) fn may_be_file(answer: &Answer<Global>) -> bool
     match answer {
         Answer::Refused(code) => means_no_directory(*code),
         Answer::Entries(entries) => entries.is_empty(),
-        Answer::Octets(text) => text.as_slice().is_empty(),
         _ => false,
     }
 }

@@ -8,6 +8,7 @@ use ftp_tool_connection::{
     ClientSession, Converses, Ending, LastReply, Logins, Openings, Phase, Request, SessionFault,
     SessionTask, ask, at, converse_as,
 };
+use ftp_tool_listing::lists_nothing;
 use ftp_tool_words::{last_part, says_directory};
 use std::alloc::{AllocError, Global};
 use std::io::{Eprint, Error, ErrorKind};
@@ -100,7 +101,7 @@ impl<'a> Single<'a> {
     /// last.
     fn looked<S: ClientSession>(&self, seat: &mut S) -> Result<Answer<Global>, AllocError> {
         let listed = self.asked(seat)?;
-        if !self.looks_on() || !may_be_file(&listed) {
+        if !self.looks_on() || !self.may_be_file(&listed)? {
             return Ok(listed);
         }
         let is_refused = matches!(&listed, Answer::Refused(_));
@@ -114,6 +115,14 @@ impl<'a> Single<'a> {
             self.asked(seat)
         } else {
             Ok(listed)
+        }
+    }
+
+    /// Whether a file may stand there, of which the entries were asked for, and this was answered.
+    fn may_be_file(&self, listed: &Answer<Global>) -> Result<bool, AllocError> {
+        match listed {
+            Answer::Octets(text) => lists_nothing(self.alloc, text.as_slice()),
+            _ => Ok(may_be_file(listed)),
         }
     }
 

@@ -1,7 +1,6 @@
 -- A listing as text, line by line: entries, and lines that are none (own choice; RFC 3659, section 7).
-use Rattle.std.specs.Prelude.{ℕ, ◌==◌, Bool, true, false, List, [], ◌∷◌, length, is_none, filter, filter_map, Option, Some, None, codes, if◌then◌else◌}
-use Rattle.std.specs.List.{after_first, starts_with}
-use Rattle.std.specs.Prelude.{nat_eq}
+use Rattle.std.specs.Prelude.{ℕ, ◌==◌, Bool, false, not, nat_eq, List, filter, is_none, Option, Some, None, codes}
+use Rattle.std.specs.List.{after_first, filter_map, starts_with}
 use Rattle.ftp_facts.specs.Fact.{space}
 use Rattle.ftp_facts.specs.Listed.{Listed, entry_value}
 use Rattle.ftp_facts.specs.Listing.{is_shown}
@@ -17,6 +16,15 @@ is_odd line = is_none (entry_value line)
 -- those, as they came
 abbrev pub odd_of : List (List ℕ) → List (List ℕ)
 odd_of lines = filter is_odd lines
+
+-- an entry that is left out
+abbrev pub is_left_out : Option Listed → Bool
+is_left_out None = false
+is_left_out (Some entry) = not (is_shown entry)
+
+-- a line that says one
+abbrev pub is_aside : List ℕ → Bool
+is_aside line = is_left_out (entry_value line)
 
 -- the name in a line of MLSD that says no entry: what stands behind its first space (RFC 3659, section 7.2)
 abbrev pub odd_name : List ℕ → List ℕ

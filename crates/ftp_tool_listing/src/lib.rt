@@ -31,5 +31,5 @@ pub use name::is_name;
 pub use pattern::{is_excluded, matches};
 pub use planning::{Step, plan};
 pub use reading::{items_of_columns, items_of_facts};
-pub use text::{TextListing, read_entries, read_lines};
+pub use text::{TextListing, lists_nothing, read_entries, read_lines};
 pub use unix_line::{UnixKind, UnixLine, read_unix_line};

@@ -1,9 +1,9 @@
 // A listing as text, read line by line (RFC 3659, section 7).
 ghost use Rattle.std.specs.Prelude.{◌≡◌, ◌==◌, ◌∷◌, ◌<◌, ◌≤◌, IfOk, length, map};
-ghost use Rattle.std.specs.List.{position_or_len};
+ghost use Rattle.std.specs.List.{list_all, position_or_len};
 ghost use Rattle.ftp_facts.specs.Entry.{listed_of};
 ghost use Rattle.ftp_facts.specs.Listing.{is_shown, line_feed, lines_of};
-ghost use Rattle.ftp_tool_listing.specs.Text.{entries_of, odd_of};
+ghost use Rattle.ftp_tool_listing.specs.Text.{entries_of, is_aside, odd_of};
 
 use ftp_facts::{Entry, EntryKind, FactFault, Text, read_entry};
 use std::alloc::{AllocError, Global};
@@ -33,6 +33,32 @@ pub fn read_entries(alloc: Global, text: &[u8]) -> Result<TextListing, AllocErro
         rest = behind;
     }
     Ok(listing)
+}
+
+/// Whether a listing of MLSD has no line but those of the directory itself, of its parent and of other types than file and directory.
+pub fn lists_nothing(alloc: Global, text: &[u8]) -> Result<bool, AllocError>
+    ensures { IfOk result (λ is_nothing. is_nothing ≡ list_all is_aside (lines_of text.now)) }
+{
+    let mut rest = text;
+    while !rest.is_empty() {
+        let (line, behind) = cut_line(rest);
+        if !is_aside(alloc, line)? {
+            return Ok(false);
+        }
+        rest = behind;
+    }
+    Ok(true)
+}
+
+/// Whether a line says an entry that is left out.
+fn is_aside(alloc: Global, line: &[u8]) -> Result<bool, AllocError>
+    ensures { IfOk result (λ is_aside. is_aside ≡ is_aside line.now) }
+{
+    match read_entry(alloc, line) {
+        Ok(entry) => Ok(!is_shown(&entry)),
+        Err(FactFault::Memory) => Err(AllocError),
+        Err(_) => Ok(false),
+    }
 }
 
 /// The lines of a listing, as they came.
