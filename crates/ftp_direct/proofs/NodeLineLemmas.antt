@@ -1,9 +1,13 @@
 -- The line of LIST of what stands at a path, and the last name of one.
-use Rattle.std.proofs.Common.{◌≡◌, ℕ, suc, ◌+◌, ◌-◌, min, Bool, true, false, List, [], ◌∷◌, ◌++◌, length, take, drop, map, Option, Some, None, refl, ap, sym, ◌∙◌, arith, append_assoc, append-nil, length-append}
+use Rattle.std.proofs.Common.{◌≡◌, ℕ, suc, ◌+◌, ◌-◌, min, Bool, true, false, not, List, [], ◌∷◌, ◌++◌, length, take, drop, map, Option, Some, None, refl, ap, sym, ◌∙◌, arith, append_assoc, append-nil, length-append}
 use Rattle.std.specs.Prelude.{codes, decimal, flat_map, if◌then◌else◌}
 use Rattle.std.specs.List.{filter_map}
 use Rattle.std.specs.Option.{option_map, unwrap_or}
+use Rattle.std.proofs.lemmas.Bool.{and_parts}
 use Rattle.ftp_path.specs.Path.{Names, fits, joined, parent}
+use Rattle.ftp_operation.specs.Operation.{is_option, is_optional_text, may_be_listed}
+use Rattle.ftp_operation.specs.declared.op.ListVerb.{ListVerb}
+use Rattle.ftp_operation.specs.declared.op.ListVerb.TheVariants as Verbs
 use Rattle.ftp_facts.specs.Entry.{digits_of, entry_line, facts_of, listed_of, word_of}
 use Rattle.ftp_facts.specs.Fact.{facts_text, space}
 use Rattle.ftp_facts.specs.Moment.{moment_digits}
@@ -146,3 +150,11 @@ pub child_line_is : (table : Table) (path : Names) (name : List ℕ) (at : Names
 child_line_is table path name at line is short put =
     ap Some (put ∙ ap (λ p. node_line name (unwrap_or (node_at table p) Dir)) is)
     ∙ ap (λ b. if b then Some (node_line name (unwrap_or (node_at table (child path name)) Dir)) else None) (sym short ∙ ap fits is)
+
+-- ---- what can be listed
+
+-- the text of a listing that a command can ask for is one that may be left out
+pub optional_text : (verb : ListVerb) (text : List ℕ) → may_be_listed verb text ≡ true → is_optional_text text ≡ true
+optional_text Verbs.Mlsd text may = may
+optional_text Verbs.List text may = (and_parts (is_optional_text text) (not (is_option text)) may).0
+optional_text Verbs.Nlst text may = (and_parts (is_optional_text text) (not (is_option text)) may).0

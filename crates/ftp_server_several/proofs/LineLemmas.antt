@@ -10,6 +10,7 @@ use Rattle.ftp_direct.specs.Refusal.{code_of as refused_code}
 use Rattle.ftp_direct.specs.declared.refusal.Refusal.{Refusal}
 use Rattle.ftp_direct.specs.declared.refusal.Refusal.TheVariants as Refusals
 use Rattle.ftp_operation.specs.Answer.{Said}
+use Rattle.ftp_operation.specs.declared.op.ListVerb.TheVariants as Lists
 use Rattle.ftp_operation.specs.declared.op.Op.{Op}
 use Rattle.ftp_operation.specs.declared.op.Op.TheVariants as Ops
 use Rattle.ftp_path.specs.Path.{Names, fits}
@@ -208,8 +209,8 @@ module _ (footing : Footing) (pending : Pending Names) (s : Session) (moment : â
   known_answers (command.Rnto text) op is = rename_answers footing pending text s op moment is
   known_answers (command.Retr text) op is = file_answers footing pending text s op moment is
   known_answers (command.List text) op is =
-      by_op (command.List text) op (Ops.Names (or_empty text) (how_in_force s.settings)) is
-      (starts_answers (command.List text) (Ops.Names (or_empty text) (how_in_force s.settings)) s (refusal (state_of s) (Ops.Names (or_empty text) (how_in_force s.settings))) (state_of s) (done (state_of s) (Ops.Names (or_empty text) (how_in_force s.settings)) moment)
+      by_op (command.List text) op (Ops.Text Lists.List (or_empty text) (how_in_force s.settings)) is
+      (starts_answers (command.List text) (Ops.Text Lists.List (or_empty text) (how_in_force s.settings)) s (refusal (state_of s) (Ops.Text Lists.List (or_empty text) (how_in_force s.settings))) (state_of s) (done (state_of s) (Ops.Text Lists.List (or_empty text) (how_in_force s.settings)) moment)
       (Transfers.Listing (listing_wire s.settings.mode (list_lines (seen s) (path_or_here s text)))) refl refl)
   known_answers (command.Nlst text) op is =
       by_op (command.Nlst text) op (Ops.Names (or_empty text) (how_in_force s.settings)) is

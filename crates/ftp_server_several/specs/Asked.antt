@@ -5,17 +5,19 @@ use Rattle.ftp_command.specs.declared.command.Command.TheVariants as command
 use Rattle.ftp_direct.specs.Direct.{State, chosen, done, entry_at, first_refusal, named, offset_refusal, skipped}
 use Rattle.ftp_facts.specs.Moment.{moment_digits}
 use Rattle.ftp_operation.specs.Answer.{Said, Done, Path, Octets, Number, Stamp, Entry, Entries, Names as NameList, Refused}
+use Rattle.ftp_mode.specs.Wire.{wire}
+use Rattle.ftp_operation.specs.declared.op.ListVerb.TheVariants as Lists
 use Rattle.ftp_operation.specs.declared.op.Op.{Op}
 use Rattle.ftp_operation.specs.declared.op.Op.TheVariants as Ops
 use Rattle.ftp_path.specs.Path.{Names, text_of as path_text}
 use Rattle.ftp_server_model.specs.Act.{decided, forgets, is_in}
 use Rattle.ftp_server_model.specs.Ask.{has_size, or_empty}
 use Rattle.ftp_server_model.specs.Entries.{listed_line}
-use Rattle.ftp_server_model.specs.Listing.{list_lines, listing_wire}
+use Rattle.ftp_server_model.specs.Listing.{listing_form, listing_wire}
 use Rattle.ftp_server_model.specs.Replies.{Turn, tells}
 use Rattle.ftp_server_model.specs.Texts.{code_of}
-use Rattle.ftp_server_model.specs.Transfer.{begin, file_wire, path_or_here}
-use Rattle.ftp_server_model.specs.View.{Footing, Session, as_direct, direct_of, how_in_force, seen}
+use Rattle.ftp_server_model.specs.Transfer.{begin, file_wire}
+use Rattle.ftp_server_model.specs.View.{Footing, Session, Transfer, as_direct, direct_of, how_in_force, seen}
 use Rattle.ftp_server_model.specs.Walk.{path_of}
 use Rattle.ftp_server_model.specs.declared.heard.HeardLine.{HeardLine}
 use Rattle.ftp_server_model.specs.declared.heard.HeardLine.TheVariants.{TooLong, Bad, Asks as Says}
@@ -42,8 +44,8 @@ AsksRename (Pendings.Rename from) new s op = (text : List ℕ) × (path_of s tex
 AsksRename Pendings.Nothing new s op = ⊥
 AsksRename (Pendings.Restart offset) new s op = ⊥
 
--- A command asks for this operation, done or refused where its line is acted on. LIST is refused as NLST is; an upload is asked for by no line, since
--- it is one operation at its end
+-- A command asks for this operation, done or refused where its line is acted on. LIST asks for its text; an upload is asked for by no line, since it is
+-- one operation at its end
 abbrev pub Asks : Pending Names → Session → Command (List ℕ) → Op (List ℕ) → Type 0
 Asks pending s command.Pwd op = op ≡ Ops.Where
 Asks pending s (command.Cwd text) op = op ≡ Ops.ChangeDir text
@@ -53,7 +55,7 @@ Asks pending s (command.Rmd text) op = op ≡ Ops.RemoveDir text
 Asks pending s (command.Dele text) op = op ≡ Ops.Delete text
 Asks pending s (command.Rnto text) op = AsksRename pending text s op
 Asks pending s (command.Retr text) op = AsksFile pending text s op
-Asks pending s (command.List text) op = op ≡ Ops.Names (or_empty text) (how_in_force s.settings)
+Asks pending s (command.List text) op = op ≡ Ops.Text Lists.List (or_empty text) (how_in_force s.settings)
 Asks pending s (command.Nlst text) op = op ≡ Ops.Names (or_empty text) (how_in_force s.settings)
 Asks pending s (command.Mlsd text) op = op ≡ Ops.List (or_empty text) (how_in_force s.settings)
 Asks pending s (command.Mlst text) op = op ≡ Ops.Facts (or_empty text)
@@ -78,10 +80,10 @@ abbrev pub sent_place : State → Op (List ℕ) → ℕ
 sent_place state (Ops.GetFrom text offset how) = skipped state (named state text) how offset
 sent_place state other = 0
 
--- the lines that a listing of these names sends: LIST has lines of its own, of the same place
-abbrev pub lines_of : Command (List ℕ) → Session → List (List ℕ) → List (List ℕ)
-lines_of (command.List text) s names = list_lines (seen s) (path_or_here s text)
-lines_of other s names = names
+-- the transfer of octets that are the answer: the text of a listing, or a file's from a place on
+abbrev pub sent_of : Op (List ℕ) → Session → List ℕ → Transfer
+sent_of (Ops.Text verb text how) s octets = Transfers.Listing (wire s.settings.mode listing_form octets)
+sent_of op s octets = Transfers.Download (file_wire s.settings (sent_place (direct_of s) op) octets)
 
 -- What a line made of a session tells this answer, and leaves this state of the direct run. A refusal leaves all as it was, but that a transfer command
 -- forgets its endpoint; where octets, entries or names are the answer, a transfer of them begins
@@ -89,12 +91,12 @@ abbrev pub Answers : Command (List ℕ) → Op (List ℕ) → Session → Said �
 Answers c op s (Refused code, state) turn = (turn.0 ≡ forgets c s) × TellsCode code turn.1
 Answers c op s (Done, state) turn = turn ≡ tells Texts.Done (as_direct state s)
 Answers c op s (Path text, state) turn = (turn.0 ≡ as_direct state s) × TellsPath text turn.0 turn.1
-Answers c op s (Octets octets, state) turn = turn ≡ begin s.connection (Transfers.Download (file_wire s.settings (sent_place (direct_of s) op) octets)) s
+Answers c op s (Octets octets, state) turn = turn ≡ begin s.connection (sent_of op s octets) s
 Answers c op s (Number number, state) turn = turn ≡ (s, Replies.Size number)
 Answers c op s (Stamp moment, state) turn = turn ≡ (s, Replies.Stamp (moment_digits moment))
 Answers c op s (Entry entry, state) turn = (turn.0 ≡ s) × ((path : Names) × (turn.1 ≡ Replies.Entry path) × (entry_at (seen s) path (path_text path) ≡ entry))
 Answers c op s (Entries entries, state) turn = turn ≡ begin s.connection (Transfers.Listing (listing_wire s.settings.mode (map (listed_line s.facts) entries))) s
-Answers c op s (NameList names, state) turn = turn ≡ begin s.connection (Transfers.Listing (listing_wire s.settings.mode (lines_of c s names))) s
+Answers c op s (NameList names, state) turn = turn ≡ begin s.connection (Transfers.Listing (listing_wire s.settings.mode names)) s
 Answers c op s other turn = ⊥
 
 -- ---- the direct run on the map that stands

@@ -1,4 +1,5 @@
 use Rattle.ftp_operation.specs.declared.op.Op.TheVariants as Ops
+use Rattle.ftp_direct.proofs.NodeLineLemmas.{optional_text}
 use Rattle.ftp_direct.proofs.RefusalLemmas.{if_gives}
 use Rattle.ftp_direct.proofs.RightsLemmas.{due_else}
 use Rattle.ftp_direct.proofs.direct_run.due.Goals as goal
@@ -138,3 +139,14 @@ returns-in-Names-clause-answer g c =
     (g.T.Tree.failures c.args.tree.now) (g.T.Tree.failures c.names.new.tree) (g.T.Tree.table c.names.new.tree) c.args.cwd.now
     (Ops.Names c.in-Names.text c.in-Names.field-1) 0 tt
     (c.names.ensures.answer c.in-Names.field-1))
+
+pub text-requires : goal.text-requires
+text-requires g c = optional_text c.in-Text.verb c.in-Text.path (rw c.in-Text.is at c.requires)
+
+pub returns-in-Text-clause-answer : goal.returns-in-Text-clause-answer
+returns-in-Text-clause-answer g c =
+    rw c.in-Text.is
+    (due_else (g.T.Tree.table c.args.tree.now) c.args.root.now c.args.cwd.now c.args.onto c.text.result
+    (g.T.Tree.failures c.args.tree.now) (g.T.Tree.failures c.text.new.tree) (g.T.Tree.table c.text.new.tree) c.args.cwd.now
+    (Ops.Text c.in-Text.verb c.in-Text.path c.in-Text.field-2) 0 tt
+    (c.text.ensures.answer c.in-Text.field-2))
