@@ -7,7 +7,7 @@ ghost use Rattle.ftp_tree.specs.Map.{Dir};
 ghost use Rattle.ftp_tree.specs.Tree.{children, node_at, under};
 ghost use Rattle.ftp_operation.specs.Answer.{said_of};
 ghost use Rattle.ftp_operation.specs.Operation.{is_optional_text};
-ghost use Rattle.ftp_direct.specs.Direct.{due, here, refused_at};
+ghost use Rattle.ftp_direct.specs.Direct.{due, here, refused_at, refused_listing, refused_there};
 ghost use Rattle.ftp_direct.specs.Listing.{child_line, entry_text, lines_file, list_lines, listing_file, node_line, text_line};
 ghost use Rattle.ftp_direct.specs.Run.{IsAnswer, IsAsBefore};
 
@@ -18,7 +18,7 @@ use crate::nodes::{absent_fault, directory_fault};
 use crate::refusal::{Refusal, find, tell};
 use ftp_facts::{Entry, Text, write_entry};
 use ftp_operation::{Answer, How, ListVerb, Op};
-use ftp_tree::{NodeKind, Path, Sight, Tree};
+use ftp_tree::{NodeKind, Path, Sight, Tree, TreeFault};
 use std::alloc::{AllocError, Allocator};
 
 /// Gives the listing of a command as text.
@@ -55,16 +55,29 @@ fn why_unlisted<A: Allocator + Copy, T: Tree<A>>(
     requires { fits path.now ≡ true }
     ensures { result ≡ refused_at verb path.now (node_at (under (T.table tree.now) root.now) path.now) }
 {
-    let fault = match verb {
-        ListVerb::Mlsd => directory_fault(tree, root, path),
-        ListVerb::List | ListVerb::Nlst => absent_fault(tree, root, path),
-    };
-    let Some(fault) = fault else {
-        return None;
-    };
     match verb {
-        ListVerb::Mlsd => Some(listing_refusal(fault)),
-        ListVerb::List | ListVerb::Nlst => Some(Refusal::Unavailable),
+        ListVerb::Mlsd => listing_why(directory_fault(tree, root, path)),
+        ListVerb::List | ListVerb::Nlst => there_why(absent_fault(tree, root, path)),
+    }
+}
+
+/// How the listing of a directory is refused, if it is.
+fn listing_why(fault: Option<TreeFault>) -> Option<Refusal>
+    ensures { result ≡ refused_listing fault }
+{
+    match fault {
+        None => None,
+        Some(fault) => Some(listing_refusal(fault)),
+    }
+}
+
+/// How a listing is refused where nothing stands.
+fn there_why(fault: Option<TreeFault>) -> Option<Refusal>
+    ensures { result ≡ refused_there fault }
+{
+    match fault {
+        None => None,
+        Some(_) => Some(Refusal::Unavailable),
     }
 }
 

@@ -60,3 +60,4 @@ refused_at s (Ops.Modified text) = rw (part-taken no_nodes s.root (under s.table
 refused_at s (Ops.Facts text) = rw (part-taken no_nodes s.root (under s.table s.root)) refl
 refused_at s (Ops.List text how) = rw (part-taken no_nodes s.root (under s.table s.root)) refl
 refused_at s (Ops.Names text how) = rw (part-taken no_nodes s.root (under s.table s.root)) refl
+refused_at s (Ops.Text verb text how) = rw (part-taken no_nodes s.root (under s.table s.root)) refl
