@@ -12,3 +12,4 @@ pub mod PlanRows
 pub mod Index
 pub mod Text
 pub mod UnixLine
+pub mod UnixRows

@@ -101,6 +101,16 @@ OthersPlanned =
     ≡ step (codes "b") Does.MakeDir ∷ step (codes "a") (Does.Copy (facts 3 5)) ∷ step (codes "c") Does.RemoveDir ∷ [])
     × (plan {A = ℕ} down_all Listings.CutOff Listings.CutOff ≡ refused Reasons.CutOff)
 
+-- lines that are no entries: they are told, what has the name of one stays, and where one has none all of the target does
+abbrev pub OddPlanned : Type 0
+OddPlanned =
+    (whole_plan down_all (item (codes "b") Kinds.Odd ∷ []) (item (codes "b") Kinds.Dir ∷ item (codes "c") Kinds.Dir ∷ [])
+    ≡ step (codes "b") (Does.Refuse Reasons.Odd) ∷ step (codes "c") Does.RemoveDir ∷ [])
+    × (whole_plan down_all (item [] Kinds.Odd ∷ a (Kinds.File (facts 3 5))) (item (codes "c") Kinds.Dir ∷ [])
+    ≡ step [] (Does.Refuse Reasons.Odd) ∷ step (codes "a") (Does.Copy (facts 3 5)) ∷ [])
+    × (whole_plan down_all (a (Kinds.File (facts 3 5))) (a Kinds.Odd) ≡ of_a (Does.Refuse Reasons.Odd))
+    × (whole_plan down_any [] (a Kinds.Odd) ≡ [])
+
 -- which texts are of a pattern, and which paths meet one
 abbrev pub PatternsMet : Type 0
 PatternsMet =

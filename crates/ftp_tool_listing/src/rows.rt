@@ -1,6 +1,7 @@
-//! Worked rows: functions that do nothing, whose contracts are rows of `specs/ShownRows` and `specs/PlanRows`.
-ghost use Rattle.ftp_tool_listing.specs.PlanRows.{DirsPlanned, FilesPlanned, NamesChosen, OthersPlanned, PatternsMet};
+//! Worked rows: functions that do nothing, whose contracts are rows of `specs/ShownRows`, `specs/PlanRows` and `specs/UnixRows`.
+ghost use Rattle.ftp_tool_listing.specs.PlanRows.{DirsPlanned, FilesPlanned, NamesChosen, OddPlanned, OthersPlanned, PatternsMet};
 ghost use Rattle.ftp_tool_listing.specs.ShownRows.{ColumnsShown, JsonWritten, NamesListed};
+ghost use Rattle.ftp_tool_listing.specs.UnixRows.{OthersRead, TimesRead, YearsRead};
 
 /// Which texts are names of single files.
 pub fn names()
@@ -32,6 +33,11 @@ pub fn others()
     ensures { OthersPlanned }
 {}
 
+/// What is done of lines that are no entries.
+pub fn odd_lines()
+    ensures { OddPlanned }
+{}
+
 /// Which paths meet a pattern.
 pub fn patterns()
     ensures { PatternsMet }
@@ -40,4 +46,19 @@ pub fn patterns()
 /// Which names are patterns, and which names of a listing one chooses.
 pub fn chosen()
     ensures { NamesChosen }
+{}
+
+/// Lines of LIST with a time of day.
+pub fn times_of_list()
+    ensures { TimesRead }
+{}
+
+/// Lines of LIST with a year.
+pub fn years_of_list()
+    ensures { YearsRead }
+{}
+
+/// Lines that are none, and the names of odd ones.
+pub fn other_lines()
+    ensures { OthersRead }
 {}
