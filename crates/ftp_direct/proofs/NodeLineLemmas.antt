@@ -16,7 +16,7 @@ use Rattle.ftp_facts.specs.declared.moment.Moment.{Moment}
 use Rattle.ftp_tree.specs.Map.{Node, Dir, File, octets_of, moment_of, of_node}
 use Rattle.ftp_tree.specs.Tree.{Table, node_at, children, kind_of, kind_at}
 use Rattle.ftp_tree.specs.declared.tree.NodeKind.TheVariants as Kinds
-use Rattle.ftp_direct.specs.Listing.{child, child_line, entry_text, fact_line, last_name, lines_file, list_line, list_lines, list_lines_at, node_line, text_line}
+use Rattle.ftp_direct.specs.Listing.{child, child_line, entries_in, entry_text, fact_line, last_name, lines_file, list_line, list_lines, list_lines_at, listing_file, node_line, text_line}
 
 -- ---- what stands at a path
 
@@ -139,6 +139,11 @@ written_line entry old mid new put end =
 pub entries_as_file : {A : Type 0} (entries : List (Entry A)) → flat_map entry_text entries ≡ lines_file (map fact_line (map listed_of entries))
 entries_as_file [] = refl
 entries_as_file (entry ∷ entries) = ap (λ rest. entry_text entry ++ rest) (entries_as_file entries)
+
+-- the entries of a directory as a file
+pub facts_file : {A : Type 0} (entries : List (Entry A)) (table : Table) (path : Names) (text file : List ℕ) → map listed_of entries ≡ entries_in table path
+    → file ≡ flat_map entry_text entries → file ≡ listing_file Verbs.Mlsd table path text
+facts_file entries table path text file is put = put ∙ entries_as_file entries ∙ ap (λ listed. lines_file (map fact_line listed)) is
 
 -- ---- a name in a directory
 

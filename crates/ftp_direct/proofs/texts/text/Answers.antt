@@ -1,11 +1,11 @@
-use Rattle.std.proofs.Common.{◌≡◌, ◌∙◌, None, Some, ap, sym}
+use Rattle.std.proofs.Common.{◌≡◌, ◌∙◌, None, ap, sym}
 use Rattle.ftp_tree.specs.Tree.{node_at, under}
 use Rattle.ftp_operation.specs.declared.op.Op.TheVariants as Ops
 use Rattle.ftp_operation.specs.Answer.{Octets}
 use Rattle.ftp_direct.specs.Direct.{due, here, place, refusal, refused_at}
 use Rattle.ftp_direct.specs.Listing.{listing_file}
 use Rattle.ftp_direct.proofs.LookLemmas.{looked_still}
-use Rattle.ftp_direct.proofs.RefusalLemmas.{as_told, gives_done, gives_refused}
+use Rattle.ftp_direct.proofs.RefusalLemmas.{gives_done}
 use Rattle.ftp_direct.proofs.texts.text.Goals as goal
 
 pub why_unlisted-requires : goal.why_unlisted-requires
@@ -24,15 +24,3 @@ returns-in-None-clause-answer g c = λ how.
     let gives = gives_done (here now root cwd) op 0 free in
     looked_still _ _ _ now found.2 c.in_ok-path.ensures.same (λ table. due (here table root cwd) op 0) (λ table. here table root cwd) _ _
     (ap Octets (c.in_ok-listing_file-in-None.ensures ∙ ap (λ path. listing_file c.args.verb (under now root) path text) found.0) ∙ gives.0, gives.1)
-
-pub returns-in-Some-clause-answer : goal.returns-in-Some-clause-answer
-returns-in-Some-clause-answer g c = λ how.
-    let found = rw c.in-Ok.is at c.in_ok-path.ensures.seen in
-    let root = c.args.root.now in
-    let cwd = c.args.cwd.now in
-    let now = g.T.Tree.table c.see_here.new.tree in
-    let op = Ops.Text c.args.verb c.args.text.now how in
-    let why : refusal (here now root cwd) op ≡ Some c.in-Some.why =
-    ap (λ path. refused_at c.args.verb path (node_at (under now root) path)) (sym found.0) ∙ sym c.why_unlisted.ensures ∙ c.in-Some.is in
-    looked_still _ _ _ now found.2 c.in_ok-path.ensures.same (λ table. due (here table root cwd) op 0) (λ table. here table root cwd) _ _
-    (as_told _ _ _ _ c.tell-in-Some.ensures (gives_refused (here now root cwd) op 0 c.in-Some.why why))
