@@ -1,7 +1,7 @@
 // Lines of LIST in the columns of `ls -l` (RFC 959, section 4.1.3, leaves the form open).
-ghost use Rattle.std.specs.Prelude.{◌≡◌, ◌≤◌, length, option_map, take};
+ghost use Rattle.std.specs.Prelude.{◌≡◌, ◌==◌, ◌≤◌, length, option_map, take};
 ghost use Rattle.std.specs.Char.{is_ascii_digit};
-ghost use Rattle.std.specs.List.{list_all, position_or_len, prefix_len};
+ghost use Rattle.std.specs.List.{list_all, list_any, position_or_len, prefix_len};
 ghost use Rattle.std.specs.Option.{ForSome};
 ghost use Rattle.ftp_facts.specs.Moment.{two_digits};
 ghost use Rattle.ftp_tool_listing.specs.UnixLine.{before_arrow, begins_at, behind_column, behind_day, behind_one, behind_rights, behind_size};
@@ -79,7 +79,7 @@ fn behind_size(kind: UnixKind, size: u64, rest: &[u8]) -> Option<UnixLine<'_>>
     behind_day(kind, size, month, day, rest)
 }
 
-fn behind_day(kind: UnixKind, size: u64, month: u8, day: u8, rest: &[u8]) -> Option<UnixLine<'_>>
+fn behind_day(kind: UnixKind, size: u64, month: u64, day: u64, rest: &[u8]) -> Option<UnixLine<'_>>
     requires { (month ≤ 12) × (day ≤ 99) }
     ensures { option_map told result ≡ behind_day kind size month day rest.now }
 {
@@ -158,10 +158,11 @@ fn kind_of(rights: &[u8]) -> Option<UnixKind>
     let [letter, rest @ ..] = rights else {
         return None;
     };
-    if (rest.len() != 9 && rest.len() != 10) || !are_rights(&rest[..9]) {
+    if rest.len() != 9 && rest.len() != 10 {
         return None;
     }
-    kind_by(*letter)
+    let (nine, _) = rest.split_at(9);
+    if are_rights(nine) { kind_by(*letter) } else { None }
 }
 
 fn are_rights(letters: &[u8]) -> bool
@@ -173,38 +174,45 @@ fn are_rights(letters: &[u8]) -> bool
 fn is_right(letter: u8) -> bool
     ensures { result ≡ is_right letter }
 {
-    matches!(
-        letter,
-        b'r' | b'w' | b'x' | b's' | b'S' | b't' | b'T' | b'l' | b'L' | b'-'
-    )
+    stands_in(b"rwxsStTlL-", letter)
+}
+
+/// Whether a letter is one of these.
+fn stands_in(letters: &[u8], letter: u8) -> bool
+    ensures { result ≡ list_any (λ other. other == letter) letters.now }
+{
+    letters.iter().any(|other| *other == letter)
 }
 
 fn kind_by(letter: u8) -> Option<UnixKind>
     ensures { result ≡ kind_value letter }
 {
-    match letter {
-        b'-' => Some(UnixKind::File),
-        b'd' => Some(UnixKind::Dir),
-        b'l' => Some(UnixKind::Link),
-        b'b' | b'c' | b'p' | b's' => Some(UnixKind::Other),
-        _ => None,
+    if letter == b'-' {
+        Some(UnixKind::File)
+    } else if letter == b'd' {
+        Some(UnixKind::Dir)
+    } else if letter == b'l' {
+        Some(UnixKind::Link)
+    } else if stands_in(b"bcps", letter) {
+        Some(UnixKind::Other)
+    } else {
+        None
     }
 }
 
 /// The number of a month.
-fn month_of(word: &[u8]) -> Option<u8>
+fn month_of(word: &[u8]) -> Option<u64>
     ensures value { result ≡ month_value word.now }
     ensures few { ForSome result (λ month. month ≤ 12) }
 {
-    let place = MONTHS.iter().position(|month| *month == word);
-    match place {
-        Some(place) => Some(place as u8 + 1),
+    match MONTHS.iter().position(|month| word == *month) {
+        Some(place) => Some(place as u64 + 1),
         None => None,
     }
 }
 
 /// The day of a month: one digit or two.
-fn day_of(text: &[u8]) -> Option<u8>
+fn day_of(text: &[u8]) -> Option<u64>
     ensures value { result ≡ day_value text.now }
     ensures few { ForSome result (λ day. day ≤ 99) }
 {
@@ -214,11 +222,11 @@ fn day_of(text: &[u8]) -> Option<u8>
     let Some(day) = number(text) else {
         return None;
     };
-    if day <= 99 { Some(day as u8) } else { None }
+    if day <= 99 { Some(day) } else { None }
 }
 
 /// The day of a month and a year; none in it where there is a time of day in place of the year.
-fn date_of(month: u8, day: u8, year: &[u8]) -> Option<Option<Moment>>
+fn date_of(month: u64, day: u64, year: &[u8]) -> Option<Option<Moment>>
     requires { (month ≤ 12) × (day ≤ 99) }
     ensures { option_map (λ date. option_map (λ day. day.seconds) date) result ≡ date_value month day year.now }
 {
@@ -232,7 +240,7 @@ fn date_of(month: u8, day: u8, year: &[u8]) -> Option<Option<Moment>>
 }
 
 /// The moment at which a day begins, in UTC.
-fn begin_of(month: u8, day: u8, year: &[u8]) -> Option<Moment>
+fn begin_of(month: u64, day: u64, year: &[u8]) -> Option<Moment>
     requires { (month ≤ 12) × (day ≤ 99) }
     ensures { option_map (λ moment. moment.seconds) result ≡ begins_at year.now month day }
 {
@@ -248,11 +256,11 @@ fn begin_of(month: u8, day: u8, year: &[u8]) -> Option<Moment>
 }
 
 /// The two digits of a number below 100.
-fn two(number: u8) -> [u8; 2]
+fn two(number: u64) -> [u8; 2]
     requires { number ≤ 99 }
     ensures { result ≡ two_digits number }
 {
-    [b'0' + number / 10, b'0' + number % 10]
+    [b'0' + (number / 10) as u8, b'0' + (number % 10) as u8]
 }
 
 /// Whether it is a time of day, as `7:05` or `07:05`.
