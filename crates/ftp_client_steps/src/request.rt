@@ -36,8 +36,9 @@ pub fn asked_settings<A: Allocator + Copy>(op: &Op<Text<A>>) -> Option<Represent
     ensures { result ≡ asked_settings op.now }
 {
     match op {
-        Op::List(_, how) | Op::Names(_, how) | Op::Text(_, _, how) =>
-            Some(listing_settings(how.representation.mode)),
+        Op::List(_, how) | Op::Names(_, how) | Op::Text(_, _, how) => Some(listing_settings(
+            how.representation.mode,
+        )),
         Op::Size(_, how) => Some(Representation {
             kind: how.representation.kind,
             structure: Structure::File,

@@ -110,10 +110,7 @@ fn listing_file<A: Allocator + Copy, T: Tree<A>>(
 }
 
 /// Entries as a file: a line each, with LF at its end.
-fn entries_file<A: Allocator + Copy>(
-    alloc: &A,
-    entries: &[Entry<A>],
-) -> Result<Text<A>, AllocError>
+fn entries_file<A: Allocator + Copy>(alloc: &A, entries: &[Entry<A>]) -> Result<Text<A>, AllocError>
     ensures { IfOk result (λ file. file ≡ flat_map entry_text entries.now) }
 {
     let mut octets = Vec::new(*alloc);
@@ -153,10 +150,7 @@ fn file_of<A: Allocator + Copy>(alloc: &A, lines: &[Text<A>]) -> Result<Text<A>,
     Ok(Text::from_vec(octets))
 }
 
-fn put_lines<A: Allocator + Copy>(
-    lines: &[Text<A>],
-    out: &mut Vec<u8, A>,
-) -> Result<(), AllocError>
+fn put_lines<A: Allocator + Copy>(lines: &[Text<A>], out: &mut Vec<u8, A>) -> Result<(), AllocError>
     ensures { OnOk result (out.new.items ≡ out.old.items ++ flat_map text_line lines.now) }
 {
     for line in lines {

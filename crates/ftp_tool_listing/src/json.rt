@@ -65,11 +65,7 @@ pub fn put_json_lines(
     Ok(())
 }
 
-fn put_json_line(
-    alloc: Global,
-    text: &[u8],
-    out: &mut Vec<u8, Global>,
-) -> Result<(), AllocError>
+fn put_json_line(alloc: Global, text: &[u8], out: &mut Vec<u8, Global>) -> Result<(), AllocError>
     ensures { OnOk result (out.new.items ≡ out.old.items ++ line_json text.now) }
 {
     let mut shown = Vec::new(alloc);

@@ -18,7 +18,8 @@ mod text;
 mod unix_line;
 
 pub use chosen::{
-    chosen_entries, chosen_items, chosen_names, is_chosen, is_chosen_item, is_chosen_name, is_pattern,
+    chosen_entries, chosen_items, chosen_names, is_chosen, is_chosen_item, is_chosen_name,
+    is_pattern,
 };
 pub use deeds::{
     Check, Deed, Deeds, Extra, Reason, Rules, Way, deeds_for, may_remove, removal_for,

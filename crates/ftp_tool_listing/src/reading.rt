@@ -11,10 +11,7 @@ use std::alloc::{AllocError, Global};
 
 /// What a directory has by the text of MLSD: each entry, and for each line that is none an odd one, by the name behind its first space (RFC 3659, section
 /// 7.2).
-pub fn items_of_facts(
-    alloc: Global,
-    text: &[u8],
-) -> Result<Vec<Item<Global>, Global>, AllocError> {
+pub fn items_of_facts(alloc: Global, text: &[u8]) -> Result<Vec<Item<Global>, Global>, AllocError> {
     let mut items = Vec::new(alloc);
     let mut rest = text;
     while !rest.is_empty() {

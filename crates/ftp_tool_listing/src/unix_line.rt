@@ -162,7 +162,11 @@ fn kind_of(rights: &[u8]) -> Option<UnixKind>
         return None;
     }
     let (nine, _) = rest.split_at(9);
-    if are_rights(nine) { kind_by(*letter) } else { None }
+    if are_rights(nine) {
+        kind_by(*letter)
+    } else {
+        None
+    }
 }
 
 fn are_rights(letters: &[u8]) -> bool
