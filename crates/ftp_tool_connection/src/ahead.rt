@@ -89,10 +89,8 @@ fn parts_of(request: &Request) -> Option<(What, &[u8])>
     ensures { option_map (λ parts. (parts.0, parts.1.now)) result ≡ asked_ahead request.now }
 {
     match request {
-        Request::One(Some(Op::List(path, _) | Op::Text(_, path, _))) => Some((
-            What::Listing,
-            path.as_slice(),
-        )),
+        Request::One(Some(Op::List(path, _))) => Some((What::Listing, path.as_slice())),
+        Request::One(Some(Op::Text(_, path, _))) => Some((What::Listing, path.as_slice())),
         Request::One(Some(Op::Delete(path))) => Some((What::Removal, path.as_slice())),
         Request::Download(Some(Op::Get(path, _)), _) => Some((What::Download, path.as_slice())),
         Request::Upload(Some((path, _)), _) => Some((What::Upload, path.as_slice())),

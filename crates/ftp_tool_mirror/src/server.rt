@@ -39,11 +39,18 @@ pub(crate) fn stands_there<S: ClientSession>(
     match &seat.answer(Request::One(Some(Op::Facts(path)))) {
         Answer::Entry(_) => Ok(true),
         Answer::Refused(MISSING) => Ok(false),
-        Answer::Refused(UNKNOWN | NOT_IMPLEMENTED) if !is_dir => {
+        answer => {
+            if is_dir || !says_unknown(answer) {
+                return Err(Trouble::of(answer));
+            }
             file_stands_there(alloc, seat, mirror, below)
         }
-        answer => Err(Trouble::of(answer)),
     }
+}
+
+/// Whether a server does not know what was asked.
+fn says_unknown(answer: &Answer<Global>) -> bool {
+    matches!(answer, Answer::Refused(UNKNOWN | NOT_IMPLEMENTED))
 }
 
 /// Whether a server that knows no MLST has a file at a path, as it says of that alone (SIZE, RFC 3659, section 4).
