@@ -5,7 +5,8 @@ use Rattle.std.specs.Prelude.{ℕ, ◌+◌, ◌==◌, ◌&&◌, ◌||◌, Bool, 
 use Rattle.std.specs.Option.{is_some, option_map, option_or, unwrap_or}
 use Rattle.std.specs.List.{filter_map, find, ends_with, range_with_len}
 use Rattle.ftp_path.specs.Path.{parent, fits, resolved, text_of, Names, is_within}
-use Rattle.ftp_tree.specs.Map.{Node, Dir, File}
+use Rattle.ftp_facts.specs.Fact.{dir_word, file_word}
+use Rattle.ftp_tree.specs.Map.{Node, Dir, File, shown_of}
 use Rattle.ftp_tree.specs.Tree.{Table, node_at, octets_or_none, stamp_at, children, or_else, whenever, directory_refusal, made, removed, installed, moved, freed, under, with_part, make_refusal, remove_refusal, delete_refusal, file_refusal, source_refusal, target_refusal, room_refusal, octets_refusal}
 use Rattle.ftp_tree.specs.declared.fault.TreeFault.{TreeFault}
 use Rattle.ftp_tree.specs.declared.fault.TreeFault.TheVariants as Faults
@@ -215,21 +216,26 @@ refusal state (Ops.Names text how) = refused_there (limited (named_or_here state
 
 -- ---- what is answered
 
--- the permissions of a file, of a directory and of the root (RFC 3659, section 7.5.5; which are given is an own choice)
-abbrev pub perm_of : Names → Node → List ℕ
-perm_of path (File octets moment) = codes "adfrw"
-perm_of [] Dir = codes "celmp"
-perm_of (name ∷ names) Dir = codes "cdeflmp"
-
 -- a size that can be said; a longer one is left out (own choice)
 abbrev pub size_fact : ℕ → Option ℕ
 size_fact count = if is_number count then Some count else None
 
+-- the path is the root
+abbrev pub is_root : Names → Bool
+is_root [] = true
+is_root (name ∷ names) = false
+
+-- The entry, under a name, of a file by its octets counted and its moment, or of a directory, which may be the root (RFC 3659, section 7.5;
+-- which facts are given, and the permissions, are own choices).
+abbrev pub entry_of : Option (ℕ × ℕ) → Bool → List ℕ → Listed
+entry_of (Some (size, moment)) at_root name =
+    record { name = name; kind = Some file_word; size = size_fact size; modify = Some moment; perm = Some (codes "adfrw") }
+entry_of None at_root name =
+    record { name = name; kind = Some dir_word; size = None; modify = None; perm = Some (if at_root then codes "celmp" else codes "cdeflmp") }
+
 -- the entry of what stands at a path, under a name
 abbrev pub listed : List ℕ → Names → Node → Listed
-listed name path (File octets moment) =
-    record { name = name; kind = Some (codes "file"); size = size_fact (length octets); modify = Some moment; perm = Some (perm_of path (File octets moment)) }
-listed name path Dir = record { name = name; kind = Some (codes "dir"); size = None; modify = None; perm = Some (perm_of path Dir) }
+listed name path node = entry_of (shown_of node) (is_root path) name
 
 unfoldable pub entry_at : Table → Names → List ℕ → Listed
 entry_at table path name = listed name path (unwrap_or (node_at table path) Dir)

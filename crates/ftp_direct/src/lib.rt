@@ -3,6 +3,7 @@
 #![tactic(auto)]
 
 mod direct_run;
+mod entry;
 mod files;
 mod laws;
 mod listings;
@@ -17,6 +18,7 @@ mod rights;
 mod sizes;
 
 pub use direct_run::direct;
+pub use entry::{entry_of, file_at, is_root};
 pub use ftp_operation::{
     Account, Accounts, AccountsFault, Answer, How, Login, Op, RefusedAccounts, Rights,
 };

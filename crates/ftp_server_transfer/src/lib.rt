@@ -15,7 +15,7 @@ mod transfer;
 mod upload;
 
 pub use download::Download;
-pub use line::{What, put_chosen};
+pub use line::What;
 pub use list_line::{put_dir_line, put_file_line};
 pub use listing::{Listing, Made};
 pub use named::Named;

@@ -1,23 +1,13 @@
 // What stands in a directory of a server, and what is asked of it.
 use crate::asked::Mirror;
-use crate::folder::{MOST_ENTRIES, put_item};
+use crate::folder::put_item;
 use crate::trouble::Trouble;
 use ftp_facts::{Entry, EntryKind, Text};
 use ftp_operation::{Answer, Op};
-use ftp_tool_connection::{ClientSession, Ending, Request};
+use ftp_reply::code::{NOT_IMPLEMENTED, UNAVAILABLE, UNKNOWN};
+use ftp_tool_connection::{ClientSession, Ending, MOST_ENTRIES, Request};
 use ftp_tool_listing::{Facts, Kind, Listing};
 use std::alloc::{AllocError, Global};
-
-/// The codes of a server that does not know a command (RFC 959, section 4.2.2).
-const UNKNOWN: u16 = 500;
-
-const NOT_IMPLEMENTED: u16 = 502;
-
-/// The code of a server that has nothing there (RFC 959, section 4.2.2).
-pub(crate) const MISSING: u16 = 550;
-
-/// The code of a server that has no directory there (RFC 3659, section 7.2.1).
-pub(crate) const NO_DIRECTORY: u16 = 501;
 
 /// Asks a server to do something that has no other answer than that it is done.
 pub(crate) fn done_by<S: ClientSession>(seat: &mut S, op: Op<Text<Global>>) -> Result<(), Trouble> {
@@ -34,7 +24,7 @@ pub(crate) fn stands_there<S: ClientSession>(
 ) -> Result<bool, Trouble> {
     match &seat.answer(Request::One(Some(Op::Facts(path)))) {
         Answer::Entry(_) => Ok(true),
-        Answer::Refused(MISSING) => Ok(false),
+        Answer::Refused(UNAVAILABLE) => Ok(false),
         answer => Err(Trouble::of(answer)),
     }
 }
