@@ -18,6 +18,7 @@ use Rattle.ftp_client_model.specs.Plan.{asked_settings, first_step, next_step, s
 use Rattle.ftp_client_model.specs.Replies.{Verdict, Preliminary, Completion, Intermediate, Negative, Closing, Displaced, verdict_of}
 use Rattle.ftp_client_model.specs.Tries.{Run, next_in, run_at}
 use Rattle.ftp_facts.specs.Value.{number_value}
+use Rattle.ftp_reply.specs.declared.code.TheConstants.{BROKEN, DELAYED, MARK, NO_CONNECTION}
 use Rattle.ftp_reply.specs.Values.{extended_value, facts_in, mark_value, passive_value, path_value}
 use Rattle.ftp_client_model.specs.View.{View, Job, Waiting, Doing, Transferring, Transfer, Flow, Sending, Receiving, stands, dropped, done_with, fails, strange}
 use Rattle.ftp_client_model.specs.declared.client.Abort.{Abort}
@@ -96,7 +97,7 @@ finishes_read (Some answer) v = finishes answer v
 -- after a greeting USER is sent; own choice: 120 is skipped, and another greeting has no place
 abbrev pub greeted : Verdict → ℕ → View → View
 greeted Completion code v = sends (Commands.User v.user) (record v { standing = Stands.User })
-greeted Preliminary code v = if code == 120 then v else strange v
+greeted Preliminary code v = if code == DELAYED then v else strange v
 greeted other code v = strange v
 
 -- the login is over, whatever its last reply said: an operation that waits begins
@@ -207,7 +208,7 @@ broken_off_answer ending op flow = cut_answer op flow
 -- after a refusal: 425 tells that no link was opened, and nothing done; 426 that it broke
 abbrev pub refused_answer : Ending → ℕ → Op (List ℕ) → Flow → Option Said
 refused_answer ending code op flow =
-    if code == 425 then Some Unopened else (if code == 426 then broken_off_answer ending op flow else Some (Refused code))
+    if code == NO_CONNECTION then Some Unopened else (if code == BROKEN then broken_off_answer ending op flow else Some (Refused code))
 
 -- 4yz or 5yz (RFC 959, section 4.2.1)
 abbrev pub is_refusal : ℕ → Bool
@@ -294,7 +295,7 @@ awaited other = other
 
 -- a 1yz opens the transfer; own choice: a 110 doesn't
 abbrev pub transfer_opened : ℕ → Op (List ℕ) → Transfer → View → View
-transfer_opened code op transfer v = if code == 110 then v else with_reply Replies.Begun op transfer (record v { connection = awaited v.connection })
+transfer_opened code op transfer v = if code == MARK then v else with_reply Replies.Begun op transfer (record v { connection = awaited v.connection })
 
 -- a 110 of an upload tells its mmmm; one without a mark is passed over, and so is any further 1yz (own choice)
 abbrev pub marked_flow : Option ℕ → Flow → Flow
@@ -304,7 +305,7 @@ marked_flow read flow = flow
 -- a 110 during a transfer is noted, and any other 1yz is passed over
 abbrev pub noted : ℕ → Text → Op (List ℕ) → Transfer → View → View
 noted code text op transfer v =
-    if code == 110 then record v { job = Transferring op (record transfer { flow = marked_flow (mark_value text) transfer.flow }) } else v
+    if code == MARK then record v { job = Transferring op (record transfer { flow = marked_flow (mark_value text) transfer.flow }) } else v
 
 -- a refusal ends the wait for a link that never opened
 abbrev pub unless_open : ClientLink → View → View

@@ -1,5 +1,6 @@
 -- What a reply's code says (RFC 959, section 4.2.1).
 use Rattle.std.specs.Prelude.{ℕ, ◌/◌, ◌==◌, if◌then◌else◌}
+use Rattle.ftp_reply.specs.declared.code.TheConstants.{ACCOUNT_NEEDED, NOT_AVAILABLE}
 
 -- by its first digit; two codes say more: 421, that the service closes, and 332, that
 -- an account is asked for, which has no place in this profile (own choice)
@@ -14,4 +15,4 @@ verdict_by digit =
 
 -- the verdict of a code: the two by themselves, every other by its first digit
 abbrev pub verdict_of : ℕ → Verdict
-verdict_of code = if code == 421 then Closing else (if code == 332 then Displaced else verdict_by (code / 100))
+verdict_of code = if code == NOT_AVAILABLE then Closing else (if code == ACCOUNT_NEEDED then Displaced else verdict_by (code / 100))

@@ -5,6 +5,7 @@ use Rattle.ftp_operation.specs.Answer.{Said, Number, Refused, Broken, Unopened}
 use Rattle.ftp_operation.specs.declared.op.How.{How}
 use Rattle.ftp_operation.specs.declared.op.Op.{Op}
 use Rattle.ftp_operation.specs.declared.op.Op.TheVariants as Ops
+use Rattle.ftp_reply.specs.declared.code.TheConstants.{UNAVAILABLE}
 use Rattle.ftp_settings.specs.Representation.{same_kind, same_structure}
 use Rattle.ftp_settings.specs.declared.representation.Kind.TheVariants as Kinds
 use Rattle.ftp_settings.specs.declared.representation.Representation.{Representation}
@@ -47,7 +48,7 @@ try_behind u count = if nat_le count (length u.octets) then rest_put u count els
 -- after SIZE: the rest, or all anew where there is no file; after another answer nothing
 abbrev pub after_size : OverBreaks → Said → Option (Op (List ℕ))
 after_size u (Number count) = Some (try_behind u count)
-after_size u (Refused code) = if code == 550 then Some (whole_put u) else None
+after_size u (Refused code) = if code == UNAVAILABLE then Some (whole_put u) else None
 after_size u other = None
 
 -- after a Put or a PutFrom: SIZE after a break, and the same again where nothing was opened

@@ -9,6 +9,7 @@ use crate::finishing::stands;
 use crate::task::Task;
 use ftp_client_model::client::{Abort, ClientLink, Ending, Replied};
 use ftp_client_steps::{ClientTransfer, Verdict};
+use ftp_reply::code::MARK;
 use std::alloc::{AllocError, Allocator};
 
 impl<A: Allocator + Copy, F: ClientTransfer<A>> Dialogue<A, F> {
@@ -23,7 +24,7 @@ impl<A: Allocator + Copy, F: ClientTransfer<A>> Dialogue<A, F> {
         let Task::Transferring(_) = &self.place else {
             return Ok(());
         };
-        if code == 110 {
+        if code == MARK {
             return Ok(());
         }
         self.connection = awaited(self.connection);

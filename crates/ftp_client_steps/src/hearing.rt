@@ -7,13 +7,11 @@ ghost use Rattle.ftp_client_model.specs.Held.{gathered_len};
 
 use crate::last::LastLine;
 use crate::line::{Spoken, take_line};
+use ftp_ends::REPLY_LIMIT;
 use ftp_nvt::{Ear, Event};
 use ftp_reply::Reader;
 use std::alloc::{AllocError, Allocator};
 use std::marker::Model;
-
-/// The most octets of a reply line, its end included (own choice).
-pub const REPLY_LIMIT: usize = 4096;
 
 /// The unfinished line and the unfinished reply that a client hears. Contracts see it as both.
 #[derive(Drop)]

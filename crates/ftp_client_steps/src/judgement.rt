@@ -9,6 +9,7 @@ use crate::verdict::is_refusal;
 use ftp_client_model::client::{Abort, Ending};
 use ftp_facts::Text;
 use ftp_operation::{Answer, Op};
+use ftp_reply::code::{BROKEN, NO_CONNECTION};
 use std::alloc::{AllocError, Allocator};
 
 /// The answer of a transfer whose final reply has this code: another host first, then a Peek that sent its ABOR, whatever the final
@@ -47,10 +48,10 @@ fn refused_answer<A: Allocator + Copy, F: ClientTransfer<A>>(
     ensures answer { IfOk result (λ answer. option_map said_of answer ≡ refused_answer ending code op.now (F.flow op.now flow)) }
     ensures down { OnErr result (IsTrue (is_down (F.flow op.now flow))) }
 {
-    if code == 425 {
+    if code == NO_CONNECTION {
         return Ok(Some(Answer::Unopened));
     }
-    if code == 426 {
+    if code == BROKEN {
         return broken_off_answer(ending, op, flow, alloc);
     }
     Ok(Some(Answer::Refused(code)))

@@ -10,6 +10,7 @@ ghost use Rattle.ftp_client_steps.specs.Tries.{all_octets, lent, run_in, upload_
 use ftp_facts::Text;
 use ftp_operation::{Answer, How, Op};
 use ftp_path::is_path_text;
+use ftp_reply::code::UNAVAILABLE;
 use ftp_settings::{Kind, Representation, Structure};
 use std::alloc::{AllocError, Allocator};
 use std::mem;
@@ -103,7 +104,7 @@ fn after_size<A: Allocator + Copy>(
     match answer {
         Answer::Number(count) => put_behind(run, op, *count, alloc),
         Answer::Refused(code) => {
-            if *code == 550 {
+            if *code == UNAVAILABLE {
                 put_whole(run, op, alloc)
             } else {
                 Ok(false)

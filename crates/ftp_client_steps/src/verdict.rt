@@ -4,6 +4,8 @@ ghost use Rattle.ftp_client_model.specs.Dialogue.{is_refusal};
 ghost use Rattle.ftp_client_model.specs.Replies.{verdict_by, verdict_of};
 ghost use Rattle.ftp_client_steps.specs.Verdict.{verdict_in};
 
+use ftp_reply::code::{ACCOUNT_NEEDED, NOT_AVAILABLE};
+
 /// What a reply's code says by its first digit; two codes say more.
 #[derive(Clone, Copy)]
 pub enum Verdict {
@@ -25,9 +27,9 @@ pub enum Verdict {
 pub fn verdict_of(code: u16) -> Verdict
     ensures { verdict_in result ≡ verdict_of code }
 {
-    if code == 421 {
+    if code == NOT_AVAILABLE {
         Verdict::Closing
-    } else if code == 332 {
+    } else if code == ACCOUNT_NEEDED {
         Verdict::Displaced
     } else {
         verdict_by(code / 100)

@@ -8,7 +8,7 @@ use Rattle.std.proofs.lemmas.Bool.{leb-true}
 use Rattle.std.proofs.lemmas.Bool.Decides.{nat_tests}
 use Rattle.std.proofs.lemmas.List.Sums.{sum_by-cons}
 use Rattle.ftp_command.proofs.PathLemmas.{path_plain, path_short}
-use Rattle.ftp_path.specs.Path.{IsPathText, is_path_octet}
+use Rattle.ftp_path.specs.Path.{IsPathText, is_path_octet, text_limit}
 use Rattle.ftp_command.specs.Argument.{IsPassword}
 use Rattle.ftp_path.specs.Login.{is_login_octet}
 use Rattle.ftp_command.specs.Command.{value_of, verb_of}
@@ -188,7 +188,7 @@ pub all_plain : (p : ℕ → Bool) → ((c : ℕ) → p c ≡ true → is_plain 
 all_plain p gives [] is = tt
 all_plain p gives (c ∷ text) is = let parts = both (p c) (list_all p text) is in (gives c parts.0, all_plain p gives text parts.1)
 
-pub path_fits : (text : List ℕ) → IsPathText text → Fits 900 text
+pub path_fits : (text : List ℕ) → IsPathText text → Fits text_limit text
 path_fits text is = record { plain = all_plain is_path_octet octet_plain text (path_plain text is); short = path_short text is }
 
 password_fits : (text : List ℕ) → IsPassword text → Fits 255 text
@@ -212,7 +212,7 @@ alone_line : (verb : List ℕ) → IsWord verb → IsLine (verb ++ [])
 alone_line verb is = behind_verb verb [] 0 is (record { plain = tt; short = omega arith }) (omega arith)
 
 path_line : (verb value : List ℕ) → IsWord verb → IsPathText value → IsLine (verb ++ spaced value)
-path_line verb value is path = behind_verb verb (spaced value) 901 is (spaced_fits 900 value (path_fits value path)) (omega arith)
+path_line verb value is path = behind_verb verb (spaced value) (text_limit + 1) is (spaced_fits text_limit value (path_fits value path)) (omega arith)
 
 password_line : (verb value : List ℕ) → IsWord verb → IsPassword value → IsLine (verb ++ spaced value)
 password_line verb value is word = behind_verb verb (spaced value) 256 is (spaced_fits 255 value (password_fits value word)) (omega arith)

@@ -1,5 +1,6 @@
 pub mod BelowLemmas
 pub mod DueLemmas
+pub mod EntryLemmas
 pub mod FaultLemmas
 pub mod LengthLemmas
 pub mod ListLemmas

@@ -1,24 +1,22 @@
 -- Names in a directory, and what is said of each.
 use Rattle.std.proofs.Common.{◌≡◌, ℕ, zero, suc, ◌+◌, ◌<◌, ◌≤◌, Bool, true, false, not, ◌&&◌, ◌==◌, nat_le, eqb, List, [], ◌∷◌, ◌++◌, length, take, get_or, Option, Some, None, refl, ap, sym, ◌∙◌, arith, if◌then◌else◌}
-use Rattle.std.specs.Prelude.{codes, fold, map, option_and_then}
+use Rattle.std.specs.Prelude.{fold, map}
 use Rattle.std.specs.Option.{option_to_list}
 use Rattle.std.specs.List.{list_all, filter_map, cons_option, slice_split, onto_first, slice_get}
-use Rattle.std.specs.Option.{option_map, unwrap_or}
+use Rattle.std.specs.Option.{option_map}
 use Rattle.std.proofs.lemmas.Bool.{and_parts, and_from, cond-false, not-true}
 use Rattle.std.proofs.lemmas.Bool.Decides.{nat_tests}
 use Rattle.std.proofs.lemmas.List.{map-append, take_more}
 use Rattle.std.proofs.lemmas.List.Elements.{filter_map-append}
 use Rattle.std.proofs.lemmas.Option.{slice_get_within, get_or_from_slice_get}
 use Rattle.std.proofs.lemmas.List.Folds.{list_all-append}
-use mathlib.Core.Bool.{false≢true, true≢false}
 use Rattle.ftp_path.specs.Path.{is_slash, is_name_octet, is_part, is_here, is_above, is_component, is_name, is_rooted, followed, resolved, fits, Names}
-use Rattle.ftp_tree.specs.Map.{Node, Dir, File, octets_of, moment_of, of_node}
-use Rattle.ftp_tree.specs.Tree.{Table, node_at, octets_at, size_at, stamp_at}
+use Rattle.ftp_tree.specs.Tree.{Table, node_at}
 use Rattle.ftp_path.proofs.PathLemmas.{component-octets, name_octet-slash, followed-name}
 use Rattle.ftp_path.proofs.TextLemmas.{name-text}
 use Rattle.ftp_operation.specs.Answer.{Listed}
 use Rattle.ftp_operation.specs.Operation.{is_path_text}
-use Rattle.ftp_direct.specs.Direct.{behind, child, entry_at, entry_in, file_in, is_file, listed, perm_of, place, size_fact}
+use Rattle.ftp_direct.specs.Direct.{behind, child, entry_at, entry_in, file_in, is_file, place}
 use Rattle.ftp_direct.proofs.ResolveLemmas.{dot_here}
 
 -- ---- a name is a path text, and leads from a directory to the path of that name in it
@@ -58,39 +56,6 @@ child_is path name named =
 
 pub place_here : (cwd : Names) (text : List ℕ) → (length text == 0) ≡ true → resolved cwd (46 ∷ []) ≡ place cwd text
 place_here cwd text empty = dot_here cwd ∙ ap (λ b. if b then cwd else resolved cwd text) (sym empty)
-
--- ---- entries
-
-abbrev pub listed_as : List ℕ → Option (List ℕ) → Option ℕ → Option ℕ → List ℕ → Listed
-listed_as name kind size modify perm = record { name = name; kind = kind; size = size; modify = modify; perm = Some perm }
-
-dir_node : (node : Option Node) → is_file node ≡ false → unwrap_or node Dir ≡ Dir
-dir_node None other = refl
-dir_node (Some Dir) other = refl
-dir_node (Some (File octets moment)) other = absurd (true≢false other)
-
-pub entry_dir : (table : Table) (path : Names) (name perm : List ℕ) → is_file (node_at table path) ≡ false → perm ≡ perm_of path Dir
-    → listed_as name (Some (codes "dir")) None None perm ≡ entry_at table path name
-unfolding entry_at
-entry_dir table path name perm other is =
-    ap (listed_as name (Some (codes "dir")) None None) is ∙ ap (listed name path) (sym (dir_node (node_at table path) other))
-
-file_node : (node : Option Node) (path : Names) (name : List ℕ) → is_file node ≡ true
-    → listed_as name (Some (codes "file")) (option_and_then size_fact (option_map length (of_node octets_of node))) (of_node moment_of node) (codes "adfrw")
-    ≡ listed name path (unwrap_or node Dir)
-file_node None path name file = absurd (false≢true file)
-file_node (Some Dir) path name file = absurd (false≢true file)
-file_node (Some (File octets moment)) path name file = refl
-
-pub entry_file : (table : Table) (path : Names) (name perm : List ℕ) (size modify : Option ℕ) → is_file (node_at table path) ≡ true
-    → size ≡ option_and_then size_fact (size_at table path) → modify ≡ stamp_at table path → perm ≡ codes "adfrw"
-    → listed_as name (Some (codes "file")) size modify perm ≡ entry_at table path name
-unfolding entry_at size_at octets_at stamp_at
-entry_file table path name perm size modify file size_is modify_is perm_is =
-    ap (λ size. listed_as name (Some (codes "file")) size modify perm) size_is
-    ∙ ap (λ modify. listed_as name (Some (codes "file")) (option_and_then size_fact (size_at table path)) modify perm) modify_is
-    ∙ ap (listed_as name (Some (codes "file")) (option_and_then size_fact (size_at table path)) (stamp_at table path)) perm_is
-    ∙ file_node (node_at table path) path name file
 
 -- ---- what is said of a name
 

@@ -1,15 +1,17 @@
 -- What stands in a directory, as entries and as names, and the lines by which LIST, NLST and MLSD tell it (RFC 959, section 4.1.3; RFC 1123, section
 -- 4.1.2.7; RFC 3659, section 7).
 use Rattle.std.specs.Prelude.{ℕ, ◌+◌, ◌-◌, ◌*◌, ◌/◌, ◌==◌, ◌&&◌, ◌||◌, Bool, true, false, nat_eq, codes, decimal, List, [], ◌∷◌, ◌++◌, length, take, drop, map, replicate, Option, Some, None, if◌then◌else◌}
-use Rattle.std.specs.Option.{option_map, unwrap_or}
+use Rattle.std.specs.Option.{unwrap_or}
 use Rattle.std.specs.List.{filter_map, flat_map, ends_with}
 use Rattle.ftp_path.specs.Path.{fits, Names}
 use Rattle.ftp_facts.specs.Calendar.{year_and_place, month_and_place}
 use Rattle.ftp_facts.specs.declared.entry.Entry.{Entry}
-use Rattle.ftp_facts.specs.Entry.{facts_of, listed_of}
-use Rattle.ftp_facts.specs.Fact.{facts_text, space}
-use Rattle.ftp_facts.specs.Moment.{four_digits, moment_digits}
-use Rattle.ftp_tree.specs.Map.{Node, Dir, File}
+use Rattle.ftp_facts.specs.Entry.{entry_line}
+use Rattle.ftp_facts.specs.Fact.{dir_word, file_word}
+use Rattle.ftp_facts.specs.Line.{listed_line}
+use Rattle.ftp_facts.specs.Moment.{four_digits}
+use Rattle.ftp_facts.specs.Name.{all_facts}
+use Rattle.ftp_tree.specs.Map.{Node, Dir, File, shown_of}
 use Rattle.ftp_tree.specs.Tree.{Table, node_at, children}
 use Rattle.ftp_operation.specs.Answer.{Listed}
 use Rattle.ftp_operation.specs.Operation.{is_number}
@@ -24,21 +26,26 @@ is_file (Some (File octets moment)) = true
 
 -- ---- entries and names
 
--- the permissions of a file, of a directory and of the root (RFC 3659, section 7.5.5; which are given is an own choice)
-abbrev pub perm_of : Names → Node → List ℕ
-perm_of path (File octets moment) = codes "adfrw"
-perm_of [] Dir = codes "celmp"
-perm_of (name ∷ names) Dir = codes "cdeflmp"
-
 -- a size that can be said; a longer one is left out (own choice)
 abbrev pub size_fact : ℕ → Option ℕ
 size_fact count = if is_number count then Some count else None
 
+-- the path is the root
+abbrev pub is_root : Names → Bool
+is_root [] = true
+is_root (name ∷ names) = false
+
+-- The entry, under a name, of a file by its octets counted and its moment, or of a directory, which may be the root (RFC 3659, section 7.5;
+-- which facts are given, and the permissions, are own choices).
+abbrev pub entry_of : Option (ℕ × ℕ) → Bool → List ℕ → Listed
+entry_of (Some (size, moment)) at_root name =
+    record { name = name; kind = Some file_word; size = size_fact size; modify = Some moment; perm = Some (codes "adfrw") }
+entry_of None at_root name =
+    record { name = name; kind = Some dir_word; size = None; modify = None; perm = Some (if at_root then codes "celmp" else codes "cdeflmp") }
+
 -- the entry of what stands at a path, under a name
 abbrev pub listed : List ℕ → Names → Node → Listed
-listed name path (File octets moment) =
-    record { name = name; kind = Some (codes "file"); size = size_fact (length octets); modify = Some moment; perm = Some (perm_of path (File octets moment)) }
-listed name path Dir = record { name = name; kind = Some (codes "dir"); size = None; modify = None; perm = Some (perm_of path Dir) }
+listed name path node = entry_of (shown_of node) (is_root path) name
 
 unfoldable pub entry_at : Table → Names → List ℕ → Listed
 entry_at table path name = listed name path (unwrap_or (node_at table path) Dir)
@@ -78,14 +85,9 @@ text_line line = line ++ 10 ∷ []
 abbrev pub lines_file : List (List ℕ) → List ℕ
 lines_file lines = flat_map text_line lines
 
--- MLSD: the line of an entry, all facts of which are told, in the order Type, Size, Modify, Perm, then SP and the name
-abbrev pub fact_line : Listed → List ℕ
-fact_line entry =
-    facts_text (facts_of entry.kind (option_map decimal entry.size) (option_map moment_digits entry.modify) entry.perm) ++ space ∷ entry.name
-
--- the same of an entry as it is held, with its LF
+-- an entry as it is held, as a line of MLSD with all facts
 abbrev pub entry_text : {A : Type 0} → Entry A → List ℕ
-entry_text entry = text_line (fact_line (listed_of entry))
+entry_text entry = text_line (entry_line entry)
 
 -- ---- LIST: lines as many clients read them (own choice)
 
@@ -143,7 +145,7 @@ list_lines table path = list_lines_at (node_at table path) table path
 
 -- the lines that a command gives of what stands at a path which a text names: MLSD with all facts, NLST pathnames that begin as the text does
 abbrev pub lines_for : ListVerb → Table → Names → List ℕ → List (List ℕ)
-lines_for Verbs.Mlsd table path text = map fact_line (entries_in table path)
+lines_for Verbs.Mlsd table path text = map (listed_line all_facts) (entries_in table path)
 lines_for Verbs.List table path text = list_lines table path
 lines_for Verbs.Nlst table path text = names_for table path text
 

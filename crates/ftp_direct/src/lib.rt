@@ -3,6 +3,7 @@
 #![tactic(auto)]
 
 mod direct_run;
+mod entry;
 mod files;
 mod laws;
 mod list_line;
@@ -20,6 +21,7 @@ mod sizes;
 mod texts;
 
 pub use direct_run::direct;
+pub use entry::{entry_of, file_at, is_root};
 pub use ftp_operation::{
     Account, Accounts, AccountsFault, Answer, How, ListVerb, Login, Op, RefusedAccounts, Rights,
 };

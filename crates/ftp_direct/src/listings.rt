@@ -1,22 +1,21 @@
 // Operations that list.
-ghost use Rattle.std.specs.Prelude.{◌≡◌, ◌<◌, ◌++◌, IsTrue, IfOk, OnErr, OnOk, map, option_and_then, option_map};
+ghost use Rattle.std.specs.Prelude.{◌≡◌, ◌++◌, IsTrue, IfOk, OnErr, OnOk, map, option_map};
 ghost use Rattle.std.specs.List.{filter_map, list_all};
-ghost use Rattle.std.specs.Option.{ForSome, option_to_list};
-ghost use Rattle.ftp_facts.specs.Fact.{IsValue};
+ghost use Rattle.std.specs.Option.{option_to_list};
 ghost use Rattle.ftp_path.specs.Path.{IsPathText, is_name};
-ghost use Rattle.ftp_tree.specs.Map.{Dir};
-ghost use Rattle.ftp_tree.specs.Tree.{children, size_at, under};
+ghost use Rattle.ftp_tree.specs.Tree.{children, under};
 ghost use Rattle.ftp_operation.specs.Answer.{listed_of, said_of};
-ghost use Rattle.ftp_direct.specs.Direct.{behind, due, entries_in, entry_at, entry_in, file_in, here, names_for, perm_of, size_fact};
+ghost use Rattle.ftp_direct.specs.Direct.{behind, due, entries_in, entry_at, entry_in, file_in, here, names_for};
 ghost use Rattle.ftp_operation.specs.Operation.{is_optional_text};
 ghost use Rattle.ftp_direct.specs.Refusal.{listing_refusal};
 ghost use Rattle.ftp_direct.specs.Run.{IsAnswer, IsAsBefore};
 
+use crate::entry::{entry_of, file_at, is_root};
 use crate::looking::see_here;
 use crate::nodes::{absent_fault, directory_fault, is_file};
 use crate::refusal::{Refusal, find, tell};
-use ftp_facts::{Entry, EntryKind, Text};
-use ftp_operation::{Answer, How, Op, is_number};
+use ftp_facts::{Entry, Text};
+use ftp_operation::{Answer, How, Op};
 use ftp_tree::{Path, Sight, Tree, TreeFault};
 use std::alloc::{AllocError, Allocator};
 
@@ -110,52 +109,8 @@ fn entry<A: Allocator + Copy, T: Tree<A>>(
     requires { IsPathText name.now }
     ensures { IfOk result (λ entry. listed_of entry ≡ entry_at (under (T.table tree.now) root.now) path.now name.now) }
 {
-    let name = Text::copy_of(*alloc, name)?;
-    if !is_file(tree, root, path) {
-        let perm = Text::copy_of(*alloc, dir_perm(path))?;
-        return Ok(Entry {
-            name,
-            kind: Some(EntryKind::Dir),
-            size: None,
-            modify: None,
-            perm: Some(perm),
-        });
-    }
-    let perm = Text::copy_of(*alloc, b"adfrw")?;
-    Ok(Entry {
-        name,
-        kind: Some(EntryKind::File),
-        size: size_fact(tree, root, path),
-        modify: tree.stamp(root, path),
-        perm: Some(perm),
-    })
-}
-
-/// The permissions of a directory (RFC 3659, section 7.5.5).
-fn dir_perm<A: Allocator + Copy>(path: &Path<A>) -> &'static [u8]
-    ensures perm { result.now ≡ perm_of path.now Dir }
-    ensures value { IsValue result.now }
-{
-    if path.key().is_empty() {
-        b"celmp"
-    } else {
-        b"cdeflmp"
-    }
-}
-
-/// The size of the file at a path, where it can be said.
-fn size_fact<A: Allocator + Copy, T: Tree<A>>(
-    tree: &T,
-    root: &Path<A>,
-    path: &Path<A>,
-) -> Option<u64>
-    ensures value { result ≡ option_and_then size_fact (size_at (under (T.table tree.now) root.now) path.now) }
-    ensures fits { ForSome result (λ size. size < 1_000_000_000_000_000_000) }
-{
-    match tree.size(root, path) {
-        Some(size) => { if is_number(size) { Some(size) } else { None } }
-        None => None,
-    }
+    let file = file_at(tree, root, path);
+    Entry::copy_of(*alloc, entry_of(file, is_root(path), name))
 }
 
 /// The entries of a directory.

@@ -6,6 +6,7 @@ use Rattle.ftp_nvt.specs.declared.line.TheConstants.{LF}
 use Rattle.ftp_reply.specs.Lines.{AreWithin}
 use Rattle.ftp_reply.specs.Reply.{IsCode, HasPlainLines, written}
 use Rattle.ftp_ends.specs.Ear.{line_len}
+use Rattle.ftp_ends.specs.declared.reply.TheConstants.{REPLY_LIMIT}
 
 -- a reply: a code, and the texts of its lines
 pub record Reply : Type 0 where
@@ -24,7 +25,7 @@ reply_octets reply = flat_map written_line (written reply.code reply.lines)
 
 -- the most octets of a reply line, its end included (own choice)
 abbrev pub reply_limit : ℕ
-reply_limit = 4096
+reply_limit = REPLY_LIMIT
 
 -- a line that a control connection can carry to the client
 abbrev pub IsCarried : List ℕ → Type 0

@@ -5,6 +5,8 @@
 mod host;
 pub mod laws;
 mod link;
+mod reply;
 
 pub use host::{is_same_host, is_v6};
 pub use link::Wants;
+pub use reply::REPLY_LIMIT;

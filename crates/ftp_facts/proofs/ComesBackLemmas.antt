@@ -1,5 +1,6 @@
 -- What is written of an entry says that entry.
-use Rattle.std.proofs.Common.{◌≡◌, ◌≢◌, ℕ, ◌+◌, ◌/◌, ◌%◌, ◌<◌, ◌^◌, List, [], ◌∷◌, ◌++◌, Option, Some, None, option_map, All, Bool, true, false, not, ◌&&◌, ◌⊎◌, inl, inr, eqb, refl, sym, ap, ◌∙◌, arith, codes, decimal}
+use Rattle.std.proofs.Common.{◌≡◌, ◌≢◌, ℕ, ◌+◌, ◌/◌, ◌%◌, ◌<◌, ◌≤◌, ◌^◌, List, [], ◌∷◌, ◌++◌, Option, Some, None, option_map, All, Bool, true, false, not, ◌&&◌, ◌⊎◌, inl, inr, eqb, refl, sym, ap, subst, ◌∙◌, arith, decimal}
+use Rattle.std.specs.List.{list_all}
 use Rattle.std.specs.Option.{ForSome}
 use Rattle.std.specs.Int.{IsInRange}
 use Rattle.std.proofs.lemmas.List.Elements.{All-cons, All-nil, All-append, All-from_get_or}
@@ -13,10 +14,15 @@ use Rattle.ftp_facts.specs.declared.moment.Moment.{Moment}
 use Rattle.ftp_facts.specs.Moment.{two_digits, four_digits, date_digits, time_digits, moment_digits, moment_value, WritesMoment}
 use Rattle.ftp_endpoint.specs.Number.{IsShort, SaysNumber}
 use Rattle.ftp_facts.specs.Fact.{Fact, IsFact, IsValue, IsOtherWord, Lacks, facts_text, first_value, given, is_word, space, equals, semicolon, file_word, dir_word, current_word, parent_word}
-use Rattle.ftp_facts.specs.Entry.{HasParts, SaysEntry, digits_of, entry_line, word_of, facts_of, listed_of}
-use Rattle.ftp_facts.specs.Listed.{fact_value, kind_word}
+use Rattle.ftp_facts.specs.Entry.{HasParts, IsFit, SaysEntry, SaysFact, entry_line, word_of, listed_of}
+use Rattle.ftp_facts.specs.Line.{facts_among, facts_of, if_chosen, listed_line, said_texts}
+use Rattle.ftp_facts.specs.Listed.{Listed, entry_value, fact_value, kind_word, text_in}
+use Rattle.ftp_facts.specs.Name.{all_facts, fact_names, fact_word, is_chosen}
 use Rattle.ftp_facts.specs.Value.{number_value}
+use Rattle.ftp_facts.specs.declared.name.FactName.{FactName}
+use Rattle.ftp_facts.specs.declared.name.FactName.TheVariants.{Kind, Size, Modify, Perm}
 use Rattle.ftp_facts.proofs.FactLemmas.{facts_text-append}
+use Rattle.ftp_facts.proofs.NameLemmas.{every}
 use Rattle.ftp_facts.proofs.ListedLemmas.{says_entry}
 use Rattle.ftp_facts.proofs.MomentLemmas.{WritesMoment-says, days_fit}
 use Rattle.ftp_facts.proofs.MomentValueLemmas.{says_moment}
@@ -81,12 +87,16 @@ size_value (Some n) fits = λ text e.
     let small : n < 10 ^ 18 = fits n refl in
     rw same (lacks_decimal space n (omega arith) (λ r. omega (arith, r)), lacks_decimal semicolon n (omega arith) (λ r. omega (arith, r)))
 
-modify_value : (modify : Option Moment) → ForSome (option_map digits_of modify) IsValue
-modify_value None = λ t e. cc
-modify_value (Some moment) = λ t e.
-    let same : t ≡ moment_digits moment.seconds = cc in
-    let writes = moment_digits-write moment.seconds moment.in_range in
-    rw same (lacks_moment space (moment_digits moment.seconds) moment.seconds (inl (omega arith)) writes, lacks_moment semicolon (moment_digits moment.seconds) moment.seconds (inr (omega arith)) writes)
+-- a moment that there is
+abbrev pub IsEarly : ℕ → Type 0
+IsEarly seconds = seconds ≤ 253_402_300_799
+
+modify_value : (modify : Option ℕ) → ForSome modify IsEarly → ForSome (option_map moment_digits modify) IsValue
+modify_value None early = λ t e. cc
+modify_value (Some moment) early = λ t e.
+    let same : t ≡ moment_digits moment = cc in
+    let writes = moment_digits-write moment (early moment refl) in
+    rw same (lacks_moment space (moment_digits moment) moment (inl (omega arith)) writes, lacks_moment semicolon (moment_digits moment) moment (inr (omega arith)) writes)
 
 -- a given fact is one, and has no space
 given_facts : (name : List ℕ) (value : Option (List ℕ)) → Lacks name equals → Lacks name semicolon → ForSome value IsValue → All IsFact (given name value)
@@ -109,43 +119,63 @@ found : (name : List ℕ) (value : Option (List ℕ)) (rest : List Fact) → is_
 found name None rest e after = after
 found name (Some value) rest e after = rw e refl
 
-found_last : (name : List ℕ) (value : Option (List ℕ)) → is_word name name ≡ true → first_value name (given name value) ≡ value
-found_last name None e = refl
-found_last name (Some value) e = rw e refl
+-- no word has an octet that none of the list has
+word_lacks : (c : ℕ) → list_all (λ name. differs c (fact_word name)) fact_names ≡ true → (name : FactName) → Lacks (fact_word name) c
+word_lacks c all name = lacks_by c (fact_word name) (every (λ name. differs c (fact_word name)) all name)
 
-passed_last : (name other : List ℕ) (value : Option (List ℕ)) → is_word other name ≡ false → first_value name (given other value) ≡ None
-passed_last name other None e = refl
-passed_last name other (Some value) e = rw e refl
+-- facts of whatever names are facts, and have no space
+are_facts : (texts : FactName → Option (List ℕ)) → ((name : FactName) → ForSome (texts name) IsValue) → (names : List FactName) → All IsFact (facts_among texts names)
+are_facts texts fit [] = All-nil IsFact
+are_facts texts fit (name ∷ names) =
+    All-append IsFact (given (fact_word name) (texts name)) (facts_among texts names)
+    (given_facts (fact_word name) (texts name) (word_lacks equals refl name) (word_lacks semicolon refl name) (fit name)) (are_facts texts fit names)
 
--- the facts of an entry have its values
-values : (line name : List ℕ) (kind size modify perm : Option (List ℕ)) → ForSome kind IsValue → ForSome size IsValue → ForSome modify IsValue → ForSome perm IsValue → line ≡ facts_text (facts_of kind size modify perm) ++ space ∷ name → HasParts line name kind size modify perm
-values line name kind size modify perm k s m p is =
-    let t = codes "Type" in
-    let z = codes "Size" in
-    let o = codes "Modify" in
-    let r = codes "Perm" in
-    let P : ℕ → Type 0 = λ each. each ≢ space in
-    let f1 = given t kind in
-    let f2 = given z size in
-    let f3 = given o modify in
-    let f4 = given r perm in
-    let each3 = All-append IsFact f3 f4 (given_facts o modify (lacks_by equals o refl) (lacks_by semicolon o refl) m) (given_facts r perm (lacks_by equals r refl) (lacks_by semicolon r refl) p) in
-    let each2 = All-append IsFact f2 (f3 ++ f4) (given_facts z size (lacks_by equals z refl) (lacks_by semicolon z refl) s) each3 in
-    let each1 = All-append IsFact f1 (f2 ++ (f3 ++ f4)) (given_facts t kind (lacks_by equals t refl) (lacks_by semicolon t refl) k) each2 in
-    let free3 = All-append P (facts_text f3) (facts_text f4) (given_spaceless o modify (lacks_by space o refl) m) (given_spaceless r perm (lacks_by space r refl) p) in
-    let free2 = All-append P (facts_text f2) (facts_text f3 ++ facts_text f4) (given_spaceless z size (lacks_by space z refl) s) free3 in
-    let free1 = All-append P (facts_text f1) (facts_text f2 ++ (facts_text f3 ++ facts_text f4)) (given_spaceless t kind (lacks_by space t refl) k) free2 in
-    let parts : facts_text (facts_of kind size modify perm) ≡ facts_text f1 ++ (facts_text f2 ++ (facts_text f3 ++ facts_text f4)) = simp facts_text-append in
-    record {
-      facts = facts_of kind size modify perm;
-      each = each1;
-      spaceless = rw parts free1;
-      written = is;
-      kind_is = found t kind (f2 ++ (f3 ++ f4)) refl (passed t z size (f3 ++ f4) refl ∙ passed t o modify f4 refl ∙ passed_last t r perm refl);
-      size_is = passed z t kind (f2 ++ (f3 ++ f4)) refl ∙ found z size (f3 ++ f4) refl (passed z o modify f4 refl ∙ passed_last z r perm refl);
-      modify_is = passed o t kind (f2 ++ (f3 ++ f4)) refl ∙ passed o z size (f3 ++ f4) refl ∙ found o modify f4 refl (passed_last o r perm refl);
-      perm_is = passed r t kind (f2 ++ (f3 ++ f4)) refl ∙ passed r z size (f3 ++ f4) refl ∙ passed r o modify f4 refl ∙ found_last r perm refl;
-    }
+are_spaceless : (texts : FactName → Option (List ℕ)) → ((name : FactName) → ForSome (texts name) IsValue) → (names : List FactName) → Lacks (facts_text (facts_among texts names)) space
+are_spaceless texts fit [] = All-nil (λ each. each ≢ space)
+are_spaceless texts fit (name ∷ names) =
+    let front = given (fact_word name) (texts name) in
+    let back = facts_among texts names in
+    let P : List ℕ → Type 0 = λ l. Lacks l space in
+    subst P (sym (facts_text-append front back))
+    (All-append (λ each. each ≢ space) (facts_text front) (facts_text back) (given_spaceless (fact_word name) (texts name) (word_lacks space refl name) (fit name)) (are_spaceless texts fit names))
+
+-- each fact is found among all
+found_in : (texts : FactName → Option (List ℕ)) (fact : FactName) → first_value (fact_word fact) (facts_of texts) ≡ texts fact
+found_in texts Kind =
+    let last = given (fact_word Perm) (texts Perm) ++ [] in
+    let third = given (fact_word Modify) (texts Modify) ++ last in
+    let second = given (fact_word Size) (texts Size) ++ third in
+    found (fact_word Kind) (texts Kind) second refl
+    (passed (fact_word Kind) (fact_word Size) (texts Size) third refl ∙ passed (fact_word Kind) (fact_word Modify) (texts Modify) last refl
+    ∙ passed (fact_word Kind) (fact_word Perm) (texts Perm) [] refl)
+found_in texts Size =
+    let last = given (fact_word Perm) (texts Perm) ++ [] in
+    let third = given (fact_word Modify) (texts Modify) ++ last in
+    passed (fact_word Size) (fact_word Kind) (texts Kind) (given (fact_word Size) (texts Size) ++ third) refl
+    ∙ found (fact_word Size) (texts Size) third refl
+    (passed (fact_word Size) (fact_word Modify) (texts Modify) last refl ∙ passed (fact_word Size) (fact_word Perm) (texts Perm) [] refl)
+found_in texts Modify =
+    let last = given (fact_word Perm) (texts Perm) ++ [] in
+    let third = given (fact_word Modify) (texts Modify) ++ last in
+    passed (fact_word Modify) (fact_word Kind) (texts Kind) (given (fact_word Size) (texts Size) ++ third) refl
+    ∙ passed (fact_word Modify) (fact_word Size) (texts Size) third refl
+    ∙ found (fact_word Modify) (texts Modify) last refl (passed (fact_word Modify) (fact_word Perm) (texts Perm) [] refl)
+found_in texts Perm =
+    let last = given (fact_word Perm) (texts Perm) ++ [] in
+    let third = given (fact_word Modify) (texts Modify) ++ last in
+    passed (fact_word Perm) (fact_word Kind) (texts Kind) (given (fact_word Size) (texts Size) ++ third) refl
+    ∙ passed (fact_word Perm) (fact_word Size) (texts Size) third refl
+    ∙ passed (fact_word Perm) (fact_word Modify) (texts Modify) last refl ∙ found (fact_word Perm) (texts Perm) [] refl refl
+
+-- what is written of values has them
+values : (line name : List ℕ) (texts : FactName → Option (List ℕ)) → ((fact : FactName) → ForSome (texts fact) IsValue) → line ≡ facts_text (facts_of texts) ++ space ∷ name → HasParts line name texts
+values line name texts fit is = record {
+  facts = facts_of texts;
+  each = are_facts texts fit fact_names;
+  spaceless = are_spaceless texts fit fact_names;
+  written = is;
+  found = found_in texts;
+}
 
 -- the word of a type names it, a decimal number is a size, and the digits of a moment say it
 kind_said : {A : Type 0} (kind : Option (EntryKind A)) → ((word : List ℕ) → kind ≡ Some (Other word) → IsOtherWord word) → option_map word_of kind ≡ option_map kind_word (option_map word_of kind)
@@ -165,20 +195,52 @@ size_said (Some n) fits =
     (((decimal_nonempty n fit, digits_decimal own n fit), length-decimal-le 18 n (omega arith) (omega (arith, small)) fit), sym (digits_value-decimal own n fit)) in
     ap (option_map Some) (says_number (decimal n) n says)
 
-modify_said : (modify : Option Moment) → fact_value moment_value (option_map digits_of modify) ≡ Some (option_map (λ moment. moment.seconds) modify)
-modify_said None = refl
-modify_said (Some moment) =
-    ap (option_map Some) (says_moment (moment_digits moment.seconds) moment.seconds (WritesMoment-says (moment_digits moment.seconds) moment.seconds (moment_digits-write moment.seconds moment.in_range)))
+modify_said : (modify : Option ℕ) → ForSome modify IsEarly → fact_value moment_value (option_map moment_digits modify) ≡ Some modify
+modify_said None early = refl
+modify_said (Some moment) early =
+    ap (option_map Some) (says_moment (moment_digits moment) moment (WritesMoment-says (moment_digits moment) moment (moment_digits-write moment (early moment refl))))
 
--- the line of an entry says it
+-- an entry that its line says: it can be kept, its type is told by a word as it is written, and its moment is one that there is
+pub record IsSayable (entry : Listed) : Type 0 where
+  pub fit : IsFit entry
+  pub kind : entry.kind ≡ option_map kind_word entry.kind
+  pub modify : ForSome entry.modify IsEarly
+
+-- the text of each fact can be a value, and says what the entry has
+text_fits : (entry : Listed) → IsSayable entry → (fact : FactName) → ForSome (text_in entry fact) IsValue
+text_fits entry s Kind = s.fit.kind
+text_fits entry s Size = size_value entry.size s.fit.size
+text_fits entry s Modify = modify_value entry.modify s.modify
+text_fits entry s Perm = s.fit.perm
+
+text_says : (entry : Listed) → IsSayable entry → (fact : FactName) → SaysFact entry fact (text_in entry fact)
+text_says entry s Kind = s.kind
+text_says entry s Size = size_said entry.size s.fit.size
+text_says entry s Modify = modify_said entry.modify s.modify
+text_says entry s Perm = refl
+
+-- where all facts are in force each is said
+all_said : (entry : Listed) (fact : FactName) → text_in entry fact ≡ said_texts all_facts entry fact
+all_said entry fact = ap (λ b. if_chosen b (text_in entry fact)) (sym (every (is_chosen all_facts) refl fact))
+
+-- the line of an entry with all facts says it
+pub listed_line-says : (entry : Listed) → IsSayable entry → entry_value (listed_line all_facts entry) ≡ Some entry
+listed_line-says entry s =
+    let P : Option (List ℕ) → Type 0 = λ text. ForSome text IsValue in
+    says_entry (listed_line all_facts entry) entry (record {
+      texts = said_texts all_facts entry;
+      parts = values (listed_line all_facts entry) entry.name (said_texts all_facts entry) (λ fact. subst P (all_said entry fact) (text_fits entry s fact)) refl;
+      named = s.fit.name;
+      says = λ fact. subst (SaysFact entry fact) (all_said entry fact) (text_says entry s fact);
+    })
+
+moment_early : (modify : Option Moment) → ForSome (option_map (λ moment. moment.seconds) modify) IsEarly
+moment_early None = λ seconds e. cc
+moment_early (Some moment) = λ seconds e. let same : seconds ≡ moment.seconds = cc in rw same moment.in_range
+
 pub entry_line-says : {A : Type 0} (entry : Entry A) → SaysEntry (entry_line entry) entry
-entry_line-says entry = says_entry (entry_line entry) (listed_of entry) (record {
-  kind_text = option_map word_of entry.kind;
-  size_text = option_map decimal entry.size;
-  modify_text = option_map digits_of entry.modify;
-  parts = values (entry_line entry) entry.name (option_map word_of entry.kind) (option_map decimal entry.size) (option_map digits_of entry.modify) entry.perm (kind_value entry.kind entry.kind_fits) (size_value entry.size entry.size_fits) (modify_value entry.modify) entry.perm_fits refl;
-  named = entry.named;
+entry_line-says entry = listed_line-says (listed_of entry) (record {
+  fit = record { name = entry.named; kind = kind_value entry.kind entry.kind_fits; size = entry.size_fits; perm = entry.perm_fits };
   kind = kind_said entry.kind entry.kind_fits;
-  size = size_said entry.size entry.size_fits;
-  modify = modify_said entry.modify;
+  modify = moment_early entry.modify;
 })

@@ -1,5 +1,5 @@
 -- A line says one entry, or meets one fault.
-use Rattle.std.proofs.Common.{◌≡◌, ◌≢◌, ℕ, List, [], ◌∷◌, ◌++◌, Option, Some, None, option_map, All, cond, Bool, true, false, refl, sym, ap, subst, ◌∙◌, append-nil, codes, Result, Ok, Err, IfErr}
+use Rattle.std.proofs.Common.{◌≡◌, ◌≢◌, ℕ, List, [], ◌∷◌, ◌++◌, Option, Some, None, option_map, All, cond, Bool, true, false, refl, sym, ap, subst, ◌∙◌, append-nil, Result, Ok, Err, IfErr}
 use Rattle.std.specs.List.{find}
 use Rattle.std.specs.Option.{ForSome, is_some}
 use Rattle.std.specs.Result.{IsErrAnd}
@@ -9,9 +9,12 @@ use Rattle.ftp_endpoint.proofs.NumberLemmas.{value_lt}
 use Rattle.ftp_path.specs.Path.{IsPathText}
 use Rattle.ftp_facts.specs.declared.fault.FactFault.{FactFault}
 use Rattle.ftp_facts.specs.declared.fault.FactFault.TheVariants.{NoSpace, BadFact, BadMoment, Memory, BadName}
-use Rattle.ftp_facts.specs.Entry.{HasParts, NoParts, IsSound, Refuses}
+use Rattle.ftp_facts.specs.declared.name.FactName.{FactName}
+use Rattle.ftp_facts.specs.declared.name.FactName.TheVariants.{Kind, Size}
+use Rattle.ftp_facts.specs.Entry.{HasParts, NoParts, IsSized, IsSound, Refuses}
 use Rattle.ftp_facts.specs.Fact.{Fact, IsFact, Lacks, IsValue, AreFacts, HasValue, facts_text, first_value, is_named, space, equals, semicolon}
 use Rattle.ftp_facts.specs.Listed.{fact_value}
+use Rattle.ftp_facts.specs.Name.{fact_word}
 use Rattle.ftp_facts.specs.Value.{number_value}
 use Rattle.ftp_facts.proofs.CutLemmas.{map_is}
 use Rattle.ftp_facts.proofs.FactLemmas.{Lacks-middle, Lacks-front, Lacks-back, cut-same, facts_after, nonempty}
@@ -55,28 +58,26 @@ value_fits name xs value all lacks is = λ text e. at_found (find (is_named name
         let same : text ≡ f.value = cc in
         rw same (find_meets (is_named name) (λ f. Lacks f.value space) xs (spaceless_values xs lacks) f there, (find_meets (is_named name) IsFact xs all f there).2)
 
-pub HasParts-kind : (line name : List ℕ) (kind size modify perm : Option (List ℕ)) → HasParts line name kind size modify perm → ForSome kind IsValue
-HasParts-kind line name kind size modify perm h = value_fits (codes "Type") h.facts kind h.each h.spaceless h.kind_is
+-- each value of a line can be one
+pub HasParts-fits : (line name : List ℕ) (texts : FactName → Option (List ℕ)) → HasParts line name texts → (fact : FactName) → ForSome (texts fact) IsValue
+HasParts-fits line name texts h fact = value_fits (fact_word fact) h.facts (texts fact) h.each h.spaceless (h.found fact)
 
-pub HasParts-perm : (line name : List ℕ) (kind size modify perm : Option (List ℕ)) → HasParts line name kind size modify perm → ForSome perm IsValue
-HasParts-perm line name kind size modify perm h = value_fits (codes "Perm") h.facts perm h.each h.spaceless h.perm_is
-
--- the four values are those of one list of facts
-pub parts_are : (line octets name : List ℕ) (kind size modify perm : Option (List ℕ)) → line ≡ octets ++ space ∷ name → Lacks octets space → HasValue octets (codes "Type") kind → HasValue octets (codes "Size") size → HasValue octets (codes "Modify") modify → HasValue octets (codes "Perm") perm → HasParts line name kind size modify perm
-parts_are line octets name kind size modify perm is cut k s m p = record {
-  facts = k.facts;
-  each = k.are.0;
-  spaceless = rw k.are.1 at cut;
-  written = is ∙ ap (λ front. front ++ space ∷ name) k.are.1;
-  kind_is = k.found;
-  size_is = ap (first_value (codes "Size")) (AreFacts-same octets k.facts s.facts k.are s.are) ∙ s.found;
-  modify_is = ap (first_value (codes "Modify")) (AreFacts-same octets k.facts m.facts k.are m.are) ∙ m.found;
-  perm_is = ap (first_value (codes "Perm")) (AreFacts-same octets k.facts p.facts k.are p.are) ∙ p.found;
-}
+-- the values of all facts are those of one list
+pub parts_are : (line octets name : List ℕ) (texts : FactName → Option (List ℕ)) → line ≡ octets ++ space ∷ name → Lacks octets space
+    → ((fact : FactName) → HasValue octets (fact_word fact) (texts fact)) → HasParts line name texts
+parts_are line octets name texts is cut each =
+    let first = each Kind in
+    record {
+      facts = first.facts;
+      each = first.are.0;
+      spaceless = rw first.are.1 at cut;
+      written = is ∙ ap (λ front. front ++ space ∷ name) first.are.1;
+      found = λ fact. ap (first_value (fact_word fact)) (AreFacts-same octets first.facts (each fact).facts first.are (each fact).are) ∙ (each fact).found;
+    }
 
 -- where what stands before the space is no facts, the line has no parts
-pub no_parts : (line octets name : List ℕ) → line ≡ octets ++ space ∷ name → Lacks octets space → ((list : List Fact) → ¬ (AreFacts octets list)) → (other : List ℕ) (kind size modify perm : Option (List ℕ)) → ¬ (HasParts line other kind size modify perm)
-no_parts line octets name is cut none other kind size modify perm h =
+pub no_parts : (line octets name : List ℕ) → line ≡ octets ++ space ∷ name → Lacks octets space → ((list : List Fact) → ¬ (AreFacts octets list)) → (other : List ℕ) (texts : FactName → Option (List ℕ)) → ¬ (HasParts line other texts)
+no_parts line octets name is cut none other texts h =
     let same = cut-same space octets (facts_text h.facts) name other cut h.spaceless (sym is ∙ h.written) in
     none h.facts (h.each, same.0)
 
@@ -84,11 +85,11 @@ pub has_space : (line octets name : List ℕ) → line ≡ octets ++ space ∷ n
 has_space line octets name is lacks = Lacks-middle space octets name (rw is at lacks)
 
 -- a line has one pathname, and one value of each fact
-pub HasParts-same : (line n name : List ℕ) (k s m p kind size modify perm : Option (List ℕ)) → HasParts line n k s m p → HasParts line name kind size modify perm → (n ≡ name) × (k ≡ kind) × (s ≡ size) × (m ≡ modify) × (p ≡ perm)
-HasParts-same line n name k s m p kind size modify perm a b =
+pub HasParts-same : (line n name : List ℕ) (t texts : FactName → Option (List ℕ)) → HasParts line n t → HasParts line name texts → (n ≡ name) × ((fact : FactName) → t fact ≡ texts fact)
+HasParts-same line n name t texts a b =
     let cut = cut-same space (facts_text a.facts) (facts_text b.facts) n name a.spaceless b.spaceless (sym a.written ∙ b.written) in
     let facts = AreFacts-same (facts_text a.facts) a.facts b.facts (a.each, refl) (b.each, cut.0) in
-    (cut.1, sym a.kind_is ∙ ap (first_value (codes "Type")) facts ∙ b.kind_is, sym a.size_is ∙ ap (first_value (codes "Size")) facts ∙ b.size_is, sym a.modify_is ∙ ap (first_value (codes "Modify")) facts ∙ b.modify_is, sym a.perm_is ∙ ap (first_value (codes "Perm")) facts ∙ b.perm_is)
+    (cut.1, λ fact. sym (a.found fact) ∙ ap (first_value (fact_word fact)) facts ∙ b.found fact)
 
 -- a fault that `?` passes on
 pub fault_passes : {T : Type 0} (r : Result T FactFault) (f g : FactFault) (P : FactFault → Type 0) → IsErrAnd r (λ e. e ≡ f) → f ≡ g → P g → IfErr r P
@@ -98,15 +99,15 @@ fault_passes (Err e) f g P is same p = rw (is ∙ same) p
 -- a line without parts is refused as such
 pub NoParts-refuses : (line : List ℕ) (fault : FactFault) → NoParts line fault → Refuses line fault
 NoParts-refuses line NoSpace denies = denies
-NoParts-refuses line BadFact denies = (denies.0, λ name modify sound. denies.1 name sound.kind sound.size modify sound.perm sound.parts)
+NoParts-refuses line BadFact denies = (denies.0, λ name texts sound. denies.1 name texts sound.parts)
 NoParts-refuses line BadMoment denies = absurd denies
 NoParts-refuses line Memory denies = absurd denies
 NoParts-refuses line BadName denies = absurd denies
 
 -- and so are one without a pathname and one whose Size is no number
-pub no_name : (line name : List ℕ) (kind size modify perm : Option (List ℕ)) → HasParts line name kind size modify perm → name ≡ [] → Refuses line BadFact
-no_name line name kind size modify perm h empty =
-    (has_space line (facts_text h.facts) name h.written, λ n m sound. sound.named (sym (HasParts-same line name n kind size modify perm sound.kind sound.size m sound.perm h sound.parts).0 ∙ empty))
+pub no_name : (line name : List ℕ) (texts : FactName → Option (List ℕ)) → HasParts line name texts → name ≡ [] → Refuses line BadFact
+no_name line name texts h empty =
+    (has_space line (facts_text h.facts) name h.written, λ n t sound. sound.named (sym (HasParts-same line name n texts t h sound.parts).0 ∙ empty))
 
 -- a value that a fact says, or none
 pub is_sound : {V : Type 0} (f : List ℕ → Option V) (text : Option (List ℕ)) (value : Option V) → fact_value f text ≡ Some value → IsSound f text
@@ -115,11 +116,15 @@ is_sound f text value e = ap is_some e
 pub not_sound : {V : Type 0} (f : List ℕ → Option V) (text : Option (List ℕ)) → fact_value f text ≡ None → ¬ (IsSound f text)
 not_sound f text e is = let b : false ≡ true = sym (ap is_some e) ∙ is in cc
 
-pub no_number : (line name : List ℕ) (kind size modify perm : Option (List ℕ)) → HasParts line name kind size modify perm → ¬ (IsSound number_value size) → Refuses line BadFact
-no_number line name kind size modify perm h denies = (
+pub no_number : (line name : List ℕ) (texts : FactName → Option (List ℕ)) → HasParts line name texts → ¬ (IsSound number_value (texts Size)) → Refuses line BadFact
+no_number line name texts h denies = (
   has_space line (facts_text h.facts) name h.written,
-  λ n m sound. denies (subst (IsSound number_value) (sym (HasParts-same line name n kind size modify perm sound.kind sound.size m sound.perm h sound.parts).2) sound.sized),
+  λ n t sound. denies (subst (IsSound number_value) (sym ((HasParts-same line name n texts t h sound.parts).1 Size)) sound.sized),
 )
+
+-- a line with a pathname and a Size that is a number
+pub is_sized : (line name : List ℕ) (texts : FactName → Option (List ℕ)) (size : Option ℕ) → HasParts line name texts → name ≢ [] → fact_value number_value (texts Size) ≡ Some size → IsSized line name texts
+is_sized line name texts size parts named says = record { parts = parts; named = named; sized = is_sound number_value (texts Size) size says }
 
 -- a pathname that is no path text, and a path text is not empty
 pub path_text-some : (text : List ℕ) → IsPathText text → text ≢ []

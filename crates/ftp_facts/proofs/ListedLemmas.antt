@@ -1,16 +1,18 @@
 -- The entry that a line of a machine listing says, as a value and as a relation.
 use Rattle.std.proofs.Common.{◌≡◌, ◌≢◌, ℕ, ◌⊎◌, inl, inr, List, [], ◌∷◌, ◌++◌, Bool, true, false, ◌==◌, Option, Some, All, refl, sym, ap, subst, ◌∙◌, append_assoc, arith, length, eqb-true, eq-eqb, ne_eqb}
-use Rattle.std.specs.Prelude.{codes}
 use Rattle.std.specs.Bool.{then_some}
 use Rattle.std.specs.List.{before_first, after_first, list_any, slice_split, onto_first, join_with_byte, AllByRecursion}
 use Rattle.std.specs.Option.{option_map}
 use Rattle.std.proofs.lemmas.List.Elements.{All-nil, All-cons, All-head, All-tail}
 use Rattle.std.proofs.lemmas.List.Splits.{join_with_byte-slice_split, slice_split_at, slice_split-cons_yes, slice_split-cons_no}
 use Rattle.ftp_path.specs.Path.{IsPathText}
-use Rattle.ftp_facts.specs.Entry.{SaysListed}
+use Rattle.ftp_facts.specs.Entry.{SaysFact, SaysListed}
 use Rattle.ftp_facts.specs.Fact.{Fact, IsFact, Lacks, AreFacts, facts_text, first_value}
 use Rattle.ftp_facts.specs.Listed.{Listed, entry_value, fact_of, fact_value, has_entry, is_equals, is_semicolon, kind_word, listed_as, listed_by, read_facts}
 use Rattle.ftp_facts.specs.Moment.{moment_value}
+use Rattle.ftp_facts.specs.Name.{fact_word}
+use Rattle.ftp_facts.specs.declared.name.FactName.{FactName}
+use Rattle.ftp_facts.specs.declared.name.FactName.TheVariants.{Kind, Size, Modify, Perm}
 use Rattle.ftp_facts.specs.Value.{and_then, is_space, number_value}
 use Rattle.ftp_facts.proofs.CutLemmas.{then_is, is_then, map_is, Fails, IsCut, cut_first, first_cut, none_passes, one_passes}
 use Rattle.ftp_facts.proofs.NumberLemmas.{given_is, is_given, both, and_both}
@@ -142,12 +144,20 @@ says_split (fact ∷ facts) all =
 -- ---- an entry
 
 listed_says : (name : List ℕ) (facts : List Fact) (entry : Listed) → listed_by name facts ≡ Some entry
-    → (size modify : Option ℕ) × (fact_value number_value (first_value (codes "Size") facts) ≡ Some size)
-    × (fact_value moment_value (first_value (codes "Modify") facts) ≡ Some modify) × (listed_as name facts size modify ≡ entry)
+    → (size modify : Option ℕ) × (fact_value number_value (first_value (fact_word Size) facts) ≡ Some size)
+    × (fact_value moment_value (first_value (fact_word Modify) facts) ≡ Some modify) × (listed_as name facts size modify ≡ entry)
 listed_says name facts entry e =
-    let step = then_is (fact_value number_value (first_value (codes "Size") facts)) (λ size. option_map (listed_as name facts size) (fact_value moment_value (first_value (codes "Modify") facts))) entry e in
-    let last = map_is (listed_as name facts step.0) (fact_value moment_value (first_value (codes "Modify") facts)) entry step.2 in
+    let step = then_is (fact_value number_value (first_value (fact_word Size) facts)) (λ size. option_map (listed_as name facts size) (fact_value moment_value (first_value (fact_word Modify) facts))) entry e in
+    let last = map_is (listed_as name facts step.0) (fact_value moment_value (first_value (fact_word Modify) facts)) entry step.2 in
     (step.0, last.0, step.1, last.1, last.2)
+
+-- each value says what such an entry has
+says_facts : (name : List ℕ) (facts : List Fact) (size modify : Option ℕ) → fact_value number_value (first_value (fact_word Size) facts) ≡ Some size
+    → fact_value moment_value (first_value (fact_word Modify) facts) ≡ Some modify → (fact : FactName) → SaysFact (listed_as name facts size modify) fact (first_value (fact_word fact) facts)
+says_facts name facts size modify size_is modify_is Kind = refl
+says_facts name facts size modify size_is modify_is Size = size_is
+says_facts name facts size modify size_is modify_is Modify = modify_is
+says_facts name facts size modify size_is modify_is Perm = refl
 
 pub entry_says : (line : List ℕ) (entry : Listed) → entry_value line ≡ Some entry → SaysListed line entry
 unfolding entry_value
@@ -162,8 +172,8 @@ entry_says line entry e =
     by_cut second.0 tests.0 tests.1 facts (listed_says name second.0 entry second.2) (cut_first is_space line)
   where
     by_cut : (facts : List Fact) → list_any is_space line ≡ true → IsPathText (after_first is_space line) → AreFacts (before_first is_space line) facts
-        → (size modify : Option ℕ) × (fact_value number_value (first_value (codes "Size") facts) ≡ Some size)
-        × (fact_value moment_value (first_value (codes "Modify") facts) ≡ Some modify) × (listed_as (after_first is_space line) facts size modify ≡ entry)
+        → (size modify : Option ℕ) × (fact_value number_value (first_value (fact_word Size) facts) ≡ Some size)
+        × (fact_value moment_value (first_value (fact_word Modify) facts) ≡ Some modify) × (listed_as (after_first is_space line) facts size modify ≡ entry)
         → (Fails is_space line × (after_first is_space line ≡ [])) ⊎ IsCut is_space line → SaysListed line entry
     by_cut facts any sayable are said (inl none) = absurd (let never : true ≡ false = sym any ∙ none_passes is_space line none.0 in cc)
     by_cut facts any sayable are (size, modify, size_is, modify_is, entry_is) (inr cut) =
@@ -171,23 +181,16 @@ entry_says line entry e =
         let name : List ℕ = after_first is_space line in
         let P : List ℕ → Type 0 = λ l. Lacks l 32 in
         subst (SaysListed line) entry_is (record {
-          kind_text = first_value (codes "Type") facts;
-          size_text = first_value (codes "Size") facts;
-          modify_text = first_value (codes "Modify") facts;
+          texts = λ fact. first_value (fact_word fact) facts;
           parts = record {
             facts = facts;
             each = are.0;
             spaceless = subst P are.1 (lacks 32 (before_first is_space line) cut.fails);
             written = cut.text_is ∙ (λ i. are.1 i ++ space i ∷ name);
-            kind_is = refl;
-            size_is = refl;
-            modify_is = refl;
-            perm_is = refl;
+            found = λ fact. refl;
           };
           named = sayable;
-          kind = refl;
-          size = size_is;
-          modify = modify_is;
+          says = says_facts name facts size modify size_is modify_is;
         })
 
 same_listed : (x y : Listed) → x.name ≡ y.name → x.kind ≡ y.kind → x.size ≡ y.size → x.modify ≡ y.modify → x.perm ≡ y.perm → x ≡ y
@@ -204,13 +207,13 @@ says_entry line entry s =
     let sayable : IsPathText (after_first is_space whole) = subst IsPathText (sym cut.1) s.named in
     let found : then_some (has_entry whole) (slice_split is_semicolon (before_first is_space whole)) ≡ Some (slice_split is_semicolon before) =
     is_given (has_entry whole) (slice_split is_semicolon (before_first is_space whole)) (and_both _ _ any sayable) ∙ ap (λ l. Some (slice_split is_semicolon l)) cut.0 in
-    let size : fact_value number_value (first_value (codes "Size") p.facts) ≡ Some entry.size = ap (fact_value number_value) p.size_is ∙ s.size in
-    let modify : fact_value moment_value (first_value (codes "Modify") p.facts) ≡ Some entry.modify =
-    ap (fact_value moment_value) p.modify_is ∙ s.modify in
+    let size : fact_value number_value (first_value (fact_word Size) p.facts) ≡ Some entry.size = ap (fact_value number_value) (p.found Size) ∙ s.says Size in
+    let modify : fact_value moment_value (first_value (fact_word Modify) p.facts) ≡ Some entry.modify =
+    ap (fact_value moment_value) (p.found Modify) ∙ s.says Modify in
     let made : listed_as entry.name p.facts entry.size entry.modify ≡ entry =
-    same_listed (listed_as entry.name p.facts entry.size entry.modify) entry refl (ap (option_map kind_word) p.kind_is ∙ sym s.kind) refl refl p.perm_is in
+    same_listed (listed_as entry.name p.facts entry.size entry.modify) entry refl (ap (option_map kind_word) (p.found Kind) ∙ sym (s.says Kind)) refl refl (p.found Perm ∙ sym (s.says Perm)) in
     let listed : listed_by entry.name p.facts ≡ Some entry =
-    is_then (fact_value number_value (first_value (codes "Size") p.facts)) (λ size. option_map (listed_as entry.name p.facts size) (fact_value moment_value (first_value (codes "Modify") p.facts))) entry.size entry size
+    is_then (fact_value number_value (first_value (fact_word Size) p.facts)) (λ size. option_map (listed_as entry.name p.facts size) (fact_value moment_value (first_value (fact_word Modify) p.facts))) entry.size entry size
     (ap (option_map (listed_as entry.name p.facts entry.size)) modify ∙ ap Some made) in
     let named : listed_by (after_first is_space whole) p.facts ≡ Some entry = ap (λ l. listed_by l p.facts) cut.1 ∙ listed in
     let facts : and_then (read_facts (slice_split is_semicolon before)) (listed_by (after_first is_space whole)) ≡ Some entry =

@@ -15,8 +15,9 @@ use Rattle.ftp_facts.specs.Entry.{IsSized, IsSound, Refuses, SaysEntry, SaysList
 use Rattle.ftp_facts.specs.Fact.{IsOtherWord, IsValue, Lacks, facts_text, is_word, space, file_word, dir_word, current_word, parent_word}
 use Rattle.ftp_facts.specs.Listed.{Listed}
 use Rattle.ftp_facts.specs.Moment.{moment_value}
-use Rattle.ftp_facts.specs.Value.{number_value}
-use Rattle.ftp_facts.proofs.EntryLemmas.{HasParts-same, has_space, is_sound, path_text-some}
+use Rattle.ftp_facts.specs.declared.name.FactName.{FactName}
+use Rattle.ftp_facts.specs.declared.name.FactName.TheVariants.{Size, Modify}
+use Rattle.ftp_facts.proofs.EntryLemmas.{HasParts-same, has_space, is_sized, is_sound, path_text-some}
 use Rattle.ftp_facts.proofs.ListedLemmas.{entry_says}
 use Rattle.ftp_facts.proofs.MomentLemmas.{Moment-same}
 
@@ -78,48 +79,40 @@ pub SaysEntry-same : {A : Type 0} (line : List ℕ) (x y : Entry A) → SaysEntr
 SaysEntry-same line x y a b = listed-same x y (ap (λ o. unwrap_or o (listed_of x)) (sym a ∙ b))
 
 -- a line that says something has a pathname and a sound size
-sized : (line : List ℕ) (entry : Listed) → (s : SaysListed line entry) → IsSized line entry.name s.modify_text
-sized line entry s = record {
-  kind = s.kind_text;
-  size = s.size_text;
-  perm = entry.perm;
-  parts = s.parts;
-  named = path_text-some entry.name s.named;
-  sized = is_sound number_value s.size_text entry.size s.size;
-}
+sized : (line : List ℕ) (entry : Listed) → (s : SaysListed line entry) → IsSized line entry.name s.texts
+sized line entry s = is_sized line entry.name s.texts entry.size s.parts (path_text-some entry.name s.named) (s.says Size)
 
-spaced : (line name : List ℕ) (modify : Option (List ℕ)) → IsSized line name modify → ¬ (Lacks line space)
-spaced line name modify s = has_space line (facts_text s.parts.facts) name s.parts.written
+spaced : (line name : List ℕ) (texts : FactName → Option (List ℕ)) → IsSized line name texts → ¬ (Lacks line space)
+spaced line name texts s = has_space line (facts_text s.parts.facts) name s.parts.written
 
 -- one line has one pathname and one Modify
 record IsOne (n name : List ℕ) (m modify : Option (List ℕ)) : Type 0 where
   names : n ≡ name
   modifies : m ≡ modify
 
-one : (line n name : List ℕ) (m modify : Option (List ℕ)) → IsSized line n m → IsSized line name modify → IsOne n name m modify
-one line n name m modify a b =
-    let same = HasParts-same line n name a.kind a.size m a.perm b.kind b.size modify b.perm a.parts b.parts in record { names = same.0; modifies = same.3 }
+one : (line n name : List ℕ) (t texts : FactName → Option (List ℕ)) → IsSized line n t → IsSized line name texts → IsOne n name (t Modify) (texts Modify)
+one line n name t texts a b = let same = HasParts-same line n name t texts a.parts b.parts in record { names = same.0; modifies = same.1 Modify }
 
 -- a line meets one fault
 says : (line : List ℕ) (m : Refuses line Memory) → SaysListed line m.0
 says line m = entry_says line m.0 m.1
 
 space_apart : (line : List ℕ) → Lacks line space → Refuses line Memory → ⊥
-space_apart line none m = let s = says line m in spaced line m.0.name s.modify_text (sized line m.0 s) none
+space_apart line none m = let s = says line m in spaced line m.0.name s.texts (sized line m.0 s) none
 
 fact_apart : (line : List ℕ) → Refuses line BadFact → Refuses line Memory → ⊥
-fact_apart line a m = let s = says line m in a.1 m.0.name s.modify_text (sized line m.0 s)
+fact_apart line a m = let s = says line m in a.1 m.0.name s.texts (sized line m.0 s)
 
 moment_apart : (line : List ℕ) → Refuses line BadMoment → Refuses line Memory → ⊥
 moment_apart line a m =
     let s = says line m in
-    let same = one line a.0 m.0.name a.1 s.modify_text a.2 (sized line m.0 s) in
-    a.3 (subst (IsSound moment_value) (sym same.modifies) (is_sound moment_value s.modify_text m.0.modify s.modify))
+    let same = one line a.0 m.0.name a.1 s.texts a.2 (sized line m.0 s) in
+    a.3 (subst (IsSound moment_value) (sym same.modifies) (is_sound moment_value (s.texts Modify) m.0.modify (s.says Modify)))
 
 name_apart : (line : List ℕ) → Refuses line BadName → Refuses line Memory → ⊥
 name_apart line a m =
     let s = says line m in
-    let same = one line m.0.name a.0 s.modify_text a.1 (sized line m.0 s) a.2 in
+    let same = one line m.0.name a.0 s.texts a.1 (sized line m.0 s) a.2 in
     a.4 (subst IsPathText same.names s.named)
 
 moment_first : (line : List ℕ) → Refuses line BadMoment → Refuses line BadName → ⊥

@@ -2,7 +2,10 @@ pub mod Calendar
 pub mod Fact
 pub mod Value
 pub mod Moment
+pub mod Name
 pub mod Listed
+pub mod Line
+pub mod Sink
 pub mod Entry
 pub mod Listing
 pub mod Fault

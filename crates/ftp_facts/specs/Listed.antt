@@ -1,11 +1,14 @@
 -- The entry that a line of a machine listing says: facts, SP and a pathname (RFC 3659, section 7.2).
-use Rattle.std.specs.Prelude.{ℕ, ◌==◌, ◌&&◌, Bool, List, [], ◌∷◌, length, Option, Some, None, codes, if◌then◌else◌, option_map}
+use Rattle.std.specs.Prelude.{ℕ, ◌==◌, ◌&&◌, Bool, List, [], ◌∷◌, length, Option, Some, None, decimal, if◌then◌else◌, option_map}
 use Rattle.std.specs.Bool.{then_some}
 use Rattle.std.specs.List.{list_any, before_first, after_first, slice_split}
 use Rattle.ftp_path.specs.Path.{is_path_text}
 use Rattle.ftp_facts.specs.Fact.{Fact, first_value, is_word, file_word, dir_word, current_word, parent_word, equals, semicolon}
-use Rattle.ftp_facts.specs.Moment.{moment_value}
+use Rattle.ftp_facts.specs.Moment.{moment_digits, moment_value}
+use Rattle.ftp_facts.specs.Name.{fact_word}
 use Rattle.ftp_facts.specs.Value.{and_then, is_space, number_value}
+use Rattle.ftp_facts.specs.declared.name.FactName.{FactName}
+use Rattle.ftp_facts.specs.declared.name.FactName.TheVariants.{Kind, Size, Modify, Perm}
 
 -- an entry as a value: its name, and the facts that are given (RFC 3659, section 7)
 pub record Listed : Type 0 where
@@ -14,6 +17,13 @@ pub record Listed : Type 0 where
   pub size : Option ℕ
   pub modify : Option ℕ
   pub perm : Option (List ℕ)
+
+-- the text of a fact of an entry, where it has one: a size in decimal, a moment by its fourteen digits
+abbrev pub text_in : Listed → FactName → Option (List ℕ)
+text_in entry Kind = entry.kind
+text_in entry Size = option_map decimal entry.size
+text_in entry Modify = option_map moment_digits entry.modify
+text_in entry Perm = entry.perm
 
 -- ---- facts
 
@@ -54,17 +64,17 @@ kind_word value =
 abbrev pub listed_as : List ℕ → List Fact → Option ℕ → Option ℕ → Listed
 listed_as name facts size modify = record {
   name = name;
-  kind = option_map kind_word (first_value (codes "Type") facts);
+  kind = option_map kind_word (first_value (fact_word Kind) facts);
   size = size;
   modify = modify;
-  perm = first_value (codes "Perm") facts;
+  perm = first_value (fact_word Perm) facts;
 }
 
 -- the same, where its Size and its Modify say values or are left out
 abbrev pub listed_by : List ℕ → List Fact → Option Listed
 listed_by name facts =
-    and_then (fact_value number_value (first_value (codes "Size") facts)) (λ size.
-    option_map (listed_as name facts size) (fact_value moment_value (first_value (codes "Modify") facts)))
+    and_then (fact_value number_value (first_value (fact_word Size) facts)) (λ size.
+    option_map (listed_as name facts size) (fact_value moment_value (first_value (fact_word Modify) facts)))
 
 -- facts, SP and a pathname that is a path text: the first SP ends the facts
 abbrev pub has_entry : List ℕ → Bool

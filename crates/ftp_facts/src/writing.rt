@@ -1,14 +1,17 @@
 //! From an entry to its line.
-ghost use Rattle.std.specs.Prelude.{◌≡◌, ◌∷◌, ◌++◌, [], option_map, decimal, codes, OnOk, OnErr, IfErr};
-ghost use Rattle.ftp_facts.specs.Fact.{given, facts_text, space, equals, semicolon};
-ghost use Rattle.ftp_facts.specs.Entry.{word_of, digits_of, entry_line, GoesOn};
+ghost use Rattle.std.specs.Prelude.{◌≡◌, ◌++◌, Some, option_map, OnOk, OnErr, IfErr};
+ghost use Rattle.ftp_facts.specs.Entry.{entry_line, listed_lent, value_text};
+ghost use Rattle.ftp_facts.specs.Fact.{facts_text, given};
+ghost use Rattle.ftp_facts.specs.Line.{facts_of, listed_line, said_texts};
+ghost use Rattle.ftp_facts.specs.Name.{fact_word};
+ghost use Rattle.ftp_facts.specs.Sink.{BreaksOff, Writes};
 
-use crate::{Entry, EntryKind, FactFault, Moment, Text, moment_text};
+use crate::entry::FactValue;
+use crate::{Entry, FactFault, FactName, Facts, LentEntry, LineSink, moment_text};
 use itoa::Buffer;
 use std::alloc::{AllocError, Allocator};
 
-/// Appends the line of an entry, without an end: its Type, Size, Modify and Perm in that order, each where it is
-/// there, a space and the pathname (RFC 3659, section 7.2). Refused memory, `out` is as before.
+/// Appends the line of an entry with all its facts, without an end (RFC 3659, section 7.2). Refused memory, `out` is as before.
 pub fn write_entry<A: Allocator + Copy, B: Allocator + Copy>(
     entry: &Entry<A>,
     out: &mut Vec<u8, B>,
@@ -18,7 +21,7 @@ pub fn write_entry<A: Allocator + Copy, B: Allocator + Copy>(
     ensures fault { IfErr result (λ fault. fault ≡ FactFault.Memory) }
 {
     let start = out.len();
-    match append_entry(entry, out) {
+    match write_entry_line(entry.lent(), Facts::ALL, out) {
         Ok(()) => Ok(()),
         Err(_) => {
             out.truncate(start);
@@ -27,110 +30,64 @@ pub fn write_entry<A: Allocator + Copy, B: Allocator + Copy>(
     }
 }
 
-fn append_entry<A: Allocator + Copy, B: Allocator + Copy>(
-    entry: &Entry<A>,
-    out: &mut Vec<u8, B>,
+/// Writes the line of an entry, without an end: its facts that are in force and that it has, in the order of `FactName::ALL`, a
+/// space and the pathname (RFC 3659, section 7.2). Refused, a part of it may stand there. Takes no memory but the sink's.
+pub fn write_entry_line<S: LineSink>(
+    lent: LentEntry<'_>,
+    facts: Facts,
+    out: &mut S,
 ) -> Result<(), AllocError>
-    ensures line { OnOk result (out.new.items ≡ out.old.items ++ entry_line entry.now) }
-    ensures front { OnErr result (GoesOn out.old.items out.new.items) }
+    ensures ok { OnOk result (Writes S.held S.form S.left (listed_line facts (listed_lent lent.entry)) out.old out.new) }
+    ensures err { OnErr result (BreaksOff S.held S.left (listed_line facts (listed_lent lent.entry)) out.old out.new) }
 {
-    append_kind(&entry.kind, out)?;
-    append_size(entry.size, out)?;
-    append_modify(entry.modify, out)?;
-    append_perm(&entry.perm, out)?;
-    append_name(&entry.name, out)
+    write_facts(lent, facts, out)?;
+    out.write_text(b" ")?;
+    out.write_text(lent.name)
 }
 
-fn append_kind<A: Allocator + Copy, B: Allocator + Copy>(
-    kind: &Option<EntryKind<A>>,
-    out: &mut Vec<u8, B>,
+/// Writes the facts of an entry that are in force.
+fn write_facts<S: LineSink>(
+    lent: LentEntry<'_>,
+    facts: Facts,
+    out: &mut S,
 ) -> Result<(), AllocError>
-    ensures fact { OnOk result (out.new.items ≡ out.old.items
-        ++ facts_text (given (codes "Type") (option_map word_of kind.now))) }
-    ensures front { OnErr result (GoesOn out.old.items out.new.items) }
+    ensures ok { OnOk result (Writes S.held S.form S.left (facts_text (facts_of (said_texts facts (listed_lent lent.entry)))) out.old out.new) }
+    ensures err { OnErr result (BreaksOff S.held S.left (facts_text (facts_of (said_texts facts (listed_lent lent.entry)))) out.old out.new) }
 {
-    match kind {
-        Some(kind) => append_fact(b"Type", word(kind), out),
+    for name in FactName::ALL {
+        if facts.has(name) {
+            write_given(name, lent.value(name), out)?;
+        }
+    }
+    Ok(())
+}
+
+/// Writes a fact, where there is a value for it.
+fn write_given<S: LineSink>(
+    name: FactName,
+    value: Option<FactValue<'_>>,
+    out: &mut S,
+) -> Result<(), AllocError>
+    ensures ok { OnOk result (Writes S.held S.form S.left (facts_text (given (fact_word name) (option_map value_text value.entry))) out.old out.new) }
+    ensures err { OnErr result (BreaksOff S.held S.left (facts_text (given (fact_word name) (option_map value_text value.entry))) out.old out.new) }
+{
+    match value {
         None => Ok(()),
+        Some(FactValue::Text(text)) => write_fact(name, text, out),
+        Some(FactValue::Number(number)) => {
+            write_fact(name, Buffer::new().format(number).as_bytes(), out)
+        }
+        Some(FactValue::Stamp(moment)) => write_fact(name, &moment_text(moment), out),
     }
 }
 
-fn append_size<B: Allocator + Copy>(
-    size: Option<u64>,
-    out: &mut Vec<u8, B>,
-) -> Result<(), AllocError>
-    ensures fact { OnOk result (out.new.items ≡ out.old.items
-        ++ facts_text (given (codes "Size") (option_map decimal size))) }
-    ensures front { OnErr result (GoesOn out.old.items out.new.items) }
+/// Writes `name=value;`.
+fn write_fact<S: LineSink>(name: FactName, value: &[u8], out: &mut S) -> Result<(), AllocError>
+    ensures ok { OnOk result (Writes S.held S.form S.left (facts_text (given (fact_word name) (Some value.now))) out.old out.new) }
+    ensures err { OnErr result (BreaksOff S.held S.left (facts_text (given (fact_word name) (Some value.now))) out.old out.new) }
 {
-    match size {
-        Some(size) => append_fact(b"Size", Buffer::new().format(size).as_bytes(), out),
-        None => Ok(()),
-    }
-}
-
-fn append_modify<B: Allocator + Copy>(
-    modify: Option<Moment>,
-    out: &mut Vec<u8, B>,
-) -> Result<(), AllocError>
-    ensures fact { OnOk result (out.new.items ≡ out.old.items
-        ++ facts_text (given (codes "Modify") (option_map digits_of modify))) }
-    ensures front { OnErr result (GoesOn out.old.items out.new.items) }
-{
-    match modify {
-        Some(moment) => append_fact(b"Modify", &moment_text(moment), out),
-        None => Ok(()),
-    }
-}
-
-fn append_perm<A: Allocator + Copy, B: Allocator + Copy>(
-    perm: &Option<Text<A>>,
-    out: &mut Vec<u8, B>,
-) -> Result<(), AllocError>
-    ensures fact { OnOk result (out.new.items ≡ out.old.items ++ facts_text (given (codes "Perm") perm.now)) }
-    ensures front { OnErr result (GoesOn out.old.items out.new.items) }
-{
-    match perm {
-        Some(perm) => append_fact(b"Perm", perm.as_slice(), out),
-        None => Ok(()),
-    }
-}
-
-fn append_name<A: Allocator + Copy, B: Allocator + Copy>(
-    name: &Text<A>,
-    out: &mut Vec<u8, B>,
-) -> Result<(), AllocError>
-    ensures name { OnOk result (out.new.items ≡ out.old.items ++ space ∷ name.now) }
-    ensures front { OnErr result (GoesOn out.old.items out.new.items) }
-{
-    out.extend_from_slice(b" ")?;
-    out.extend_from_slice(name.as_slice())
-}
-
-/// Appends `name=value;`.
-fn append_fact<B: Allocator + Copy>(
-    name: &[u8],
-    value: &[u8],
-    out: &mut Vec<u8, B>,
-) -> Result<(), AllocError>
-    ensures fact { OnOk result (out.new.items ≡ out.old.items
-        ++ (name.now ++ equals ∷ (value.now ++ semicolon ∷ []))) }
-    ensures front { OnErr result (GoesOn out.old.items out.new.items) }
-{
-    out.extend_from_slice(name)?;
-    out.extend_from_slice(b"=")?;
-    out.extend_from_slice(value)?;
-    out.extend_from_slice(b";")
-}
-
-fn word<A: Allocator + Copy>(kind: &EntryKind<A>) -> &[u8]
-    ensures { result.now ≡ word_of kind.now }
-{
-    match kind {
-        EntryKind::File => b"file",
-        EntryKind::Dir => b"dir",
-        EntryKind::CurrentDir => b"cdir",
-        EntryKind::ParentDir => b"pdir",
-        EntryKind::Other(word) => word.as_slice(),
-    }
+    out.write_text(name.word())?;
+    out.write_text(b"=")?;
+    out.write_text(value)?;
+    out.write_text(b";")
 }

@@ -8,6 +8,7 @@ use Rattle.ftp_operation_secret.specs.declared.method.Method.{Method}
 use Rattle.ftp_operation_secret.specs.declared.method.Method.TheVariants.{Sha256, Sha512}
 use Rattle.ftp_operation_secret.specs.declared.fault.SecretFault.{SecretFault}
 use Rattle.ftp_operation_secret.specs.declared.fault.SecretFault.TheVariants as Faults
+use Rattle.ftp_operation_secret.specs.declared.reading.TheConstants.{ROUNDS_LIMIT}
 use Rattle.ftp_operation_secret.specs.declared.secret.Secret.{Secret}
 use Rattle.ftp_operation_secret.specs.declared.secret.Secret.TheVariants.{Plain, Crypt}
 
@@ -63,7 +64,7 @@ letter_count Sha512 = 86
 
 -- the most rounds that are made for a login (own choice; the algorithm has 1,000 to 999,999,999)
 abbrev pub most_rounds : ℕ
-most_rounds = 1000000
+most_rounds = ROUNDS_LIMIT
 
 -- what stands before a place and behind it
 abbrev pub cut_at : List ℕ → Option ℕ → Option (List ℕ × List ℕ)

@@ -13,21 +13,19 @@ use Rattle.std.proofs.lemmas.List.Elements.{All-append, All-cons, All-nil}
 use Rattle.std.proofs.lemmas.List.Folds.{list_all-append}
 use Rattle.std.proofs.lemmas.List.Splits.{slice_split_at}
 use Rattle.std.proofs.lemmas.Str.Parse.{IsNumeralModel}
-use Rattle.ftp_facts.specs.Calendar.{month_and_place, year_and_place}
-use Rattle.ftp_facts.specs.Entry.{facts_of}
-use Rattle.ftp_facts.specs.Fact.{Fact, facts_text, given, equals, semicolon, space}
 use Rattle.ftp_facts.specs.Listed.{Listed, entry_value}
 use Rattle.ftp_facts.specs.Listing.{all_values, but_empty_last, entries_value, is_shown, line_feed, lines_of, name_value, names_value}
-use Rattle.ftp_facts.specs.Moment.{date_digits, day_digits, four_digits, moment_digits, month_digits, second_digits, time_digits, two_digits}
 use Rattle.ftp_facts.specs.Value.{and_then}
-use Rattle.ftp_facts.proofs.NumberLemmas.{digits_all, is_given}
-use Rattle.ftp_operation.specs.Operation.{is_number}
+use Rattle.ftp_facts.proofs.LineLemmas.{Lets, weaker}
+use Rattle.ftp_facts.proofs.NameLemmas.{word_passes}
+use Rattle.ftp_facts.proofs.NumberLemmas.{at_most, is_given}
 use Rattle.ftp_path.specs.Path.{IsPathText, Names, fits, is_listed_text, is_name, is_path_octet, slash, text_limit}
 use Rattle.ftp_path.proofs.TextLemmas.{is_utf8-append, name-text, slash-utf8}
-use Rattle.ftp_tree.specs.Map.{Node, Dir, File}
+use Rattle.ftp_tree.specs.Map.{Node, Dir, File, shown_of}
 use Rattle.ftp_tree.specs.Tree.{Table, children, node_at}
 use Rattle.ftp_tree.proofs.LawLemmas.{children-stand}
-use Rattle.ftp_direct.specs.Direct.{State, behind, child, entries_in, entry_at, entry_in, file_in, is_file, listed, names_for, part, perm_of, size_fact}
+use Rattle.ftp_direct.specs.Direct.{State, behind, child, entries_in, entry_at, entry_in, file_in, is_file, is_root, listed, names_for, part}
+use Rattle.ftp_direct.proofs.EntryLemmas.{entry_passes, is_said_octet}
 use Rattle.ftp_server_model.specs.Entries.{listed_line}
 use Rattle.ftp_server_model.specs.Listing.{entry_lines, lines_file, name_lines}
 use Rattle.ftp_server_model.specs.View.{all_facts}
@@ -66,105 +64,22 @@ is_inner octet = not (is_feed octet)
 written : (text : List ℕ) → list_all is_inner text ≡ true → NoFeed text
 written text all = of_kind is_inner refl text all
 
--- digits
-digit_lacks : (n : ℕ) → is_feed (48 + n) ≡ false
-digit_lacks n = ne_eqb (48 + n) line_feed (λ e. absurd (omega (arith, e)))
+-- octets from `0` on are no LF
+from_zero : (octet : ℕ) → is_said_octet octet ≡ true → is_inner octet ≡ true
+from_zero octet said = ap not (ne_eqb octet line_feed (λ e. absurd (let low = at_most 48 octet said in omega (arith, low, e))))
 
--- two digits have no LF
-two_lack : (n : ℕ) → NoFeed (two_digits n)
-two_lack n =
-    one_more (48 + n / 10) ((48 + n % 10) ∷ []) (digit_lacks (n / 10))
-    (one_more (48 + n % 10) [] (digit_lacks (n % 10)) (All-nil (λ octet. is_feed octet ≡ false)))
-
--- the digits of a date have no LF
-date_lacks : (year month day : ℕ) → NoFeed (date_digits year month day)
-date_lacks year month day =
-    both_lack (four_digits year) (two_digits month ++ two_digits day) (both_lack (two_digits (year / 100)) (two_digits (year % 100)) (two_lack (year / 100)) (two_lack (year % 100)))
-    (both_lack (two_digits month) (two_digits day) (two_lack month) (two_lack day))
-
--- the digits of a time of day have no LF
-time_lacks : (hour minute second : ℕ) → NoFeed (time_digits hour minute second)
-time_lacks hour minute second =
-    both_lack (two_digits hour) (two_digits minute ++ two_digits second) (two_lack hour) (both_lack (two_digits minute) (two_digits second) (two_lack minute) (two_lack second))
-
--- the digits of a moment have no LF
-moment_lacks : (moment : ℕ) → NoFeed (moment_digits moment)
-moment_lacks moment = by_parts (year_and_place 10_000 1970 (moment / 86_400))
-  where
-    by_day : (year : ℕ) (day : ℕ × ℕ) → NoFeed (month_digits year day ++ second_digits (moment % 86_400))
-    by_day year day =
-        let second : ℕ = moment % 86_400 in
-        both_lack (month_digits year day) (second_digits second) (date_lacks year day.0 (day.1 + 1)) (time_lacks (second / 3600) (second % 3600 / 60) (second % 60))
-
-    by_parts : (day : ℕ × ℕ) → NoFeed (day_digits day ++ second_digits (moment % 86_400))
-    by_parts day = by_day day.0 (month_and_place 11 day.0 1 day.1)
-
--- digits in base ten and their value are a model of numerals
-own : IsNumeralModel (AllDigits 10) (digits_value 10)
-own = record { to = λ ds all. all; from = λ ds all. all; same = λ ds all. refl }
-
--- a number below 2 ^ 64, written in decimal, has no LF
-decimal_lacks : (n : ℕ) → n < 2 ^ 64 → NoFeed (decimal n)
-decimal_lacks n small = of_kind is_ascii_digit refl (decimal n) (digits_all (decimal n) (digits_decimal own n small))
+-- octets of a pathname are none
+path_inner : (octet : ℕ) → is_path_octet octet ≡ true → is_inner octet ≡ true
+path_inner octet is = ap not (ne_eqb octet line_feed (λ e. absurd (let f : false ≡ true = ap is_path_octet (sym e) ∙ is in cc)))
 
 -- ---- the line of an entry
 
--- a value that is given, or none
-abbrev IsPlain : Option (List ℕ) → Type 0
-IsPlain None = Unit {0}
-IsPlain (Some text) = NoFeed text
-
--- the text of a fact that is given, or of none, has no LF if its name and its value have none
-given_lacks : (name : List ℕ) (value : Option (List ℕ)) → NoFeed name → IsPlain value → NoFeed (facts_text (given name value))
-given_lacks name None one other = All-nil (λ octet. is_feed octet ≡ false)
-given_lacks name (Some value) one other =
-    both_lack name (equals ∷ (value ++ semicolon ∷ [])) one
-    (one_more equals (value ++ semicolon ∷ []) refl (both_lack value (semicolon ∷ []) other (one_more semicolon [] refl (All-nil (λ octet. is_feed octet ≡ false)))))
-
--- the text of two lists of facts in a row is the text of the first and that of the second
-facts_text-append : (xs ys : List Fact) → facts_text (xs ++ ys) ≡ facts_text xs ++ facts_text ys
-facts_text-append [] ys = refl
-facts_text-append (x ∷ xs) ys = rw (facts_text-append xs ys) (sym (simp append_assoc))
-
--- two lists of facts whose texts have no LF make one whose text has none
-joined_lack : (xs ys : List Fact) → NoFeed (facts_text xs) → NoFeed (facts_text ys) → NoFeed (facts_text (xs ++ ys))
-joined_lack xs ys one other = subst NoFeed (sym (facts_text-append xs ys)) (both_lack (facts_text xs) (facts_text ys) one other)
-
--- the four facts, a space and a name have no LF if neither the values nor the name have one
-line_lacks : (kind size modify perm : Option (List ℕ)) (name : List ℕ) → IsPlain kind → IsPlain size → IsPlain modify → IsPlain perm → NoFeed name
-    → NoFeed (facts_text (facts_of kind size modify perm) ++ space ∷ name)
-line_lacks kind size modify perm name one two three four five =
-    let f1 = given_lacks (codes "Type") kind (written (codes "Type") refl) one in
-    let f2 = given_lacks (codes "Size") size (written (codes "Size") refl) two in
-    let f3 = given_lacks (codes "Modify") modify (written (codes "Modify") refl) three in
-    let f4 = given_lacks (codes "Perm") perm (written (codes "Perm") refl) four in
-    both_lack (facts_text (facts_of kind size modify perm)) (space ∷ name)
-    (joined_lack (given (codes "Type") kind) (given (codes "Size") size ++ (given (codes "Modify") modify ++ given (codes "Perm") perm)) f1
-    (joined_lack (given (codes "Size") size) (given (codes "Modify") modify ++ given (codes "Perm") perm) f2
-    (joined_lack (given (codes "Modify") modify) (given (codes "Perm") perm) f3 f4)))
-    (one_more space name refl five)
-
--- what may be done with a node is told without LF
-perm_lacks : (path : Names) (node : Node) → NoFeed (perm_of path node)
-perm_lacks path (File octets moment) = written (codes "adfrw") refl
-perm_lacks [] Dir = written (codes "celmp") refl
-perm_lacks (name ∷ names) Dir = written (codes "cdeflmp") refl
-
--- the size of a file is told without LF, if it is told
-size_lacks : (count : ℕ) → IsPlain (option_map decimal (size_fact count))
-size_lacks count = by_number (is_number count) refl
-  where
-    by_number : (b : Bool) → is_number count ≡ b → IsPlain (option_map decimal (if b then Some count else None))
-    by_number true e = let small : count < 10 ^ 18 = ltb-true count (10 ^ 18) e in decimal_lacks count (omega (arith, small))
-    by_number false e = tt
-
--- the line of an entry has no LF if its name has none
-entry_lacks : (name : List ℕ) (path : Names) (node : Node) → NoFeed name → NoFeed (listed_line all_facts (listed name path node))
-entry_lacks name path (File octets moment) none =
-    line_lacks (Some (codes "file")) (option_map decimal (size_fact (length octets))) (Some (moment_digits moment)) (Some (perm_of path (File octets moment))) name
-    (written (codes "file") refl) (size_lacks (length octets)) (moment_lacks moment) (perm_lacks path (File octets moment)) none
-entry_lacks name path Dir none =
-    line_lacks (Some (codes "dir")) None None (Some (perm_of path Dir)) name (written (codes "dir") refl) tt tt (perm_lacks path Dir) none
+-- the line of an entry has no LF if its name is of octets of a pathname
+entry_lacks : (name : List ℕ) (path : Names) (node : Node) → list_all is_path_octet name ≡ true → NoFeed (listed_line all_facts (listed name path node))
+entry_lacks name path node named =
+    let lets : Lets is_inner = record { at_equals = refl; at_semicolon = refl; at_space = refl; words = word_passes is_inner refl } in
+    written (listed_line all_facts (listed name path node))
+    (entry_passes is_inner lets from_zero all_facts (shown_of node) (is_root path) name (weaker is_path_octet is_inner path_inner name named))
 
 -- ---- lines as a file, and back
 
@@ -238,17 +153,17 @@ abbrev AreRead : List Listed → Type 0
 AreRead [] = Unit {0}
 AreRead (entry ∷ entries) = IsRead entry × AreRead entries
 
+-- the entry of a node is of a kind that a listing shows
+kind_shown : (name : List ℕ) (path : Names) (node : Node) → is_shown (listed name path node) ≡ true
+kind_shown name path Dir = refl
+kind_shown name path (File octets moment) = refl
+
 -- the entry of a node that is early, with a name, is said by its line
 listed_read : (name : List ℕ) (path : Names) (node : Node) → is_name name ≡ true → IsEarly node → IsRead (listed name path node)
-listed_read name path (File octets moment) named early = record {
-  says = line-reads path (File octets moment) name (name-text name named) early;
-  lacks = entry_lacks name path (File octets moment) (text_lacks name (text_parts name (name-text name named)).octets);
-  shown = refl;
-}
-listed_read name path Dir named early = record {
-  says = line-reads path Dir name (name-text name named) early;
-  lacks = entry_lacks name path Dir (text_lacks name (text_parts name (name-text name named)).octets);
-  shown = refl;
+listed_read name path node named early = record {
+  says = line-reads path node name (name-text name named) early;
+  lacks = entry_lacks name path node (text_parts name (name-text name named)).octets;
+  shown = kind_shown name path node;
 }
 
 -- an entry at a path of a sound state is said by its line

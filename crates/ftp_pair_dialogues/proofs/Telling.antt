@@ -1,23 +1,18 @@
 -- MLST: the entry that the server says is the one that the direct run gives.
 use Rattle.std.proofs.Common.{◌≡◌, ◌≢◌, ◌≤◌, ◌^◌, ℕ, Bool, true, false, not, ◌&&◌, eqb, List, [], ◌∷◌, length, Option, Some, None, refl, sym, ap, subst, ◌∙◌, arith, codes, ne_eqb}
 use Rattle.std.specs.Prelude.{IsTrue, ◌==◌, ◌||◌, if◌then◌else◌}
-use Rattle.std.specs.Option.{ForSome, option_map, unwrap_or}
-use Rattle.std.proofs.lemmas.Bool.{ltb-true}
-use Rattle.std.proofs.lemmas.List.Elements.{All-cons, All-nil}
-use Rattle.ftp_endpoint.specs.Number.{IsShort}
+use Rattle.std.specs.Option.{option_map, unwrap_or}
 use Rattle.ftp_command.specs.Line.{IfGiven}
-use Rattle.ftp_facts.specs.Fact.{IsValue, Lacks, space, semicolon}
 use Rattle.ftp_facts.specs.Listed.{entry_value}
-use Rattle.ftp_facts.specs.declared.entry.Entry.{Entry}
-use Rattle.ftp_facts.specs.declared.entry.EntryKind.TheVariants as Kinds
-use Rattle.ftp_facts.proofs.ComesBackLemmas.{entry_line-says}
+use Rattle.ftp_facts.proofs.ComesBackLemmas.{listed_line-says}
 use Rattle.ftp_operation.specs.Answer.{Entry as EntrySaid}
-use Rattle.ftp_operation.specs.Operation.{can_be_sent, is_number, is_path_text}
+use Rattle.ftp_operation.specs.Operation.{can_be_sent, is_path_text}
 use Rattle.ftp_operation.specs.declared.op.Op.TheVariants as Ops
 use Rattle.ftp_path.specs.Path.{Names, IsPathText, fits, text_of}
-use Rattle.ftp_direct.specs.Direct.{State, done, entry_at, listed, named, named_or_here, part, perm_of, refusal, size_fact}
+use Rattle.ftp_direct.specs.Direct.{State, done, entry_at, is_root, listed, named, named_or_here, part, refusal}
+use Rattle.ftp_direct.proofs.EntryLemmas.{IsEarlyFile, entry_sayable}
 use Rattle.ftp_tree.specs.Sound.{last_second}
-use Rattle.ftp_tree.specs.Map.{Node, Dir, File}
+use Rattle.ftp_tree.specs.Map.{Node, Dir, File, shown_of}
 use Rattle.ftp_tree.specs.Tree.{node_at}
 use Rattle.ftp_client_model.specs.Plan.{own_command, optional}
 use Rattle.ftp_client_model.specs.View.{View as Near}
@@ -37,41 +32,6 @@ use Rattle.ftp_pair_dialogues.proofs.Moving.{within-limits}
 use Rattle.ftp_pair_dialogues.proofs.Rows.{keeps_cleared, sees_cleared, direct_is}
 use Rattle.ftp_pair_dialogues.proofs.Single.{Accepts, IsSingle}
 
--- ---- permissions are values of facts
-
-abbrev differs : ℕ → List ℕ → Bool
-differs c [] = true
-differs c (x ∷ xs) = not (eqb x c) && differs c xs
-
--- octets that all differ from one lack it
-lacks_by : (c : ℕ) (xs : List ℕ) → differs c xs ≡ true → Lacks xs c
-lacks_by c [] e = All-nil (λ each. each ≢ c)
-lacks_by c (x ∷ xs) e =
-    let parts : (x ≢ c) × (differs c xs ≡ true) = split x c (differs c xs) e in
-    All-cons (λ each. each ≢ c) x xs parts.0 (lacks_by c xs parts.1)
-  where
-    split : (x c : ℕ) (rest : Bool) → not (eqb x c) && rest ≡ true → (x ≢ c) × (rest ≡ true)
-    split x c true e = ((λ same. grind (arith, e)), refl)
-    split x c false e = absurd (grind (arith, e))
-
--- a text without a space and a semicolon is the value of a fact
-is_value : (text : List ℕ) → differs space text ≡ true → differs semicolon text ≡ true → ForSome (Some text) IsValue
-is_value text one other found e = let same : text ≡ found = cc in subst IsValue same (lacks_by space text one, lacks_by semicolon text other)
-
--- the permissions of a node are the value of a fact
-perm_value : (path : Names) (node : Node) → ForSome (Some (perm_of path node)) IsValue
-perm_value path (File octets moment) = is_value (codes "adfrw") refl refl
-perm_value [] Dir = is_value (codes "celmp") refl refl
-perm_value (name ∷ names) Dir = is_value (codes "cdeflmp") refl refl
-
--- the number of octets that a fact tells, if it tells one, is short
-size_short : (count : ℕ) → ForSome (size_fact count) IsShort
-size_short count = by_number (is_number count) refl
-  where
-    by_number : (b : Bool) → is_number count ≡ b → ForSome (if b then Some count else None) IsShort
-    by_number true e found is = let same : count ≡ found = cc in subst IsShort same (ltb-true count (10 ^ 18) e)
-    by_number false e found is = absurd (cc)
-
 -- ---- the line of an entry says it
 
 -- its node, if it is a file, has a moment
@@ -81,32 +41,11 @@ IsEarly (File octets moment) = moment ≤ last_second
 
 -- the line of an entry with all facts is read back as that entry, if its file, where it is one, is early
 pub line-reads : (path : Names) (node : Node) (name : List ℕ) → IsPathText name → IsEarly node → entry_value (listed_line all_facts (listed name path node)) ≡ Some (listed name path node)
-line-reads path Dir name is early =
-    let entry : Entry ℕ = record {
-      name = name;
-      kind = Some Kinds.Dir;
-      size = None;
-      modify = None;
-      perm = Some (perm_of path Dir);
-      named = is;
-      kind_fits = λ word e. absurd (cc);
-      size_fits = λ size e. absurd (cc);
-      perm_fits = perm_value path Dir;
-    } in
-    entry_line-says entry
-line-reads path (File octets moment) name is early =
-    let entry : Entry ℕ = record {
-      name = name;
-      kind = Some Kinds.File;
-      size = size_fact (length octets);
-      modify = Some (record { seconds = moment; in_range = early });
-      perm = Some (perm_of path (File octets moment));
-      named = is;
-      kind_fits = λ word e. absurd (cc);
-      size_fits = size_short (length octets);
-      perm_fits = perm_value path (File octets moment);
-    } in
-    entry_line-says entry
+line-reads path node name is early = listed_line-says (listed name path node) (entry_sayable (shown_of node) (is_root path) name is (shown_early node early))
+  where
+    shown_early : (node : Node) → IsEarly node → IsEarlyFile (shown_of node)
+    shown_early Dir early = tt
+    shown_early (File octets moment) early = early
 
 -- ---- MLST
 

@@ -34,7 +34,7 @@ use Rattle.ftp_server_model.specs.declared.session.Access.{Access}
 use Rattle.ftp_server_model.specs.declared.session.Access.TheVariants.{AwaitsPass}
 use Rattle.ftp_server_model.specs.declared.session.ServerLink.{ServerLink}
 use Rattle.ftp_server_model.specs.declared.session.ServerLink.TheVariants as Data
-use Rattle.ftp_server_model.specs.declared.session.Facts.{Facts}
+use Rattle.ftp_facts.specs.declared.name.Facts.{Facts}
 use Rattle.ftp_server_model.specs.declared.session.Pending.{Pending}
 use Rattle.ftp_server_model.specs.declared.session.Pending.TheVariants as Pendings
 use Rattle.ftp_server_model.specs.declared.session.Transfer.TheVariants as Transfers

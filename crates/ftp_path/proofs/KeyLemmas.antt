@@ -13,7 +13,7 @@ use Rattle.std.proofs.lemmas.Bool.{and_parts, and_from, cond-false, cond-true, l
 use Rattle.std.proofs.lemmas.Bool.Decides.{nat_tests}
 use Rattle.std.proofs.lemmas.List.{append-nil, length-append, length-drop, drop_at, drop-drop}
 use Rattle.std.proofs.lemmas.List.Folds.{list_all-append, list_any-append}
-use Rattle.ftp_path.specs.Path.{is_slash, is_path_octet, is_name_octet, is_component, is_name, joined, fits, path_cmp, is_within, only_name, name_in, moved_path}
+use Rattle.ftp_path.specs.Path.{is_slash, is_path_octet, is_name_octet, is_component, is_name, joined, fits, path_cmp, is_within, only_name, name_in, moved_path, text_limit}
 use Rattle.ftp_path.specs.Kept.{names_of, IsJoined, IsKept, rank, goes_on}
 use Rattle.ftp_path.proofs.PathLemmas.{component-octets, name_octet-slash, joined-append, names_of-joined, IsJoined-joined, split-kept, fits-kept}
 
@@ -305,7 +305,7 @@ some_named f (Some x) text name some = ap Some name
 pub record IsMoved (from to path : List (List ℕ)) (text : List ℕ) : Type 0 where
   pub joins : IsJoined text
   pub names : names_of text ≡ moved_path from to path
-  pub fits_by : fits (moved_path from to path) ≡ nat_le (length text) 900
+  pub fits_by : fits (moved_path from to path) ≡ nat_le (length text) text_limit
 
 pub moved-text : (from to path text : List ℕ) → IsJoined from → IsKept to → IsKept path → is_within (names_of from) (names_of path) ≡ true
     → text ≡ to ++ drop (length from) path → IsMoved (names_of from) (names_of to) (names_of path) text
@@ -334,11 +334,11 @@ moved-text from to path text one two three within is =
     all-drop p (suc n) [] all = refl
     all-drop p (suc n) (name ∷ names) all = all-drop p n names (and_parts (p name) (list_all p names) all).1
 
-    fits-length : (text : List ℕ) → IsJoined text → list_all (λ name. nat_le (length name) 255) (names_of text) ≡ true → fits (names_of text) ≡ nat_le (length text) 900
+    fits-length : (text : List ℕ) → IsJoined text → list_all (λ name. nat_le (length name) 255) (names_of text) ≡ true → fits (names_of text) ≡ nat_le (length text) text_limit
     fits-length text joins short =
         fits-kept text joins
-        ∙ ap (λ parts. list_all (λ name. nat_le (length name) 255) parts && nat_le (length text) 900) (split-kept text joins)
-        ∙ ap (λ b. b && nat_le (length text) 900) short
+        ∙ ap (λ parts. list_all (λ name. nat_le (length name) 255) parts && nat_le (length text) text_limit) (split-kept text joins)
+        ∙ ap (λ b. b && nat_le (length text) text_limit) short
 
 module _ (from to path : List ℕ) (one : IsKept from) (two : IsKept to) (three : IsKept path) (f t p : List (List ℕ))
     (f_is : names_of from ≡ f) (t_is : names_of to ≡ t) (p_is : names_of path ≡ p) (within : is_within f p ≡ true) where
@@ -351,13 +351,13 @@ module _ (from to path : List ℕ) (one : IsKept from) (two : IsKept to) (three 
   pub moved-shorter : length from ≤ length path
   moved-shorter = shorter-le from path one.joins three.joins is_below
 
-  pub moved-fits : fits (moved_path f t p) ≡ nat_le (length path - length from + length to) 900
+  pub moved-fits : fits (moved_path f t p) ≡ nat_le (length path - length from + length to) text_limit
   moved-fits =
       let text = to ++ drop (length from) path in
       let is_moved = moved-text from to path text one.joins two three is_below refl in
       let rest = length-drop (length from) path in
       let whole : length text ≡ length path - length from + length to = length-append to (drop (length from) path) ∙ omega arith in
-      sym (ap fits leads) ∙ is_moved.fits_by ∙ ap (λ n. nat_le n 900) whole
+      sym (ap fits leads) ∙ is_moved.fits_by ∙ ap (λ n. nat_le n text_limit) whole
 
   pub moved-kept : fits (moved_path f t p) ≡ true → (text : List ℕ) → text ≡ to ++ drop (length from) path → (IsKept text) × (names_of text ≡ moved_path f t p)
   moved-kept fit text is =

@@ -8,7 +8,7 @@ use Rattle.std.proofs.lemmas.List.Folds.{list_all-append}
 use Rattle.std.proofs.lemmas.List.Sums.{suffix_len_is, AllPass-from_list_all, list_all-from_AllPass}
 use Rattle.std.proofs.lemmas.List.Elements.{All-take}
 use Rattle.std.specs.Str.{is_utf8}
-use Rattle.ftp_path.specs.Path.{is_slash, is_path_octet, is_text, is_path_text, is_name_octet, is_part, is_here, is_above, is_component, parent, followed, joined, text_of, fits}
+use Rattle.ftp_path.specs.Path.{is_slash, is_path_octet, is_text, is_path_text, is_name_octet, is_part, is_here, is_above, is_component, parent, followed, joined, text_of, fits, text_limit}
 use Rattle.ftp_path.proofs.TextLemmas.{is_utf8-nil, is_utf8-append, slash-utf8, cut_before, cut_behind, component-part, name_octets-path}
 use Rattle.ftp_path.specs.Kept.{is_no_slash, names_of, IsJoined, IsKept}
 
@@ -231,17 +231,17 @@ pub split-kept : (text : List ℕ) → IsJoined text → slice_split is_slash te
 split-kept text kept = ap (slice_split is_slash) (sym kept.whole) ∙ split-joined (names_of text) kept.components
 
 -- the canonical text is within the limit just where the names joined are
-text-within : (names : List (List ℕ)) → nat_le (length (text_of names)) 900 ≡ nat_le (length (joined names)) 900
+text-within : (names : List (List ℕ)) → nat_le (length (text_of names)) text_limit ≡ nat_le (length (joined names)) text_limit
 unfolding text_of
 text-within [] = refl
 text-within (name ∷ names) = refl
 
-pub fits-kept : (text : List ℕ) → IsJoined text → fits (names_of text) ≡ (list_all (λ name. nat_le (length name) 255) (slice_split is_slash text) && nat_le (length text) 900)
+pub fits-kept : (text : List ℕ) → IsJoined text → fits (names_of text) ≡ (list_all (λ name. nat_le (length name) 255) (slice_split is_slash text) && nat_le (length text) text_limit)
 unfolding fits
 fits-kept text kept =
     ap (λ n. list_all (λ name. nat_le (length name) 255) (names_of text) && n) (text-within (names_of text))
-    ∙ ap (λ t. list_all (λ name. nat_le (length name) 255) (names_of text) && nat_le (length t) 900) kept.whole
-    ∙ ap (λ parts. list_all (λ name. nat_le (length name) 255) parts && nat_le (length text) 900) (sym (split-kept text kept))
+    ∙ ap (λ t. list_all (λ name. nat_le (length name) 255) (names_of text) && nat_le (length t) text_limit) kept.whole
+    ∙ ap (λ parts. list_all (λ name. nat_le (length name) 255) parts && nat_le (length text) text_limit) (sym (split-kept text kept))
 
 -- the parent of a path within the limits is within them
 pub parent-fits : (names : List (List ℕ)) → fits names ≡ true → fits (parent names) ≡ true
@@ -249,9 +249,9 @@ unfolding fits parent
 parent-fits names fit =
     let both = and_parts (list_all (λ name. nat_le (length name) 255) names) _ fit in
     let front = list_all-from_AllPass (λ name. nat_le (length name) 255) _ (All-take (λ name. nat_le (length name) 255 ≡ true) (length names - 1) names (AllPass-from_list_all (λ name. nat_le (length name) 255) names both.0)) in
-    let long : length (joined names) ≤ 900 = leb-true (length (joined names)) 900 (sym (text-within names) ∙ both.1) in
+    let long : length (joined names) ≤ text_limit = leb-true (length (joined names)) text_limit (sym (text-within names) ∙ both.1) in
     let less : length (joined (parent names)) ≤ length (joined names) = joined-parent-le names in
-    and_from _ _ front (text-within (parent names) ∙ le-leb (length (joined (parent names))) 900 (omega (arith, long, less)))
+    and_from _ _ front (text-within (parent names) ∙ le-leb (length (joined (parent names))) text_limit (omega (arith, long, less)))
 
 -- ---- the three steps
 
@@ -291,9 +291,9 @@ joined-octets (name ∷ names) named =
     let both = and_parts (is_component name) (list_all is_component names) named in
     list_all-append is_path_octet name (joined names) ∙ and_from _ _ (name_octets-path name (component-octets name both.0)) (joined-octets names both.1)
 
-pub kept-le : (text : List ℕ) → IsKept text → length text ≤ 900
+pub kept-le : (text : List ℕ) → IsKept text → length text ≤ text_limit
 kept-le text kept =
-    leb-true (length text) 900 (and_parts (list_all (λ name. nat_le (length name) 255) (slice_split is_slash text)) (nat_le (length text) 900) (sym (fits-kept text kept.joins) ∙ kept.within)).1
+    leb-true (length text) text_limit (and_parts (list_all (λ name. nat_le (length name) 255) (slice_split is_slash text)) (nat_le (length text) text_limit) (sym (fits-kept text kept.joins) ∙ kept.within)).1
 
 -- names joined are UTF-8, as each of them is
 joined-utf8 : (names : List (List ℕ)) → list_all is_component names ≡ true → is_utf8 (joined names) ≡ true
@@ -309,7 +309,7 @@ kept-path_text text kept some =
     let whole = kept.joins.whole in
     let valid : is_utf8 text ≡ true = ap is_utf8 (sym whole) ∙ joined-utf8 (names_of text) kept.joins.components in
     let octets : list_all is_path_octet text ≡ true = ap (list_all is_path_octet) (sym whole) ∙ joined-octets (names_of text) kept.joins.components in
-    and_from _ _ (and_from _ _ (le-leb 1 (length text) some) (le-leb (length text) 900 (kept-le text kept))) (and_from _ _ valid octets)
+    and_from _ _ (and_from _ _ (le-leb 1 (length text) some) (le-leb (length text) text_limit (kept-le text kept))) (and_from _ _ valid octets)
 
 pub IsKept-none : IsKept []
 unfolding names_of fits text_of

@@ -8,7 +8,7 @@ use Rattle.std.specs.Str.{IsAscii, chars, is_utf8}
 use Rattle.std.proofs.lemmas.Bool.{and_parts, and_from, leb-true, le-leb}
 use Rattle.std.proofs.lemmas.Bool.Decides.{nat_tests}
 use Rattle.std.proofs.lemmas.Str.{IsUtf8-from_is_utf8, is_utf8-from_IsUtf8, IsUtf8-nil, IsUtf8-from_ascii, IsUtf8-append, IsUtf8-take, IsUtf8-drop, IsCharBoundary-before_ascii, IsCharBoundary-after_ascii}
-use Rattle.ftp_path.specs.Path.{slash, dot, is_slash, is_path_octet, is_path_text, IsPathText, is_name_octet, is_part, is_here, is_above, is_component, is_name}
+use Rattle.ftp_path.specs.Path.{slash, dot, is_slash, is_path_octet, is_path_text, IsPathText, is_name_octet, is_part, is_here, is_above, is_component, is_name, text_limit}
 use Rattle.ftp_path.specs.Printable.{is_printable, IsPrintableText, IsPrintableName}
 
 -- ---- cut and joined
@@ -56,7 +56,7 @@ printable-octets (x ∷ xs) all =
 
 pub printable-text : (text : List ℕ) → IsPrintableText text → IsPathText text
 printable-text text is =
-    and_from _ _ (and_from _ _ (le-leb 1 (length text) is.some) (le-leb (length text) 900 is.short))
+    and_from _ _ (and_from _ _ (le-leb 1 (length text) is.some) (le-leb (length text) text_limit is.short))
     (and_from _ _ (printable-utf8 text is.printable) (printable-octets text is.printable))
 
 -- the text of the root
@@ -106,7 +106,7 @@ name-text name named =
     let part = component-part name both.0 in
     let parts = and_parts (is_utf8 name) (list_all is_name_octet name) part in
     let short = leb-true (length name) 255 both.1 in
-    and_from _ _ (and_from _ _ (le-leb 1 (length name) (component-some name both.0)) (le-leb (length name) 900 (omega arith)))
+    and_from _ _ (and_from _ _ (le-leb 1 (length name) (component-some name both.0)) (le-leb (length name) text_limit (omega arith)))
     (and_from _ _ parts.0 (name_octets-path name parts.1))
 
 -- what an answer unfolds to compute whether a text that is written out is one of a path

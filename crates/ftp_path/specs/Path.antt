@@ -6,6 +6,7 @@ use Rattle.std.specs.List.{list_all, slice_split, starts_with}
 use Rattle.std.specs.Ordering.{nat_cmp}
 use Rattle.std.specs.Str.{is_utf8}
 use Rattle.std.specs.declared.cmp.Ordering.{Ordering}
+use Rattle.ftp_path.specs.declared.name.TheConstants.{NAME_LIMIT, TEXT_LIMIT}
 
 -- the octet between two names, `/`
 abbrev pub slash : ℕ
@@ -24,10 +25,10 @@ is_text octets = is_utf8 octets && list_all is_path_octet octets
 
 -- the most octets of a pathname, and of a name (own choices)
 abbrev pub text_limit : ℕ
-text_limit = 900
+text_limit = TEXT_LIMIT
 
 abbrev pub name_limit : ℕ
-name_limit = 255
+name_limit = NAME_LIMIT
 
 -- a pathname as it comes in a command: such a text, not empty and within the limit
 abbrev pub is_path_text : List ℕ → Bool

@@ -5,7 +5,7 @@ ghost use Rattle.std.specs.Option.{option_map};
 ghost use Rattle.std.specs.Cmp.Lexicographic.{slice_cmp};
 ghost use Rattle.std.specs.Ordering.{nat_cmp};
 ghost use Rattle.ftp_path.specs.Kept.{IsJoined, goes_on, names_of, rank};
-ghost use Rattle.ftp_path.specs.Path.{is_within, name_in, path_cmp};
+ghost use Rattle.ftp_path.specs.Path.{is_within, name_in, name_limit, path_cmp};
 
 use crate::name::Name;
 use std::cmp::Ordering;
@@ -58,7 +58,7 @@ fn goes_on(front: &[u8], text: &[u8]) -> bool
 pub fn name_in<'a>(above: &[u8], key: &'a [u8]) -> Option<Name<'a>>
     requires above { IsJoined above.now }
     requires key { IsJoined key.now }
-    requires short { IsTrue (list_all (λ name. nat_le (length name) 255) (names_of key.now)) }
+    requires short { IsTrue (list_all (λ name. nat_le (length name) name_limit) (names_of key.now)) }
     ensures { option_map (λ name. name.octets.now) result ≡ name_in (names_of above.now) (names_of key.now) }
 {
     if !is_within(above, key) || key.len() <= above.len() {

@@ -12,5 +12,5 @@ mod walk;
 
 pub use fault::PathFault;
 pub use login::{LOGIN_LIMIT, are_login_octets, is_password, is_user};
-pub use name::{Name, is_listed_text, is_path_text};
+pub use name::{Name, TEXT_LIMIT, is_listed_text, is_path_text};
 pub use path::Path;

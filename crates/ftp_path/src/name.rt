@@ -5,7 +5,7 @@ ghost use Rattle.std.specs.Str.{is_utf8};
 ghost use Rattle.ftp_path.specs.Path.{IsPathText, is_listed_text, is_path_octet, is_text, is_name_octet, is_part, is_here, is_above, is_component, is_name, is_rooted};
 
 /// The most octets of a path text and of a canonical text (own choice).
-pub(crate) const TEXT_LIMIT: usize = 900;
+pub const TEXT_LIMIT: usize = 900;
 
 /// The most octets of a name (own choice).
 pub(crate) const NAME_LIMIT: usize = 255;

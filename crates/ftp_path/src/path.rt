@@ -72,7 +72,7 @@ impl<A: Allocator + Copy> Path<A> {
     pub fn text(&self) -> &[u8]
         ensures text { result.now ≡ text_of self.now }
         ensures path_text { IsPathText result.now }
-        ensures bound { length result.now ≤ 900 }
+        ensures bound { length result.now ≤ TEXT_LIMIT }
     {
         if self.octets.is_empty() {
             b"/".as_slice()
@@ -94,7 +94,7 @@ impl<A: Allocator + Copy> Path<A> {
     /// Where a text starts: at the root, or here.
     fn start(&self, text: &[u8]) -> Walk
         ensures place { result ≡ (if is_rooted text.now then [] else self.now) }
-        ensures within { length (joined result) ≤ 900 }
+        ensures within { length (joined result) ≤ TEXT_LIMIT }
     {
         if is_rooted(text) {
             return Walk::at_root();

@@ -39,7 +39,7 @@ impl Walk {
     /// At a path, given as its names joined.
     pub(crate) fn at(octets: &[u8]) -> Walk
         requires joined { IsJoined octets.now }
-        requires within { length octets.now ≤ 900 }
+        requires within { length octets.now ≤ TEXT_LIMIT }
         ensures { result ≡ names_of octets.now }
     {
         let mut walk = ArrayVec::new();
@@ -98,7 +98,7 @@ impl Walk {
 
 /// Whether no part between slashes has over 255 octets.
 fn are_short(octets: &[u8]) -> bool
-    ensures { result ≡ list_all (λ name. nat_le (length name) 255) (slice_split is_slash octets.now) }
+    ensures { result ≡ list_all (λ name. nat_le (length name) NAME_LIMIT) (slice_split is_slash octets.now) }
 {
     octets
         .split(|octet| *octet == b'/')

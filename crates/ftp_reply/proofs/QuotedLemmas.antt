@@ -4,7 +4,7 @@ use Rattle.std.specs.Prelude.{nat_le}
 use Rattle.std.proofs.lemmas.Bool.Decides.{nat_tests}
 use Rattle.std.proofs.lemmas.List.{length-append}
 use Rattle.ftp_reply.proofs.FirstLemmas.{first_once}
-use Rattle.ftp_path.specs.Path.{IsPathText}
+use Rattle.ftp_path.specs.Path.{IsPathText, text_limit}
 use Rattle.ftp_reply.specs.Lines.{Text}
 use Rattle.ftp_reply.specs.Values.{doubled_octet, doubled, Closes, Quotes}
 
@@ -97,10 +97,10 @@ both true b is = (refl, is)
 both false b is = absurd (let never : false ≡ true = is in cc)
 
 -- a path text has at most 900 octets
-pub path_text-short : (text : Text) → IsPathText text → length text ≤ 900
+pub path_text-short : (text : Text) → IsPathText text → length text ≤ text_limit
 path_text-short text is =
-    let sized : (nat_le 1 (length text) && nat_le (length text) 900) ≡ true = (both _ _ is).0 in
-    let short : nat_le (length text) 900 ≡ true = (both (nat_le 1 (length text)) (nat_le (length text) 900) sized).1 in
+    let sized : (nat_le 1 (length text) && nat_le (length text) text_limit) ≡ true = (both _ _ is).0 in
+    let short : nat_le (length text) text_limit ≡ true = (both (nat_le 1 (length text)) (nat_le (length text) text_limit) sized).1 in
     grind (arith, nat_tests)
 
 -- what quotes a path closes it behind its first double quote

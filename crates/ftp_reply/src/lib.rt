@@ -2,6 +2,7 @@
 //! their texts carry. No IO.
 #![tactic(auto)]
 
+pub mod code;
 mod endpoint;
 mod fault;
 pub mod laws;

@@ -7,7 +7,7 @@ use crate::fault::ReplyFault;
 use crate::reply::Reply;
 use arrayvec::ArrayVec;
 use ftp_facts::cut_at;
-use ftp_path::is_path_text;
+use ftp_path::{TEXT_LIMIT, is_path_text};
 use std::alloc::Allocator;
 
 /// What stands in front of a quoted text.
@@ -43,7 +43,7 @@ pub fn quoted_of<A: Allocator + Copy, B: Allocator + Copy>(
 }
 
 /// The path that a text names.
-fn path_text_in(text: &[u8]) -> Option<ArrayVec<u8, 900>>
+fn path_text_in(text: &[u8]) -> Option<ArrayVec<u8, TEXT_LIMIT>>
     ensures { option_map (λ path. path.items) result ≡ path_value text.now }
 {
     let Some((_, inside)) = cut_at(text, b'"') else {
@@ -59,9 +59,9 @@ fn path_text_in(text: &[u8]) -> Option<ArrayVec<u8, 900>>
 }
 
 /// The path of a quoted text, up to its end; `None` where it has none, or none within the octets of a path text.
-fn path_in(text: &[u8]) -> Option<ArrayVec<u8, 900>>
+fn path_in(text: &[u8]) -> Option<ArrayVec<u8, TEXT_LIMIT>>
     ensures some { IfSome result (λ path. (behind : List ℕ) × Closes text.now path.items behind) }
-    ensures none { IfNone result ((path behind : List ℕ) → Closes text.now path behind → 900 < length path) }
+    ensures none { IfNone result ((path behind : List ℕ) → Closes text.now path behind → TEXT_LIMIT < length path) }
 {
     let mut path = ArrayVec::new();
     let mut rest = text;

@@ -1,5 +1,5 @@
 // ABOR during a transfer (RFC 959, section 4.1.3).
-ghost use Rattle.std.specs.Prelude.{◌≡◌, ◌≤◌, ◌+◌, None, OnErr, OnOk, length, true};
+ghost use Rattle.std.specs.Prelude.{◌≡◌, ◌≤◌, ◌+◌, None, OnErr, OnOk, length, true, ◌-◌};
 ghost use Rattle.ftp_server_model.specs.Counting.{TellsSome};
 ghost use Rattle.ftp_server_model.specs.Endpoint.{forgotten};
 ghost use Rattle.ftp_server_model.specs.Failing.{AbortFails};
@@ -12,7 +12,7 @@ use crate::conclude::at_break;
 use crate::hear::is_transferring;
 use crate::line::Failed;
 use crate::server::Server;
-use ftp_server_model::{FixedReply, ServerLink};
+use ftp_server_model::{FREE_ROOM, FixedReply, OUTPUT_ROOM, ServerLink};
 use ftp_server_session::ServerTransfer;
 use ftp_tree::Tree;
 use std::alloc::Allocator;
@@ -23,7 +23,7 @@ impl<A: Allocator + Copy, T: Tree<A>, J: ServerTransfer<A, T>> Server<A, T, J> {
 
     /// The transfer ends, and ABOR is answered; no line waits.
     pub(crate) fn abort(&mut self) -> Result<(), Failed>
-        requires room { length self.old.output ≤ 4096 }
+        requires room { length self.old.output ≤ OUTPUT_ROOM - FREE_ROOM }
         requires none { self.old.waiting ≡ None }
         requires busy { is_transferring (view_of T.table J.view self.old).session.connection ≡ true }
         ensures done { OnOk result (OnCourse T.failures self.old self.new → view_of T.table J.view self.new ≡ aborted (view_of T.table J.view self.old)) }
@@ -39,7 +39,7 @@ impl<A: Allocator + Copy, T: Tree<A>, J: ServerTransfer<A, T>> Server<A, T, J> {
 
     /// What stands of a transfer ends as by a break.
     fn break_off(&mut self) -> Result<(), Failed>
-        requires room { length self.old.output ≤ 4096 }
+        requires room { length self.old.output ≤ OUTPUT_ROOM - FREE_ROOM }
         ensures done { OnOk result (OnCourse T.failures self.old self.new → view_of T.table J.view self.new ≡ aborts (view_of T.table J.view self.old).session.connection (view_of T.table J.view self.old)) }
         ensures steady { OnOk result (IsSteady (T.failures self.old.session.tree) (T.failures self.new.session.tree)) }
         ensures lost { OnErr result (OnCourse T.failures self.old self.new → InstallIsLost (view_of T.table J.view self.old).session.connection (forgotten (view_of T.table J.view self.old).session) (view_of T.table J.view self.old) (view_of T.table J.view self.new)) }

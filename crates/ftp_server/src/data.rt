@@ -1,5 +1,5 @@
 // The octets of the data connection (RFC 959, section 3).
-ghost use Rattle.std.specs.Prelude.{◌≡◌, ◌≤◌, ◌<◌, None, OnErr, OnOk, length, min, take, true};
+ghost use Rattle.std.specs.Prelude.{◌≡◌, ◌≤◌, ◌<◌, None, OnErr, OnOk, length, min, take, true, ◌-◌};
 ghost use Rattle.ftp_server_model.specs.Counting.{TellsSome};
 ghost use Rattle.ftp_server_model.specs.Calls.{given_step, may_receive, to_give};
 ghost use Rattle.ftp_server_model.specs.Failing.{AreReceived, GiveFails, Late};
@@ -11,7 +11,7 @@ ghost use Rattle.ftp_tree.specs.Change.{IsSteady};
 
 use crate::line::{Failed, Moved};
 use crate::server::Server;
-use ftp_server_model::{FixedReply, ServerLink};
+use ftp_server_model::{FREE_ROOM, FixedReply, OUTPUT_ROOM, ServerLink};
 use ftp_server_session::{ServerTransfer, Told};
 use ftp_tree::Tree;
 use std::alloc::Allocator;
@@ -80,7 +80,7 @@ impl<A: Allocator + Copy, T: Tree<A>, J: ServerTransfer<A, T>> Server<A, T, J> {
 
     /// Says what is to be said of octets that came: a marker is answered, and a transfer that is over by a fault or for want of memory is too.
     fn tell(&mut self, told: Told) -> Result<(), Failed>
-        requires room { length self.old.output ≤ 4096 }
+        requires room { length self.old.output ≤ OUTPUT_ROOM - FREE_ROOM }
         ensures done { OnOk result (OnCourse T.failures self.old self.new → IsSaid told (view_of T.table J.view self.old) (view_of T.table J.view self.new)) }
         ensures told { OnOk result (OnCourse T.failures self.old self.new → TellsSaid told (view_of T.table J.view self.old) self.old.heard self.new.heard) }
         ensures steady { OnOk result (IsSteady (T.failures self.old.session.tree) (T.failures self.new.session.tree)) }

@@ -1,5 +1,5 @@
 // The octets of the control connection (RFC 854; RFC 959, sections 4.1.3 and 5.4).
-ghost use Rattle.std.specs.Prelude.{◌≡◌, ◌≤◌, ◌<◌, IsTrue, None, OnErr, OnOk, Some, length, take, true};
+ghost use Rattle.std.specs.Prelude.{◌≡◌, ◌≤◌, ◌<◌, IsTrue, None, OnErr, OnOk, Some, length, take, true, ◌-◌};
 ghost use Rattle.ftp_command.specs.Line.{line_limit};
 ghost use Rattle.ftp_nvt.specs.Ear.{line_of};
 ghost use Rattle.ftp_server_model.specs.Counting.{TellsSome};
@@ -18,7 +18,7 @@ use crate::reading::read_line;
 use crate::server::Server;
 use ftp_command::{Argument, Command, CommandFault};
 use ftp_nvt::Event;
-use ftp_server_model::{HeardLine, Life, ServerLink};
+use ftp_server_model::{FREE_ROOM, HeardLine, Life, OUTPUT_ROOM, ServerLink};
 use ftp_server_parts::ActedLine;
 use ftp_server_session::ServerTransfer;
 use ftp_tree::Tree;
@@ -62,7 +62,7 @@ impl<A: Allocator + Copy, T: Tree<A>, J: ServerTransfer<A, T>> Server<A, T, J> {
 
     /// A whole line: ABOR is taken at once during a transfer, any other line waits until it may be acted on.
     fn hear_line(&mut self, heard: HeardLine<Argument<A>>) -> Result<(), Failed>
-        requires room { length self.old.output ≤ 4096 }
+        requires room { length self.old.output ≤ OUTPUT_ROOM - FREE_ROOM }
         requires none { self.old.waiting ≡ None }
         requires waits { MayWait (Some heard) }
         ensures done { OnOk result (OnCourse T.failures self.old self.new → view_of T.table J.view self.new ≡ heard_line heard (view_of T.table J.view self.old)) }
@@ -83,7 +83,7 @@ impl<A: Allocator + Copy, T: Tree<A>, J: ServerTransfer<A, T>> Server<A, T, J> {
 
     /// The line that the last octet ended.
     fn hear_text(&mut self) -> Result<(), Failed>
-        requires room { length self.old.output ≤ 4096 }
+        requires room { length self.old.output ≤ OUTPUT_ROOM - FREE_ROOM }
         requires none { self.old.waiting ≡ None }
         requires short { length (line_of self.old.reader.ear) ≤ line_limit }
         ensures done { OnOk result (OnCourse T.failures self.old self.new → (read : Reading) → IsReading read → view_of T.table J.view self.new ≡ heard_line (read (line_of self.old.reader.ear)) (view_of T.table J.view self.old)) }
@@ -135,7 +135,7 @@ impl<A: Allocator + Copy, T: Tree<A>, J: ServerTransfer<A, T>> Server<A, T, J> {
     /// Takes one octet.
     #[tactic(auto, unfolding(ftp_server_model::specs::Machine::hears_octet, ftp_server_model::specs::Heard::heard_by_octet))]
     fn hear_octet(&mut self, octet: u8) -> Result<(), Failed>
-        requires room { length self.old.output ≤ 4096 }
+        requires room { length self.old.output ≤ OUTPUT_ROOM - FREE_ROOM }
         requires none { self.old.waiting ≡ None }
         ensures done { OnOk result (OnCourse T.failures self.old self.new → (read : Reading) → IsReading read → view_of T.table J.view self.new ≡ hears_octet read (view_of T.table J.view self.old) octet) }
         ensures told { OnOk result (OnCourse T.failures self.old self.new → (read : Reading) → IsReading read → self.new.heard ≡ heard_by_octet read (view_of T.table J.view self.old) octet) }

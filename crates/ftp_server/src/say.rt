@@ -1,12 +1,12 @@
 // What is said to a command (RFC 959, section 4.2).
-ghost use Rattle.std.specs.Prelude.{◌≡◌, ◌≤◌, ◌+◌, ◌++◌, true, length};
+ghost use Rattle.std.specs.Prelude.{◌≡◌, ◌≤◌, ◌+◌, ◌++◌, true, length, ◌-◌};
 ghost use Rattle.ftp_server.specs.Busy.{is_short};
 ghost use Rattle.ftp_server_model.specs.Replies.{said_octets};
 ghost use Rattle.ftp_server_session.specs.Session.{session_of};
 
 use crate::entry::say_entry;
 use ftp_path::Path;
-use ftp_server_model::ReplyKind;
+use ftp_server_model::{FREE_ROOM, OUTPUT_ROOM, ReplyKind};
 use ftp_server_parts::Output;
 use ftp_server_session::{ServerTransfer, Session};
 use ftp_tree::Tree;
@@ -18,7 +18,7 @@ pub(crate) fn say<A: Allocator + Copy, T: Tree<A>, J: ServerTransfer<A, T>>(
     kind: &ReplyKind<Path<A>>,
     session: &Session<A, T, J>,
 )
-    requires room { length output.old ≤ 4096 }
+    requires room { length output.old ≤ OUTPUT_ROOM - FREE_ROOM }
     ensures said { output.new ≡ output.old ++ said_octets (session_of T.table J.view session.now) kind.now }
     ensures short { is_short kind.now ≡ true → length output.new ≤ length output.old + 64 }
 {

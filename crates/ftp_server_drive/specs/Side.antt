@@ -8,6 +8,7 @@ use Rattle.ftp_control.specs.declared.control.Control.{Control}
 use Rattle.ftp_control.specs.declared.whole.Rest.{Rest}
 use Rattle.ftp_control.specs.declared.whole.Rest.TheVariants.{Nothing, More}
 use Rattle.ftp_ends.specs.declared.link.Wants.TheVariants as Want
+use Rattle.ftp_reply.specs.declared.code.TheConstants.{COMPLETE}
 use Rattle.ftp_server_model.specs.Calls.{break_step, clock_step, close_step, control_end, control_step, end_step, given_step, listening_step, may_receive, no_port_step, opened_step, refused_step, to_give, wants}
 use Rattle.ftp_server_model.specs.Machine.{may_hear}
 use Rattle.ftp_server_model.specs.Failing.{EndFails, GiveFails, KeepsCourse}
@@ -41,7 +42,7 @@ ends_line (octet ∷ octets) = octet == 10
 -- and none else
 abbrev pub rest_told : Option ℕ → Rest
 rest_told None = More
-rest_told (Some code) = if code == 226 then Nothing else More
+rest_told (Some code) = if code == COMPLETE then Nothing else More
 
 -- control octets are heard one by one, and one that ends a line behind the moment
 abbrev pub HearsBy : (is_end : Bool) → List ℕ → (old new : Timed) → Type 0

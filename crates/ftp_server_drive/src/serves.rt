@@ -12,13 +12,11 @@ use ftp_control::{Rest, Watch};
 use ftp_control_drive::{EndCalls, Given};
 use ftp_endpoint::Host;
 use ftp_ends::Wants;
+use ftp_reply::code::COMPLETE;
 use ftp_server_model::Far;
 use ftp_tree::Tree;
 use std::alloc::Allocator;
 use std::marker::PhantomData;
-
-/// The code of the reply behind the last octet of a download or a listing (RFC 959, section 4.2).
-const COMPLETE: u16 = 226;
 
 /// Those of a server of a tree `T` that grows by an `A`, beside its clock.
 pub(crate) struct Serves<A, T> {

@@ -3,7 +3,7 @@ use Rattle.std.proofs.Common.{◌≡◌, ◌≤◌, ◌+◌, true, List, ℕ, ar
 use Rattle.std.specs.Prelude.{nat_le}
 use Rattle.std.specs.List.{list_all}
 use Rattle.std.proofs.lemmas.Bool.{and_parts, leb-true}
-use Rattle.ftp_path.specs.Path.{Names, fits, is_name, text_of}
+use Rattle.ftp_path.specs.Path.{Names, fits, is_name, text_of, text_limit}
 use Rattle.ftp_server_model.specs.Held.{path_len, access_len, pending_len, MayStore, KeepsLittle}
 use Rattle.ftp_server_model.specs.Kept.{owed_limit}
 use Rattle.ftp_server_model.specs.Told.{AccessKeeps, PendingKeeps}
@@ -15,16 +15,16 @@ use Rattle.ftp_server_model.specs.declared.session.Pending.TheVariants as Pendin
 use Rattle.ftp_server_model.specs.declared.session.ServerLink.{ServerLink}
 use Rattle.ftp_server_model.specs.declared.session.ServerLink.TheVariants as Data
 
-path_short : (path : Names) → fits path ≡ true → path_len path ≤ 900
+path_short : (path : Names) → fits path ≡ true → path_len path ≤ text_limit
 unfolding fits
-path_short path within = leb-true (length (text_of path)) 900 (and_parts _ (nat_le (length (text_of path)) 900) within).1
+path_short path within = leb-true (length (text_of path)) text_limit (and_parts _ (nat_le (length (text_of path)) text_limit) within).1
 
 access_short : (access : Access (List ℕ)) → AccessKeeps access → access_len access ≤ 255
 access_short Nobody kept = omega arith
 access_short (AwaitsPass name) kept = kept.1.0
 access_short Known kept = omega arith
 
-pending_short : (pending : Pending Names) → PendingKeeps pending → pending_len pending ≤ 900
+pending_short : (pending : Pending Names) → PendingKeeps pending → pending_len pending ≤ text_limit
 pending_short Pendings.Nothing kept = omega arith
 pending_short (Pendings.Rename from) kept = path_short from kept
 pending_short (Pendings.Restart place) kept = omega arith

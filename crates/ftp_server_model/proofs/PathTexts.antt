@@ -7,7 +7,7 @@ use Rattle.std.proofs.lemmas.List.{length-drop}
 use Rattle.std.proofs.lemmas.List.Sums.{AllPass-from_list_all, list_all-from_AllPass, prefix_len_passes, prefix_len_stops}
 use Rattle.std.proofs.lemmas.List.Elements.{All-take}
 use Rattle.ftp_server_model.specs.Told.{is_path}
-use Rattle.ftp_path.specs.Path.{IsPathText, is_slash, is_text, is_part, is_here, is_above, is_component, is_name, is_rooted, parent, followed, resolved, joined, text_of, fits}
+use Rattle.ftp_path.specs.Path.{IsPathText, is_slash, is_text, is_part, is_here, is_above, is_component, is_name, is_rooted, parent, followed, resolved, joined, text_of, fits, text_limit}
 use Rattle.ftp_path.specs.Kept.{is_no_slash}
 use Rattle.ftp_path.proofs.TextLemmas.{root-text}
 use Rattle.ftp_path.proofs.PathLemmas.{IsJoined-joined, names_of-joined, parent-components, components-push, component-from, cut-first, cut-none, kept-path_text, joined-parent-le}
@@ -81,7 +81,7 @@ unfolding text_of
 joined-text [] = omega arith
 joined-text (name ∷ names) = omega arith
 
-text-short : (path : List (List ℕ)) → length (joined path) ≤ 900 → length (text_of path) ≤ 900
+text-short : (path : List (List ℕ)) → length (joined path) ≤ text_limit → length (text_of path) ≤ text_limit
 unfolding text_of
 text-short [] short = omega arith
 text-short (name ∷ names) short = short
@@ -90,9 +90,9 @@ pub parent-fits : (path : List (List ℕ)) → fits path ≡ true → fits (pare
 unfolding fits parent
 parent-fits path within =
     let both = and_parts _ _ within in
-    let short = leb-true (length (text_of path)) 900 both.1 in
+    let short = leb-true (length (text_of path)) text_limit both.1 in
     and_from _ _ (list_all-from_AllPass _ _ (All-take (λ name. nat_le (length name) 255 ≡ true) (length path - 1) path (AllPass-from_list_all _ path both.0)))
-    (le-leb (length (text_of (parent path))) 900 (text-short (parent path) (omega (arith, joined-parent-le path, joined-text path))))
+    (le-leb (length (text_of (parent path))) text_limit (text-short (parent path) (omega (arith, joined-parent-le path, joined-text path))))
 
 -- ---- paths
 

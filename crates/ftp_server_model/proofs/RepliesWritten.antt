@@ -1,36 +1,36 @@
 -- Each reply that is said can be written, and is read again as itself.
-use Rattle.std.proofs.Common.{append-nil, All, ◌≡◌, ℕ, ◌+◌, ◌*◌, ◌/◌, ◌%◌, ◌≤◌, List, [], ◌∷◌, ◌++◌, Bool, true, false, not, ◌&&◌, ◌==◌, Option, Some, None, refl, sym, subst, arith, length, length-append}
-use Rattle.std.specs.Prelude.{codes, decimal, nat_le, sum_by, option_map, unwrap_or, if◌then◌else◌}
-use Rattle.std.proofs.lemmas.Bool.Decides.{nat_tests}
+use Rattle.std.proofs.Common.{All, ap, ◌∙◌, ◌≡◌, ℕ, ◌+◌, ◌*◌, ◌/◌, ◌%◌, ◌≤◌, List, [], ◌∷◌, ◌++◌, Bool, true, false, not, ◌&&◌, ◌==◌, Option, Some, None, refl, sym, subst, arith, length, length-append}
+use Rattle.std.specs.Prelude.{codes, decimal, nat_le, sum_by, unwrap_or, if◌then◌else◌}
 use Rattle.std.specs.List.{flat_map, list_all, AllByRecursion}
 use Rattle.std.proofs.lemmas.List.Elements.{All-nil, All-cons}
 use Rattle.std.proofs.lemmas.List.Sums.{count_by-le-length}
 use Rattle.ftp_nvt.specs.Lines.{Lacks, written_octet, written_line}
 use Rattle.ftp_endpoint.specs.Written.{six_text}
-use Rattle.ftp_facts.specs.Calendar.{year_and_place, month_and_place}
-use Rattle.ftp_facts.specs.Fact.{Fact, facts_text, given}
-use Rattle.ftp_facts.specs.Listed.{Listed}
-use Rattle.ftp_facts.proofs.NumberLemmas.{is_at_most}
-use Rattle.ftp_facts.specs.Moment.{two_digits, four_digits, date_digits, time_digits, day_digits, second_digits, moment_digits}
+use Rattle.ftp_facts.specs.Moment.{moment_digits}
+use Rattle.ftp_facts.specs.Name.{fact_names, fact_word, is_chosen}
+use Rattle.ftp_facts.specs.declared.name.FactName.{FactName}
+use Rattle.ftp_facts.proofs.LineLemmas.{Lets, moment_few, moment_passes}
+use Rattle.ftp_facts.proofs.NameLemmas.{word_few, word_passes}
+use Rattle.ftp_facts.proofs.NumberLemmas.{at_most, is_at_most}
 use Rattle.ftp_reply.specs.Lines.{AreWithin}
 use Rattle.ftp_reply.specs.Reply.{begins_with_digits, code_text, last_line, opening_line, written}
 use Rattle.ftp_reply.specs.Values.{doubled, doubled_octet}
-use Rattle.ftp_path.specs.Path.{IsPathText, text_of as path_text, Names}
+use Rattle.ftp_path.specs.Path.{IsPathText, text_of as path_text, Names, text_limit}
 use Rattle.ftp_command.proofs.CarriedLemmas.{Fits, is_plain, fits_both, fits_with, digit_plain, decimal_fits, six_fits, path_fits, all_plain}
 use Rattle.ftp_ends.specs.Reply.{Reply, IsCarried, IsWritten}
 use Rattle.ftp_server_model.specs.Texts.{code_of, text_of}
-use Rattle.ftp_tree.specs.Map.{Node, Dir, File}
+use Rattle.ftp_tree.specs.Map.{Dir, shown_of}
 use Rattle.ftp_tree.specs.Tree.{node_at}
-use Rattle.ftp_operation.specs.Operation.{is_number}
-use Rattle.ftp_direct.specs.Direct.{entry_at, listed, perm_of, size_fact}
+use Rattle.ftp_direct.specs.Direct.{entry_at, entry_of, is_root}
+use Rattle.ftp_direct.proofs.EntryLemmas.{entry_few, entry_passes, is_said_octet}
 use Rattle.ftp_server_model.specs.View.{Session, seen}
 use Rattle.ftp_server_model.specs.Replies.{RepliesAreWritten, RepliesHaveRoom, IsTold, reply_said, octets_if_any, quoted, here_text, made_text, passive_text, extended_text, entry_reply, chosen_reply, features_reply}
-use Rattle.ftp_server_model.specs.Entries.{listed_line, if_chosen, chosen_text, fact_text, features_text, feature_text, is_any_chosen}
+use Rattle.ftp_server_model.specs.Entries.{listed_line, chosen_text, fact_text, features_text, feature_text, is_any_chosen}
 use Rattle.ftp_server_model.specs.declared.reply.FixedReply.{FixedReply}
 use Rattle.ftp_server_model.specs.declared.reply.FixedReply.TheVariants as Texts
 use Rattle.ftp_server_model.specs.declared.reply.ReplyKind.{ReplyKind}
 use Rattle.ftp_server_model.specs.declared.reply.ReplyKind.TheVariants as Replies
-use Rattle.ftp_server_model.specs.declared.session.Facts.{Facts}
+use Rattle.ftp_facts.specs.declared.name.Facts.{Facts}
 
 -- ---- texts without LF and CR, up to a length
 
@@ -182,17 +182,22 @@ fact_fits : (most : ℕ) (name : List ℕ) (is : Bool) → Fits most name → Fi
 fact_fits most name true fits = fits_both most 1 name (59 ∷ []) fits (closed 1 (59 ∷ []) refl (omega arith))
 fact_fits most name false fits = record { plain = tt; short = omega arith }
 
+word_fits : (name : FactName) → Fits 6 (fact_word name)
+word_fits name = closed 6 (fact_word name) (word_passes is_plain refl name) (word_few name)
+
+-- a text for each of these names, one after another
+most_of : ℕ → List FactName → ℕ
+most_of most [] = 0
+most_of most (name ∷ names) = most + most_of most names
+
+texts_fit : (most : ℕ) (text : FactName → List ℕ) → ((name : FactName) → Fits most (text name)) → (names : List FactName) → Fits (most_of most names) (flat_map text names)
+texts_fit most text each [] = record { plain = tt; short = omega arith }
+texts_fit most text each (name ∷ names) = fits_both most (most_of most names) (text name) (flat_map text names) (each name) (texts_fit most text each names)
+
 chosen_fits : (facts : Facts) → Fits 40 (chosen_text facts)
 chosen_fits facts =
-    let last = fact_fits 6 (codes "Perm") facts.perm (closed 6 (codes "Perm") refl (omega arith)) in
-    let third = fits_both 7 7 (fact_text (codes "Modify") facts.modify) (fact_text (codes "Perm") facts.perm)
-    (fact_fits 6 (codes "Modify") facts.modify (closed 6 (codes "Modify") refl (omega arith))) last in
-    let second = fits_both 7 14 (fact_text (codes "Size") facts.size) (fact_text (codes "Modify") facts.modify ++ fact_text (codes "Perm") facts.perm)
-    (fact_fits 6 (codes "Size") facts.size (closed 6 (codes "Size") refl (omega arith))) third in
-    let all = fits_both 7 21 (fact_text (codes "Type") facts.kind)
-    (fact_text (codes "Size") facts.size ++ (fact_text (codes "Modify") facts.modify ++ fact_text (codes "Perm") facts.perm))
-    (fact_fits 6 (codes "Type") facts.kind (closed 6 (codes "Type") refl (omega arith))) second in
-    wider 28 40 (chosen_text facts) (omega arith) all
+    wider 28 40 (chosen_text facts) (omega arith)
+    (texts_fit 7 (λ name. fact_text (fact_word name) (is_chosen facts name)) (λ name. fact_fits 6 (fact_word name) (is_chosen facts name) (word_fits name)) fact_names)
 
 if_fits : (most : ℕ) (is : Bool) (xs ys : List ℕ) → Fits most xs → Fits most ys → Fits most (if is then xs else ys)
 if_fits most true xs ys one other = one
@@ -214,15 +219,8 @@ feature_fits most name false fits = fits_both most 2 name (codes ";") fits (clos
 
 features_fit : (facts : Facts) → Fits 40 (features_text facts)
 features_fit facts =
-    let type = feature_fits 6 (codes "Type") facts.kind (closed 6 (codes "Type") refl (omega arith)) in
-    let size = feature_fits 6 (codes "Size") facts.size (closed 6 (codes "Size") refl (omega arith)) in
-    let modify = feature_fits 6 (codes "Modify") facts.modify (closed 6 (codes "Modify") refl (omega arith)) in
-    let perm = feature_fits 6 (codes "Perm") facts.perm (closed 6 (codes "Perm") refl (omega arith)) in
-    let third = fits_both 8 8 (feature_text (codes "Modify") facts.modify) (feature_text (codes "Perm") facts.perm) modify perm in
-    let second = fits_both 8 16 (feature_text (codes "Size") facts.size) (feature_text (codes "Modify") facts.modify ++ feature_text (codes "Perm") facts.perm) size third in
     wider 32 40 (features_text facts) (omega arith)
-    (fits_both 8 24 (feature_text (codes "Type") facts.kind)
-    (feature_text (codes "Size") facts.size ++ (feature_text (codes "Modify") facts.modify ++ feature_text (codes "Perm") facts.perm)) type second)
+    (texts_fit 8 (λ name. feature_text (fact_word name) (is_chosen facts name)) (λ name. feature_fits 6 (fact_word name) (is_chosen facts name) (word_fits name)) fact_names)
 
 -- a closed line is carried
 line_is : (text : List ℕ) → list_all is_plain text ≡ true → length text ≤ 100 → IsCarried text
@@ -286,103 +284,27 @@ features_stated facts = record {
 
 -- ---- an entry
 
-two_fit : (n : ℕ) → Fits 2 (two_digits n)
-two_fit n = record { plain = (digit_plain (48 + n / 10) (omega arith), (digit_plain (48 + n % 10) (omega arith), tt)); short = omega arith }
-
-four_fit : (n : ℕ) → Fits 4 (four_digits n)
-four_fit n = fits_both 2 2 (two_digits (n / 100)) (two_digits (n % 100)) (two_fit (n / 100)) (two_fit (n % 100))
-
-date_fits : (year month day : ℕ) → Fits 8 (date_digits year month day)
-date_fits year month day = fits_both 4 4 (four_digits year) (two_digits month ++ two_digits day) (four_fit year) (fits_both 2 2 (two_digits month) (two_digits day) (two_fit month) (two_fit day))
-
-time_fits : (hour minute second : ℕ) → Fits 6 (time_digits hour minute second)
-time_fits hour minute second =
-    fits_both 2 4 (two_digits hour) (two_digits minute ++ two_digits second) (two_fit hour) (fits_both 2 2 (two_digits minute) (two_digits second) (two_fit minute) (two_fit second))
-
 moment_fits : (moment : ℕ) → Fits 14 (moment_digits moment)
-moment_fits moment =
-    fits_both 8 6 (day_digits (year_and_place 10_000 1970 (moment / 86_400))) (second_digits (moment % 86_400))
-    (day_fits (year_and_place 10_000 1970 (moment / 86_400))) (time_fits (moment % 86_400 / 3600) (moment % 86_400 % 3600 / 60) (moment % 86_400 % 60))
-  where
-    day_fits : (day : ℕ × ℕ) → Fits 8 (day_digits day)
-    day_fits day = date_fits day.0 (month_and_place 11 day.0 1 day.1).0 ((month_and_place 11 day.0 1 day.1).1 + 1)
+moment_fits moment = closed 14 (moment_digits moment) (moment_passes is_plain (λ n. digit_plain (48 + n) (omega arith)) moment) (moment_few moment)
 
--- a value, if there is one
-abbrev FitsIfAny : ℕ → Option (List ℕ) → Type 0
-FitsIfAny most None = Unit {0}
-FitsIfAny most (Some value) = Fits most value
+plain_said : (octet : ℕ) → is_said_octet octet ≡ true → is_plain octet ≡ true
+plain_said octet said = digit_plain octet (at_most 48 octet said)
 
-chosen_value : (most : ℕ) (is : Bool) (value : Option (List ℕ)) → FitsIfAny most value → FitsIfAny most (if_chosen is value)
-chosen_value most true value fits = fits
-chosen_value most false value fits = tt
+tested : (text : List ℕ) → AllByRecursion (λ c. is_plain c ≡ true) text → list_all is_plain text ≡ true
+tested [] plain = refl
+tested (c ∷ text) plain = both (is_plain c) (list_all is_plain text) plain.0 (tested text plain.1)
 
-given_fits : (most rest_most : ℕ) (name : List ℕ) (value : Option (List ℕ)) (rest : List Fact) → Fits 6 name → FitsIfAny most value
-    → Fits rest_most (facts_text rest) → Fits (most + rest_most + 8) (facts_text (given name value ++ rest))
-given_fits most rest_most name None rest named fits behind = wider rest_most (most + rest_most + 8) (facts_text rest) (omega arith) behind
-given_fits most rest_most name (Some value) rest named fits behind =
-    let ended = fits_with rest_most 59 (facts_text rest) refl behind in
-    let valued = fits_with (most + (rest_most + 1)) 61 (value ++ 59 ∷ facts_text rest) refl (fits_both most (rest_most + 1) value (59 ∷ facts_text rest) fits ended) in
-    wider (6 + (most + (rest_most + 1) + 1)) (most + rest_most + 8) (facts_text (given name (Some value) ++ rest)) (omega arith)
-    (fits_both 6 (most + (rest_most + 1) + 1) name (61 ∷ (value ++ 59 ∷ facts_text rest)) named valued)
-
--- what an entry of the map has as values
-record Valued (entry : Listed) : Type 0 where
-  kind : FitsIfAny 20 entry.kind
-  size : FitsIfAny 20 (option_map decimal entry.size)
-  modify : FitsIfAny 20 (option_map moment_digits entry.modify)
-  perm : FitsIfAny 20 entry.perm
-
-listed_fits : (facts : Facts) (entry : Listed) → Valued entry → Fits 900 entry.name → Fits 1200 (listed_line facts entry)
-listed_fits facts entry v name =
-    let perm_value = if_chosen facts.perm entry.perm in
-    let modify_value = if_chosen facts.modify (option_map moment_digits entry.modify) in
-    let size_value = if_chosen facts.size (option_map decimal entry.size) in
-    let kind_value = if_chosen facts.kind entry.kind in
-    let none : Fits 0 (facts_text []) = nothing 0 in
-    let perm_fits = given_fits 20 0 (codes "Perm") perm_value [] (closed 6 (codes "Perm") refl (omega arith)) (chosen_value 20 facts.perm _ v.perm) none in
-    let last : List Fact = given (codes "Perm") perm_value in
-    let same : last ++ [] ≡ last = append-nil last in
-    let P : List Fact → Type 0 = λ l. Fits 28 (facts_text l) in
-    let modify_fits = given_fits 20 28 (codes "Modify") modify_value last (closed 6 (codes "Modify") refl (omega arith)) (chosen_value 20 facts.modify _ v.modify) (subst P same perm_fits) in
-    let third : List Fact = given (codes "Modify") modify_value ++ last in
-    let size_fits = given_fits 20 56 (codes "Size") size_value third (closed 6 (codes "Size") refl (omega arith)) (chosen_value 20 facts.size _ v.size) modify_fits in
-    let second : List Fact = given (codes "Size") size_value ++ third in
-    let all = given_fits 20 84 (codes "Type") kind_value second (closed 6 (codes "Type") refl (omega arith)) (chosen_value 20 facts.kind _ v.kind) size_fits in
-    wider 1013 1200 (listed_line facts entry) (omega arith)
-    (fits_both 112 901 (facts_text (given (codes "Type") kind_value ++ second)) (32 ∷ entry.name) all (fits_with 900 32 entry.name refl name))
-
-size_value_fits : (count : ℕ) → FitsIfAny 20 (option_map decimal (size_fact count))
-size_value_fits count = by_small (is_number count) refl
-  where
-    by_small : (small : Bool) → is_number count ≡ small → FitsIfAny 20 (option_map decimal (if small then Some count else None))
-    by_small true is = wider 18 20 (decimal count) (omega arith) (decimal_fits count (grind (arith, nat_tests, is)))
-    by_small false is = tt
-
-perm_fits : (path : Names) (node : Node) → Fits 20 (perm_of path node)
-perm_fits path (File octets moment) = closed 20 (codes "adfrw") refl (omega arith)
-perm_fits [] Dir = closed 20 (codes "celmp") refl (omega arith)
-perm_fits (name ∷ names) Dir = closed 20 (codes "cdeflmp") refl (omega arith)
-
-entry_valued : (name : List ℕ) (path : Names) (node : Node) → Valued (listed name path node)
-entry_valued name path (File octets moment) = record {
-  kind = closed 20 (codes "file") refl (omega arith);
-  size = size_value_fits (length octets);
-  modify = wider 14 20 (moment_digits moment) (omega arith) (moment_fits moment);
-  perm = perm_fits path (File octets moment);
-}
-entry_valued name path Dir = record { kind = closed 20 (codes "dir") refl (omega arith); size = tt; modify = tt; perm = perm_fits path Dir }
-
-named_so : (name : List ℕ) (path : Names) (node : Node) → (listed name path node).name ≡ name
-named_so name path (File octets moment) = refl
-named_so name path Dir = refl
+-- the line of what is said of a file or a directory, whatever facts are in force
+listed_fits : (facts : Facts) (file : Option (ℕ × ℕ)) (at_root : Bool) (name : List ℕ) → Fits text_limit name → Fits 1200 (listed_line facts (entry_of file at_root name))
+listed_fits facts file at_root name named =
+    let lets : Lets is_plain = record { at_equals = refl; at_semicolon = refl; at_space = refl; words = word_passes is_plain refl } in
+    closed 1200 (listed_line facts (entry_of file at_root name)) (entry_passes is_plain lets plain_said facts file at_root name (tested name named.plain))
+    (omega (arith, entry_few facts file at_root name, named.short))
 
 entry_line : (s : Session) (path : Names) → IsPathText (path_text path) → Fits 1200 (listed_line s.facts (entry_at (seen s) path (path_text path)))
 unfolding entry_at
 entry_line s path is =
-    let node : Node = unwrap_or (node_at (seen s) path) Dir in
-    let Q : List ℕ → Type 0 = λ l. Fits 900 l in
-    listed_fits s.facts (listed (path_text path) path node) (entry_valued (path_text path) path node)
-    (subst Q (sym (named_so (path_text path) path node)) (path_fits (path_text path) is))
+    listed_fits s.facts (shown_of (unwrap_or (node_at (seen s) path) Dir)) (is_root path) (path_text path) (path_fits (path_text path) is)
 
 space_first : (rest : List ℕ) → begins_with_digits (32 ∷ rest) ≡ false
 space_first [] = refl

@@ -49,7 +49,7 @@ use Rattle.ftp_server_model.specs.declared.session.Access.{Access}
 use Rattle.ftp_server_model.specs.declared.session.Access.TheVariants.{Nobody, AwaitsPass, Known}
 use Rattle.ftp_server_model.specs.declared.session.PassiveVerb.{PassiveVerb}
 use Rattle.ftp_server_model.specs.declared.session.PassiveVerb.TheVariants as Asking
-use Rattle.ftp_server_model.specs.declared.session.Facts.{Facts}
+use Rattle.ftp_facts.specs.declared.name.Facts.{Facts}
 use Rattle.ftp_server_model.specs.declared.session.Pending.{Pending}
 use Rattle.ftp_server_model.specs.declared.session.Pending.TheVariants as Pendings
 use Rattle.ftp_server_model.specs.declared.session.ServerLink.{ServerLink}

@@ -1,28 +1,15 @@
--- Facts in force, and the lines of entries (RFC 3659, section 7).
-use Rattle.std.specs.Prelude.{ℕ, Bool, true, false, ◌||◌, List, [], ◌∷◌, ◌++◌, Option, Some, None, decimal, codes, if◌then◌else◌}
-use Rattle.std.specs.Option.{option_map}
-use Rattle.std.specs.List.{list_any, slice_split, ends_with}
-use Rattle.std.specs.Prelude.{nat_eq, ◌==◌}
+-- Facts in force, as FEAT, OPTS and the lines of entries say them (RFC 3659, section 7).
+use Rattle.std.specs.Prelude.{ℕ, Bool, true, false, List, [], ◌∷◌, ◌++◌, Option, Some, None, codes, if◌then◌else◌}
+use Rattle.std.specs.List.{flat_map, slice_split, ends_with}
+use Rattle.std.specs.Prelude.{nat_eq}
 use Rattle.std.specs.Str.{str_eq_ignore_ascii_case}
 use Rattle.ftp_command.specs.Argument.{word, argument}
-use Rattle.ftp_facts.specs.Entry.{facts_of}
-use Rattle.ftp_facts.specs.Fact.{facts_text, space, semicolon}
-use Rattle.ftp_facts.specs.Moment.{moment_digits}
-use Rattle.ftp_operation.specs.Answer.{Listed}
-use Rattle.ftp_server_model.specs.declared.session.Facts.{Facts}
-
--- a fact, where it is in force
-abbrev pub if_chosen : Bool → Option (List ℕ) → Option (List ℕ)
-if_chosen true value = value
-if_chosen false value = None
-
--- the line of an entry: its facts that are in force, in the order Type, Size, Modify, Perm, then SP and the pathname
-abbrev pub listed_line : Facts → Listed → List ℕ
-listed_line facts entry =
-    facts_text
-    (facts_of (if_chosen facts.kind entry.kind) (if_chosen facts.size (option_map decimal entry.size))
-    (if_chosen facts.modify (option_map moment_digits entry.modify)) (if_chosen facts.perm entry.perm))
-    ++ space ∷ entry.name
+use Rattle.ftp_facts.specs.Fact.{semicolon}
+pub use Rattle.ftp_facts.specs.Line.{listed_line}
+pub use Rattle.ftp_facts.specs.Listed.{is_semicolon}
+pub use Rattle.ftp_facts.specs.Name.{facts_named, is_any_chosen}
+use Rattle.ftp_facts.specs.Name.{fact_names, fact_word, is_chosen}
+use Rattle.ftp_facts.specs.declared.name.Facts.{Facts}
 
 -- the name of a fact and a semicolon, where it is in force
 abbrev pub fact_text : List ℕ → Bool → List ℕ
@@ -31,13 +18,7 @@ fact_text name false = []
 
 -- the facts in force, each with a semicolon
 abbrev pub chosen_text : Facts → List ℕ
-chosen_text facts =
-    fact_text (codes "Type") facts.kind ++ (fact_text (codes "Size") facts.size
-    ++ (fact_text (codes "Modify") facts.modify ++ fact_text (codes "Perm") facts.perm))
-
--- some fact is in force
-abbrev pub is_any_chosen : Facts → Bool
-is_any_chosen facts = facts.kind || (facts.size || (facts.modify || facts.perm))
+chosen_text facts = flat_map (λ name. fact_text (fact_word name) (is_chosen facts name)) fact_names
 
 -- a fact as FEAT has it: with `*` where it is in force (RFC 3659, section 7.8)
 abbrev pub feature_text : List ℕ → Bool → List ℕ
@@ -46,28 +27,9 @@ feature_text name false = name ++ codes ";"
 
 -- the facts that FEAT names, each with `*` where it is in force (RFC 3659, section 7.8)
 abbrev pub features_text : Facts → List ℕ
-features_text facts =
-    feature_text (codes "Type") facts.kind ++ (feature_text (codes "Size") facts.size
-    ++ (feature_text (codes "Modify") facts.modify ++ feature_text (codes "Perm") facts.perm))
+features_text facts = flat_map (λ name. feature_text (fact_word name) (is_chosen facts name)) fact_names
 
 -- ---- OPTS MLST: facts, each with a semicolon; those that are not known are passed over (RFC 3659, section 7.9)
-
--- the octet that ends each fact of OPTS MLST
-abbrev pub is_semicolon : ℕ → Bool
-is_semicolon octet = octet == semicolon
-
--- one of the words is this name, whose letters have no case
-abbrev pub names_fact : List (List ℕ) → List ℕ → Bool
-names_fact words name = list_any (λ word. str_eq_ignore_ascii_case word name) words
-
--- the facts that words name, whatever their case; others are passed over (RFC 3659, section 7.9)
-abbrev pub facts_named : List (List ℕ) → Facts
-facts_named words = record {
-  kind = names_fact words (codes "Type");
-  size = names_fact words (codes "Size");
-  modify = names_fact words (codes "Modify");
-  perm = names_fact words (codes "Perm");
-}
 
 -- the facts that a text chooses: of no text none; else each word is ended by a semicolon
 abbrev pub chosen_in : List ℕ → Option Facts

@@ -10,7 +10,7 @@ use Rattle.ftp_settings.specs.declared.representation.Structure.TheVariants as S
 use Rattle.ftp_mode.specs.Wire.{wire}
 use Rattle.ftp_settings.specs.declared.representation.Mode.{Mode}
 use Rattle.ftp_server_model.specs.Entries.{listed_line}
-use Rattle.ftp_server_model.specs.declared.session.Facts.{Facts}
+use Rattle.ftp_facts.specs.declared.name.Facts.{Facts}
 
 -- own choice: a listing goes in ASCII and file structure, whatever is in force, in the mode in force
 abbrev pub listing_form : Form

@@ -12,7 +12,7 @@ use Rattle.ftp_server_model.specs.Texts.{code_of, text_of}
 use Rattle.ftp_server_model.specs.View.{Session, seen}
 use Rattle.ftp_server_model.specs.Entries.{listed_line, features_text, chosen_text, is_any_chosen}
 use Rattle.ftp_server_model.specs.declared.room.TheConstants.{FREE_ROOM}
-use Rattle.ftp_server_model.specs.declared.session.Facts.{Facts}
+use Rattle.ftp_facts.specs.declared.name.Facts.{Facts}
 use Rattle.ftp_server_model.specs.declared.reply.FixedReply.{FixedReply}
 use Rattle.ftp_server_model.specs.declared.reply.ReplyKind.{ReplyKind}
 use Rattle.ftp_server_model.specs.declared.reply.ReplyKind.TheVariants as Replies

@@ -9,7 +9,7 @@ use Rattle.ftp_server_model.specs.View.{Session}
 use Rattle.ftp_server_model.specs.Replies.{Turn, tells}
 use Rattle.ftp_server_model.specs.declared.reply.FixedReply.TheVariants as Texts
 use Rattle.ftp_server_model.specs.declared.reply.ReplyKind.TheVariants as Replies
-use Rattle.ftp_server_model.specs.declared.session.Facts.{Facts}
+use Rattle.ftp_facts.specs.declared.name.Facts.{Facts}
 
 -- TYPE: from the next transfer on, octets go in this type (RFC 959, section 3.1.1)
 abbrev pub set_kind : Kind → Session → Turn

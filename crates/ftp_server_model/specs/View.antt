@@ -4,6 +4,7 @@ use Rattle.std.specs.Prelude.{ℕ, Bool, true, false, List, [], Option}
 use Rattle.ftp_endpoint.specs.declared.host.Host.{Host}
 use Rattle.ftp_path.specs.Path.{Names}
 pub use Rattle.ftp_command.specs.Line.{line_limit}
+pub use Rattle.ftp_facts.specs.Name.{all_facts}
 use Rattle.ftp_tree.specs.Tree.{Table}
 use Rattle.ftp_direct.specs.Direct.{State, part, changed}
 use Rattle.ftp_operation.specs.Account.{Account}
@@ -19,7 +20,7 @@ use Rattle.ftp_server_model.specs.declared.session.Access.{Access}
 use Rattle.ftp_server_model.specs.declared.session.Access.TheVariants as Accesses
 use Rattle.ftp_server_model.specs.declared.session.Pending.{Pending}
 use Rattle.ftp_server_model.specs.declared.session.Pending.TheVariants as Pendings
-use Rattle.ftp_server_model.specs.declared.session.Facts.{Facts}
+use Rattle.ftp_facts.specs.declared.name.Facts.{Facts}
 use Rattle.ftp_server_model.specs.declared.session.Life.{Life}
 use Rattle.ftp_server_model.specs.declared.session.Life.TheVariants as Lives
 use Rattle.ftp_server_model.specs.declared.session.ServerLink.{ServerLink}
@@ -66,11 +67,7 @@ pub record View : Type 0 where
   pub waiting : Option (HeardLine (List ℕ))
   pub owed : List ℕ
 
--- all facts are in force at the start (RFC 3659, section 7.9)
-abbrev pub all_facts : Facts
-all_facts = record { kind = true; size = true; modify = true; perm = true }
-
--- a session as it begins
+-- a session as it begins: all facts are in force (RFC 3659, section 7.9)
 abbrev pub first_session : Table → Session
 first_session table = record {
   table = table;

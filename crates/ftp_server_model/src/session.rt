@@ -20,15 +20,6 @@ pub enum Pending<P> {
     Restart(u64),
 }
 
-/// Which facts of a listing are in force (RFC 3659, section 7.9).
-#[derive(Clone, Copy)]
-pub struct Facts {
-    pub kind: bool,
-    pub size: bool,
-    pub modify: bool,
-    pub perm: bool,
-}
-
 /// Whether a session goes on.
 #[derive(Clone, Copy)]
 pub enum Life {

@@ -8,12 +8,10 @@ ghost use Rattle.ftp_server_model.specs.View.{Session};
 use arrayvec::ArrayVec;
 use ftp_command::{Argument, Command, LentText, Value, Verb, parts};
 use ftp_path::Path;
+use ftp_reply::code::COMPLETE;
 use ftp_server_model::{Answered, FixedReply, HeardLine, ReplyKind, TOLD_LIMIT};
 use std::alloc::Allocator;
 use std::marker::Model;
-
-/// The code of the reply to an ABOR that is done.
-const ABORT_DONE: u16 = 226;
 
 /// A line that was acted on, with the front of what it names copied: no memory is taken.
 #[derive(Drop)]
@@ -50,7 +48,7 @@ impl ActedLine {
         ActedLine {
             verb: Some(Verb::Abor),
             text: ArrayVec::new(),
-            code: Some(ABORT_DONE),
+            code: Some(COMPLETE),
         }
     }
 

@@ -1,103 +1,66 @@
 // The reply to MLST (RFC 3659, section 7), which is owed piece by piece and takes no memory.
-ghost use Rattle.std.specs.Prelude.{◌≡◌, ◌+◌, ◌*◌, ◌≤◌, ◌++◌, [], ◌∷◌, Some, codes, decimal, flat_map, length, option_map};
+ghost use Rattle.std.specs.Prelude.{◌≡◌, ◌+◌, ◌≤◌, ◌++◌, [], ◌∷◌, codes, flat_map, length};
 ghost use Rattle.ftp_ends.specs.Reply.{reply_octets};
-ghost use Rattle.ftp_facts.specs.Fact.{facts_text, given};
-ghost use Rattle.ftp_facts.specs.Entry.{facts_of};
-ghost use Rattle.ftp_facts.specs.Moment.{moment_digits};
+ghost use Rattle.ftp_facts.specs.Entry.{listed_lent};
 ghost use Rattle.ftp_nvt.specs.Lines.{written_octet};
-ghost use Rattle.ftp_server_model.specs.Entries.{if_chosen, listed_line};
+ghost use Rattle.ftp_server_model.specs.Entries.{listed_line};
 
 use crate::output::Output;
 use crate::text::FIXED_LIMIT;
-use ftp_facts::{Moment, moment_text};
-use ftp_server_model::{FREE_ROOM, Facts, OUTPUT_ROOM};
-use itoa::Buffer;
-use std::alloc::Allocator;
+use ftp_facts::{Facts, LentEntry, LineSink, write_entry_line};
+use ftp_server_model::{FREE_ROOM, OUTPUT_ROOM};
+use std::alloc::{AllocError, Allocator};
 
-/// The most octets of a word that a fact has as its value.
-const WORD_LIMIT: usize = 8;
+/// The most octets of the line of an entry: of its facts, a space and a pathname.
+const ENTRY_LIMIT: usize = 1200;
 
 impl<A: Allocator + Copy> Output<A> {
-    /// Owes the reply to MLST: the facts in force of what stands at a path, and the path's text (RFC 3659, section 7.2). `size` is
-    /// in octets; a directory has neither size nor moment.
-    pub fn put_listed(
-        &mut self,
-        facts: Facts,
-        kind: &[u8],
-        size: Option<u64>,
-        modify: Option<Moment>,
-        perm: &[u8],
-        name: &[u8],
-    )
+    /// Owes the reply to MLST: the facts in force of an entry, and its pathname (RFC 3659, section 7.2).
+    pub fn put_listed(&mut self, entry: LentEntry<'_>, facts: Facts)
         requires room { length self.old + FREE_ROOM ≤ OUTPUT_ROOM }
-        requires name { length name.now ≤ 900 }
-        requires words { (length kind.now ≤ WORD_LIMIT) × (length perm.now ≤ WORD_LIMIT) }
+        requires few { length (listed_line facts (listed_lent entry)) ≤ ENTRY_LIMIT }
         ensures { self.new ≡ self.old ++ reply_octets (record {
           code = 250;
-          lines = codes "Listing" ∷ (32 ∷ listed_line facts (record { name = name.now; kind = Some kind.now; size = size; modify = option_map (λ moment. moment.seconds) modify; perm = Some perm.now })) ∷ codes "End" ∷ [];
+          lines = codes "Listing" ∷ (32 ∷ listed_line facts (listed_lent entry.entry)) ∷ codes "End" ∷ [];
         }) }
     {
         self.put(b"250-Listing\r\n ");
-        self.put_word(b"Type", facts.kind, kind);
-        self.put_size_fact(facts.size, size);
-        self.put_moment_fact(facts.modify, modify);
-        self.put_word(b"Perm", facts.perm, perm);
-        self.put(b" ");
-        self.put_text(name);
+        self.put_entry(entry, facts);
         self.put(b"\r\n250 End\r\n");
     }
 
-    /// Owes a fact by a word, where it is in force.
-    fn put_word(&mut self, name: &[u8], chosen: bool, word: &[u8])
-        requires room { length self.old + FREE_ROOM ≤ OUTPUT_ROOM + 6 * FIXED_LIMIT }
-        requires words { (length name.now ≤ WORD_LIMIT) × (length word.now ≤ WORD_LIMIT) }
-        ensures octets { self.new ≡ self.old ++ flat_map written_octet (facts_text (given name.now (if_chosen chosen (Some word.now)))) }
-        ensures room { length self.new ≤ length self.old + FIXED_LIMIT }
+    /// Owes the line of an entry; there is room for it.
+    fn put_entry(&mut self, entry: LentEntry<'_>, facts: Facts)
+        requires room { length self.old + FREE_ROOM ≤ OUTPUT_ROOM + FIXED_LIMIT }
+        requires few { length (listed_line facts (listed_lent entry)) ≤ ENTRY_LIMIT }
+        ensures octets { self.new ≡ self.old ++ flat_map written_octet (listed_line facts (listed_lent entry.entry)) }
+        ensures room { length self.new + FIXED_LIMIT ≤ OUTPUT_ROOM }
     {
-        if chosen {
-            self.put_named(name, word);
-        }
+        let _ = write_entry_line(entry, facts, self);
     }
+}
 
-    /// Owes the size, where there is one and it is in force.
-    fn put_size_fact(&mut self, chosen: bool, size: Option<u64>)
-        requires { length self.old + FREE_ROOM ≤ OUTPUT_ROOM + 6 * FIXED_LIMIT }
-        ensures octets { self.new ≡ self.old ++ flat_map written_octet (facts_text (given (codes "Size") (if_chosen chosen (option_map decimal size)))) }
-        ensures room { length self.new ≤ length self.old + 2 * FIXED_LIMIT }
-    {
-        if !chosen {
-            return;
-        }
-        if let Some(size) = size {
-            let mut buffer = Buffer::new();
-            self.put_named(b"Size", buffer.format(size).as_bytes());
-        }
-    }
+/// Octets of a line, as Telnet has them. It is full where its room is.
+impl<A: Allocator + Copy> LineSink for Output<A> {
+    ghost use Rattle.std.specs.Prelude.{◌-◌, refl};
+    ghost use Rattle.std.proofs.lemmas.Grind.{flat_map-append};
+    ghost use Rattle.ftp_server_model.specs.declared.room.TheConstants.{OUTPUT_ROOM};
 
-    /// Owes the moment, where there is one and it is in force.
-    fn put_moment_fact(&mut self, chosen: bool, modify: Option<Moment>)
-        requires { length self.old + FREE_ROOM ≤ OUTPUT_ROOM + 6 * FIXED_LIMIT }
-        ensures octets { self.new ≡ self.old ++ flat_map written_octet (facts_text (given (codes "Modify") (if_chosen chosen (option_map moment_digits (option_map (λ moment. moment.seconds) modify))))) }
-        ensures room { length self.new ≤ length self.old + 2 * FIXED_LIMIT }
-    {
-        if !chosen {
-            return;
-        }
-        if let Some(moment) = modify {
-            self.put_named(b"Modify", &moment_text(moment));
-        }
-    }
+    ghost held = { λ output. output };
 
-    /// Owes a fact.
-    fn put_named(&mut self, name: &[u8], value: &[u8])
-        requires room { length self.old + FREE_ROOM ≤ OUTPUT_ROOM + 6 * FIXED_LIMIT }
-        requires words { (length name.now ≤ WORD_LIMIT) × (length value.now ≤ 20) }
-        ensures octets { self.new ≡ self.old ++ flat_map written_octet (facts_text (record { name = name.now; value = value.now } ∷ [])) }
-        ensures room { length self.new ≤ length self.old + 2 * length name.now + 2 * length value.now + 2 }
-    {
-        self.put_text(name);
-        self.put(b"=");
-        self.put_text(value);
-        self.put(b";");
+    ghost form = { flat_map written_octet };
+
+    ghost left = { λ output. OUTPUT_ROOM - length output };
+
+    ghost joins = { flat_map-append written_octet };
+
+    ghost empty = { refl };
+
+    fn write_text(&mut self, text: &[u8]) -> Result<(), AllocError> {
+        if text.len() > (OUTPUT_ROOM - self.len()) / 2 {
+            return Err(AllocError);
+        }
+        self.put_text(text);
+        Ok(())
     }
 }

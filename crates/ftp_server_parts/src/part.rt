@@ -4,14 +4,14 @@ ghost use Rattle.ftp_server_model.specs.Held.{access_len, path_len, pending_len,
 
 use crate::line::line_len;
 use ftp_command::Argument;
-use ftp_path::Path;
+use ftp_path::{Path, TEXT_LIMIT};
 use ftp_server_model::{Access, HeardLine, Pending};
 use std::alloc::Allocator;
 
-/// A path, by its text: at most 900 octets.
+/// A path, by its text: at most `TEXT_LIMIT` octets.
 pub fn path_len<A: Allocator + Copy>(path: &Path<A>) -> usize
     ensures len { result ≡ path_len path.now }
-    ensures short { result ≤ 900 }
+    ensures short { result ≤ TEXT_LIMIT }
 {
     path.text().len()
 }
@@ -27,10 +27,10 @@ pub fn access_len<A: Allocator + Copy>(access: &Access<Argument<A>>) -> usize
     }
 }
 
-/// The path of an RNFR: at most 900 octets.
+/// The path of an RNFR: at most `TEXT_LIMIT` octets.
 pub fn pending_len<A: Allocator + Copy>(pending: &Pending<Path<A>>) -> usize
     ensures len { result ≡ pending_len pending.now }
-    ensures short { result ≤ 900 }
+    ensures short { result ≤ TEXT_LIMIT }
 {
     match pending {
         Pending::Rename(from) => path_len(from),

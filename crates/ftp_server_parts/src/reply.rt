@@ -3,14 +3,16 @@ ghost use Rattle.std.specs.Prelude.{◌≡◌, ◌+◌, ◌*◌, ◌/◌, ◌≤
 ghost use Rattle.ftp_ends.specs.Reply.{reply_octets, reply_of};
 ghost use Rattle.ftp_endpoint.specs.Written.{six_text};
 ghost use Rattle.ftp_nvt.specs.Lines.{written_octet};
-ghost use Rattle.ftp_server_model.specs.Entries.{chosen_text, fact_text, feature_text, is_any_chosen};
+ghost use Rattle.ftp_facts.specs.Name.{fact_word};
+ghost use Rattle.ftp_server_model.specs.Entries.{chosen_text, fact_text, feature_text, features_text, is_any_chosen};
 ghost use Rattle.ftp_server_model.specs.Replies.{chosen_reply, features_reply, extended_text, here_text, made_text, mark_reply, passive_text};
 
 use crate::output::Output;
 use crate::text::FIXED_LIMIT;
 use ftp_endpoint::{Endpoint, write_six};
+use ftp_facts::{FactName, Facts};
 use ftp_path::Path;
-use ftp_server_model::{FREE_ROOM, Facts, OUTPUT_ROOM};
+use ftp_server_model::{FREE_ROOM, OUTPUT_ROOM};
 use ftp_settings::MARKER_LIMIT;
 use std::alloc::Allocator;
 
@@ -116,21 +118,28 @@ impl<A: Allocator + Copy> Output<A> {
         ensures { self.new ≡ self.old ++ reply_octets (features_reply facts) }
     {
         self.put(b"211-Features\r\n EPRT\r\n EPSV\r\n MDTM\r\n MLST ");
-        self.put_feature(b"Type", facts.kind);
-        self.put_feature(b"Size", facts.size);
-        self.put_feature(b"Modify", facts.modify);
-        self.put_feature(b"Perm", facts.perm);
+        self.put_feature_facts(facts);
         self.put(b"\r\n REST STREAM\r\n SIZE\r\n UTF8\r\n211 End\r\n");
     }
 
+    /// Owes all facts, as FEAT has them.
+    fn put_feature_facts(&mut self, facts: Facts)
+        requires { length self.old + FREE_ROOM ≤ OUTPUT_ROOM + 2 * FIXED_LIMIT }
+        ensures octets { self.new ≡ self.old ++ flat_map written_octet (features_text facts) }
+        ensures room { length self.new ≤ length self.old + 2 * FIXED_LIMIT }
+    {
+        for name in FactName::ALL {
+            self.put_feature(name, facts.has(name));
+        }
+    }
+
     /// Owes a fact of FEAT.
-    fn put_feature(&mut self, name: &[u8], chosen: bool)
-        requires room { length self.old + FREE_ROOM ≤ OUTPUT_ROOM + 4 * FIXED_LIMIT }
-        requires name { length name.now ≤ 6 }
-        ensures octets { self.new ≡ self.old ++ flat_map written_octet (feature_text name.now chosen) }
+    fn put_feature(&mut self, name: FactName, chosen: bool)
+        requires { length self.old + FREE_ROOM ≤ OUTPUT_ROOM + 4 * FIXED_LIMIT }
+        ensures octets { self.new ≡ self.old ++ flat_map written_octet (feature_text (fact_word name) chosen) }
         ensures room { length self.new ≤ length self.old + FIXED_LIMIT / 2 }
     {
-        self.put_text(name);
+        self.put_text(name.word());
         self.put(if chosen {
             b"*;".as_slice()
         } else {
@@ -154,25 +163,32 @@ impl<A: Allocator + Copy> Output<A> {
         ensures octets { self.new ≡ self.old ++ flat_map written_octet (if is_any_chosen facts then 32 ∷ chosen_text facts else []) }
         ensures room { length self.new ≤ length self.old + 4 * FIXED_LIMIT }
     {
-        if !(facts.kind || facts.size || facts.modify || facts.perm) {
+        if !facts.has_any() {
             return;
         }
         self.put(b" ");
-        self.put_fact(b"Type", facts.kind);
-        self.put_fact(b"Size", facts.size);
-        self.put_fact(b"Modify", facts.modify);
-        self.put_fact(b"Perm", facts.perm);
+        self.put_facts(facts);
+    }
+
+    /// Owes the facts in force, each with a semicolon.
+    fn put_facts(&mut self, facts: Facts)
+        requires { length self.old + FREE_ROOM ≤ OUTPUT_ROOM + 2 * FIXED_LIMIT }
+        ensures octets { self.new ≡ self.old ++ flat_map written_octet (chosen_text facts) }
+        ensures room { length self.new ≤ length self.old + 2 * FIXED_LIMIT }
+    {
+        for name in FactName::ALL {
+            self.put_fact(name, facts.has(name));
+        }
     }
 
     /// Owes a fact, where it is in force.
-    fn put_fact(&mut self, name: &[u8], chosen: bool)
-        requires room { length self.old + FREE_ROOM ≤ OUTPUT_ROOM + 4 * FIXED_LIMIT }
-        requires name { length name.now ≤ 6 }
-        ensures octets { self.new ≡ self.old ++ flat_map written_octet (fact_text name.now chosen) }
+    fn put_fact(&mut self, name: FactName, chosen: bool)
+        requires { length self.old + FREE_ROOM ≤ OUTPUT_ROOM + 4 * FIXED_LIMIT }
+        ensures octets { self.new ≡ self.old ++ flat_map written_octet (fact_text (fact_word name) chosen) }
         ensures room { length self.new ≤ length self.old + FIXED_LIMIT / 2 }
     {
         if chosen {
-            self.put_text(name);
+            self.put_text(name.word());
             self.put(b";");
         }
     }

@@ -4,10 +4,10 @@ ghost use Rattle.ftp_operation.specs.Rights.{no_rights};
 ghost use Rattle.ftp_server_model.specs.Login.{logged_out, logs_in, pass, quit, rein, user};
 
 use crate::look::look;
-use crate::session::{ALL_FACTS, DEFAULTS, Session};
+use crate::session::{DEFAULTS, Session};
 use ftp_command::Argument;
 use ftp_direct::is_dir;
-use ftp_facts::Text;
+use ftp_facts::{Facts, Text};
 use ftp_operation::{Account, Accounts, Rights};
 use ftp_path::Path;
 use ftp_server_model::{Access, FixedReply, Life, ReplyKind};
@@ -109,7 +109,7 @@ impl<A: Allocator + Copy, T: Tree<A>, J: ServerTransfer<A, T>> Session<A, T, J> 
         self.forget();
         self.log_out();
         self.settings = DEFAULTS;
-        self.facts = ALL_FACTS;
+        self.facts = Facts::ALL;
         self.only_extended = false;
         ReplyKind::Fixed(FixedReply::Ready)
     }

@@ -1,11 +1,11 @@
 // What OPTS chooses (RFC 2389, section 4; RFC 3659, section 7.9).
 ghost use Rattle.std.specs.Prelude.{◌≡◌, ◌≤◌, length};
-ghost use Rattle.std.specs.List.{position_or_len, slice_split};
+ghost use Rattle.std.specs.List.{position_or_len};
 ghost use Rattle.ftp_command.specs.Argument.{argument, is_space, word};
 ghost use Rattle.ftp_server_model.specs.Setting.{is_utf8_on};
-ghost use Rattle.ftp_server_model.specs.Entries.{chosen_in, facts_named, is_semicolon, names_fact, option_facts};
+ghost use Rattle.ftp_server_model.specs.Entries.{chosen_in, option_facts};
 
-use ftp_server_model::Facts;
+use ftp_facts::Facts;
 
 /// The facts that the argument of OPTS chooses, if it is MLST and its argument can be read.
 pub(crate) fn option_facts(text: &[u8]) -> Option<Facts>
@@ -52,28 +52,8 @@ pub(crate) fn chosen_facts(text: &[u8]) -> Option<Facts>
     ensures { result ≡ chosen_in text.now }
 {
     if text.is_empty() || text.ends_with(b";") {
-        Some(facts_named(text))
+        Some(Facts::named(text))
     } else {
         None
     }
-}
-
-/// The facts that the words of a text name.
-fn facts_named(text: &[u8]) -> Facts
-    ensures { result ≡ facts_named (slice_split is_semicolon text.now) }
-{
-    Facts {
-        kind: names_fact(text, b"Type"),
-        size: names_fact(text, b"Size"),
-        modify: names_fact(text, b"Modify"),
-        perm: names_fact(text, b"Perm"),
-    }
-}
-
-/// Whether one of the words of a text is this name, whose letters have no case.
-fn names_fact(text: &[u8], name: &[u8]) -> bool
-    ensures { result ≡ names_fact (slice_split is_semicolon text.now) name.now }
-{
-    text.split(|octet| *octet == b';')
-        .any(|word| word.eq_ignore_ascii_case(name))
 }

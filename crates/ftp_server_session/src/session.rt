@@ -4,9 +4,10 @@ ghost use Rattle.ftp_server_model.specs.Machine.{is_connection_busy};
 ghost use Rattle.ftp_server_model.specs.View.{first_session};
 
 use ftp_command::Argument;
+use ftp_facts::Facts;
 use ftp_operation::Rights;
 use ftp_path::Path;
-use ftp_server_model::{Access, Facts, Life, Pending, ServerLink};
+use ftp_server_model::{Access, Life, Pending, ServerLink};
 use ftp_server_parts::ServerTransfer;
 use ftp_settings::{Kind, Mode, Representation, Structure};
 use ftp_tree::Tree;
@@ -34,14 +35,6 @@ pub struct Session<A: Allocator + Copy, T: Drop, J: Drop> {
     pub life: Life,
 }
 
-/// All facts, which are in force at the start (RFC 3659, section 7.9).
-pub(crate) const ALL_FACTS: Facts = Facts {
-    kind: true,
-    size: true,
-    modify: true,
-    perm: true,
-};
-
 /// The settings at the start (RFC 959, section 5.1).
 pub(crate) const DEFAULTS: Representation = Representation {
     kind: Kind::Ascii,
@@ -68,7 +61,7 @@ impl<A: Allocator + Copy, T: Tree<A>, J: ServerTransfer<A, T>> Session<A, T, J> 
             cwd: Path::root(alloc),
             pending: Pending::Nothing,
             settings: DEFAULTS,
-            facts: ALL_FACTS,
+            facts: Facts::ALL,
             only_extended: false,
             connection: ServerLink::Free,
             closing: false,

@@ -8,7 +8,7 @@ use Rattle.std.proofs.lemmas.Bool.Decides.{nat_tests}
 use Rattle.std.proofs.lemmas.List.{drop_more, drop_all}
 use Rattle.std.proofs.lemmas.Option.{get_or_from_slice_get, slice_get_within}
 use Rattle.ftp_path.specs.Kept.{IsKept, names_of}
-use Rattle.ftp_path.specs.Path.{Names, fits, is_component, is_name, joined, parent}
+use Rattle.ftp_path.specs.Path.{Names, fits, is_component, is_name, joined, parent, text_limit}
 use Rattle.ftp_path.proofs.PathLemmas.{kept-le}
 use Rattle.ftp_tree.specs.Map as maps
 use Rattle.ftp_tree.specs.Map.{Node, Dir, File, octets_of, moment_of, of_node, shown_of}
@@ -21,13 +21,8 @@ use Rattle.ftp_wire.proofs.EncodingLemmas.{behind_front}
 use Rattle.ftp_direct.proofs.NodeLineLemmas.{dir_lines_at, ended}
 use Rattle.ftp_direct.specs.Direct.{behind, child, entry_at, is_file, file_in, entry_in, entries_in, listed, names_for}
 use Rattle.ftp_server_model.specs.Listing.{child_line, node_line, list_line, list_lines, list_lines_at, last_name, lines_file, text_line}
-use Rattle.ftp_server_model.specs.Entries.{listed_line, if_chosen}
-use Rattle.ftp_server_model.specs.declared.session.Facts.{Facts}
-use Rattle.ftp_facts.specs.Fact.{facts_text}
-use Rattle.ftp_facts.specs.Entry.{facts_of, word_of, digits_of}
-use Rattle.ftp_facts.specs.Moment.{moment_digits}
-use Rattle.ftp_facts.specs.declared.moment.Moment.{Moment}
-use Rattle.ftp_facts.specs.declared.entry.EntryKind.{EntryKind}
+use Rattle.ftp_server_model.specs.Entries.{listed_line}
+use Rattle.ftp_facts.specs.declared.name.Facts.{Facts}
 use Rattle.ftp_server_transfer.specs.Rest.{text_left}
 use Rattle.ftp_server_transfer.specs.declared.line.What.{What}
 use Rattle.ftp_server_transfer.specs.declared.listing.Listing.{Listing}
@@ -44,11 +39,11 @@ put_is (Some line) old new put = put ∙ ap (λ l. old ++ l) (sym (append-nil (t
 -- ---- whether a path is within the limits
 
 -- the path of a name in a directory is within the limits where the name is short enough for what the path leaves
-pub fits_child : (key : List ℕ) (path : Names) (name : List ℕ) → IsKept key → names_of key ≡ path → is_name name ≡ true → fits (child path name) ≡ nat_lt (length name) (900 - length key)
+pub fits_child : (key : List ℕ) (path : Names) (name : List ℕ) → IsKept key → names_of key ≡ path → is_name name ≡ true → fits (child path name) ≡ nat_lt (length name) (text_limit - length key)
 fits_child key path name kept is named =
     ap (λ p. fits (p ++ name ∷ [])) (sym is) ∙ fits-room key (name ∷ []) (kept-place key kept) (kept-le key kept)
-    ∙ ap (λ b. (b && true) && nat_le (length (joined (name ∷ []))) (900 - length key)) (and_parts (is_component name) (nat_le (length name) 255) named).1
-    ∙ ap (λ l. nat_le (suc (length l)) (900 - length key)) (append-nil name) ∙ less (length name) (900 - length key)
+    ∙ ap (λ b. (b && true) && nat_le (length (joined (name ∷ []))) (text_limit - length key)) (and_parts (is_component name) (nat_le (length name) 255) named).1
+    ∙ ap (λ l. nat_le (suc (length l)) (text_limit - length key)) (append-nil name) ∙ less (length name) (text_limit - length key)
   where
     less : (a b : ℕ) → nat_le (suc a) b ≡ nat_lt a b
     less a b = grind (arith, nat_tests)
@@ -122,11 +117,10 @@ file_shown true text name (Some (File octets moment)) = refl
 
 facts_shown : (path : Names) (name : List ℕ) (node : Option Node)
     → listed name (child path name) (unwrap_or node Dir) ≡ entry_facts (name, of_node shown_of node)
-facts_shown path name (Some (File octets moment)) = refl
 facts_shown [] name None = refl
 facts_shown (first ∷ path) name None = refl
-facts_shown [] name (Some Dir) = refl
-facts_shown (first ∷ path) name (Some Dir) = refl
+facts_shown [] name (Some node) = refl
+facts_shown (first ∷ path) name (Some node) = refl
 
 entry_shown : (fit : Bool) (facts : Facts) (path : Names) (name : List ℕ) (node : Option Node)
     → option_map (listed_line facts) (if fit then Some (listed name (child path name) (unwrap_or node Dir)) else None)
@@ -212,44 +206,3 @@ pub gives_on : (whole mid rest room front back : List ℕ) (made n : ℕ) → ma
 gives_on whole mid rest room front back made n within is before step =
     before ∙ ap (λ l. take made room ++ l) step ∙ sym (append_assoc (take made room) (take n back) rest)
     ∙ ap (λ l. l ++ rest) (sym (behind_front room front back made n within is))
-
--- ---- facts in force
-
-mapped_chosen : {X : Type 0} (f : X → List ℕ) (b : Bool) (o : Option X) → option_map f (if b then o else None) ≡ if_chosen b (option_map f o)
-mapped_chosen f true o = refl
-mapped_chosen f false o = refl
-
-same_chosen : (b : Bool) (o : Option (List ℕ)) → (if b then o else None) ≡ if_chosen b o
-same_chosen true o = refl
-same_chosen false o = refl
-
-twice : (o : Option Moment) → option_map digits_of o ≡ option_map moment_digits (option_map (λ m. m.seconds) o)
-twice None = refl
-twice (Some m) = refl
-
-pub chosen_line : {A : Type 0} (facts : Facts) (kind : Option (EntryKind A)) (size : Option ℕ) (modify : Option Moment) (perm : Option (List ℕ)) (name : List ℕ)
-    → facts_text (facts_of (option_map word_of (if facts.kind then kind else None)) (option_map decimal (if facts.size then size else None))
-    (option_map digits_of (if facts.modify then modify else None)) (if facts.perm then perm else None)) ++ 32 ∷ name
-    ≡ listed_line facts (record { name = name; kind = option_map word_of kind; size = size; modify = option_map (λ m. m.seconds) modify; perm = perm })
-chosen_line facts kind size modify perm name =
-    ap (λ o. facts_text (facts_of o (option_map decimal (if facts.size then size else None)) (option_map digits_of (if facts.modify then modify else None)) (if facts.perm then perm else None)) ++ 32 ∷ name)
-    (mapped_chosen word_of facts.kind kind)
-    ∙ ap (λ o. facts_text (facts_of (if_chosen facts.kind (option_map word_of kind)) o (option_map digits_of (if facts.modify then modify else None)) (if facts.perm then perm else None)) ++ 32 ∷ name)
-    (mapped_chosen decimal facts.size size)
-    ∙ ap (λ o. facts_text (facts_of (if_chosen facts.kind (option_map word_of kind)) (if_chosen facts.size (option_map decimal size)) o (if facts.perm then perm else None)) ++ 32 ∷ name)
-    (mapped_chosen digits_of facts.modify modify ∙ ap (if_chosen facts.modify) (twice modify))
-    ∙ ap (λ o. facts_text (facts_of (if_chosen facts.kind (option_map word_of kind)) (if_chosen facts.size (option_map decimal size))
-    (if_chosen facts.modify (option_map moment_digits (option_map (λ m. m.seconds) modify))) o) ++ 32 ∷ name)
-    (same_chosen facts.perm perm)
-
-pub entry_chosen : {A : Type 0} (facts : Facts) (kind k : Option (EntryKind A)) (size s : Option ℕ) (modify m : Option Moment) (perm p : Option (List ℕ)) (name : List ℕ)
-    → k ≡ (if facts.kind then kind else None) → s ≡ (if facts.size then size else None) → m ≡ (if facts.modify then modify else None) → p ≡ (if facts.perm then perm else None)
-    → facts_text (facts_of (option_map word_of k) (option_map decimal s) (option_map digits_of m) p) ++ 32 ∷ name
-    ≡ listed_line facts (record { name = name; kind = option_map word_of kind; size = size; modify = option_map (λ m. m.seconds) modify; perm = perm })
-entry_chosen facts kind k size s modify m perm p name ks ss ms ps =
-    ap (λ o. facts_text (facts_of (option_map word_of o) (option_map decimal s) (option_map digits_of m) p) ++ 32 ∷ name) ks
-    ∙ ap (λ o. facts_text (facts_of (option_map word_of (if facts.kind then kind else None)) (option_map decimal o) (option_map digits_of m) p) ++ 32 ∷ name) ss
-    ∙ ap (λ o. facts_text (facts_of (option_map word_of (if facts.kind then kind else None)) (option_map decimal (if facts.size then size else None)) (option_map digits_of o) p) ++ 32 ∷ name) ms
-    ∙ ap (λ o. facts_text (facts_of (option_map word_of (if facts.kind then kind else None)) (option_map decimal (if facts.size then size else None))
-    (option_map digits_of (if facts.modify then modify else None)) o) ++ 32 ∷ name) ps
-    ∙ chosen_line facts kind size modify perm name

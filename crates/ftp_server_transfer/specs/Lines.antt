@@ -1,10 +1,10 @@
 -- Which lines a listing has, entry by entry (RFC 959, section 4.1.3; RFC 1123, section 4.1.2.7; RFC 3659, section 7).
-use Rattle.std.specs.Prelude.{◌≡◌, ℕ, List, [], ◌++◌, codes, drop, Option, Some, None, if◌then◌else◌}
+use Rattle.std.specs.Prelude.{◌≡◌, ℕ, false, List, [], ◌++◌, codes, drop, Option, Some, None, if◌then◌else◌}
 use Rattle.std.specs.List.{filter_map}
 use Rattle.ftp_path.specs.Path.{Names, fits}
 use Rattle.ftp_tree.specs.Tree.{Table}
 use Rattle.ftp_operation.specs.Answer.{Listed}
-use Rattle.ftp_direct.specs.Direct.{behind, child, size_fact}
+use Rattle.ftp_direct.specs.Direct.{behind, child, entry_of}
 use Rattle.ftp_server_model.specs.Entries.{listed_line}
 use Rattle.ftp_server_model.specs.Listing.{text_line, list_line, list_lines, name_lines, entry_lines}
 use Rattle.ftp_server_transfer.specs.declared.line.What.{What}
@@ -28,11 +28,9 @@ abbrev pub pathname_of : List ℕ → List ℕ × Option (ℕ × ℕ) → Option
 pathname_of text (name, None) = None
 pathname_of text (name, Some file) = Some (behind text name)
 
--- MLSD: its facts, of which those in force are said
+-- MLSD: its facts, of which those in force are said; it is not the root
 abbrev pub entry_facts : List ℕ × Option (ℕ × ℕ) → Listed
-entry_facts (name, None) = record { name = name; kind = Some (codes "dir"); size = None; modify = None; perm = Some (codes "cdeflmp") }
-entry_facts (name, Some (size, moment)) =
-    record { name = name; kind = Some (codes "file"); size = size_fact size; modify = Some moment; perm = Some (codes "adfrw") }
+entry_facts entry = entry_of entry.1 false entry.0
 
 -- its line, where it has one
 abbrev pub shown_line : {A : Type 0} → What A → List ℕ × Option (ℕ × ℕ) → Option (List ℕ)

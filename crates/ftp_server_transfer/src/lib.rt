@@ -14,7 +14,7 @@ mod transfer;
 mod upload;
 
 pub use download::Download;
-pub use line::{What, put_chosen};
+pub use line::What;
 pub use listing::{Listing, Made};
 pub use named::Named;
 pub use transfer::TreeTransfer;

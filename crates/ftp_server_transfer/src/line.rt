@@ -1,29 +1,19 @@
 // One line of a listing.
-ghost use Rattle.std.specs.Prelude.{◌≡◌, ◌+◌, ◌<◌, ◌≤◌, ◌++◌, [], IfOk, OnOk, true, length, Some, None, Option, is_some, if◌then◌else◌, List, ℕ};
-ghost use Rattle.std.specs.Option.{ForSome};
-ghost use Rattle.ftp_endpoint.specs.Number.{IsShort};
-ghost use Rattle.ftp_facts.specs.Fact.{IsOtherWord, IsValue};
-ghost use Rattle.ftp_facts.specs.declared.entry.EntryKind.TheVariants.{Other};
+ghost use Rattle.std.specs.Prelude.{◌≡◌, ◌+◌, ◌<◌, ◌≤◌, ◌++◌, [], IfOk, OnOk, true, length, Some, is_some};
 ghost use Rattle.ftp_path.specs.Path.{fits, text_limit};
 ghost use Rattle.ftp_tree.specs.Entries.{shown_entry};
-ghost use Rattle.ftp_operation.specs.Answer.{listed_of};
-ghost use Rattle.ftp_direct.specs.Direct.{behind, child, size_fact};
+ghost use Rattle.ftp_direct.specs.Direct.{behind, child};
 ghost use Rattle.ftp_server_model.specs.Entries.{listed_line};
 ghost use Rattle.ftp_server_model.specs.Held.{lines_limit};
 ghost use Rattle.ftp_server_model.specs.Listing.{lines_file, text_line};
 ghost use Rattle.ftp_server_transfer.specs.Lines.{Puts, columns_of, entry_facts, entry_line, lines_from, pathname_of};
 
 use crate::named::Named;
-use ftp_direct::{put_dir_line, put_file_line};
-use ftp_facts::{Entry, EntryKind, Moment, Text, write_entry};
-use ftp_operation::is_number;
-use ftp_path::{Name, Path};
-use ftp_server_model::Facts;
-use ftp_tree::{DirEntries, DirEntry, FileFacts};
+use ftp_direct::{entry_of, put_dir_line, put_file_line};
+use ftp_facts::{Facts, write_entry_line};
+use ftp_path::{Name, Path, TEXT_LIMIT};
+use ftp_tree::{DirEntries, DirEntry};
 use std::alloc::{AllocError, Allocator};
-
-/// The most octets of a canonical text of a path (own choice).
-pub(crate) const TEXT_LIMIT: usize = 900;
 
 /// With so many octets no further line is put.
 const ENOUGH: usize = 512;
@@ -42,7 +32,6 @@ pub enum What<A: Allocator + Copy> {
 /// Puts the lines of the next entries from a place on, with LF behind each, and says where to go on; none where no entry is left.
 /// These are as many as it takes to have some octets: what follows each line is done once for all of them.
 pub(crate) fn put_next<A: Allocator + Copy>(
-    alloc: A,
     path: &Path<A>,
     what: &What<A>,
     entries: &DirEntries<A>,
@@ -59,7 +48,7 @@ pub(crate) fn put_next<A: Allocator + Copy>(
         let Some(next) = place.checked_add(1) else {
             return Err(AllocError);
         };
-        put_line(alloc, path, what, found, line)?;
+        put_line(path, what, found, line)?;
         if line.len() >= ENOUGH {
             return Ok(Some(next));
         }
@@ -70,7 +59,6 @@ pub(crate) fn put_next<A: Allocator + Copy>(
 
 /// Puts the line of an entry of a directory, with LF behind it, where it has one: nothing is said of a path past the limits of paths.
 fn put_line<A: Allocator + Copy>(
-    alloc: A,
     path: &Path<A>,
     what: &What<A>,
     found: DirEntry<'_>,
@@ -85,7 +73,7 @@ fn put_line<A: Allocator + Copy>(
     match what {
         What::Lines => put_columns_of(found, line),
         What::Names(text) => put_file(text.as_slice(), found, line),
-        What::Entries(facts) => put_entry(alloc, *facts, found, line),
+        What::Entries(facts) => put_entry(*facts, found, line),
     }
 }
 
@@ -131,7 +119,6 @@ fn put_file<A: Allocator + Copy>(
 
 /// Puts the facts in force of an entry, a space and the name.
 fn put_entry<A: Allocator + Copy>(
-    alloc: A,
     facts: Facts,
     found: DirEntry<'_>,
     line: &mut Vec<u8, A>,
@@ -139,8 +126,8 @@ fn put_entry<A: Allocator + Copy>(
     ensures line { OnOk result (line.new.items ≡ line.old.items ++ text_line (listed_line facts (entry_facts (shown_entry found.entry)))) }
     ensures few { OnOk result (length line.new.items ≤ length line.old.items + (text_limit + 257)) }
 {
-    let entry = listed(alloc, found)?;
-    put_chosen(entry, facts, line)?;
+    let entry = entry_of(found.file, false, found.name.octets());
+    write_entry_line(entry, facts, line)?;
     line.push(b'\n')?;
     Ok(())
 }
@@ -160,95 +147,4 @@ fn put_behind<A: Allocator + Copy>(
     }
     line.extend_from_slice(name)?;
     Ok(())
-}
-
-/// All that MLSD may say of an entry of a directory.
-fn listed<A: Allocator + Copy>(alloc: A, found: DirEntry<'_>) -> Result<Entry<A>, AllocError>
-    ensures { IfOk result (λ said. listed_of said ≡ entry_facts (shown_entry found.entry)) }
-{
-    let name = Text::copy_of(alloc, found.name.octets())?;
-    let Some(file) = found.file else {
-        let perm = Text::copy_of(alloc, b"cdeflmp")?;
-        return Ok(Entry {
-            name,
-            kind: Some(EntryKind::Dir),
-            size: None,
-            modify: None,
-            perm: Some(perm),
-        });
-    };
-    let perm = Text::copy_of(alloc, b"adfrw")?;
-    Ok(Entry {
-        name,
-        kind: Some(EntryKind::File),
-        size: size_fact(file.size),
-        modify: Some(file.moment),
-        perm: Some(perm),
-    })
-}
-
-/// A size, where it can be said.
-fn size_fact(size: u64) -> Option<u64>
-    ensures value { result ≡ size_fact size }
-    ensures fits { ForSome result IsShort }
-{
-    if is_number(size) { Some(size) } else { None }
-}
-
-/// Puts the line of an entry with the facts in force.
-pub fn put_chosen<A: Allocator + Copy, B: Allocator + Copy>(
-    entry: Entry<A>,
-    facts: Facts,
-    line: &mut Vec<u8, B>,
-) -> Result<(), AllocError>
-    ensures { OnOk result (line.new.items ≡ line.old.items ++ listed_line facts (listed_of entry)) }
-{
-    let chosen = Entry {
-        name: entry.name,
-        kind: chosen_kind(facts.kind, entry.kind),
-        size: chosen_size(facts.size, entry.size),
-        modify: chosen_moment(facts.modify, entry.modify),
-        perm: chosen_perm(facts.perm, entry.perm),
-    };
-    match write_entry(&chosen, line) {
-        Ok(()) => Ok(()),
-        Err(_) => Err(AllocError),
-    }
-}
-
-/// The type of an entry, where that fact is in force.
-fn chosen_kind<A: Allocator + Copy>(
-    chosen: bool,
-    kind: Option<EntryKind<A>>,
-) -> Option<EntryKind<A>>
-    requires { (word : List ℕ) → kind ≡ Some (Other word) → IsOtherWord word }
-    ensures value { result ≡ (if chosen then kind else None) }
-    ensures fits { (word : List ℕ) → result ≡ Some (Other word) → IsOtherWord word }
-{
-    if chosen { kind } else { None }
-}
-
-/// The size of an entry, where that fact is in force.
-fn chosen_size(chosen: bool, size: Option<u64>) -> Option<u64>
-    requires { ForSome size IsShort }
-    ensures value { result ≡ (if chosen then size else None) }
-    ensures fits { ForSome result IsShort }
-{
-    if chosen { size } else { None }
-}
-
-/// The moment of an entry, where that fact is in force.
-fn chosen_moment(chosen: bool, moment: Option<Moment>) -> Option<Moment>
-    ensures { result ≡ (if chosen then moment else None) }
-{
-    if chosen { moment } else { None }
-}
-
-/// The permissions of an entry, where that fact is in force.
-fn chosen_perm<A: Allocator + Copy>(chosen: bool, perm: Option<Text<A>>) -> Option<Text<A>>
-    requires { ForSome perm IsValue }
-    ensures value { result ≡ (if chosen then perm else None) }
-    ensures fits { ForSome result IsValue }
-{
-    if chosen { perm } else { None }
 }

@@ -70,7 +70,7 @@ impl<A: Allocator + Copy> Listing<A> {
             return Ok(Listing::begun(alloc, what, path, entries, mode, ahead, None));
         }
         let entries = tree.entries(root, &path)?;
-        let place = put_next(alloc, &path, &what, &entries, 0, &mut ahead)?;
+        let place = put_next(&path, &what, &entries, 0, &mut ahead)?;
         Ok(Listing::begun(alloc, what, path, entries, mode, ahead, place))
     }
 
@@ -168,7 +168,6 @@ impl<A: Allocator + Copy> Listing<A> {
             return Ok(());
         };
         match put_next(
-            self.alloc,
             &self.path,
             &self.what,
             &self.entries,

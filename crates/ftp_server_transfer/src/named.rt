@@ -2,12 +2,12 @@
 ghost use Rattle.std.specs.Prelude.{◌≡◌, ◌≤◌, IfOk, length};
 ghost use Rattle.ftp_path.specs.Path.{text_limit};
 
-use crate::line::TEXT_LIMIT;
 use ftp_facts::Text;
+use ftp_path::TEXT_LIMIT;
 use std::alloc::{AllocError, Allocator};
 use std::marker::Model;
 
-/// A text that names what is listed: at most 900 octets.
+/// A text that names what is listed: at most `TEXT_LIMIT` octets.
 #[derive(Drop)]
 pub struct Named<A: Allocator + Copy> {
     text: Text<A>,

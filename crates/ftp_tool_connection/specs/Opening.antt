@@ -4,6 +4,7 @@ use Rattle.ftp_operation.specs.declared.answer.Answer.{Answer}
 use Rattle.ftp_operation.specs.declared.answer.Answer.TheVariants as Answers
 use Rattle.ftp_operation.specs.declared.op.ListVerb.{ListVerb}
 use Rattle.ftp_operation.specs.declared.op.ListVerb.TheVariants as Verbs
+use Rattle.ftp_reply.specs.declared.code.TheConstants.{BAD_ARGUMENT, BAD_PROTOCOL, NOT_IMPLEMENTED, UNKNOWN}
 use Rattle.ftp_tool_connection.specs.declared.opening.Opening.{Opening}
 use Rattle.ftp_tool_connection.specs.declared.opening.Opening.TheVariants as Openings
 use Rattle.ftp_tool_connection.specs.declared.opening.Stranger.{Stranger}
@@ -11,7 +12,7 @@ use Rattle.ftp_tool_connection.specs.declared.opening.Stranger.TheVariants as St
 
 -- the codes of a server that does not know a command, or not with this argument (RFC 959, section 4.2.2), or not this protocol of the network (RFC 2428)
 abbrev pub means_unknown : ℕ → Bool
-means_unknown code = code == 500 || code == 501 || code == 502 || code == 522
+means_unknown code = code == UNKNOWN || code == BAD_ARGUMENT || code == NOT_IMPLEMENTED || code == BAD_PROTOCOL
 
 -- an answer that says so
 abbrev pub says_unknown : {A : Type 0} → Answer A → Bool

@@ -9,6 +9,7 @@ use crate::saying::say;
 use ftp_client_stream::Carries;
 use ftp_control::TURNS;
 use ftp_operation::Answer;
+use ftp_reply::code::NOT_LOGGED_IN;
 use ftp_tool_looking::{Awaits, Leaving};
 use ftp_tool_sockets::monotonic_millis;
 use libc::net as c;
@@ -27,9 +28,6 @@ const ROWS: usize = 16;
 
 /// The longest wait in one piece, in milliseconds.
 const PIECE_MILLIS: u64 = 1_000;
-
-/// The code of a refused login, and of what is asked behind it (RFC 959, section 4.2.2).
-const NOT_LOGGED_IN: u16 = 530;
 
 /// How long the ends of all control connections are waited for, in milliseconds.
 const LAST_MILLIS: u64 = 1_000;

@@ -1,19 +1,11 @@
 // What is told of a server beside its answer: the line that it said last, how many data connections were opened, and that it fell silent.
+use ftp_reply::code::{GIVEN_UP, NOT_AVAILABLE, NOT_LOGGED_IN};
 use ftp_tool_shown::Shown;
 use std::fmt;
 use std::fmt::{Display, Formatter};
 
 /// The most octets of a line that are kept: more than a client tells.
 const LINE_LIMIT: usize = 512;
-
-/// The code of a server that ends the control connection (RFC 959, section 4.2.2).
-const NOT_AVAILABLE: u16 = 421;
-
-/// The code of a refused login, and of what is asked behind it (RFC 959, section 4.2.2).
-const NOT_LOGGED_IN: u16 = 530;
-
-/// The code of a server that gave up what it was doing (RFC 959, section 4.2.2).
-const GIVEN_UP: u16 = 451;
 
 /// What is known so far.
 #[derive(Drop)]

@@ -29,7 +29,7 @@ pub use fault::{Phase, SessionFault, at};
 pub use last_reply::{LastReply, Refusal, Said};
 pub use live::{ClientSession, SessionTask};
 pub use opening::{Opening, Openings, Stranger};
-pub use request::{Request, Terms};
+pub use request::{MOST_ENTRIES, Request, Terms};
 pub use saying::{say, told};
 pub use server::ServerAddress;
 pub use subject::Subject;

@@ -3,18 +3,9 @@ ghost use Rattle.std.specs.Prelude.{◌≡◌};
 ghost use Rattle.ftp_tool_connection.specs.Opening.{asks_extended, list_verb_by, opening_by, says_unknown, stranger_by};
 
 use ftp_operation::{Answer, How, ListVerb};
+use ftp_reply::code::{BAD_ARGUMENT, BAD_PROTOCOL, NOT_IMPLEMENTED, UNKNOWN};
 use std::alloc::Global;
 use std::cell::Cell;
-
-/// The codes of a server that does not know a command, not its argument, or has not implemented it (RFC 959, section 4.2.2).
-const UNKNOWN: u16 = 500;
-
-const UNKNOWN_ARGUMENT: u16 = 501;
-
-const NOT_IMPLEMENTED: u16 = 502;
-
-/// The code of a server that does not know the protocol of the network (RFC 2428, section 2).
-const UNKNOWN_PROTOCOL: u16 = 522;
 
 /// By which commands a data connection is asked for over IPv4 (RFC 959, section 4.1.2; RFC 2428, sections 2 and 3); over IPv6 there are EPSV and EPRT alone.
 #[derive(Clone, Copy)]
@@ -145,7 +136,7 @@ fn says_unknown(answer: &Answer<Global>) -> bool
     ensures { result ≡ says_unknown answer.now }
 {
     match answer {
-        Answer::Refused(UNKNOWN | UNKNOWN_ARGUMENT | NOT_IMPLEMENTED | UNKNOWN_PROTOCOL) => true,
+        Answer::Refused(UNKNOWN | BAD_ARGUMENT | NOT_IMPLEMENTED | BAD_PROTOCOL) => true,
         _ => false,
     }
 }

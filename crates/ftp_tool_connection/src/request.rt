@@ -8,9 +8,10 @@ use ftp_operation::{How, Op};
 use ftp_tool_status::Span;
 use std::alloc::Global;
 
-/// The most entries of a listing, and its most octets.
-const MOST_ENTRIES: u64 = 1_000_000;
+/// The most entries of a listing that are taken (own choice).
+pub const MOST_ENTRIES: usize = 1_000_000;
 
+/// The most octets of a listing.
 const MOST_LISTED: u64 = 1_073_741_824;
 
 /// An operation, or an upload over breaks; empty once a client has it.
@@ -48,7 +49,7 @@ pub(crate) fn most_of(request: &Request) -> Most {
     match request {
         Request::One(Some(Op::List(_, _) | Op::Names(_, _) | Op::Text(_, _, _))) => Most {
             octets: MOST_LISTED,
-            lines: Some(MOST_ENTRIES),
+            lines: Some(MOST_ENTRIES as u64),
         },
         Request::One(_) | Request::Upload(_, _) | Request::Drawn(_, _) => Most {
             octets: u64::MAX,

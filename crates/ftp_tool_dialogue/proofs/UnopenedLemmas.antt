@@ -11,7 +11,7 @@ use Rattle.ftp_path.specs.Path.{Names}
 use Rattle.ftp_server_model.specs.Act.{act, decided, is_allowed, is_transfer, forgets}
 use Rattle.ftp_server_model.specs.Endpoint.{asks, epsv, forgotten, is_taken, pasv, port, takes}
 use Rattle.ftp_server_model.specs.Login.{admits, checked, open_account, pass, user_named}
-use Rattle.ftp_server_model.specs.declared.session.Facts.{Facts}
+use Rattle.ftp_facts.specs.declared.name.Facts.{Facts}
 use Rattle.ftp_server_model.specs.declared.session.PassiveVerb.TheVariants as Asking
 use Rattle.ftp_server_model.specs.declared.reply.FixedReply.TheVariants as Texts
 use Rattle.ftp_server_model.specs.declared.reply.ReplyKind.TheVariants as Replies

@@ -4,10 +4,11 @@ use Rattle.ftp_facts.specs.declared.entry.EntryKind.{EntryKind}
 use Rattle.ftp_facts.specs.declared.entry.EntryKind.TheVariants as Kinds
 use Rattle.ftp_operation.specs.declared.answer.Answer.{Answer}
 use Rattle.ftp_operation.specs.declared.answer.Answer.TheVariants as Answers
+use Rattle.ftp_reply.specs.declared.code.TheConstants.{BAD_ARGUMENT, UNAVAILABLE}
 
 -- the codes by which servers say that no directory stands at a path: 501 (RFC 3659, section 7.2.1) and 550
 abbrev pub means_no_directory : ℕ → Bool
-means_no_directory code = code == 501 || code == 550
+means_no_directory code = code == BAD_ARGUMENT || code == UNAVAILABLE
 
 -- an answer to the question for the entries of a directory after which a file may stand there: no directory does, or it has no entries
 abbrev pub may_be_file : {A : Type 0} → Answer A → Bool
@@ -27,7 +28,7 @@ is_file answer = false
 
 -- an answer that is told in the place of the refusal of a listing: nothing stands there, the control connection ended, or want of memory
 abbrev pub says_more : {A : Type 0} → Answer A → Bool
-says_more (Answers.Refused code) = code == 550
+says_more (Answers.Refused code) = code == UNAVAILABLE
 says_more Answers.Lost = true
 says_more Answers.Memory = true
 says_more answer = false

@@ -8,6 +8,7 @@ use crate::single::{Wish, ask_for};
 use crate::target::Target;
 use crate::upload::put;
 use ftp_operation::Answer;
+use ftp_reply::code::{NOT_IMPLEMENTED, UNKNOWN};
 use ftp_tool_connection::{Converses, LastReply, Logins, Phase, SessionFault, at, say};
 use ftp_tool_local::LocalFiles;
 use ftp_tool_status::Status;
@@ -19,12 +20,6 @@ use std::io;
 use std::io::{Eprint, Print, Write};
 use std::net::{Net, TcpListener, TcpStream};
 use std::time::Clock;
-
-/// The code of the reply to a command that is not known (RFC 959, section 4.2.2).
-const UNKNOWN: u16 = 500;
-
-/// The code of the reply to a command that is not implemented (RFC 959, section 4.2.2).
-const NOT_IMPLEMENTED: u16 = 502;
 
 /// What is to be done at a place.
 #[derive(Clone, Copy)]

@@ -6,12 +6,8 @@ ghost use Rattle.ftp_tool_fetch.specs.Looking.{is_file, is_file_kind, may_be_fil
 use ftp_facts::{Entry, EntryKind, Text};
 use ftp_operation::Answer;
 use ftp_path::is_path_text;
+use ftp_reply::code::{BAD_ARGUMENT, UNAVAILABLE};
 use std::alloc::{AllocError, Global};
-
-/// The codes by which servers say that no directory stands at a path (RFC 3659, section 7.2.1; RFC 959, section 4.2.2).
-const NO_DIRECTORY: u16 = 501;
-
-const MISSING: u16 = 550;
 
 /// Whether a file may stand at a path of which the entries were asked for, and this was answered.
 pub(crate) fn may_be_file(answer: &Answer<Global>) -> bool
@@ -24,10 +20,11 @@ pub(crate) fn may_be_file(answer: &Answer<Global>) -> bool
     }
 }
 
+/// Whether a server says by it that no directory stands at a path (RFC 3659, section 7.2.1; RFC 959, section 4.2.2).
 fn means_no_directory(code: u16) -> bool
     ensures { result ≡ means_no_directory code }
 {
-    code == NO_DIRECTORY || code == MISSING
+    code == BAD_ARGUMENT || code == UNAVAILABLE
 }
 
 /// Whether the facts that were asked for then are the answer, and not the listing, which was refused, or has no entries.
@@ -59,7 +56,7 @@ fn says_more(facts: &Answer<Global>) -> bool
     ensures { result ≡ says_more facts.now }
 {
     match facts {
-        Answer::Refused(code) => *code == MISSING,
+        Answer::Refused(code) => *code == UNAVAILABLE,
         Answer::Lost | Answer::Memory => true,
         _ => false,
     }

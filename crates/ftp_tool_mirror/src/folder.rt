@@ -1,14 +1,12 @@
 // What stands in a folder of this machine.
 use ftp_facts::Text;
+use ftp_tool_connection::MOST_ENTRIES;
 use ftp_tool_listing::{Facts, Item, Kind, Listing, is_excluded};
 use ftp_tool_places::{Places, Sighting, Sightings};
 use std::alloc::{AllocError, Global};
 use std::fs::Metadata;
 use std::io;
 use std::os::unix::fs::MetadataExt;
-
-/// The most entries of a directory that are taken.
-pub(crate) const MOST_ENTRIES: usize = 1_000_000;
 
 /// The entries of the directory `below` a folder. Links are not followed.
 pub(crate) fn entries_here<R: Places>(

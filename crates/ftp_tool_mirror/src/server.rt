@@ -4,20 +4,10 @@ use crate::told::told_there;
 use crate::trouble::Trouble;
 use ftp_facts::Text;
 use ftp_operation::{Answer, Op};
+use ftp_reply::code::{NOT_IMPLEMENTED, UNAVAILABLE, UNKNOWN};
 use ftp_tool_connection::{ClientSession, Ending, Request};
 use ftp_tool_listing::Listing;
 use std::alloc::{AllocError, Global};
-
-/// The codes of a server that does not know a command (RFC 959, section 4.2.2).
-const UNKNOWN: u16 = 500;
-
-const NOT_IMPLEMENTED: u16 = 502;
-
-/// The code of a server that has nothing there (RFC 959, section 4.2.2).
-pub(crate) const MISSING: u16 = 550;
-
-/// The code of a server that has no directory there (RFC 3659, section 7.2.1).
-pub(crate) const NO_DIRECTORY: u16 = 501;
 
 /// Asks a server to do something that has no other answer than that it is done.
 pub(crate) fn done_by<S: ClientSession>(seat: &mut S, op: Op<Text<Global>>) -> Result<(), Trouble> {
@@ -38,7 +28,7 @@ pub(crate) fn stands_there<S: ClientSession>(
     let path = mirror.path(alloc, below)?;
     match &seat.answer(Request::One(Some(Op::Facts(path)))) {
         Answer::Entry(_) => Ok(true),
-        Answer::Refused(MISSING) => Ok(false),
+        Answer::Refused(UNAVAILABLE) => Ok(false),
         answer => {
             if is_dir || !says_unknown(answer) {
                 return Err(Trouble::of(answer));
@@ -63,7 +53,7 @@ fn file_stands_there<S: ClientSession>(
     let path = mirror.path(alloc, below)?;
     match &seat.answer(Request::One(Some(Op::Size(path, mirror.how)))) {
         Answer::Number(_) => Ok(true),
-        Answer::Refused(MISSING) => Ok(false),
+        Answer::Refused(UNAVAILABLE) => Ok(false),
         answer => Err(Trouble::of(answer)),
     }
 }

@@ -8,12 +8,13 @@ use crate::foreseeing::foresee;
 use crate::machine::Machine;
 use crate::removals::Settled;
 use crate::sentence::reason_told;
-use crate::server::{MISSING, NO_DIRECTORY, entries_there, stands_there};
+use crate::server::{entries_there, stands_there};
 use crate::tally::{Progress, Tally};
 use crate::telling::{deed_line, shown, tell, tell_no_text, tell_too_many, tell_trouble};
 use crate::todo::{Chore, Todo, Work};
 use crate::trouble::Trouble;
 use ftp_operation::Answer;
+use ftp_reply::code::{BAD_ARGUMENT, UNAVAILABLE};
 use ftp_tool_connection::{ClientSession, SessionFault, SessionTask};
 use ftp_tool_listing::{Deed, Extra, Facts, Listing, Rules, Way};
 use ftp_tool_local::Change;
@@ -533,7 +534,7 @@ impl<'a, R: Machine> Walk<'a, R> {
 /// Whether a directory is not there: of a server 550 says so (RFC 959, section 4.2.2), or 501 (RFC 3659, section 7.2.1).
 fn is_missing(trouble: Trouble) -> bool {
     match trouble {
-        Trouble::Refused(MISSING | NO_DIRECTORY) => true,
+        Trouble::Refused(UNAVAILABLE | BAD_ARGUMENT) => true,
         Trouble::Here(error) => error.kind() == ErrorKind::NotFound,
         _ => false,
     }

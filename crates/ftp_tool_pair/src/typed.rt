@@ -7,7 +7,7 @@ ghost use Rattle.ftp_server_model.specs.Told.{is_path};
 use ftp_endpoint::Host;
 use ftp_facts::Text;
 use ftp_operation::Account;
-use ftp_path::Path;
+use ftp_path::{Path, TEXT_LIMIT};
 use std::alloc::Allocator;
 
 /// A host is four or sixteen octets.
@@ -48,5 +48,5 @@ pub(crate) fn are_paths<A: Allocator + Copy>(list: &[Account<Text<A>, Path<A>>])
 fn is_path<A: Allocator + Copy>(path: &Path<A>) -> bool
     ensures { IsTrue (is_path path.now) }
 {
-    path.key().len() <= 900
+    path.key().len() <= TEXT_LIMIT
 }

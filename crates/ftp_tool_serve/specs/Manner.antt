@@ -2,6 +2,7 @@
 use Rattle.std.specs.Prelude.{ℕ, ◌+◌, ◌==◌, ◌&&◌, ◌||◌, nat_lt, Bool, true, false, Option, Some, None, if◌then◌else◌}
 use Rattle.ftp_command.specs.declared.verb.Verb.{Verb}
 use Rattle.ftp_command.specs.declared.verb.Verb.TheVariants as Verbs
+use Rattle.ftp_reply.specs.declared.code.TheConstants.{NOT_LOGGED_IN}
 use Rattle.ftp_tool_serve.specs.declared.manner.Manner.{Manner}
 use Rattle.ftp_tool_serve.specs.declared.manner.Pace.{Pace}
 use Rattle.ftp_tool_serve.specs.declared.manner.Pace.TheVariants as Paces
@@ -13,7 +14,7 @@ is_password verb = false
 
 -- 530 to a password is a refused login, of which ten are counted
 abbrev pub is_refused : Manner → Option Verb → ℕ → Bool
-is_refused m verb code = is_password verb && code == 530 && nat_lt m.refused 10
+is_refused m verb code = is_password verb && code == NOT_LOGGED_IN && nat_lt m.refused 10
 
 -- after a line that was answered so, and then somebody is logged in, or nobody
 abbrev pub manner_after : Manner → Option Verb → ℕ → (is_in : Bool) → Manner

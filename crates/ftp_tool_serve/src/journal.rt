@@ -6,6 +6,7 @@ use crate::telling::Asked;
 use crate::tells::{Entry, Fate, Note, Outcome, Tells};
 use crate::text::Text;
 use ftp_command::Verb;
+use ftp_reply::code::COMPLETE;
 use ftp_server_model::{Answered, Far};
 use ftp_tool_looking::{Line, Over};
 use ftp_tool_sockets::monotonic_millis;
@@ -16,9 +17,6 @@ use std::cell::Cell;
 use std::io;
 use std::net::SocketAddr;
 use std::rc::Rc;
-
-/// The code with which a transfer ends of which there is nothing to give (RFC 959, section 4.2.2).
-const COMPLETE: u16 = 226;
 
 /// How long an answer waits after refused logins where none is noted, in milliseconds.
 const SLOW_MILLIS: u64 = 1_000;

@@ -3,9 +3,7 @@ ghost use Rattle.std.specs.Prelude.{◌≡◌};
 ghost use Rattle.ftp_tool_serve.specs.Manner.{answer_to, manner_after};
 
 use ftp_command::Verb;
-
-/// The code of a refused login (RFC 959, section 4.2.2).
-const NOT_LOGGED_IN: u16 = 530;
+use ftp_reply::code::NOT_LOGGED_IN;
 
 /// From this refused login on each answer waits.
 const SLOW_FROM: u8 = 3;

@@ -2,7 +2,7 @@
 use crate::named::{Named, Placed};
 use crate::serving::Serving;
 use crate::tells::Told;
-use ftp_path::Path;
+use ftp_path::{Path, TEXT_LIMIT};
 use ftp_tool_log::Lines;
 use ftp_tree::{Limits, NodeKind, Tree, TreeFault};
 use ftp_tree_disk::{DiskTree, LeftOut, LoadFault, Odd, Reason, Unknown, open};
@@ -112,8 +112,9 @@ impl<'a> Display for Unserved<'a> {
         match why {
             Reason::Tree(TreeFault::TooBig) => write!(
                 formatter,
-                "past a limit: a file has {} octets, a name at most 255, and a path 900",
-                Most(file)
+                "past a limit: a file has {} octets, a name at most 255, and a path {}",
+                Most(file),
+                TEXT_LIMIT
             ),
             Reason::Tree(TreeFault::Full) => write!(
                 formatter,

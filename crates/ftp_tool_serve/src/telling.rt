@@ -1,10 +1,8 @@
 // What is told of a line that a server acted on: its verb, and what it names where that is no secret.
 use crate::text::Text;
 use ftp_command::{Role, Verb};
+use ftp_reply::code::LOGGED_IN;
 use ftp_server_model::Answered;
-
-/// The code of a login (RFC 959, section 4.2.2).
-const LOGGED_IN: u16 = 230;
 
 /// A line of a client as far as it is told: its verb, and the path or the user that it names; no password.
 #[derive(Clone, Copy)]

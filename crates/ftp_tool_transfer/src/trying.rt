@@ -4,16 +4,11 @@ ghost use Rattle.ftp_tool_transfer.specs.Trying.{ended_by, there_by};
 
 use ftp_facts::Text;
 use ftp_operation::{Answer, How, Op};
+use ftp_reply::code::{GIVEN_UP, UNAVAILABLE};
 use ftp_settings::{Kind, Structure};
 use ftp_tool_connection::Request;
 use ftp_tool_status::{Ended, There};
 use std::alloc::{AllocError, Global};
-
-/// The code of a reply that there is no such file (RFC 959, section 4.2.2).
-pub(crate) const NO_FILE: u16 = 550;
-
-/// The code of a server that gave up what it was doing (RFC 959, section 4.2.2).
-const GIVEN_UP: u16 = 451;
 
 /// Whether SIZE counts the octets of the transfer: in type I and file structure.
 pub fn is_counted(how: How) -> bool {
@@ -54,7 +49,7 @@ pub(crate) fn there_of(answer: &Answer<Global>) -> There
 {
     match answer {
         Answer::Number(count) => There::Octets(*count),
-        Answer::Refused(NO_FILE) => There::Nothing,
+        Answer::Refused(UNAVAILABLE) => There::Nothing,
         Answer::Lost | Answer::Strange => There::Lost,
         _ => There::Untold,
     }

@@ -1,10 +1,11 @@
 // An upload, which goes on where the server has it: over breaks, and where a 226 came and not all is there.
 use crate::source::{Source, unread};
 use crate::telling::{Part, tell};
-use crate::trying::{NO_FILE, ended_of, is_counted, size_request, there_of};
+use crate::trying::{ended_of, is_counted, size_request, there_of};
 use ftp_client_steps::MOST_TRIES;
 use ftp_facts::Text;
 use ftp_operation::{Answer, How, Op};
+use ftp_reply::code::UNAVAILABLE;
 use ftp_tool_connection::{
     ClientSession, LastReply, Openings, Phase, Request, SessionFault, SessionTask, at, say, told,
 };
@@ -279,7 +280,7 @@ impl<'a, R: LocalFiles + Eprint> Uploading<'a, R> {
         told(
             self.rt,
             "error: the server says that it is done, and tells no size of it: ",
-            &noticed.refusal(NO_FILE),
+            &noticed.refusal(UNAVAILABLE),
             "",
             Status::Refused,
         )

@@ -8,7 +8,7 @@ use Rattle.std.proofs.lemmas.Bool.{and_parts, and_from, leb-true, ltb-false}
 use Rattle.std.proofs.lemmas.List.{length-append}
 use Rattle.std.proofs.lemmas.List.Folds.{list_all-append}
 use Rattle.ftp_path.specs.Kept.{IsJoined, names_of}
-use Rattle.ftp_path.specs.Path.{fits, is_component, is_name, is_name_octet, is_slash, joined, parent, text_of}
+use Rattle.ftp_path.specs.Path.{fits, is_component, is_name, is_name_octet, is_slash, joined, parent, text_of, text_limit}
 use Rattle.ftp_path.proofs.PathLemmas.{component-octets, name_octet-slash, joined-append, names_of-joined, IsJoined-joined, joined-parent-le}
 use Rattle.ftp_path.proofs.KeyLemmas.{components-append}
 use Rattle.ftp_tree.specs.Text.{IsPlace, is_short}
@@ -24,18 +24,18 @@ all-take p (suc n) (name ∷ names) all =
 pub above-place : (text : List ℕ) (path : List (List ℕ)) → IsJoined text → names_of text ≡ parent path → fits path ≡ true → IsPlace text
 unfolding fits parent
 above-place text path joins is fit =
-    let short = (and_parts (list_all is_short path) (nat_le (length (text_of path)) 900) fit).0 in
+    let short = (and_parts (list_all is_short path) (nat_le (length (text_of path)) text_limit) fit).0 in
     record {
       joins = joins;
       short = ap (list_all is_short) is ∙ all-take is_short (length path - 1) path short;
     }
 
-pub above-short : (text : List ℕ) (path : List (List ℕ)) → IsJoined text → names_of text ≡ parent path → fits path ≡ true → length text ≤ 900
+pub above-short : (text : List ℕ) (path : List (List ℕ)) → IsJoined text → names_of text ≡ parent path → fits path ≡ true → length text ≤ text_limit
 unfolding fits text_of
 above-short text path joins is fit =
     let whole : length text ≡ length (joined (parent path)) = ap length (sym joins.whole ∙ ap joined is) in
     let least = joined-parent-le path in
-    let most = leb-true (length (text_of path)) 900 (and_parts (list_all is_short path) (nat_le (length (text_of path)) 900) fit).1 in
+    let most = leb-true (length (text_of path)) text_limit (and_parts (list_all is_short path) (nat_le (length (text_of path)) text_limit) fit).1 in
     let text : length (joined path) ≤ length (text_of path) = of path in
     omega arith
   where

@@ -1,7 +1,7 @@
 -- What a change of the part below a root, which nothing refuses, makes of the whole.
 use Rattle.std.proofs.Common.{ℕ, ◌-◌, ◌≤◌, ◌≡◌, ◌⊎◌, inl, inr, Bool, true, false, not, cond, Option, Some, None, IfSome, is_some, IsSome, List, [], ◌∷◌, ◌++◌, length, drop, refl, sym, ap, ◌∙◌, subst, ◌&&◌, ◌||◌}
 use Rattle.std.proofs.lemmas.Bool.{true≢false}
-use Rattle.ftp_path.specs.Path.{Names, is_within, parent, path_cmp, fits}
+use Rattle.ftp_path.specs.Path.{Names, is_within, parent, path_cmp, fits, text_limit}
 use Rattle.ftp_path.proofs.PathLemmas.{parent-last}
 use Rattle.ftp_tree.specs.Map.{Node, Dir, File}
 use Rattle.ftp_tree.specs.Tree.{Table, IsTree, children, node_at, under, with_part, made, removed, installed, root_within, file_refusal, delete_refusal, remove_answer, remove_refusal, room_answer, room_refusal, install_refusal, moves_fit}
@@ -167,10 +167,10 @@ moves-below table root from to =
     sym (moves_fit-under table root from to ∙ moves-rows (root ++ from) to (fin.entries table.map)
     ∙ ap (λ (l : Rows). list_all (λ q. fits (to ++ q)) (map (λ (e : Names × Node). e.0) l)) (sym (entries-under table (root ++ from))))
 
-pub moves-room : (table : Table) (root from to : Names) (text : List ℕ) → IsPlace text → names_of text ≡ to → length text ≤ 900
-    → list_all (is_within_room (900 - length text)) (fin.keys (under table (root ++ from)).map) ≡ moves_fit (under table root) from to
+pub moves-room : (table : Table) (root from to : Names) (text : List ℕ) → IsPlace text → names_of text ≡ to → length text ≤ text_limit
+    → list_all (is_within_room (text_limit - length text)) (fin.keys (under table (root ++ from)).map) ≡ moves_fit (under table root) from to
 moves-room table root from to text place named short =
-    same-tests (is_within_room (900 - length text)) (λ q. fits (names_of text ++ q)) (λ q. sym (fits-room text q place short)) (fin.keys (under table (root ++ from)).map)
+    same-tests (is_within_room (text_limit - length text)) (λ q. fits (names_of text ++ q)) (λ q. sym (fits-room text q place short)) (fin.keys (under table (root ++ from)).map)
     ∙ ap (λ names. list_all (λ q. fits (names ++ q)) (fin.keys (under table (root ++ from)).map)) named ∙ moves-below table root from to
 
 pub empty-keys : (f : Names → Bool) → list_all f (fin.keys (fin.empty {K = Names} {X = Node} {R = path_cmp})) ≡ true

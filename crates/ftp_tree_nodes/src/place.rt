@@ -2,7 +2,7 @@
 ghost use Rattle.std.specs.Prelude.{◌≡◌, ◌≤◌, ◌<◌, ◌+◌, ◌∷◌, ◌++◌, IsTrue, length, true};
 ghost use Rattle.std.specs.List.{position};
 ghost use Rattle.ftp_path.specs.Kept.{names_of};
-ghost use Rattle.ftp_path.specs.Path.{fits, is_name, is_slash, parent};
+ghost use Rattle.ftp_path.specs.Path.{fits, is_name, is_slash, parent, text_limit};
 ghost use Rattle.ftp_tree.specs.Text.{IsPlace};
 
 use arrayvec::ArrayVec;
@@ -55,7 +55,7 @@ impl Joined {
     fn both(root: &[u8], path: &[u8]) -> Joined
         requires root { IsPlace root.now }
         requires path { IsPlace path.now }
-        requires within { (length root.now ≤ 900) × (length path.now ≤ 900) }
+        requires within { (length root.now ≤ text_limit) × (length path.now ≤ text_limit) }
         ensures { result ≡ names_of root.now ++ names_of path.now }
     {
         let mut octets = ArrayVec::new();

@@ -14,13 +14,10 @@ use crate::holder::Holder;
 use crate::node::Standing;
 use crate::nodes::Nodes;
 use crate::place::Joined;
-use ftp_path::Path;
 use ftp_path::key::is_within;
+use ftp_path::{Path, TEXT_LIMIT};
 use ftp_tree::TreeFault;
 use std::alloc::Allocator;
-
-/// The most octets of a canonical text (own choice).
-const TEXT_LIMIT: usize = 900;
 
 impl<A: Allocator + Copy, C: Holder> Nodes<A, C> {
     /// The first reason, memory and a device aside, why no directory can be made at a path.

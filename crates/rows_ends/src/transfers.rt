@@ -1,8 +1,8 @@
 // Rows of a server's transfers alone, on a tree that others change between their calls, or whose device fails or strays.
-use ftp_facts::Moment;
+use ftp_facts::{Facts, Moment};
 use ftp_operation::Rights;
 use ftp_path::Path;
-use ftp_server_model::{Facts, FixedReply, Keep};
+use ftp_server_model::{FixedReply, Keep};
 use ftp_server_parts::{Fault, ServerTransfer, Told, fixed_code};
 use ftp_server_transfer::TreeTransfer;
 use ftp_settings::{Kind, Mode, Representation, Structure};
@@ -227,7 +227,7 @@ impl<J: ServerTransfer<Global, StrayingTree<Global>>> Stage<J> {
         match step {
             Step::List => J::list(alloc, &self.tree, &root, path, mode),
             Step::Names => J::names(alloc, &self.tree, &root, path, &None, mode),
-            _ => J::entries(alloc, &self.tree, &root, path, ALL_FACTS, mode),
+            _ => J::entries(alloc, &self.tree, &root, path, Facts::ALL, mode),
         }
     }
 
@@ -285,13 +285,6 @@ impl<J: ServerTransfer<Global, StrayingTree<Global>>> Stage<J> {
 }
 
 /// All facts.
-const ALL_FACTS: Facts = Facts {
-    kind: true,
-    size: true,
-    modify: true,
-    perm: true,
-};
-
 fn put_end(ended: Result<FixedReply, Fault>, paper: &mut Paper) {
     match ended {
         Ok(text) => {

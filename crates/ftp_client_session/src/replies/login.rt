@@ -7,6 +7,7 @@ ghost use Rattle.ftp_client_steps.specs.Verdict.{verdict_in};
 use crate::dialogue::Dialogue;
 use ftp_client_model::client::Standing;
 use ftp_client_steps::{ClientTransfer, Verdict};
+use ftp_reply::code::DELAYED;
 use std::alloc::{AllocError, Allocator};
 
 /// After a greeting USER is sent; 120 is skipped, and another greeting has no place (own choice).
@@ -22,7 +23,7 @@ pub(crate) fn greeted<A: Allocator + Copy, F: ClientTransfer<A>>(
     match verdict {
         Verdict::Completion => dialogue.send_user(),
         Verdict::Preliminary => {
-            if code != 120 {
+            if code != DELAYED {
                 dialogue.strange();
             }
             Ok(())

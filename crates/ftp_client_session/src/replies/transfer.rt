@@ -10,6 +10,7 @@ use crate::dialogue::Dialogue;
 use crate::task::Task;
 use ftp_client_model::client::Replied;
 use ftp_client_steps::{ClientTransfer, Verdict};
+use ftp_reply::code::MARK;
 use ftp_reply::{Reply, mark_of};
 use std::alloc::{AllocError, Allocator};
 
@@ -100,7 +101,7 @@ fn behind_opening<A: Allocator + Copy, F: ClientTransfer<A>>(
 fn note<A: Allocator + Copy, F: ClientTransfer<A>>(dialogue: &mut Dialogue<A, F>, reply: &Reply<A>)
     ensures { view_of F.flow dialogue.new ≡ in_transfer (noted reply.now.code (joined reply.now.lines)) (view_of F.flow dialogue.old) }
 {
-    if reply.code == 110 {
+    if reply.code == MARK {
         dialogue.note(mark_of(reply).ok());
     }
 }

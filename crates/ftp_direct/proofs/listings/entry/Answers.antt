@@ -1,14 +1,19 @@
-use Rattle.std.proofs.Common.{◌∙◌, ap, sym, Some, None}
-use Rattle.std.specs.Prelude.{codes, option_map}
-use Rattle.ftp_direct.proofs.ListingLemmas.{entry_dir, entry_file, listed_as}
+use Rattle.std.proofs.Common.{◌≡◌, ◌∙◌, ap, subst, sym}
+use Rattle.ftp_facts.specs.Entry.{IsFit, with_kind_word}
+use Rattle.ftp_operation.specs.Answer.{Listed, listed_of}
+use Rattle.ftp_tree.specs.Tree.{under}
+use Rattle.ftp_direct.specs.Direct.{entry_at, entry_of}
+use Rattle.ftp_direct.proofs.EntryLemmas.{entry_fit, entry_is, if_ok, words_stay}
 use Rattle.ftp_direct.proofs.listings.entry.Goals as goal
 
-pub returns-then-not-is_file : goal.returns-then-not-is_file
-returns-then-not-is_file g c =
-    ap (λ name. listed_as name (Some (codes "dir")) None None c.in_ok-perm.perm) c.in_ok-name.ensures
-    ∙ entry_dir _ _ _ _ (sym c.is_file.ensures ∙ c.if-not-is_file.true) (c.in_ok-perm.ensures ∙ c.dir_perm.ensures.perm)
+pub copy_of-requires : goal.copy_of-requires
+copy_of-requires g c = subst IsFit (sym c.entry_of.ensures) (entry_fit _ c.is_root.result c.args.name.now c.requires)
 
 pub returns : goal.returns
 returns g c =
-    ap (λ name. listed_as name (Some (codes "file")) c.size_fact.result (option_map (λ moment. moment.seconds) c.stamp.result) c.in_ok-perm-2.perm) c.in_ok-name.ensures
-    ∙ entry_file _ _ _ _ _ _ (sym c.is_file.ensures ∙ c.if-not-is_file.false) c.size_fact.ensures.value c.stamp.ensures c.in_ok-perm-2.ensures
+    let table = under (g.T.Tree.table c.args.tree.now) c.args.root.now in
+    let name = c.args.name.now in
+    let said : with_kind_word _ ≡ entry_at table c.args.path.now name =
+    ap with_kind_word c.entry_of.ensures ∙ words_stay _ c.is_root.result name ∙ ap (λ file. entry_of file c.is_root.result name) c.file_at.ensures
+    ∙ ap (λ at_root. entry_of _ at_root name) c.is_root.ensures ∙ entry_is table c.args.path.now name in
+    if_ok c.copy_of.result _ (λ entry. listed_of entry ≡ entry_at table c.args.path.now name) (λ entry kept. kept ∙ said) c.copy_of.ensures

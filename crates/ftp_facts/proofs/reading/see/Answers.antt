@@ -1,12 +1,13 @@
 use Rattle.std.proofs.Common.{◌≡◌, true, false, refl, sym, ◌∙◌}
-use Rattle.std.specs.Option.{option_copied, option_map}
+use Rattle.std.specs.Option.{option_map}
 use Rattle.ftp_path.specs.Path.{IsPathText}
 use Rattle.ftp_facts.specs.declared.fault.FactFault.TheVariants.{BadFact, BadMoment}
-use Rattle.ftp_facts.specs.Entry.{Refuses, IsSized}
+use Rattle.ftp_facts.specs.declared.name.FactName.TheVariants.{Kind, Size, Modify, Perm}
+use Rattle.ftp_facts.specs.Entry.{Refuses, texts_of}
 use Rattle.ftp_facts.specs.Moment.{moment_value}
 use Rattle.ftp_facts.specs.Value.{number_value}
 use Rattle.ftp_facts.proofs.FactLemmas.{filled, not_empty, emptied}
-use Rattle.ftp_facts.proofs.EntryLemmas.{HasParts-kind, HasParts-perm, NoParts-refuses, fault_passes, is_sound, no_name, no_number, not_sound, size_fits}
+use Rattle.ftp_facts.proofs.EntryLemmas.{HasParts-fits, NoParts-refuses, fault_passes, is_sized, is_sound, no_name, no_number, not_sound, size_fits}
 use Rattle.ftp_facts.proofs.reading.see.Goals as goal
 
 pub returns-in_err-parts-clause-refuses : goal.returns-in_err-parts-clause-refuses
@@ -19,7 +20,7 @@ pub returns-then-is_empty-clause-refuses : goal.returns-then-is_empty-clause-ref
 returns-then-is_empty-clause-refuses c =
     let parts = c.in_ok-parts.parts in
     let empty = emptied parts.name.now c.is_empty.result c.if-is_empty.true c.is_empty.ensures in
-    no_name c.args.line.now parts.name.now (option_copied parts.kind) (option_copied parts.size) (option_copied parts.modify) (option_copied parts.perm) c.in_ok-parts.ensures.parts empty
+    no_name c.args.line.now parts.name.now (texts_of parts) c.in_ok-parts.ensures.parts empty
 
 pub returns-in_err-read_size-clause-refuses : goal.returns-in_err-read_size-clause-refuses
 returns-in_err-read_size-clause-refuses c =
@@ -27,7 +28,7 @@ returns-in_err-read_size-clause-refuses c =
     let parts = c.in_ok-parts.parts in
     let err = c.in_err-read_size.ensures in
     fault_passes c.from_residual-in_err-read_size.result c.in_err-read_size.field-0.0 BadFact (Refuses line) c.from_residual-in_err-read_size.ensures.1 err.fault
-    (no_number line parts.name.now (option_copied parts.kind) (option_copied parts.size) (option_copied parts.modify) (option_copied parts.perm) c.in_ok-parts.ensures.parts (not_sound number_value (option_copied parts.size) err.silent))
+    (no_number line parts.name.now (texts_of parts) c.in_ok-parts.ensures.parts (not_sound number_value (texts_of parts Size) err.silent))
 
 pub returns-in_err-read_modify-clause-refuses : goal.returns-in_err-read_modify-clause-refuses
 returns-in_err-read_modify-clause-refuses c =
@@ -35,38 +36,32 @@ returns-in_err-read_modify-clause-refuses c =
     let parts = c.in_ok-parts.parts in
     let err = c.in_err-read_modify.ensures in
     let named = not_empty parts.name.now (filled parts.name.now c.is_empty.result c.if-is_empty.false c.is_empty.ensures) in
-    let sized : IsSized line parts.name.now (option_copied parts.modify) =
-    record { kind = option_copied parts.kind; size = option_copied parts.size; perm = option_copied parts.perm; parts = c.in_ok-parts.ensures.parts; named = named; sized = is_sound number_value (option_copied parts.size) c.in_ok-read_size.field-0 c.in_ok-read_size.ensures.says } in
+    let sized = is_sized line parts.name.now (texts_of parts) c.in_ok-read_size.field-0 c.in_ok-parts.ensures.parts named c.in_ok-read_size.ensures.says in
     fault_passes c.from_residual-in_err-read_modify.result c.in_err-read_modify.field-0.0 BadMoment (Refuses line) c.from_residual-in_err-read_modify.ensures.1 err.fault
-    (parts.name.now, option_copied parts.modify, sized, not_sound moment_value (option_copied parts.modify) err.silent)
+    (parts.name.now, texts_of parts, sized, not_sound moment_value (texts_of parts Modify) err.silent)
 
 pub returns-then-not-is_path_text-clause-refuses : goal.returns-then-not-is_path_text-clause-refuses
 returns-then-not-is_path_text-clause-refuses c =
     let line = c.args.line.now in
     let parts = c.in_ok-parts.parts in
     let named = not_empty parts.name.now (filled parts.name.now c.is_empty.result c.if-is_empty.false c.is_empty.ensures) in
-    let sized : IsSized line parts.name.now (option_copied parts.modify) =
-    record { kind = option_copied parts.kind; size = option_copied parts.size; perm = option_copied parts.perm; parts = c.in_ok-parts.ensures.parts; named = named; sized = is_sound number_value (option_copied parts.size) c.in_ok-read_size.field-0 c.in_ok-read_size.ensures.says } in
+    let sized = is_sized line parts.name.now (texts_of parts) c.in_ok-read_size.field-0 c.in_ok-parts.ensures.parts named c.in_ok-read_size.ensures.says in
     let other : ¬ (IsPathText parts.name.now) =
     λ is.
     let yes : c.is_path_text.result ≡ true = c.is_path_text.ensures.1 is in
     let never : true ≡ false = sym yes ∙ c.if-not-is_path_text.true in
     cc
     in
-    (parts.name.now, option_copied parts.modify, sized, is_sound moment_value (option_copied parts.modify) (option_map (λ moment. moment.seconds) c.in_ok-read_modify.field-0) c.in_ok-read_modify.ensures.says, other)
+    (parts.name.now, texts_of parts, sized, is_sound moment_value (texts_of parts Modify) (option_map (λ moment. moment.seconds) c.in_ok-read_modify.field-0) c.in_ok-read_modify.ensures.says, other)
 
 pub returns-clause-fits : goal.returns-clause-fits
 returns-clause-fits c =
     let line = c.args.line.now in
     let parts = c.in_ok-parts.parts in
-    let kind = option_copied parts.kind in
-    let size = option_copied parts.size in
-    let modify = option_copied parts.modify in
-    let perm = option_copied parts.perm in
-    let has = c.in_ok-parts.ensures.parts in
+    let fits = HasParts-fits line parts.name.now (texts_of parts) c.in_ok-parts.ensures.parts in
     record {
       name = c.is_path_text.ensures.0 c.if-not-is_path_text.false;
-      kind = HasParts-kind line parts.name.now kind size modify perm has;
-      size = size_fits size c.in_ok-read_size.field-0 c.in_ok-read_size.ensures.says;
-      perm = HasParts-perm line parts.name.now kind size modify perm has;
+      kind = fits Kind;
+      size = size_fits (texts_of parts Size) c.in_ok-read_size.field-0 c.in_ok-read_size.ensures.says;
+      perm = fits Perm;
     }

@@ -1,6 +1,6 @@
 use Rattle.std.proofs.Common.{◌≡◌, ◌<◌, true, false, length, sym, ap, ◌∙◌, subst, arith}
 use Rattle.std.specs.Option.{unwrap_or}
-use Rattle.ftp_path.specs.Path.{IsPathText}
+use Rattle.ftp_path.specs.Path.{IsPathText, text_limit}
 use Rattle.ftp_reply.proofs.FirstLemmas.{not_there}
 use Rattle.ftp_reply.proofs.PathValueLemmas.{no_path, says_path, says_quoted}
 use Rattle.ftp_reply.proofs.QuotedLemmas.{path_text-short, quotes_closes, closed_quotes}
@@ -13,7 +13,7 @@ pub returns-in_default-path_in : goal.returns-in_default-path_in
 returns-in_default-path_in c = sym (no_path c.args.text.now (λ path named.
     let cut = c.in-Some.ensures in
     let closes = quotes_closes c.args.text.now c.in-Some.field-0-0.now c.in-Some.inside.now path cut.some cut.first named.quoted in
-    let long : 900 < length path = c.in_default-path_in.ensures.none path closes.0 closes.1 in
+    let long : text_limit < length path = c.in_default-path_in.ensures.none path closes.0 closes.1 in
     absurd (omega (arith, path_text-short path named.is_path, long))))
 
 pub returns-then-not-is_path_text : goal.returns-then-not-is_path_text

@@ -1,6 +1,6 @@
 use Rattle.std.proofs.Common.{◌-◌, ◌++◌, length, sym, ap, ◌∙◌}
 use Rattle.std.specs.List.{list_all}
-use Rattle.ftp_path.specs.Path.{fits}
+use Rattle.ftp_path.specs.Path.{fits, text_limit}
 use Rattle.ftp_path.proofs.PathLemmas.{kept-le}
 use Rattle.ftp_tree.specs.Text.{is_within_room}
 use Rattle.ftp_tree.specs.Rows.{whole}
@@ -25,6 +25,6 @@ pub returns : goal.returns
 unfolding under
 returns g c =
     let to = c.key-2.result.now in
-    c.fits.ensures ∙ ap (λ table. list_all (is_within_room (900 - length to)) (fin.keys table)) (c.in-Some.ensures ∙ ap (maps.under c.self.inside.root) (c.key.ensures.names ∙ c.of-above.ensures))
+    c.fits.ensures ∙ ap (λ table. list_all (is_within_room (text_limit - length to)) (fin.keys table)) (c.in-Some.ensures ∙ ap (maps.under c.self.inside.root) (c.key.ensures.names ∙ c.of-above.ensures))
     ∙ moves-room (whole c.self.inside.limits c.self.inside.root) c.args.root.now c.args.from.now c.args.to.now to (kept-place _ c.key-2.ensures.kept) c.key-2.ensures.names (kept-le _ c.key-2.ensures.kept)
     ∙ ap (λ table. moves_fit (under table c.args.root.now) c.args.from.now c.args.to.now) c.self.view_is
