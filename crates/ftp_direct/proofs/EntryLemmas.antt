@@ -1,11 +1,11 @@
 -- What an entry says of a file or a directory.
-use Rattle.std.proofs.Common.{◌≡◌, ◌≢◌, ℕ, ◌+◌, ◌≤◌, ◌<◌, ◌^◌, Bool, true, false, not, ◌&&◌, ◌==◌, eqb, List, [], ◌∷◌, length, Option, Some, None, Result, Ok, Err, IfOk, refl, sym, ap, subst, ◌∙◌, arith, decimal}
+use Rattle.std.proofs.Common.{◌≡◌, ◌≢◌, ℕ, ◌+◌, ◌≤◌, ◌<◌, ◌^◌, Bool, true, false, not, ◌&&◌, ◌==◌, eqb, List, [], ◌∷◌, ◌++◌, suc, length, Option, Some, None, Result, Ok, Err, IfOk, refl, sym, ap, subst, ◌∙◌, arith, decimal}
 use Rattle.std.specs.Prelude.{codes, nat_le, if◌then◌else◌}
 use Rattle.std.specs.Char.{is_ascii_digit}
 use Rattle.std.specs.List.{list_all}
 use Rattle.std.specs.Option.{ForSome, option_map, unwrap_or}
 use Rattle.std.specs.Str.Parse.{AllDigits, digits_value}
-use Rattle.std.proofs.lemmas.Bool.{ltb-true}
+use Rattle.std.proofs.lemmas.Bool.{ltb-true, ne_eqb}
 use Rattle.std.proofs.lemmas.Fmt.{digits_decimal, length-decimal-le}
 use Rattle.std.proofs.lemmas.List.Elements.{All-cons, All-nil}
 use Rattle.std.proofs.lemmas.Str.Parse.{IsNumeralModel}
@@ -61,7 +61,7 @@ entry_is table path name = by_node (node_at table path)
 -- a path without octets between its names is the root
 pub root_is : (path : Names) (key : List ℕ) → joined path ≡ key → (length key == 0) ≡ is_root path
 root_is [] key is = ap (λ k. length k == 0) (sym is)
-root_is (name ∷ names) key is = ap (λ k. length k == 0) (sym is)
+root_is (name ∷ names) key is = ap (λ k. length k == 0) (sym is) ∙ ne_eqb (suc (length (name ++ joined names))) 0 (λ e. absurd (omega (arith, e)))
 
 -- ---- what is said can be kept
 

@@ -1,6 +1,6 @@
 -- The line of LIST of what stands at a path, and the last name of one.
 use Rattle.std.proofs.Common.{◌≡◌, ℕ, suc, ◌+◌, ◌-◌, min, Bool, true, false, not, List, [], ◌∷◌, ◌++◌, length, take, drop, map, Option, Some, None, refl, ap, sym, ◌∙◌, arith, append_assoc, append-nil, length-append}
-use Rattle.std.specs.Prelude.{codes, decimal, flat_map, if◌then◌else◌}
+use Rattle.std.specs.Prelude.{codes, flat_map, if◌then◌else◌}
 use Rattle.std.specs.List.{filter_map}
 use Rattle.std.specs.Option.{option_map, unwrap_or}
 use Rattle.std.proofs.lemmas.Bool.{and_parts}
@@ -8,35 +8,29 @@ use Rattle.ftp_path.specs.Path.{Names, fits, joined, parent}
 use Rattle.ftp_operation.specs.Operation.{is_option, is_optional_text, may_be_listed}
 use Rattle.ftp_operation.specs.declared.op.ListVerb.{ListVerb}
 use Rattle.ftp_operation.specs.declared.op.ListVerb.TheVariants as Verbs
-use Rattle.ftp_facts.specs.Entry.{digits_of, entry_line, facts_of, listed_of, word_of}
-use Rattle.ftp_facts.specs.Fact.{facts_text, space}
-use Rattle.ftp_facts.specs.Moment.{moment_digits}
+use Rattle.ftp_facts.specs.Entry.{entry_line, listed_of}
+use Rattle.ftp_facts.specs.Line.{listed_line}
+use Rattle.ftp_facts.specs.Name.{all_facts}
 use Rattle.ftp_facts.specs.declared.entry.Entry.{Entry}
-use Rattle.ftp_facts.specs.declared.moment.Moment.{Moment}
-use Rattle.ftp_tree.specs.Map.{Node, Dir, File, octets_of, moment_of, of_node}
+use Rattle.ftp_tree.specs.Map.{Node, Dir, File, of_node, shown_of}
 use Rattle.ftp_tree.specs.Tree.{Table, node_at, children, kind_of, kind_at}
 use Rattle.ftp_tree.specs.declared.tree.NodeKind.TheVariants as Kinds
-use Rattle.ftp_direct.specs.Listing.{child, child_line, entries_in, entry_text, fact_line, last_name, lines_file, list_line, list_lines, list_lines_at, listing_file, node_line, text_line}
+use Rattle.ftp_direct.specs.Listing.{child, child_line, entries_in, entry_text, last_name, lines_file, list_line, list_lines, list_lines_at, listing_file, node_line}
 
 -- ---- what stands at a path
 
-pub file_lined : (name : List ℕ) (node : Option Node) (size moment : ℕ) → Some size ≡ option_map length (of_node octets_of node) → Some moment ≡ of_node moment_of node
+-- of a file the line with its size and its moment
+pub file_lined : (name : List ℕ) (node : Option Node) (size moment : ℕ) → Some (size, moment) ≡ of_node shown_of node
     → list_line (codes "-rw-r--r--") size moment name ≡ node_line name (unwrap_or node Dir)
-file_lined name None size moment s m = absurd (cc)
-file_lined name (Some Dir) size moment s m = absurd (cc)
-file_lined name (Some (File octets at)) size moment s m =
-    ap (λ k. list_line (codes "-rw-r--r--") k moment name) (ap (λ o. unwrap_or o 0) s)
-    ∙ ap (λ k. list_line (codes "-rw-r--r--") (length octets) k name) (ap (λ o. unwrap_or o 0) m)
+file_lined name None size moment is = absurd (cc)
+file_lined name (Some Dir) size moment is = absurd (cc)
+file_lined name (Some (File octets at)) size moment is = ap (λ (shown : Option (ℕ × ℕ)). let file = unwrap_or shown (0, 0) in list_line (codes "-rw-r--r--") file.0 file.1 name) is
 
-pub no_size : (name : List ℕ) (node : Option Node) → None ≡ option_map length (of_node octets_of node) → list_line (codes "drwxr-xr-x") 0 0 name ≡ node_line name (unwrap_or node Dir)
-no_size name None s = refl
-no_size name (Some Dir) s = refl
-no_size name (Some (File octets at)) s = absurd (cc)
-
-pub no_moment : (name : List ℕ) (node : Option Node) → None ≡ of_node moment_of node → list_line (codes "drwxr-xr-x") 0 0 name ≡ node_line name (unwrap_or node Dir)
-no_moment name None s = refl
-no_moment name (Some Dir) s = refl
-no_moment name (Some (File octets at)) s = absurd (cc)
+-- of all else that of a directory
+pub dir_lined : (name : List ℕ) (node : Option Node) → None ≡ of_node shown_of node → list_line (codes "drwxr-xr-x") 0 0 name ≡ node_line name (unwrap_or node Dir)
+dir_lined name None is = refl
+dir_lined name (Some Dir) is = refl
+dir_lined name (Some (File octets at)) is = absurd (cc)
 
 -- ---- the last name
 
@@ -62,19 +56,9 @@ last_cut (name ∷ names) key above is up =
     let long : min (length above + 1) (length key) ≡ length above + 1 = omega (arith, ap length whole, length-append above (47 ∷ last_name (name ∷ names))) in
     ap (λ k. drop k key) long ∙ ap (drop (length above + 1)) whole ∙ behind_seam above 47 (last_name (name ∷ names))
 
--- a line that was put in two steps
-pub ended : (old mid new line : List ℕ) → mid ≡ old ++ line → new ≡ mid ++ 10 ∷ [] → new ≡ old ++ text_line line
-ended old mid new line put end = end ∙ ap (λ l. l ++ 10 ∷ []) put ∙ append_assoc old line (10 ∷ [])
+-- ---- the lines as they are put together
 
--- ---- a file's own line
-
-pub own_line : (node : Option Node) (table : Table) (path : Names) → Some Kinds.File ≡ option_map kind_of node
-    → lines_file (list_lines_at node table path) ≡ text_line (node_line (last_name path) (unwrap_or node Dir))
-own_line None table path is = absurd (cc)
-own_line (Some Dir) table path is = absurd (cc)
-own_line (Some (File octets at)) table path is = append-nil (text_line (node_line (last_name path) (File octets at)))
-
-pub dir_lines_at : (node : Option Node) (table : Table) (path : Names) → option_map kind_of node ≡ Some Kinds.Dir
+dir_lines_at : (node : Option Node) (table : Table) (path : Names) → option_map kind_of node ≡ Some Kinds.Dir
     → list_lines_at node table path ≡ filter_map (child_line table path) (children table path)
 dir_lines_at None table path is = absurd (cc)
 dir_lines_at (Some Dir) table path is = refl
@@ -84,22 +68,6 @@ no_lines : (node : Option Node) (table : Table) (path : Names) → None ≡ opti
 no_lines None table path is = refl
 no_lines (Some Dir) table path is = absurd (cc)
 no_lines (Some (File octets at)) table path is = absurd (cc)
-
--- LIST: of a file its own line
-pub first_own : (table : Table) (path : Names) (name old mid new : List ℕ) → Some Kinds.File ≡ kind_at table path → name ≡ last_name path → old ≡ []
-    → mid ≡ old ++ node_line name (unwrap_or (node_at table path) Dir) → new ≡ mid ++ 10 ∷ [] → lines_file (list_lines table path) ≡ new
-unfolding kind_at
-first_own table path name old mid new is last none put end =
-    let node = unwrap_or (node_at table path) Dir in
-    own_line (node_at table path) table path is
-    ∙ sym (ended old mid new (node_line (last_name path) node) (put ∙ ap (λ n. old ++ node_line n node) last) end ∙ ap (λ l. l ++ text_line (node_line (last_name path) node)) none)
-
--- and where nothing stands none
-pub first_none : (table : Table) (path : Names) (old : List ℕ) → None ≡ kind_at table path → old ≡ [] → lines_file (list_lines table path) ≡ old
-unfolding kind_at
-first_none table path old is none = ap lines_file (no_lines (node_at table path) table path is) ∙ sym none
-
--- ---- the lines as they are put together
 
 -- of a file
 pub file_lines : (table : Table) (path : Names) (name line : List ℕ) → Some Kinds.File ≡ kind_at table path → name ≡ last_name path
@@ -125,25 +93,19 @@ none_lines table path lines is put = put ∙ sym (no_lines (node_at table path) 
 
 -- ---- MLSD
 
-stamped : (modify : Option Moment) → option_map digits_of modify ≡ option_map moment_digits (option_map (λ moment. moment.seconds) modify)
-stamped None = refl
-stamped (Some moment) = refl
-
 -- an entry as it is written tells all its facts
 pub written_line : {A : Type 0} (entry : Entry A) (old mid new : List ℕ) → mid ≡ old ++ entry_line entry → new ≡ mid ++ 10 ∷ [] → new ≡ old ++ entry_text entry
-written_line entry old mid new put end =
-    ended old mid new (entry_line entry) put end
-    ∙ ap (λ modify. old ++ text_line (facts_text (facts_of (option_map word_of entry.kind) (option_map decimal entry.size) modify entry.perm) ++ space ∷ entry.name)) (stamped entry.modify)
+written_line entry old mid new put end = end ∙ ap (λ l. l ++ 10 ∷ []) put ∙ append_assoc old (entry_line entry) (10 ∷ [])
 
 -- entries as a file
-pub entries_as_file : {A : Type 0} (entries : List (Entry A)) → flat_map entry_text entries ≡ lines_file (map fact_line (map listed_of entries))
+entries_as_file : {A : Type 0} (entries : List (Entry A)) → flat_map entry_text entries ≡ lines_file (map (listed_line all_facts) (map listed_of entries))
 entries_as_file [] = refl
 entries_as_file (entry ∷ entries) = ap (λ rest. entry_text entry ++ rest) (entries_as_file entries)
 
 -- the entries of a directory as a file
 pub facts_file : {A : Type 0} (entries : List (Entry A)) (table : Table) (path : Names) (text file : List ℕ) → map listed_of entries ≡ entries_in table path
     → file ≡ flat_map entry_text entries → file ≡ listing_file Verbs.Mlsd table path text
-facts_file entries table path text file is put = put ∙ entries_as_file entries ∙ ap (λ listed. lines_file (map fact_line listed)) is
+facts_file entries table path text file is put = put ∙ entries_as_file entries ∙ ap (λ listed. lines_file (map (listed_line all_facts) listed)) is
 
 -- ---- a name in a directory
 

@@ -25,7 +25,8 @@ use Rattle.ftp_operation.specs.declared.op.Op.TheVariants as Ops
 use Rattle.ftp_operation.specs.Operation.{can_be_sent, is_number}
 use Rattle.ftp_direct.specs.declared.refusal.Refusal.{Refusal}
 use Rattle.ftp_direct.specs.declared.refusal.Refusal.TheVariants.{BadParameter, NotLoggedIn, Unavailable, NotAllowed, TooMuch, BadName}
-pub use Rattle.ftp_direct.specs.Listing.{behind, child, entries_in, entry_at, entry_in, entry_of, file_in, is_file, is_root, listed, names_for, size_fact}
+pub use Rattle.ftp_direct.specs.Listing.{behind, child, entry_in, entry_of, file_in, is_file, is_root, listed, size_fact}
+unfoldable pub use Rattle.ftp_direct.specs.Listing.{entries_in, entry_at, names_for}
 use Rattle.ftp_direct.specs.Listing.{listing_file}
 use Rattle.ftp_direct.specs.Refusal.{code_of, name_refusal, listing_refusal}
 use Rattle.ftp_operation.specs.Answer.{Listed, Said, Done, Path, Octets, Number, Stamp, Entry, Entries, Names as NameList, Refused, BadOperation}

@@ -6,6 +6,7 @@ ghost use Rattle.ftp_tree.specs.Map.{Dir};
 ghost use Rattle.ftp_tree.specs.Tree.{node_at, under};
 ghost use Rattle.ftp_direct.specs.Listing.{last_name, node_line};
 
+use crate::entry::file_at;
 use crate::list_line::{put_dir_line, put_file_line};
 use ftp_tree::{Path, Tree};
 use std::alloc::{AllocError, Allocator};
@@ -21,15 +22,11 @@ pub fn put_node<A: Allocator + Copy, T: Tree<A>>(
     ensures line { OnOk result (line.new.items ≡ line.old.items ++ node_line name.now (unwrap_or (node_at (under (T.table tree.now) root.now) path.now) Dir)) }
     ensures few { OnOk result (length line.new.items ≤ length line.old.items + (100 + length name.now)) }
 {
-    let Some(size) = tree.size(root, path) else {
+    let Some(file) = file_at(tree, root, path) else {
         put_dir_line(name, line)?;
         return Ok(());
     };
-    let Some(moment) = tree.stamp(root, path) else {
-        put_dir_line(name, line)?;
-        return Ok(());
-    };
-    put_file_line(name, size, moment, line)?;
+    put_file_line(name, file.size, file.moment, line)?;
     Ok(())
 }
 
