@@ -1,5 +1,5 @@
 -- Each reply that is said can be written, and is read again as itself.
-use Rattle.std.proofs.Common.{All, ap, ◌∙◌, ◌≡◌, ℕ, ◌+◌, ◌*◌, ◌/◌, ◌%◌, ◌≤◌, List, [], ◌∷◌, ◌++◌, Bool, true, false, not, ◌&&◌, ◌==◌, Option, Some, None, refl, sym, subst, arith, length, length-append}
+use Rattle.std.proofs.Common.{All, ◌≡◌, ℕ, ◌+◌, ◌*◌, ◌/◌, ◌%◌, ◌≤◌, List, [], ◌∷◌, ◌++◌, Bool, true, false, not, ◌&&◌, ◌==◌, Option, Some, None, refl, sym, subst, arith, length, length-append}
 use Rattle.std.specs.Prelude.{codes, decimal, nat_le, sum_by, unwrap_or, if◌then◌else◌}
 use Rattle.std.specs.List.{flat_map, list_all, AllByRecursion}
 use Rattle.std.proofs.lemmas.List.Elements.{All-nil, All-cons}
@@ -186,7 +186,7 @@ word_fits : (name : FactName) → Fits 6 (fact_word name)
 word_fits name = closed 6 (fact_word name) (word_passes is_plain refl name) (word_few name)
 
 -- a text for each of these names, one after another
-most_of : ℕ → List FactName → ℕ
+abbrev most_of : ℕ → List FactName → ℕ
 most_of most [] = 0
 most_of most (name ∷ names) = most + most_of most names
 
