@@ -82,7 +82,6 @@ fn there_why(fault: Option<TreeFault>) -> Option<Refusal>
 }
 
 /// The file that a command gives of what stands at a path, which a text names.
-#[tactic(auto, using(crate::proofs::NodeLineLemmas::facts_file))]
 fn listing_file<A: Allocator + Copy, T: Tree<A>>(
     alloc: &A,
     tree: &T,

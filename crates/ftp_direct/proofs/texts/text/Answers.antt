@@ -1,4 +1,5 @@
 use Rattle.std.proofs.Common.{◌≡◌, ◌∙◌, None, ap, sym}
+use Rattle.ftp_path.specs.Path.{fits}
 use Rattle.ftp_tree.specs.Tree.{node_at, under}
 use Rattle.ftp_operation.specs.declared.op.Op.TheVariants as Ops
 use Rattle.ftp_operation.specs.Answer.{Octets}
@@ -9,7 +10,7 @@ use Rattle.ftp_direct.proofs.RefusalLemmas.{gives_done}
 use Rattle.ftp_direct.proofs.texts.text.Goals as goal
 
 pub why_unlisted-requires : goal.why_unlisted-requires
-why_unlisted-requires g c = let found = rw c.in-Ok.is at c.in_ok-path.ensures.seen in found.1
+why_unlisted-requires g c = let found = rw c.in-Ok.is at c.in_ok-path.ensures.seen in ap fits found.0 ∙ found.1
 
 pub returns-in-None-clause-answer : goal.returns-in-None-clause-answer
 returns-in-None-clause-answer g c = λ how.
