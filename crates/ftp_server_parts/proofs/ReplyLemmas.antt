@@ -1,5 +1,5 @@
 -- A reply of one line, owed in three parts.
-use Rattle.std.proofs.Common.{◌≡◌, ◌∙◌, ℕ, List, [], ◌∷◌, ◌++◌, ap, codes, refl, sym, append_assoc, flat_map, Result, Ok, Err, OnOk, OnErr}
+use Rattle.std.proofs.Common.{◌≡◌, ◌∙◌, ℕ, ◌+◌, ◌<◌, Bool, List, [], ◌∷◌, ◌++◌, ap, append-nil, codes, refl, sym, append_assoc, flat_map, get_or, length, take, Result, Ok, Err, OnOk, OnErr}
 use Rattle.ftp_nvt.specs.Lines.{written_line, written_octet}
 use Rattle.ftp_reply.specs.Reply.{code_text, padded}
 use Rattle.ftp_ends.specs.Reply.{reply_octets, reply_of}
@@ -7,6 +7,7 @@ use Rattle.ftp_server_model.specs.Entries.{features_text}
 use Rattle.ftp_server_model.specs.Replies.{features_reply}
 use Rattle.ftp_facts.specs.declared.name.Facts.{Facts}
 use Rattle.std.proofs.lemmas.Grind.{flat_map-append}
+use Rattle.std.proofs.lemmas.List.{take_more}
 
 -- text in three parts, of which the first and the last are constants
 pub in_parts : (code : ℕ) (front middle back text old first second last f b : List ℕ) → text ≡ front ++ (middle ++ back)
@@ -52,3 +53,23 @@ features_octets facts =
 pub always : {T E : Type 0} (r : Result T E) (P Q : Type 0) → OnOk r P → OnErr r Q → ¬ Q → P
 always (Ok x) P Q ok err never = ok
 always (Err e) P Q ok err never = absurd (never err)
+
+-- the text of one more of them, behind those before it
+with_one : {X : Type 0} (text : X → List ℕ) (all : List X) (place : ℕ) (d : X) (base old new : List ℕ) → place < length all
+    → old ≡ base ++ flat_map written_octet (flat_map text (take place all)) → new ≡ old ++ flat_map written_octet (text (get_or all place d))
+    → new ≡ base ++ flat_map written_octet (flat_map text (take (place + 1) all))
+with_one text all place d base old new within before more =
+    let one = text (get_or all place d) in
+    let front = flat_map text (take place all) in
+    let joined : flat_map text (take (place + 1) all) ≡ front ++ one =
+    ap (flat_map text) (take_more all place d within) ∙ flat_map-append text (take place all) (get_or all place d ∷ []) ∙ ap (λ l. front ++ l) (append-nil one) in
+    more ∙ ap (λ l. l ++ flat_map written_octet one) before ∙ append_assoc base (flat_map written_octet front) (flat_map written_octet one)
+    ∙ ap (λ l. base ++ l) (sym (ap (flat_map written_octet) joined ∙ flat_map-append written_octet front one))
+
+-- the same of a text by whether it is chosen
+pub with_name : {X : Type 0} (text : X → Bool → List ℕ) (has : X → Bool) (all : List X) (place : ℕ) (d : X) (base old new : List ℕ) (chosen : Bool) → place < length all
+    → chosen ≡ has (get_or all place d) → old ≡ base ++ flat_map written_octet (flat_map (λ x. text x (has x)) (take place all))
+    → new ≡ old ++ flat_map written_octet (text (get_or all place d) chosen)
+    → new ≡ base ++ flat_map written_octet (flat_map (λ x. text x (has x)) (take (place + 1) all))
+with_name text has all place d base old new chosen within is before more =
+    with_one (λ x. text x (has x)) all place d base old new within before (more ∙ ap (λ b. old ++ flat_map written_octet (text (get_or all place d) b)) is)
