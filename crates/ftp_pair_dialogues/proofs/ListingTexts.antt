@@ -1,18 +1,14 @@
 -- What a listing says is read back as itself: lines, entries and names.
-use Rattle.std.proofs.Common.{◌≡◌, ◌≢◌, ℕ, suc, ◌+◌, ◌/◌, ◌%◌, ◌<◌, ◌≤◌, ◌^◌, Bool, true, false, not, ◌&&◌, ◌||◌, ◌==◌, List, [], ◌∷◌, ◌++◌, length, map, Option, Some, None, All, refl, sym, ap, subst, ◌∙◌, append_assoc, arith, codes, decimal, ne_eqb, cond}
+use Rattle.std.proofs.Common.{◌≡◌, ◌≢◌, ℕ, suc, ◌+◌, ◌≤◌, Bool, true, false, not, ◌&&◌, ◌||◌, ◌==◌, List, [], ◌∷◌, ◌++◌, length, map, Some, None, All, refl, sym, ap, ◌∙◌, append_assoc, arith, ne_eqb, cond}
 use Rattle.std.specs.Prelude.{nat_eq, nat_le, if◌then◌else◌}
-use Rattle.std.specs.Char.{is_ascii_digit}
 use Rattle.std.specs.List.{Contains, cons_option, ends_with, filter, filter_map, list_all, slice_split}
 use Rattle.std.specs.Option.{option_map, unwrap_or}
 use Rattle.std.specs.Str.{is_utf8}
-use Rattle.std.specs.Str.Parse.{AllDigits, digits_value}
-use Rattle.std.proofs.lemmas.Bool.{and_parts, leb-true, le-leb, ltb-true}
-use Rattle.std.proofs.lemmas.Fmt.{digits_decimal}
+use Rattle.std.proofs.lemmas.Bool.{and_parts, leb-true, le-leb}
 use Rattle.std.proofs.lemmas.List.{length-append}
-use Rattle.std.proofs.lemmas.List.Elements.{All-append, All-cons, All-nil}
+use Rattle.std.proofs.lemmas.List.Elements.{All-cons, All-nil}
 use Rattle.std.proofs.lemmas.List.Folds.{list_all-append}
 use Rattle.std.proofs.lemmas.List.Splits.{slice_split_at}
-use Rattle.std.proofs.lemmas.Str.Parse.{IsNumeralModel}
 use Rattle.ftp_facts.specs.Listed.{Listed, entry_value}
 use Rattle.ftp_facts.specs.Listing.{all_values, but_empty_last, entries_value, is_shown, line_feed, lines_of, name_value, names_value}
 use Rattle.ftp_facts.specs.Value.{and_then}
@@ -48,21 +44,9 @@ of_kind p none (octet ∷ text) all =
     let other : octet ≢ line_feed = λ e. absurd (let f : false ≡ true = sym none ∙ ap p (sym e) ∙ both.0 in cc) in
     All-cons (λ octet. is_feed octet ≡ false) octet text (ne_eqb octet line_feed other) (of_kind p none text both.1)
 
--- two texts without LF make one without LF
-both_lack : (xs ys : List ℕ) → NoFeed xs → NoFeed ys → NoFeed (xs ++ ys)
-both_lack xs ys one other = All-append (λ octet. is_feed octet ≡ false) xs ys one other
-
--- a text without LF has none behind another octet that is no LF
-one_more : (octet : ℕ) (text : List ℕ) → is_feed octet ≡ false → NoFeed text → NoFeed (octet ∷ text)
-one_more octet text one other = All-cons (λ octet. is_feed octet ≡ false) octet text one other
-
 -- octets that are no LF
 abbrev is_inner : ℕ → Bool
 is_inner octet = not (is_feed octet)
-
--- a text that is written out
-written : (text : List ℕ) → list_all is_inner text ≡ true → NoFeed text
-written text all = of_kind is_inner refl text all
 
 -- octets from `0` on are no LF
 from_zero : (octet : ℕ) → is_said_octet octet ≡ true → is_inner octet ≡ true
@@ -78,7 +62,7 @@ path_inner octet is = ap not (ne_eqb octet line_feed (λ e. absurd (let f : fals
 entry_lacks : (name : List ℕ) (path : Names) (node : Node) → list_all is_path_octet name ≡ true → NoFeed (listed_line all_facts (listed name path node))
 entry_lacks name path node named =
     let lets : Lets is_inner = record { at_equals = refl; at_semicolon = refl; at_space = refl; words = word_passes is_inner refl } in
-    written (listed_line all_facts (listed name path node))
+    of_kind is_inner refl (listed_line all_facts (listed name path node))
     (entry_passes is_inner lets from_zero all_facts (shown_of node) (is_root path) name (weaker is_path_octet is_inner path_inner name named))
 
 -- ---- lines as a file, and back
