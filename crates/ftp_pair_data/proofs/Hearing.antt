@@ -21,8 +21,8 @@ use Rattle.ftp_server_model.specs.declared.session.ServerLink.TheVariants as Dat
 use Rattle.ftp_server_model.specs.declared.session.Transfer.TheVariants as Transfers
 use Rattle.ftp_server_model.specs.declared.session.Way.TheVariants as Ways
 use Rattle.ftp_pair_data.specs.Ahead.{Opens, accepts, ahead_of, is_open}
-use Rattle.ftp_pair_data.specs.Lines.{Aims, Asks, Begins, Forgets, Stays, Turned, TurnsBeside, turned_so, with_link}
-use Rattle.ftp_pair_data.proofs.Lines.{lines_go_beside}
+use Rattle.ftp_server_laws.specs.Links.{Aims, Asks, Begins, Forgets, Stays, Turned, TurnsBeside, turned_so, with_link}
+use Rattle.ftp_server_laws.proofs.LineTurns.{lines_go_beside}
 
 -- a server with this data connection, which is to be closed or not
 abbrev pub at_link : ServerLink Transfer → Bool → Far → Far

@@ -1,4 +1,3 @@
-pub mod Lines
 pub mod Served
 pub mod Ahead
 pub mod Hearing

@@ -1,6 +1,6 @@
 -- Every change of the map leaves each file within the limit of a file.
 use Rattle.std.proofs.Common.{◌≡◌, ℕ, ◌+◌, ◌≤◌, List, [], ◌∷◌, ◌++◌, Bool, true, false, not, cond, Option, Some, None, refl, sym, ap, subst, ◌∙◌, arith, length, append-nil, take, map, zero, suc}
-use Rattle.std.specs.Prelude.{nat_le, ◌==◌}
+use Rattle.std.specs.Prelude.{nat_le, ◌==◌, ◌&&◌}
 use Rattle.std.specs.FinMap as fin
 use Rattle.std.specs.FinMap.{is_sorted}
 use Rattle.std.specs.FinMap.Entries.{below_all, find}
@@ -11,7 +11,7 @@ use Rattle.std.proofs.lemmas.Bool.{and_parts, cond_both, leb-true}
 use Rattle.ftp_path.specs.Path.{Names, moved_path, path_cmp}
 use Rattle.ftp_tree.specs.Rows.{Rows}
 use Rattle.ftp_tree.specs.Map.{Node, Dir, File, octets_of, of_node}
-use Rattle.ftp_tree.specs.Tree.{Table, file_limit, most_octets, node_at, octets_at, octets_or_none, octets_refusal, or_else, room_at, room_refusal, whenever, made, removed, installed, freed, moved, under, with_part}
+use Rattle.ftp_tree.specs.Tree.{Table, file_limit, most_octets, node_at, octets_at, octets_or_none, octets_refusal, or_else, room_at, room_refusal, whenever, made, removed, installed, freed, moved, takes_place, under, with_part}
 use Rattle.ftp_direct.specs.Direct.{State, limited, or_refused, part, place_in, put_refusal, refused_octets, refused_room, size_in}
 use Rattle.ftp_direct.specs.declared.refusal.Refusal.{Refusal}
 use Rattle.ftp_settings.specs.declared.representation.Kind.{Kind}
@@ -125,6 +125,21 @@ renamed_short onto table root from to short =
 pub seen_short : (table : Table) (root path : Names) → HasShortFiles table → length (octets_or_none (under table root) path) ≤ most_octets
 unfolding octets_at
 seen_short table root path short = subst IsShortNode (sym (under-stands table root path)) (nodes_short table short (root ++ path))
+
+-- ---- its limits stay
+
+pub made-limits : (table : Table) (path : Names) → (made table path).limits ≡ table.limits
+unfolding made
+made-limits table path = refl
+
+pub removed-limits : (table : Table) (path : Names) → (removed table path).limits ≡ table.limits
+unfolding removed
+removed-limits table path = refl
+
+pub freed-limits : (onto : Bool) (table : Table) (from to : Names) → (freed onto table from to).limits ≡ table.limits
+unfolding freed
+freed-limits onto table from to =
+    cond_both (onto && takes_place table from to) (removed table to) table (λ (t : Table). t.limits ≡ table.limits) (λ is. removed-limits table to) (λ is. refl)
 
 -- ---- the limit of a file
 

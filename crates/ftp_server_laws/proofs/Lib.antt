@@ -1,5 +1,6 @@
 pub mod SaidLemmas
 pub mod FileLemmas
+pub mod LineTurns
 pub mod SessionLemmas
 pub mod ViewLemmas
 pub mod Theorems

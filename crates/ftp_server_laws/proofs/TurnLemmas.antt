@@ -42,6 +42,8 @@ use Rattle.ftp_server_model.specs.declared.session.Pending.{Pending}
 use Rattle.ftp_server_model.specs.declared.session.Pending.TheVariants as Pendings
 use Rattle.ftp_server_model.specs.declared.session.ServerLink.{ServerLink}
 use Rattle.ftp_server_model.specs.declared.session.ServerLink.TheVariants as Data
+use Rattle.ftp_server_laws.specs.Links.{Aims, Asks as Asked, Begins as Starts, Forgets, IsWhole, Stays, Turned, turned_so, with_link}
+use Rattle.ftp_server_laws.proofs.LineTurns.{lines_go_beside}
 use Rattle.ftp_server_laws.proofs.SeenLemmas.{at, changed_at, inside_at, outside_at, refused_at, seen_at, within_itself}
 
 -- whoever is logged in has this root
@@ -378,36 +380,6 @@ decided_at footing (Asks c) pending root s here calm known = by (is_allowed c s)
 abbrev pub Begins : Session → Session → Type 0
 Begins s new = ((new.access ≡ s.access) × (new.root ≡ s.root)) ⊎ (is_transferring new.connection ≡ false)
 
-if_begins : (b : Bool) (s : Session) (one other : Turn) → Begins s one.0 → Begins s other.0 → Begins s (if b then one else other).0
-if_begins true s one other first second = first
-if_begins false s one other first second = second
-
-unless_begins : (why : Option Refusal) (s : Session) (turn : Turn) → Begins s turn.0 → Begins s (unless why s turn).0
-unless_begins None s turn begins = begins
-unless_begins (Some why) s turn begins = inl (refl, refl)
-
-performs_begins : (op : Op (List ℕ)) (kind : ReplyKind Names) (s : Session) → Begins s (performs op kind s).0
-performs_begins op kind s = unless_begins (refusal (direct_of s) op) s (as_direct (done (direct_of s) op 0).1 s, kind) (inl (refl, refl))
-
-takes_begins : (is : Bool) (endpoint : Endpoint) (s : Session) → Begins s (takes is endpoint (forgotten s)).0
-takes_begins true endpoint s = inl (refl, refl)
-takes_begins false endpoint s = inl (refl, refl)
-
-port_begins : (footing : Footing) (endpoint : Endpoint) (s : Session) → Begins s (port footing endpoint s).0
-port_begins footing endpoint s =
-    if_begins s.only_extended s (tells Texts.BadSequence s) (takes (is_taken footing.peer endpoint) endpoint (forgotten s)) (inl (refl, refl)) (takes_begins (is_taken footing.peer endpoint) endpoint s)
-
-pasv_begins : (footing : Footing) (s : Session) → Begins s (pasv footing s).0
-pasv_begins footing s =
-    if_begins s.only_extended s (tells Texts.BadSequence s) (if is_v6 footing.here then tells Texts.NoConnection s else asks Asking.Pasv s) (inl (refl, refl))
-    (if_begins (is_v6 footing.here) s (tells Texts.NoConnection s) (asks Asking.Pasv s) (inl (refl, refl)) (inl (refl, refl)))
-
-epsv_begins : (footing : Footing) (family : Passive) (s : Session) → Begins s (epsv footing family s).0
-epsv_begins footing Any s = inl (refl, refl)
-epsv_begins footing Ipv4 s = if_begins (is_v6 footing.here) s (tells Texts.OnlyIpv6 s) (asks Asking.Epsv s) (inl (refl, refl)) (inl (refl, refl))
-epsv_begins footing Ipv6 s = if_begins (is_v6 footing.here) s (asks Asking.Epsv s) (tells Texts.OnlyIpv4 s) (inl (refl, refl)) (inl (refl, refl))
-epsv_begins footing Only s = inl (refl, refl)
-
 begin_begins : (connection : ServerLink Transfer) (transfer : Transfer) (s : Session) → Begins s (begin connection transfer s).0
 begin_begins Data.Free transfer s = inl (refl, refl)
 begin_begins (Data.Active endpoint) transfer s = inl (refl, refl)
@@ -417,89 +389,17 @@ begin_begins (Data.Asked asked) transfer s = inl (refl, refl)
 begin_begins (Data.Opening other way) transfer s = inl (refl, refl)
 begin_begins (Data.Transferring other) transfer s = inl (refl, refl)
 
-starts_begins : (why : Option Refusal) (transfer : Transfer) (s : Session) → Begins s (transfer_starts why transfer s).0
-starts_begins None transfer s = begin_begins s.connection transfer s
-starts_begins (Some why) transfer s = inl (refl, refl)
-
-rests_begins : (why : Option Refusal) (place : ℕ) (s : Session) → Begins s (rests why place s).0
-rests_begins None place s = inl (refl, refl)
-rests_begins (Some why) place s = inl (refl, refl)
-
-rnto_begins : (pending : Pending Names) (text : List ℕ) (s : Session) → Begins s (rnto pending text s).0
-rnto_begins (Pendings.Rename from) text s =
-    unless_begins (refused_target s from (path_of s text)) s (tells Texts.Done (with_seen (moved (target_seen s from (path_of s text)) from (path_of s text)) s)) (inl (refl, refl))
-rnto_begins Pendings.Nothing text s = inl (refl, refl)
-rnto_begins (Pendings.Restart place) text s = inl (refl, refl)
-
-admits_begins : (is : Bool) (account : Account) (s : Session) → is_transferring s.connection ≡ false → Begins s (admits is account s).0
-admits_begins true account s calm = inr calm
-admits_begins false account s calm = inr calm
-
-user_begins : (found : Option Account) (name : List ℕ) (s : Session) → is_transferring s.connection ≡ false → Begins s (user_named found name s).0
-user_begins (Some account) name s calm = admits_begins (is_directory (node_at s.table account.root)) account s calm
-user_begins None name s calm = inr calm
-
-checked_begins : (found : Option Account) (s : Session) → is_transferring s.connection ≡ false → Begins s (checked found s).0
-checked_begins (Some account) s calm = admits_begins (is_directory (node_at s.table account.root)) account s calm
-checked_begins None s calm = inr calm
-
-pass_begins : (access : Access (List ℕ)) (accounts : Accounts) (word : List ℕ) (s : Session) → is_transferring s.connection ≡ false → Begins s (pass access accounts word s).0
-pass_begins (AwaitsPass name) accounts word s calm = checked_begins (login_account accounts name word) s calm
-pass_begins Nobody accounts word s calm = inl (refl, refl)
-pass_begins Known accounts word s calm = inl (refl, refl)
-
-choose_begins : (facts : Option Facts) (s : Session) → Begins s (choose facts s).0
-choose_begins (Some facts) s = inl (refl, refl)
-choose_begins None s = inl (refl, refl)
-
-act_begins : (footing : Footing) (c : Command (List ℕ)) (pending : Pending Names) (s : Session) → is_transferring s.connection ≡ false → Begins s (act footing c pending s).0
-act_begins footing (command.User name) pending s calm = user_begins (open_account footing.accounts name) name s calm
-act_begins footing (command.Pass word) pending s calm = pass_begins s.access footing.accounts word s calm
-act_begins footing (command.Acct text) pending s calm = inl (refl, refl)
-act_begins footing (command.Cwd text) pending s calm = performs_begins (Ops.ChangeDir text) (Replies.Fixed Texts.Done) s
-act_begins footing command.Cdup pending s calm = performs_begins Ops.Up (Replies.Fixed Texts.Done) s
-act_begins footing command.Rein pending s calm = inr refl
-act_begins footing command.Quit pending s calm = inl (refl, refl)
-act_begins footing (command.Port endpoint) pending s calm = port_begins footing endpoint s
-act_begins footing command.Pasv pending s calm = pasv_begins footing s
-act_begins footing (command.Eprt endpoint) pending s calm = port_begins footing endpoint s
-act_begins footing (command.Epsv family) pending s calm = epsv_begins footing family s
-act_begins footing (command.Repr kind) pending s calm = inl (refl, refl)
-act_begins footing (command.Stru structure) pending s calm = inl (refl, refl)
-act_begins footing (command.Mode mode) pending s calm = inl (refl, refl)
-act_begins footing (command.Retr text) pending s calm = starts_begins _ _ s
-act_begins footing (command.Stor text) pending s calm = starts_begins _ _ s
-act_begins footing (command.Appe text) pending s calm = starts_begins _ _ s
-act_begins footing (command.Allo octets longest) pending s calm = inl (refl, refl)
-act_begins footing (command.Rest place) pending s calm = rests_begins _ place s
-act_begins footing (command.Rnfr text) pending s calm =
-    unless_begins (refused_source s (path_of s text)) s (tells Texts.NewName (record s { pending = Pendings.Rename (path_of s text) })) (inl (refl, refl))
-act_begins footing (command.Rnto text) pending s calm = rnto_begins pending text s
-act_begins footing command.Abor pending s calm = inl (refl, refl)
-act_begins footing (command.Dele text) pending s calm = performs_begins (Ops.Delete text) (Replies.Fixed Texts.Done) s
-act_begins footing (command.Rmd text) pending s calm = performs_begins (Ops.RemoveDir text) (Replies.Fixed Texts.Done) s
-act_begins footing (command.Mkd text) pending s calm = performs_begins (Ops.MakeDir text) (Replies.Made (path_of s text)) s
-act_begins footing command.Pwd pending s calm = inl (refl, refl)
-act_begins footing (command.List text) pending s calm = starts_begins _ _ s
-act_begins footing (command.Nlst text) pending s calm = starts_begins _ _ s
-act_begins footing (command.Mlst text) pending s calm = unless_begins (refusal (direct_of s) (Ops.Facts (or_empty text))) s _ (inl (refl, refl))
-act_begins footing (command.Mlsd text) pending s calm = starts_begins _ _ s
-act_begins footing (command.Size text) pending s calm =
-    if_begins (has_size s.settings) s _ (tells Texts.Refused s) (unless_begins (refusal (direct_of s) (Ops.Size text (how_in_force s.settings))) s _ (inl (refl, refl))) (inl (refl, refl))
-act_begins footing (command.Mdtm text) pending s calm = unless_begins (refusal (direct_of s) (Ops.Modified text)) s _ (inl (refl, refl))
-act_begins footing command.Syst pending s calm = inl (refl, refl)
-act_begins footing command.Stat pending s calm = inl (refl, refl)
-act_begins footing (command.Help text) pending s calm = inl (refl, refl)
-act_begins footing command.Noop pending s calm = inl (refl, refl)
-act_begins footing command.Feat pending s calm = inl (refl, refl)
-act_begins footing (command.Opts text) pending s calm = if_begins (is_utf8_on text) s (tells Texts.Utf8Set s) (choose (option_facts text) s) (inl (refl, refl)) (choose_begins (option_facts text) s)
+-- by what a line does to the data connection
+begins_so : (turned : Turned) (turn : Turn) (s : Session) → is_transferring s.connection ≡ false → IsWhole turned turn s
+    → Begins s (turned_so turned s.connection s.closing turn).0
+begins_so Stays turn s calm whole = inr calm
+begins_so Forgets turn s calm whole = inr refl
+begins_so (Asked verb) turn s calm whole = inr refl
+begins_so (Aims endpoint) turn s calm whole = inr refl
+begins_so (Starts transfer) turn s calm whole =
+    subst (λ (turn : Turn). Begins s (begin s.connection transfer (with_link s.connection s.closing turn.0)).0) (sym whole) (begin_begins s.connection transfer s)
 
 pub decided_begins : (footing : Footing) (heard : HeardLine (List ℕ)) (pending : Pending Names) (s : Session) → is_transferring s.connection ≡ false → Begins s (decided footing heard pending s).0
-decided_begins footing TooLong pending s calm = inl (refl, refl)
-decided_begins footing (Bad fault) pending s calm = inl (refl, refl)
-decided_begins footing (Asks c) pending s calm =
-    if_begins (is_allowed c s) s (act footing c pending s) (tells Texts.NotLoggedIn (forgets c s)) (act_begins footing c pending s calm) (by (is_transfer c))
-  where
-    by : (b : Bool) → Begins s (if b then forgotten s else s)
-    by true = inl (refl, refl)
-    by false = inl (refl, refl)
+decided_begins footing heard pending s calm =
+    let of = lines_go_beside footing heard pending s in
+    subst (λ (turn : Turn). Begins s turn.0) (sym (of.is s.connection s.closing)) (begins_so of.turned of.turn s calm of.whole)

@@ -4,3 +4,6 @@ pub mod Laws
 pub mod Losses
 pub mod Apart
 pub mod Lookers
+pub mod Links
+pub mod Logins
+pub mod Maps

@@ -1,6 +1,9 @@
 //! How much a server holds: functions that do nothing, whose contracts are laws.
 ghost use Rattle.ftp_server_laws.specs.Laws.{CallsStaySmall, SmallHoldsLittle, StartIsSmall};
+ghost use Rattle.ftp_server_laws.specs.Links.{LinesGoBeside};
+ghost use Rattle.ftp_server_laws.specs.Logins.{LinesLogIn};
 ghost use Rattle.ftp_server_laws.specs.Losses.{FarStaysSmall};
+ghost use Rattle.ftp_server_laws.specs.Maps.{LinesChangeTheMap};
 ghost use Rattle.ftp_server_model.specs.Held.{HoldsLittle};
 
 /// Whatever is called, a server never holds more than 24,576 octets beside the map, the accounts, what came of an upload, and what a transfer
@@ -16,4 +19,19 @@ pub fn servers_hold_little()
 /// device fails too.
 pub fn servers_stay_small()
     ensures { FarStaysSmall }
+{}
+
+/// A line is acted on alike, whatever the data connection of a server is: it stays, is forgotten, asked for or aimed at, or a transfer begins over it.
+pub fn lines_go_beside()
+    ensures { LinesGoBeside }
+{}
+
+/// After a line the login is the one before, nobody's, or that of an account of the server, with its root and its rights.
+pub fn lines_log_in()
+    ensures { LinesLogIn }
+{}
+
+/// After a line the map is the one before, but for what stands at and below the root: by a line that may change it, of somebody who has a right to.
+pub fn lines_change_the_map()
+    ensures { LinesChangeTheMap }
 {}
