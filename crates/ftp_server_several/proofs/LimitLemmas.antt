@@ -1,57 +1,36 @@
 -- No call changes the limits of the map.
-use Rattle.std.proofs.Common.{◌≡◌, ◌∙◌, ℕ, List, [], ◌∷◌, Bool, false, Option, Some, None, refl, ap}
-use Rattle.std.specs.Prelude.{◌&&◌}
+use Rattle.std.proofs.Common.{◌≡◌, ◌∙◌, ℕ, List, [], ◌∷◌, Bool, Option, Some, None, refl, ap}
 use Rattle.std.proofs.lemmas.Bool.{cond_both}
-use Rattle.ftp_command.specs.declared.command.Command.{Command}
-use Rattle.ftp_command.specs.declared.command.Command.TheVariants as command
-use Rattle.ftp_direct.specs.Direct.{State, refusal}
+use Rattle.ftp_direct.specs.Direct.{State}
 use Rattle.ftp_direct.specs.declared.refusal.Refusal.{Refusal}
-use Rattle.ftp_operation.specs.declared.op.Op.TheVariants as Ops
 use Rattle.ftp_path.specs.Path.{Names}
 use Rattle.ftp_tree.proofs.PartLemmas.{part-limits, under-limits}
-use Rattle.ftp_tree.proofs.UnderLemmas.{moved-limits}
-use Rattle.ftp_tree.specs.Tree.{Table, freed, installed, made, moved, removed, takes_place}
+use Rattle.ftp_tree.specs.Tree.{Table, installed}
 use Rattle.ftp_wire.specs.Decoder.{broken, ended, is_whole}
-use Rattle.ftp_server_model.specs.Act.{act, decided, forgets, is_allowed}
+use Rattle.ftp_server_model.specs.Act.{decided}
 use Rattle.ftp_server_model.specs.Machine.{at_break, at_end, completed, end_refusal, ends_by, installs, obeyed, put_together, turned}
 use Rattle.ftp_server_model.specs.Play.{Cue, call}
-use Rattle.ftp_server_model.specs.Replies.{Turn, tells}
-use Rattle.ftp_server_model.specs.View.{Footing, Session, Transfer, View, direct_of, seen, with_seen}
+use Rattle.ftp_server_model.specs.View.{Footing, Session, Transfer, View, seen, with_seen}
 use Rattle.ftp_server_model.specs.Machine.{Reading}
-use Rattle.ftp_server_model.specs.Walk.{path_of, refused_target, rnto, target_seen, unless}
 use Rattle.ftp_server_model.specs.declared.heard.HeardLine.{HeardLine}
-use Rattle.ftp_server_model.specs.declared.heard.HeardLine.TheVariants.{TooLong, Bad, Asks}
 use Rattle.ftp_server_model.specs.declared.reply.FixedReply.{FixedReply}
 use Rattle.ftp_server_model.specs.declared.reply.FixedReply.TheVariants as Texts
 use Rattle.ftp_server_model.specs.declared.session.Keep.{Keep}
 use Rattle.ftp_server_model.specs.declared.session.Pending.{Pending}
 use Rattle.ftp_server_model.specs.declared.session.Pending.TheVariants as Pendings
 use Rattle.ftp_server_model.specs.declared.session.Transfer.TheVariants as Transfers
-use Rattle.ftp_server_several.specs.Asked.{changes}
 use Rattle.ftp_server_several.specs.Deeds.{AreDeeds, Deed, IsSame, acts, ends, breaks, rests}
 use Rattle.ftp_server_several.proofs.DeedLemmas.{calls_are_deeds, same_given_out}
-use Rattle.ftp_server_several.proofs.OtherLemmas.{act_leaves, forgets_leaves}
+use Rattle.ftp_server_laws.specs.Maps.{Changes, Mapped, MappedSo, Unchanged, line_changes}
+use Rattle.ftp_server_laws.proofs.LineTurns.{lines_change_the_map}
 
 -- a session over a map of the same limits
 abbrev Keeps : (s t : Session) → Type 0
 Keeps s t = t.table.limits ≡ s.table.limits
 
-made-limits : (table : Table) (path : Names) → (made table path).limits ≡ table.limits
-unfolding made
-made-limits table path = refl
-
-removed-limits : (table : Table) (path : Names) → (removed table path).limits ≡ table.limits
-unfolding removed
-removed-limits table path = refl
-
 installed-limits : (table : Table) (path : Names) (octets : List ℕ) (moment : ℕ) → (installed table path octets moment).limits ≡ table.limits
 unfolding installed
 installed-limits table path octets moment = refl
-
-freed-limits : (onto : Bool) (table : Table) (from to : Names) → (freed onto table from to).limits ≡ table.limits
-unfolding freed
-freed-limits onto table from to =
-    cond_both (onto && takes_place table from to) (removed table to) table (λ (t : Table). t.limits ≡ table.limits) (λ is. removed-limits table to) (λ is. refl)
 
 -- with another part of the same limits
 part_keeps : (s : Session) (part : Table) → part.limits ≡ (seen s).limits → Keeps s (with_seen part s)
@@ -59,38 +38,14 @@ part_keeps s part same = part-limits s.table s.root part ∙ same ∙ under-limi
 
 -- ---- a line
 
-unless_keeps : (why : Option Refusal) (s : Session) (turn : Turn) → Keeps s turn.0 → Keeps s (unless why s turn).0
-unless_keeps None s turn keeps = keeps
-unless_keeps (Some why) s turn keeps = refl
-
-rnto_keeps : (pending : Pending Names) (text : List ℕ) (s : Session) → Keeps s (rnto pending text s).0
-rnto_keeps (Pendings.Rename from) text s =
-    let to : Names = path_of s text in
-    unless_keeps (refused_target s from to) s (tells Texts.Done (with_seen (moved (target_seen s from to) from to) s))
-    (part_keeps s (moved (target_seen s from to) from to) (moved-limits (target_seen s from to) from to ∙ freed-limits s.rights.onto (seen s) from to))
-rnto_keeps Pendings.Nothing text s = refl
-rnto_keeps (Pendings.Restart place) text s = refl
-
-module _ (footing : Footing) (pending : Pending Names) (s : Session) where
-  left : (c : Command (List ℕ)) → changes pending c ≡ false → Keeps s (act footing c pending s).0
-  left c other = ap (λ (t : Table). t.limits) (act_leaves footing pending s c other)
-
-  act_keeps : (c : Command (List ℕ)) → Keeps s (act footing c pending s).0
-  act_keeps (command.Mkd text) =
-      unless_keeps (refusal (direct_of s) (Ops.MakeDir text)) s _ (part_keeps s (made (seen s) (path_of s text)) (made-limits (seen s) (path_of s text)))
-  act_keeps (command.Rmd text) =
-      unless_keeps (refusal (direct_of s) (Ops.RemoveDir text)) s _ (part_keeps s (removed (seen s) (path_of s text)) (removed-limits (seen s) (path_of s text)))
-  act_keeps (command.Dele text) =
-      unless_keeps (refusal (direct_of s) (Ops.Delete text)) s _ (part_keeps s (removed (seen s) (path_of s text)) (removed-limits (seen s) (path_of s text)))
-  act_keeps (command.Rnto text) = rnto_keeps pending text s
-  act_keeps c = left c refl
+mapped_keeps : (mapped : Mapped) (changing : Bool) (s : Session) (table : Table) → MappedSo mapped changing s table → table.limits ≡ s.table.limits
+mapped_keeps Unchanged changing s table is = ap (λ (t : Table). t.limits) is
+mapped_keeps (Changes new) changing s table is = ap (λ (t : Table). t.limits) is.2 ∙ part_keeps s new is.3
 
 decided_keeps : (footing : Footing) (heard : HeardLine (List ℕ)) (pending : Pending Names) (s : Session) → Keeps s (decided footing heard pending s).0
-decided_keeps footing TooLong pending s = refl
-decided_keeps footing (Bad fault) pending s = refl
-decided_keeps footing (Asks c) pending s =
-    cond_both (is_allowed c s) (act footing c pending s) (tells Texts.NotLoggedIn (forgets c s)) (λ (turn : Turn). Keeps s turn.0) (λ is. act_keeps footing pending s c)
-    (λ is. ap (λ (t : Table). t.limits) (forgets_leaves c s))
+decided_keeps footing heard pending s =
+    let of = lines_change_the_map footing heard pending s in
+    mapped_keeps of.0 (line_changes pending heard) s (decided footing heard pending s).0.table of.1
 
 -- what the direct run sees nothing of
 same_keeps : (s t : Session) → IsSame s t → Keeps s t

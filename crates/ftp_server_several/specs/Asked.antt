@@ -1,5 +1,5 @@
 -- What a line asks of the map, as an operation of the direct run (`ftp_direct`), and how the server tells what the direct run answers.
-use Rattle.std.specs.Prelude.{◌≡◌, ℕ, Bool, true, false, List, map, None}
+use Rattle.std.specs.Prelude.{◌≡◌, ℕ, true, false, List, map, None}
 use Rattle.ftp_command.specs.declared.command.Command.{Command}
 use Rattle.ftp_command.specs.declared.command.Command.TheVariants as command
 use Rattle.ftp_direct.specs.Direct.{State, chosen, done, entry_at, first_refusal, named, offset_refusal, skipped}
@@ -10,6 +10,7 @@ use Rattle.ftp_operation.specs.declared.op.ListVerb.TheVariants as Lists
 use Rattle.ftp_operation.specs.declared.op.Op.{Op}
 use Rattle.ftp_operation.specs.declared.op.Op.TheVariants as Ops
 use Rattle.ftp_path.specs.Path.{Names, text_of as path_text}
+pub use Rattle.ftp_server_laws.specs.Maps.{changes, line_changes}
 use Rattle.ftp_server_model.specs.Act.{decided, forgets, is_in}
 use Rattle.ftp_server_model.specs.Ask.{has_size, or_empty}
 use Rattle.ftp_server_model.specs.Entries.{listed_line}
@@ -20,7 +21,7 @@ use Rattle.ftp_server_model.specs.Transfer.{begin, file_wire}
 use Rattle.ftp_server_model.specs.View.{Footing, Session, Transfer, as_direct, direct_of, how_in_force, seen}
 use Rattle.ftp_server_model.specs.Walk.{path_of}
 use Rattle.ftp_server_model.specs.declared.heard.HeardLine.{HeardLine}
-use Rattle.ftp_server_model.specs.declared.heard.HeardLine.TheVariants.{TooLong, Bad, Asks as Says}
+use Rattle.ftp_server_model.specs.declared.heard.HeardLine.TheVariants.{Asks as Says}
 use Rattle.ftp_server_model.specs.declared.reply.FixedReply.{FixedReply}
 use Rattle.ftp_server_model.specs.declared.reply.FixedReply.TheVariants as Texts
 use Rattle.ftp_server_model.specs.declared.reply.ReplyKind.{ReplyKind}
@@ -117,20 +118,7 @@ LinesAreDirect =
 
 -- ---- all other lines
 
--- the commands that change the map where their line is acted on, but for a refusal
-abbrev pub changes : Pending Names → Command (List ℕ) → Bool
-changes pending (command.Mkd text) = true
-changes pending (command.Rmd text) = true
-changes pending (command.Dele text) = true
-changes (Pendings.Rename from) (command.Rnto text) = true
-changes pending other = false
-
--- a line that is too long, says no command, or says another, leaves the map as it is
-abbrev pub line_changes : Pending Names → HeardLine (List ℕ) → Bool
-line_changes pending TooLong = false
-line_changes pending (Bad fault) = false
-line_changes pending (Says c) = changes pending c
-
+-- a line that may not change the map (`line_changes`) leaves it
 abbrev pub OthersLeaveTheMap : Type 0
 OthersLeaveTheMap =
     (footing : Footing) (heard : HeardLine (List ℕ)) (pending : Pending Names) (s : Session)
