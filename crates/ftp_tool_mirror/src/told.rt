@@ -1,10 +1,10 @@
 // What stands in a directory of a server, by its listing as text.
 use crate::asked::Mirror;
-use crate::folder::{MOST_ENTRIES, put_item};
+use crate::folder::put_item;
 use crate::trouble::Trouble;
 use ftp_facts::Text;
 use ftp_operation::{Answer, ListVerb, Op};
-use ftp_tool_connection::{ClientSession, Request};
+use ftp_tool_connection::{ClientSession, MOST_ENTRIES, Request};
 use ftp_tool_listing::{Facts, Item, Kind, Listing, is_name, items_of_columns, items_of_facts};
 use ftp_tool_words::joined;
 use std::alloc::{AllocError, Global};
