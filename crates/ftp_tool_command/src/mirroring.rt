@@ -19,15 +19,17 @@ is a folder of this machine, and begins with / or with a point where it would be
 From a server a file is copied where its size or its moment differs, and the copy has the server's moment then. To a server one is copied
 where its size differs or it was changed after the server's. With --checksum sizes and octets are compared, for which each file is fetched.
 A file that is cut on its way down goes on, as with get; one of more octets than --limit fails. With --delete what SOURCE has not is removed
-from TARGET, here once the server says of it alone that it has none (MLST), and so is what stands there as a file where SOURCE has a
-directory, or the other way round; without it that is refused. --exclude leaves alone what meets GLOB, at both ends: * is any octets but a
+from TARGET, here once the server says of it alone that it has none (MLST, or SIZE of a file), and so is what stands there as a file where
+SOURCE has a directory, or the other way round; without it that is refused. --exclude leaves alone what meets GLOB, at both ends: * is any octets but a
 slash, ? is one; a GLOB with a slash is of a path below SOURCE, and any other is of a name. Links of this machine are not followed.
 --dry-run changes nothing, and writes what would be done on standard output. With --json each copy, each directory that is made and each
 removal is an object there, {\"deed\":\"copy\",\"path\":\"d/a\"}, make or remove, once it is done; what gave way is removed as NAME.ftp-old.
 A file that fails does not stop the others.
 One control connection is used; where it ends, the rest is done over another one, as with get. With --parallel N there are N of them at once, 8 at
 most: what is copied from a server next, and the next listings, are fetched over those that are free; what is told and done is the same, in the same
-order. Where the server gives fewer, it goes on over those. The server has to know MLSD.
+order. Where the server gives fewer, it goes on over those. Where the server does not know MLSD, it is asked LIST, in the columns of ls -l, and
+SIZE and MDTM of each file for what that does not tell. A line that is no entry is left out and told: what has its name here stays, and where it
+has no name nothing of its directory is removed.
 A file of this machine is written beside its name, and moved over it once it is whole and on the disk, as with get. With --no-flush it is moved
 before it is on the disk, which is faster: after a power cut a file may be cut, and another run mends that. Passwords, --timeout, --limit-rate and
 data connections are as with get.
