@@ -42,5 +42,5 @@ stranger_by opening false = Strangers.Named
 
 -- by which command a listing is asked for after such an answer: LIST where the server does not know MLSD (RFC 959, section 4.2.2)
 abbrev pub list_verb_by : {A : Type 0} → ListVerb → Answer A → ListVerb
-list_verb_by verb (Answers.Refused code) = if code == 500 || code == 502 then Verbs.List else verb
+list_verb_by verb (Answers.Refused code) = if code == UNKNOWN || code == NOT_IMPLEMENTED then Verbs.List else verb
 list_verb_by verb answer = verb

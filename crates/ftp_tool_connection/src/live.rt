@@ -100,9 +100,13 @@ where
     W: Write + Drop,
     P: Opens,
 {
-    ghost answers = { λ request answer old new. Answers request (said_of answer) new.control.now.failed (beside C.remaining W.contents (held (N.client old.client) (no_lane (P.history old.ports.now))) old.control.now) (beside C.remaining W.contents (held (N.client new.client) (no_lane (P.history new.ports.now))) new.control.now) };
+    ghost answers = { λ request answer old new. Answers request (said_of answer) new.control.now.failed
+        (beside C.remaining W.contents (held (N.client old.client) (no_lane (P.history old.ports.now))) old.control.now)
+        (beside C.remaining W.contents (held (N.client new.client) (no_lane (P.history new.ports.now))) new.control.now) };
 
-    ghost carried = { λ request answer old new. Answers request (said_of answer) new.control.now.failed (beside C.remaining W.contents (held (N.client old.client) (no_lane None)) old.control.now) (beside C.remaining W.contents (held (N.client new.client) (no_lane None)) new.control.now) };
+    ghost carried = { λ request answer old new. Answers request (said_of answer) new.control.now.failed
+        (beside C.remaining W.contents (held (N.client old.client) (no_lane None)) old.control.now)
+        (beside C.remaining W.contents (held (N.client new.client) (no_lane None)) new.control.now) };
 
     ghost keeps = { λ came session. came ≡ (N.told session.client).came };
 
