@@ -1,6 +1,6 @@
 -- The lines of a listing, entry by entry.
-use Rattle.std.proofs.Common.{◌≡◌, ℕ, zero, suc, ◌+◌, ◌-◌, ◌<◌, ◌≤◌, min, List, [], ◌∷◌, ◌++◌, length, take, drop, Bool, true, false, ◌&&◌, nat_le, nat_lt, Option, Some, None, refl, ap, sym, subst, ◌∙◌, arith, append_assoc, append-nil, length-append, length-drop}
-use Rattle.std.specs.Prelude.{codes, decimal, map, is_some, if◌then◌else◌}
+use Rattle.std.proofs.Common.{◌≡◌, ℕ, zero, suc, ◌+◌, ◌-◌, ◌<◌, ◌≤◌, List, [], ◌∷◌, ◌++◌, length, take, drop, Bool, true, false, ◌&&◌, nat_le, nat_lt, Option, Some, None, refl, ap, sym, subst, ◌∙◌, arith, append_assoc, append-nil, length-append, length-drop}
+use Rattle.std.specs.Prelude.{map, is_some, if◌then◌else◌}
 use Rattle.std.specs.List.{filter_map, cons_option, slice_get}
 use Rattle.std.specs.Option.{option_map, option_to_list, unwrap_or}
 use Rattle.std.proofs.lemmas.Bool.{and_parts}
@@ -8,19 +8,19 @@ use Rattle.std.proofs.lemmas.Bool.Decides.{nat_tests}
 use Rattle.std.proofs.lemmas.List.{drop_more, drop_all}
 use Rattle.std.proofs.lemmas.Option.{get_or_from_slice_get, slice_get_within}
 use Rattle.ftp_path.specs.Kept.{IsKept, names_of}
-use Rattle.ftp_path.specs.Path.{Names, fits, is_component, is_name, joined, parent, text_limit}
+use Rattle.ftp_path.specs.Path.{Names, fits, is_component, is_name, joined, text_limit}
 use Rattle.ftp_path.proofs.PathLemmas.{kept-le}
 use Rattle.ftp_tree.specs.Map as maps
-use Rattle.ftp_tree.specs.Map.{Node, Dir, File, octets_of, moment_of, of_node, shown_of}
-use Rattle.ftp_tree.specs.Tree.{Table, node_at, children, entries_at, kind_of, kind_at}
+use Rattle.ftp_tree.specs.Map.{Node, Dir, File, of_node, shown_of}
+use Rattle.ftp_tree.specs.Tree.{Table, node_at, children, entries_at, kind_at}
 use Rattle.ftp_tree.proofs.TextLemmas.{fits-room, kept-place}
 use Rattle.ftp_tree.specs.declared.tree.NodeKind.TheVariants as Kinds
 use Rattle.ftp_wire.specs.Encoding.{still_to_give}
 use Rattle.ftp_wire.specs.declared.encoder.Encoder.{Encoder}
 use Rattle.ftp_wire.proofs.EncodingLemmas.{behind_front}
-use Rattle.ftp_direct.proofs.NodeLineLemmas.{dir_lines_at, ended}
+use Rattle.ftp_direct.proofs.NodeLineLemmas.{dir_lines, file_lines, none_lines}
 use Rattle.ftp_direct.specs.Direct.{behind, child, entry_at, is_file, file_in, entry_in, entries_in, listed, names_for}
-use Rattle.ftp_server_model.specs.Listing.{child_line, node_line, list_line, list_lines, list_lines_at, last_name, lines_file, text_line}
+use Rattle.ftp_server_model.specs.Listing.{child_line, node_line, list_lines, last_name, lines_file, text_line}
 use Rattle.ftp_server_model.specs.Entries.{listed_line}
 use Rattle.ftp_facts.specs.declared.name.Facts.{Facts}
 use Rattle.ftp_server_transfer.specs.Rest.{text_left}
@@ -35,6 +35,10 @@ use Rattle.ftp_server_transfer.specs.declared.line.What.TheVariants as Whats
 pub put_is : (o : Option (List ℕ)) (old new : List ℕ) → Puts o old new → new ≡ old ++ lines_file (option_to_list o)
 put_is None old new put = put ∙ sym (append-nil old)
 put_is (Some line) old new put = put ∙ ap (λ l. old ++ l) (sym (append-nil (text_line line)))
+
+-- a line that was put in two steps
+pub ended : (old mid new line : List ℕ) → mid ≡ old ++ line → new ≡ mid ++ 10 ∷ [] → new ≡ old ++ text_line line
+ended old mid new line put end = end ∙ ap (λ l. l ++ 10 ∷ []) put ∙ append_assoc old line (10 ∷ [])
 
 -- ---- whether a path is within the limits
 
@@ -77,6 +81,18 @@ pub no_more : {X : Type 0} (f : X → Option (List ℕ)) (all : List X) (n : ℕ
 no_more f all n none = ap (λ l. lines_file (filter_map f l)) (drop_all n all (ends all n none))
 
 -- ---- a file's own line
+
+-- LIST: of a file its own line
+pub first_own : (table : Table) (path : Names) (name old mid new : List ℕ) → Some Kinds.File ≡ kind_at table path → name ≡ last_name path → old ≡ []
+    → mid ≡ old ++ node_line name (unwrap_or (node_at table path) Dir) → new ≡ mid ++ 10 ∷ [] → lines_file (list_lines table path) ≡ new
+first_own table path name old mid new is last none put end =
+    let line = node_line name (unwrap_or (node_at table path) Dir) in
+    sym (ended old mid new line put end ∙ ap (λ l. l ++ text_line line) none ∙ sym (append-nil (text_line line))
+    ∙ ap lines_file (file_lines table path name line is last refl))
+
+-- and where nothing stands none
+pub first_none : (table : Table) (path : Names) (old : List ℕ) → None ≡ kind_at table path → old ≡ [] → lines_file (list_lines table path) ≡ old
+first_none table path old is none = sym (none ∙ ap lines_file (none_lines table path [] is refl))
 
 -- NLST: of a file its text
 pub first_name : (table : Table) (path : Names) (text old mid new : List ℕ) → is_file (node_at table path) ≡ true → old ≡ [] → mid ≡ old ++ text → new ≡ mid ++ 10 ∷ []
@@ -143,7 +159,7 @@ unfolding kind_at
 of_lines {A} what table path is dir =
     let P : What A → Type 0 = λ w. lines_of w table path ≡ lines_from w path (entries_at table path) (Some 0) in
     subst P (sym is)
-    (dir_lines_at (node_at table path) table path dir
+    (sym (dir_lines table path (filter_map (child_line table path) (children table path)) (sym dir) refl)
     ∙ of_directory {A = A} Whats.Lines (child_line table path) table path (λ name. child_shown path name (node_at table (child path name))))
 
 -- NLST

@@ -224,7 +224,7 @@ fn put_own<A: Allocator + Copy, T: Tree<A>>(
 }
 
 /// The same of LIST.
-#[tactic(auto, using(ftp_direct::proofs::NodeLineLemmas::first_own, ftp_direct::proofs::NodeLineLemmas::first_none))]
+#[tactic(auto, using(crate::proofs::ListingLemmas::first_own, crate::proofs::ListingLemmas::first_none))]
 fn put_own_line<A: Allocator + Copy, T: Tree<A>>(
     tree: &T,
     root: &Path<A>,
