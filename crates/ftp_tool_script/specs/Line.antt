@@ -14,6 +14,7 @@ use Rattle.ftp_facts.specs.Fact.{space}
 use Rattle.ftp_facts.specs.Value.{and_then, number_value}
 use Rattle.ftp_operation.specs.declared.op.How.{How}
 use Rattle.ftp_operation.specs.declared.op.Op.{Op}
+use Rattle.ftp_operation.specs.declared.op.ListVerb.{ListVerb}
 use Rattle.ftp_operation.specs.declared.op.Op.TheVariants as Ops
 use Rattle.ftp_tool_script.specs.declared.fault.LineFault.{LineFault}
 use Rattle.ftp_tool_script.specs.declared.fault.LineFault.TheVariants.{Unfit, Memory}
@@ -159,10 +160,14 @@ put_from_in fields = option_map (λ t. Once (Ops.PutFrom t.1 t.2 t.3 t.0)) (givi
 abbrev pub upload_in : List (List ℕ) → Option (Order (List ℕ))
 upload_in fields = option_map (λ t. Tries t.1 t.2 t.0) (giving_in fields)
 
+-- a listing as text by a command, from its settings and its path
+abbrev pub text_by : ListVerb → List (List ℕ) → Option (Order (List ℕ))
+text_by verb fields = option_map (λ t. Once (Ops.Text verb t.1 t.0)) (taking_in fields)
+
 -- the listing as text of the fields behind its verb: a command, how, and a path
 abbrev pub text_in : List (List ℕ) → Option (Order (List ℕ))
 text_in [] = None
-text_in (word ∷ fields) = and_then (list_verb_value word) (λ verb. option_map (λ t. Once (Ops.Text verb t.1 t.0)) (taking_in fields))
+text_in (word ∷ fields) = and_then (list_verb_value word) (λ verb. text_by verb fields)
 
 -- what is asked by a verb and the fields behind it
 abbrev pub order_with : Verb → List (List ℕ) → Option (Order (List ℕ))

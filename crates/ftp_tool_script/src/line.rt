@@ -1,7 +1,7 @@
 // A line: a login or an order.
 ghost use Rattle.std.specs.Prelude.{◌≡◌, map, option_map, IfOk};
 ghost use Rattle.std.specs.List.{slice_split};
-ghost use Rattle.ftp_tool_script.specs.Line.{Reads, alone_op, giving_op, is_space, login_in, login_value, login_with, order_in, order_value, order_with, part_op, path_op, put_from_in, taking_in, taking_op, text_in, upload_in};
+ghost use Rattle.ftp_tool_script.specs.Line.{Reads, alone_op, giving_op, is_space, login_in, login_value, login_with, order_in, order_value, order_with, part_op, path_op, put_from_in, taking_in, taking_op, text_by, text_in, upload_in};
 ghost use Rattle.ftp_tool_script.specs.declared.order.Order.TheVariants.{Once};
 
 use crate::cut::pieces_at;
@@ -114,7 +114,7 @@ fn text_by<A: Allocator + Copy>(
     verb: ListVerb,
     fields: &[&[u8]],
 ) -> Result<Order<Text<A>>, LineFault>
-    ensures { Reads (λ order. order) result (option_map (λ t. Once (Op.Text verb t.1 t.0)) (taking_in (map (λ field. field.now) fields.now))) }
+    ensures { Reads (λ order. order) result (text_by verb (map (λ field. field.now) fields.now)) }
 {
     match taking(alloc, fields) {
         Ok((how, path)) => Ok(Order::Once(Op::Text(verb, path, how))),
