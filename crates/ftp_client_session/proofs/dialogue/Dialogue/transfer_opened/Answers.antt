@@ -11,7 +11,7 @@ returns-clause-ok g c =
     let v : View = view_of g.F.ClientTransfer.flow d in
     on_ok_weaker c.with_reply.result (λ now.
     opened_is (view_of g.F.ClientTransfer.flow c.with_reply.new.self) v c.awaited-self.result d.op (transfer_of g.F.ClientTransfer.flow d.op c.in-Transferring.field-0) c.args.code
-    (ap (job_of g.F.ClientTransfer.flow d.op) c.in-Transferring.is) c.if-code-eq110.false c.awaited-self.ensures now)
+    (ap (job_of g.F.ClientTransfer.flow d.op) c.in-Transferring.is) c.if-code-eq-MARK.false c.awaited-self.ensures now)
     c.with_reply.ensures.ok
 
 pub returns-clause-err : goal.returns-clause-err
