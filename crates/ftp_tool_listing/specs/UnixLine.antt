@@ -1,9 +1,10 @@
 -- Lines of LIST in the columns of `ls -l`, as most servers write them, and this house's own (own choice; RFC 959, section 4.1.3, leaves the form open):
 -- rights, links, owner, group, size, month, day, year or time of day, each behind one or more spaces, and behind one space the name.
-use Rattle.std.specs.Prelude.{ℕ, ◌+◌, ◌==◌, ◌&&◌, ◌||◌, Bool, false, nat_le, nat_eq, codes, List, [], ◌∷◌, ◌++◌, length, take, drop, position, Option, Some, None, option_map, if◌then◌else◌}
+use Rattle.std.specs.Prelude.{ℕ, ◌==◌, ◌&&◌, ◌||◌, Bool, false, nat_le, nat_eq, codes, List, [], ◌∷◌, ◌++◌, length, take, drop, Option, Some, None, option_map, if◌then◌else◌}
 use Rattle.std.specs.Char.{is_ascii_digit}
 use Rattle.std.specs.Cmp.Lexicographic.{pointwise}
-use Rattle.std.specs.List.{after_first, before_first, list_all, list_any, prefix_len}
+use Rattle.std.specs.List.{after_first, before_first, list_all, list_any, prefix_len, starts_with}
+use Rattle.ftp_endpoint.specs.Number.{colon}
 use Rattle.ftp_facts.specs.Fact.{space}
 use Rattle.ftp_facts.specs.Moment.{moment_value, two_digits}
 use Rattle.ftp_facts.specs.Value.{and_then, number_value}
@@ -59,14 +60,22 @@ rights_value (letter ∷ rights) =
 
 -- ---- the date
 
-abbrev pub months : List (List ℕ)
-months =
-    codes "Jan" ∷ codes "Feb" ∷ codes "Mar" ∷ codes "Apr" ∷ codes "May" ∷ codes "Jun" ∷ codes "Jul" ∷ codes "Aug" ∷ codes "Sep" ∷ codes "Oct"
-    ∷ codes "Nov" ∷ codes "Dec" ∷ []
-
 -- the number of a month, from its three letters
 abbrev pub month_value : List ℕ → Option ℕ
-month_value word = option_map (λ place. place + 1) (position (pointwise nat_eq word) months)
+month_value word =
+    if pointwise nat_eq word (codes "Jan") then Some 1
+    else if pointwise nat_eq word (codes "Feb") then Some 2
+    else if pointwise nat_eq word (codes "Mar") then Some 3
+    else if pointwise nat_eq word (codes "Apr") then Some 4
+    else if pointwise nat_eq word (codes "May") then Some 5
+    else if pointwise nat_eq word (codes "Jun") then Some 6
+    else if pointwise nat_eq word (codes "Jul") then Some 7
+    else if pointwise nat_eq word (codes "Aug") then Some 8
+    else if pointwise nat_eq word (codes "Sep") then Some 9
+    else if pointwise nat_eq word (codes "Oct") then Some 10
+    else if pointwise nat_eq word (codes "Nov") then Some 11
+    else if pointwise nat_eq word (codes "Dec") then Some 12
+    else None
 
 -- the day of a month: one digit or two
 abbrev pub day_value : List ℕ → Option ℕ
@@ -74,8 +83,8 @@ day_value text = if nat_le (length text) 2 then number_value text else None
 
 -- a time of day in place of the year: four or five octets, digits but for a colon before the last two
 abbrev pub is_time : List ℕ → Bool
-is_time (a ∷ 58 ∷ c ∷ d ∷ []) = list_all is_ascii_digit (a ∷ c ∷ d ∷ [])
-is_time (a ∷ b ∷ 58 ∷ d ∷ e ∷ []) = list_all is_ascii_digit (a ∷ b ∷ d ∷ e ∷ [])
+is_time (a ∷ sign ∷ b ∷ c ∷ []) = (sign == colon) && list_all is_ascii_digit (a ∷ b ∷ c ∷ [])
+is_time (a ∷ b ∷ sign ∷ c ∷ d ∷ []) = (sign == colon) && list_all is_ascii_digit (a ∷ b ∷ c ∷ d ∷ [])
 is_time text = false
 
 -- the second at which a day begins, in UTC
@@ -91,7 +100,7 @@ date_value month day year = if is_time year then Some None else option_map Some 
 -- before the arrow of a link
 abbrev pub before_arrow : List ℕ → List ℕ
 before_arrow [] = []
-before_arrow (octet ∷ name) = if pointwise nat_eq (take 4 (octet ∷ name)) (codes " -> ") then [] else octet ∷ before_arrow name
+before_arrow (octet ∷ name) = if starts_with nat_eq (octet ∷ name) (codes " -> ") then [] else octet ∷ before_arrow name
 
 -- of a link the arrow and where it leads stand behind the name
 abbrev pub name_in : UnixKind → List ℕ → List ℕ

@@ -1,6 +1,6 @@
 // What is done of a directory.
 ghost use Rattle.std.specs.Prelude.{◌≡◌, ◌++◌, IfOk, OnOk, flat_map};
-ghost use Rattle.ftp_tool_listing.specs.Plan.{clearing, copying, guarded, is_odd, is_unnamed, plan, refused, steps, whole_plan};
+ghost use Rattle.ftp_tool_listing.specs.Plan.{clearing, clearing_all, copying, guarded, is_odd, is_unnamed, plan, refused, steps, whole_plan};
 ghost use Rattle.std.specs.List.{list_any};
 
 use crate::deeds::{Deed, Deeds, Extra, Reason, Rules, deeds_for, removal_for};
@@ -46,9 +46,7 @@ fn whole_plan(
 {
     let mut planned = Vec::new(alloc);
     put_copying(alloc, rules, source, target, &mut planned)?;
-    if !has_unnamed(source) {
-        put_clearing(alloc, rules, source, target, &mut planned)?;
-    }
+    put_clearing_all(alloc, rules, source, target, &mut planned)?;
     guarded(alloc, rules.extra, source, planned)
 }
 
@@ -111,6 +109,22 @@ fn is_odd(kind: Kind) -> bool
     ensures { result ≡ is_odd kind }
 {
     matches!(kind, Kind::Odd)
+}
+
+/// What is done of all entries of the target: nothing where the source has a line that tells no name.
+fn put_clearing_all(
+    alloc: Global,
+    rules: Rules,
+    source: &[Item<Global>],
+    target: &[Item<Global>],
+    planned: &mut Vec<Step<Global>, Global>,
+) -> Result<(), AllocError>
+    ensures { OnOk result (planned.new.items ≡ planned.old.items ++ clearing_all rules source.now target.now) }
+{
+    if has_unnamed(source) {
+        return Ok(());
+    }
+    put_clearing(alloc, rules, source, target, planned)
 }
 
 fn put_clearing(

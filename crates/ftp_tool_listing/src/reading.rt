@@ -3,9 +3,9 @@ ghost use Rattle.std.specs.Prelude.{◌≡◌};
 ghost use Rattle.ftp_tool_listing.specs.Text.{odd_name};
 
 use crate::item::{Facts, Item, Kind};
-use crate::text::{cut_line, is_shown};
-use crate::unix_line::{UnixKind, UnixLine, read_unix_line};
-use ftp_facts::{Entry, EntryKind, FactFault, Text, read_entry};
+use crate::text::{cut_line, entry_in, is_shown};
+use crate::unix_line::{UnixKind, UnixLine, cut_one, read_unix_line};
+use ftp_facts::{Entry, EntryKind, Text};
 use ftp_path::is_path_text;
 use std::alloc::{AllocError, Global};
 
@@ -27,29 +27,21 @@ fn put_fact_line(
     line: &[u8],
     items: &mut Vec<Item<Global>, Global>,
 ) -> Result<(), AllocError> {
-    match read_entry(alloc, line) {
-        Ok(entry) => {
-            if is_shown(&entry) {
-                put(alloc, entry.name.as_slice(), kind_of(&entry), items)?;
-            }
-            Ok(())
-        }
-        Err(FactFault::Memory) => Err(AllocError),
-        Err(_) => put(alloc, odd_name(line), Kind::Odd, items),
+    let Some(entry) = entry_in(alloc, line)? else {
+        return put(alloc, odd_name(line), Kind::Odd, items);
+    };
+    if !is_shown(&entry) {
+        return Ok(());
     }
+    put(alloc, entry.name.as_slice(), kind_of(&entry), items)
 }
 
 /// What stands behind the first space; nothing where there is none.
 fn odd_name(line: &[u8]) -> &[u8]
     ensures { result.now ≡ odd_name line.now }
 {
-    match line.iter().position(|octet| *octet == b' ') {
-        Some(place) => {
-            let (_, name) = line.split_at(place + 1);
-            name
-        }
-        None => &[],
-    }
+    let (_, name) = cut_one(line);
+    name
 }
 
 fn kind_of(entry: &Entry<Global>) -> Kind {

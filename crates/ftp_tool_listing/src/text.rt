@@ -1,7 +1,8 @@
 // A listing as text, read line by line (RFC 3659, section 7).
-ghost use Rattle.std.specs.Prelude.{◌≡◌, ◌==◌, ◌∷◌, ◌<◌, ◌≤◌, IfOk, length, map};
+ghost use Rattle.std.specs.Prelude.{◌≡◌, ◌==◌, ◌∷◌, ◌++◌, ◌<◌, ◌≤◌, [], IfOk, OnOk, length, map, option_map};
 ghost use Rattle.std.specs.List.{list_all, position_or_len};
 ghost use Rattle.ftp_facts.specs.Entry.{listed_of};
+ghost use Rattle.ftp_facts.specs.Listed.{entry_value};
 ghost use Rattle.ftp_facts.specs.Listing.{is_shown, line_feed, lines_of};
 ghost use Rattle.ftp_tool_listing.specs.Text.{entries_of, is_aside, odd_of};
 
@@ -22,17 +23,51 @@ pub fn read_entries(alloc: Global, text: &[u8]) -> Result<TextListing, AllocErro
     ensures entries { IfOk result (λ listing. map listed_of listing.entries.items ≡ entries_of (lines_of text.now)) }
     ensures odd { IfOk result (λ listing. listing.odd.items ≡ odd_of (lines_of text.now)) }
 {
-    let mut listing = TextListing {
-        entries: Vec::new(alloc),
-        odd: Vec::new(alloc),
-    };
+    let mut entries = Vec::new(alloc);
+    let mut odd = Vec::new(alloc);
     let mut rest = text;
     while !rest.is_empty() {
         let (line, behind) = cut_line(rest);
-        put_line(alloc, line, &mut listing)?;
+        put_line(alloc, line, &mut entries, &mut odd)?;
         rest = behind;
     }
-    Ok(listing)
+    Ok(TextListing { entries, odd })
+}
+
+/// Keeps what a line says: an entry that is shown, or the line where it is none.
+fn put_line(
+    alloc: Global,
+    line: &[u8],
+    entries: &mut Vec<Entry<Global>, Global>,
+    odd: &mut Vec<Text<Global>, Global>,
+) -> Result<(), AllocError>
+    ensures entries { OnOk result (map listed_of entries.new.items ≡ map listed_of entries.old.items ++ entries_of (line.now ∷ [])) }
+    ensures odd { OnOk result (odd.new.items ≡ odd.old.items ++ odd_of (line.now ∷ [])) }
+{
+    let Some(entry) = entry_in(alloc, line)? else {
+        odd.push(Text::copy_of(alloc, line)?)?;
+        return Ok(());
+    };
+    if !is_shown(&entry) {
+        return Ok(());
+    }
+    entries.push(entry)?;
+    Ok(())
+}
+
+/// The entry that a line says, if it says one (RFC 3659, section 7.2).
+#[tactic(auto, using(crate::proofs::TextLemmas::says_none))]
+pub(crate) fn entry_in(alloc: Global, line: &[u8]) -> Result<Option<Entry<Global>>, AllocError>
+    ensures { IfOk result (λ entry. option_map listed_of entry ≡ entry_value line.now) }
+{
+    match read_entry(alloc, line) {
+        Ok(entry) => Ok(Some(entry)),
+        Err(FactFault::Memory) => Err(AllocError),
+        Err(FactFault::NoSpace) => Ok(None),
+        Err(FactFault::BadFact) => Ok(None),
+        Err(FactFault::BadMoment) => Ok(None),
+        Err(FactFault::BadName) => Ok(None),
+    }
 }
 
 /// Whether a listing of MLSD has no line but those of the directory itself, of its parent and of other types than file and directory.
@@ -52,12 +87,11 @@ pub fn lists_nothing(alloc: Global, text: &[u8]) -> Result<bool, AllocError>
 
 /// Whether a line says an entry that is left out.
 fn is_aside(alloc: Global, line: &[u8]) -> Result<bool, AllocError>
-    ensures { IfOk result (λ is_aside. is_aside ≡ is_aside line.now) }
+    ensures { IfOk result (λ aside. aside ≡ is_aside line.now) }
 {
-    match read_entry(alloc, line) {
-        Ok(entry) => Ok(!is_shown(&entry)),
-        Err(FactFault::Memory) => Err(AllocError),
-        Err(_) => Ok(false),
+    match entry_in(alloc, line)? {
+        Some(entry) => Ok(!is_shown(&entry)),
+        None => Ok(false),
     }
 }
 
@@ -73,22 +107,6 @@ pub fn read_lines(alloc: Global, text: &[u8]) -> Result<Vec<Text<Global>, Global
         rest = behind;
     }
     Ok(lines)
-}
-
-fn put_line(alloc: Global, line: &[u8], listing: &mut TextListing) -> Result<(), AllocError> {
-    match read_entry(alloc, line) {
-        Ok(entry) => {
-            if is_shown(&entry) {
-                listing.entries.push(entry)?;
-            }
-            Ok(())
-        }
-        Err(FactFault::Memory) => Err(AllocError),
-        Err(_) => {
-            listing.odd.push(Text::copy_of(alloc, line)?)?;
-            Ok(())
-        }
-    }
 }
 
 /// Whether an entry is neither of the directory itself nor of its parent, nor of another type than file and directory.

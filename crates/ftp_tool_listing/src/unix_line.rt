@@ -4,6 +4,7 @@ ghost use Rattle.std.specs.Char.{is_ascii_digit};
 ghost use Rattle.std.specs.List.{list_all, list_any, position_or_len, prefix_len};
 ghost use Rattle.std.specs.Option.{ForSome};
 ghost use Rattle.ftp_facts.specs.Moment.{two_digits};
+ghost use Rattle.ftp_facts.specs.Value.{number_value};
 ghost use Rattle.ftp_tool_listing.specs.UnixLine.{before_arrow, begins_at, behind_column, behind_day, behind_one, behind_rights, behind_size};
 ghost use Rattle.ftp_tool_listing.specs.UnixLine.{date_value, day_value, first_column, is_blank, is_right, is_time, kind_value, month_value, name_in};
 ghost use Rattle.ftp_tool_listing.specs.UnixLine.{rights_value, told, unix_value};
@@ -32,11 +33,6 @@ pub struct UnixLine<'a> {
     pub name: &'a [u8],
 }
 
-/// The months in three letters each.
-const MONTHS: [&[u8]; 12] = [
-    b"Jan", b"Feb", b"Mar", b"Apr", b"May", b"Jun", b"Jul", b"Aug", b"Sep", b"Oct", b"Nov", b"Dec",
-];
-
 /// Reads a line, without its end: rights, links, owner, group, size, month, day, year or time of day, and behind one space the name. None where it is not of
 /// that form, as the line `total 12`.
 pub fn read_unix_line(line: &[u8]) -> Option<UnixLine<'_>>
@@ -53,13 +49,13 @@ fn behind_rights(kind: UnixKind, rest: &[u8]) -> Option<UnixLine<'_>>
     ensures { option_map told result ≡ behind_rights kind rest.now }
 {
     let (links, rest) = cut_column(rest);
-    if number(links).is_none() {
+    let Some(_links) = number_in(links) else {
         return None;
-    }
+    };
     let (_owner, rest) = cut_column(rest);
     let (_group, rest) = cut_column(rest);
     let (size, rest) = cut_column(rest);
-    let Some(size) = number(size) else {
+    let Some(size) = number_in(size) else {
         return None;
     };
     behind_size(kind, size, rest)
@@ -110,7 +106,7 @@ fn cut_column(line: &[u8]) -> (&[u8], &[u8])
 }
 
 /// The first column, and what stands behind one space.
-fn cut_one(line: &[u8]) -> (&[u8], &[u8])
+pub(crate) fn cut_one(line: &[u8]) -> (&[u8], &[u8])
     ensures first { result.0.now ≡ first_column line.now }
     ensures behind { result.1.now ≡ behind_one line.now }
 {
@@ -125,30 +121,24 @@ fn cut_one(line: &[u8]) -> (&[u8], &[u8])
     }
 }
 
-// Where the first space stands, or the length.
+/// Where the first space stands, or the length.
 fn first_blank(text: &[u8]) -> usize
     ensures place { result ≡ position_or_len is_blank text.now }
     ensures within { result ≤ length text.now }
 {
-    for (i, octet) in text.iter().enumerate() {
-        if *octet == b' ' {
-            return i;
-        }
-    }
-    text.len()
+    text.iter()
+        .position(|octet| *octet == b' ')
+        .unwrap_or(text.len())
 }
 
-// How many spaces stand in front.
+/// How many spaces stand in front.
 fn blanks_in_front(text: &[u8]) -> usize
     ensures count { result ≡ prefix_len is_blank text.now }
     ensures within { result ≤ length text.now }
 {
-    for (i, octet) in text.iter().enumerate() {
-        if *octet != b' ' {
-            return i;
-        }
-    }
-    text.len()
+    text.iter()
+        .position(|octet| *octet != b' ')
+        .unwrap_or(text.len())
 }
 
 /// The kind that rights begin with.
@@ -209,9 +199,32 @@ fn month_of(word: &[u8]) -> Option<u64>
     ensures value { result ≡ month_value word.now }
     ensures few { ForSome result (λ month. month ≤ 12) }
 {
-    match MONTHS.iter().position(|month| word == *month) {
-        Some(place) => Some(place as u64 + 1),
-        None => None,
+    if word == b"Jan".as_slice() {
+        Some(1)
+    } else if word == b"Feb".as_slice() {
+        Some(2)
+    } else if word == b"Mar".as_slice() {
+        Some(3)
+    } else if word == b"Apr".as_slice() {
+        Some(4)
+    } else if word == b"May".as_slice() {
+        Some(5)
+    } else if word == b"Jun".as_slice() {
+        Some(6)
+    } else if word == b"Jul".as_slice() {
+        Some(7)
+    } else if word == b"Aug".as_slice() {
+        Some(8)
+    } else if word == b"Sep".as_slice() {
+        Some(9)
+    } else if word == b"Oct".as_slice() {
+        Some(10)
+    } else if word == b"Nov".as_slice() {
+        Some(11)
+    } else if word == b"Dec".as_slice() {
+        Some(12)
+    } else {
+        None
     }
 }
 
@@ -223,10 +236,18 @@ fn day_of(text: &[u8]) -> Option<u64>
     if text.len() > 2 {
         return None;
     }
-    let Some(day) = number(text) else {
-        return None;
-    };
-    if day <= 99 { Some(day) } else { None }
+    number_in(text)
+}
+
+/// The number that a text is: 1 to 18 digits.
+#[tactic(auto, using(ftp_facts::proofs::NumberLemmas::no_number))]
+fn number_in(text: &[u8]) -> Option<u64>
+    ensures { result ≡ number_value text.now }
+{
+    match number(text) {
+        Some(value) => Some(value),
+        None => None,
+    }
 }
 
 /// The day of a month and a year; none in it where there is a time of day in place of the year.
@@ -272,8 +293,8 @@ fn is_time(text: &[u8]) -> bool
     ensures { result ≡ is_time text.now }
 {
     match text {
-        [a, b':', c, d] => are_digits(&[*a, *c, *d]),
-        [a, b, b':', c, d] => are_digits(&[*a, *b, *c, *d]),
+        [a, sign, b, c] => *sign == b':' && are_digits(&[*a, *b, *c]),
+        [a, b, sign, c, d] => *sign == b':' && are_digits(&[*a, *b, *c, *d]),
         _ => false,
     }
 }
@@ -303,7 +324,8 @@ fn arrow_in(name: &[u8]) -> usize
     ensures within { result ≤ length name.now }
 {
     for place in 0..name.len() {
-        if name[place..].starts_with(b" -> ") {
+        let (_, rest) = name.split_at(place);
+        if rest.starts_with(b" -> ") {
             return place;
         }
     }
