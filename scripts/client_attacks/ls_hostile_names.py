@@ -54,8 +54,8 @@ def main():
         holds = status == 0 and out == b"Type=file; good\n" and told.startswith(b"note: ")
         rows.row(f"{name.decode()} is left out, with a note", holds, (status, out, told))
     status, out, told = ls(rows, [b"type=file; ", b"type=file; good"])
-    holds = b"; \n" not in out and told != b""
-    rows.row("an empty name is left out or refused, and that is told", holds, (status, out, told))
+    holds = status == 0 and out.startswith(b"Type=file; good\n") and told.startswith(b"note: ")
+    rows.row("a line with an empty name is no entry: it is shown after the others, and that is told", holds, (status, out, told))
     status, out, told = ls(rows, [b"type=cdir; .", b"type=pdir; ..", b"type=file; good"])
     rows.row("the directory itself and the one above are left out without a note", (status, out, told) == (0, b"Type=file; good\n", b""), (status, out, told))
     status, out, told = ls(rows, ["a\u202ez".encode(), b"..", b"good"], knows_mlsd=False)

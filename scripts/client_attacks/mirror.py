@@ -225,7 +225,7 @@ def hostile(rows):
     rows.row("a mark of direction is escaped", status == 0 and b"a\\xe2\\x80\\xaeb" in told, (status, told))
     tree = Tree({}, {"MLSD": "500 what"}.items())
     status, _, told = rows.tool_in(above, None, "mirror", tree.place, "./old")
-    rows.row("no MLSD: told, status 1", status == 1 and b"no machine listing" in told, (status, told))
+    rows.row("neither MLSD nor LIST: told, status 1", status == 1 and b"the server lists nothing" in told, (status, told))
     tree = Tree({"": [file("a"), file("b"), file("c")]}, {"RETR": fails_at("b")}.items())
     status, _, told = rows.tool_in(above, None, "mirror", tree.place, "./some")
     rows.row("a file that fails does not stop the others", status == 1 and set(tree_at(above / "some")) == {"a", "c"} and b"error: b: " in told, (status, told))
