@@ -8,13 +8,13 @@ use Rattle.ftp_client_model.specs.Calls as near
 use Rattle.ftp_client_model.specs.Calls.{data_closed, report_of}
 use Rattle.ftp_client_model.specs.View.{View as Near}
 use Rattle.ftp_direct.specs.Direct.{State}
-use Rattle.ftp_ends.specs.Octets.{has_octets}
 use Rattle.ftp_operation.specs.Answer.{Said}
 use Rattle.ftp_server_drive.specs.Side.{server_side}
 use Rattle.ftp_server_model.specs.Machine.{IsReading, Reading}
 use Rattle.ftp_server_model.specs.View.{View as Far}
 use Rattle.ftp_pair_world.specs.Agreement.{Order}
 use Rattle.ftp_pair_world.specs.Claims.{AreUnmarked}
+use Rattle.ftp_pair_world.specs.Events.{is_closed_by_near}
 use Rattle.ftp_pair_world.specs.World.{World}
 use Rattle.ftp_pair_agreement.specs.Over.{OverRuns}
 use Rattle.ftp_pair_drives.specs.Alone.{ClientIsCalm}
@@ -146,15 +146,17 @@ module _ (read : Reading) (server : Stand server_side) (old new : Stand client_s
     abbrev now : World
     now = record w { near = near.hears w.near all; control_to_client = rest; taken = all }
 
-    -- of the server's link something was made, since a reply is on its way
-    unready : is_ready w.far.session.connection ≡ false
-    unready = is_false (is_ready w.far.session.connection) (λ e. true≢false (ap has_octets (sym queue ∙ known.ready e)))
-
     s : NearSettles now (settled now)
     s =
         near_settles now r.far_open r.none_asked (λ e. known.still (known.left e))
         (λ e. hears_closing read reads from begun puts w (length all) runs t.beside.control t.beside.unready unaborted unaborted_then
         (ap (λ (n : Near). n.closing) pushed_near ∙ e))
+
+    -- of the server's link something was made, where the client alone has closed it
+    unready : is_closed_by_near (settled now).link ≡ true → is_ready w.far.session.connection ≡ false
+    unready left = is_false (is_ready w.far.session.connection) (λ ready.
+        let link : (settled now).link ≡ w.link = s.stays (ap (λ (n : Near). n.closing) (sym pushed_near) ∙ known.ready ready (length all)) in
+        true≢false (sym ready ∙ t.beside.unready (ap is_closed_by_near (sym link) ∙ left)))
 
     unwritten : new.owner.lane.unwritten ≡ old.owner.lane.unwritten
     unwritten = ap (λ (l : Lane). l.unwritten) did.hears.1
@@ -190,7 +192,7 @@ module _ (read : Reading) (server : Stand server_side) (old new : Stand client_s
                     ∙ ap (λ l. reports ++ l) same.report ∙ ap (λ n. reports ++ option_to_list (report_of n)) (sym is)
                     ∙ ap (λ r. r ++ option_to_list (report_of u)) (sym (append-nil reports));
                 control = s.same.control ∙ b.control;
-                unready = λ e. ap (λ (f : Far). is_ready f.session.connection) s.far ∙ unready;
+                unready = λ e. ap (λ (f : Far). is_ready f.session.connection) s.far ∙ unready e;
                 marks = subst AreUnmarked (sym s.same.marks) b.marks;
                 cutoff = s.same.cutoff ∙ b.cutoff;
               };

@@ -1,20 +1,21 @@
--- What is so of every world that a session comes to in which whole files are put and fetched, nothing was left by the client alone before a transfer, and no
+-- What is so of every world that a session comes to in which files are put and fetched, nothing was left by the client alone before a transfer, and no
 -- ABOR was sent.
-use Rattle.std.proofs.Common.{◌≡◌, inl, inr, ℕ, Bool, true, false, true≢false, List, [], ◌∷◌, ◌++◌, Option, Some, None, refl, sym, ap, subst, ◌∙◌}
+use Rattle.std.proofs.Common.{◌≡◌, inl, inr, ℕ, Bool, true, false, true≢false, List, [], ◌∷◌, ◌++◌, take, Option, Some, None, refl, sym, ap, subst, ◌∙◌}
+use Rattle.std.proofs.Math.Seq.{take-nil}
 use Rattle.std.specs.Prelude.{⊤}
 use Rattle.ftp_ends.specs.Link.{same_host}
 use Rattle.ftp_ends.specs.Reply.{Reply}
 use Rattle.ftp_ends.specs.declared.link.Wants.{Wants}
 use Rattle.ftp_ends.specs.declared.link.Wants.TheVariants as Want
-use Rattle.ftp_operation.specs.declared.op.How.{How}
 use Rattle.ftp_operation.specs.declared.op.Op.{Op}
 use Rattle.ftp_operation.specs.declared.op.Op.TheVariants as Ops
-use Rattle.ftp_direct.specs.Direct.{State}
+use Rattle.ftp_direct.specs.Direct.{State, offset_refusal}
+use Rattle.ftp_direct.specs.declared.refusal.Refusal.{Refusal}
 use Rattle.ftp_path.specs.Path.{Names}
 use Rattle.ftp_wire.specs.Decoder.{Decoder}
 use Rattle.ftp_client_model.specs.Calls as near
 use Rattle.ftp_client_model.specs.Calls.{is_busy}
-use Rattle.ftp_client_model.specs.Plan.{count_of, how_of, offset_of}
+use Rattle.ftp_client_model.specs.Plan.{asked_settings, count_of, offset_of}
 use Rattle.ftp_client_model.specs.View.{Job, Transferring}
 use Rattle.ftp_client_model.specs.declared.client.Abort.TheVariants as Aborts
 use Rattle.ftp_client_model.specs.declared.client.ClientLink.{ClientLink as NearConnection}
@@ -22,8 +23,8 @@ use Rattle.ftp_client_model.specs.declared.client.ClientLink.TheVariants as Near
 use Rattle.ftp_client_model.specs.declared.client.Replied.TheVariants as Replies
 use Rattle.ftp_endpoint.specs.declared.endpoint.Endpoint.{Endpoint}
 use Rattle.ftp_server_model.specs.Calls.{is_upload}
-use Rattle.ftp_server_model.specs.Machine.{Reading, is_transferring}
-use Rattle.ftp_server_model.specs.View.{Transfer}
+use Rattle.ftp_server_model.specs.Machine.{IsReading, Reading, is_transferring}
+use Rattle.ftp_server_model.specs.View.{Transfer, how_in_force}
 use Rattle.ftp_server_model.specs.declared.session.Keep.{Keep}
 use Rattle.ftp_server_model.specs.declared.session.Pending.{Pending}
 use Rattle.ftp_server_model.specs.declared.session.Pending.TheVariants as Pendings
@@ -33,13 +34,14 @@ use Rattle.ftp_server_model.specs.declared.session.Transfer.TheVariants as Trans
 use Rattle.ftp_pair_world.specs.Agreement.{Order, Single, Tries}
 use Rattle.ftp_pair_world.specs.Events.{is_closed_by_far, is_closed_by_near}
 use Rattle.ftp_pair_world.specs.World.{ClosedByFar, ClosedByNear, Link, Mark, Opened, World}
-use Rattle.ftp_pair_dialogues.specs.Dialogue.{is_aside}
-use Rattle.ftp_pair_dialogues.specs.Fetches.{Ask, Direction, Down, IsAsk, Rise, Up, busy, carrying, giving_of, linked}
+use Rattle.ftp_settings.specs.declared.representation.Representation.{Representation}
+use Rattle.ftp_pair_dialogues.specs.Dialogue.{IsSound, is_aside}
+use Rattle.ftp_pair_dialogues.specs.Fetches.{Ask, Direction, Down, IsAsk, IsPlacedAt, Rise, Up, busy, carrying, giving_of, linked}
 use Rattle.ftp_pair_dialogues.specs.Stage.{Answering, Asking, Way}
 use Rattle.ftp_pair_dialogues.proofs.Fetching.{own_host}
 use Rattle.ftp_pair_agreement.specs.Cut.{PlacedAt, world_at}
 use Rattle.ftp_pair_agreement.specs.Rising.{Closing, Declined, Lift, Offered, Risen, Rising, Settled, Shut, Unjoined, Vanished, held, lift_passes, sending}
-use Rattle.ftp_pair_agreement.specs.Stages.{Answers, AtFetch, Awaits, Carries, Closed, Course, Dialled, Dials, Dismissed, Ended, Given, Giving as GivesOctets, Holds, IsLasting, Lost, PortAsked, PortDenied, PortSaid, PortTaken, PortTold, PortWanted, Ported, Refusing, Restarts, Retrieves, Rises, Severed, Stage, Tells, Unaccepted, Unclosed, Unopened, is_passing}
+use Rattle.ftp_pair_agreement.specs.Stages.{Answers, AtFetch, Awaits, Carries, Closed, Course, Dialled, Denied, Dials, Dismissed, Ended, Given, Giving as GivesOctets, Granted, Holds, IsLasting, Lost, PortAsked, PortDenied, PortSaid, PortTaken, PortTold, PortWanted, Ported, Refusing, Restarts, Retrieves, Rises, Sent, Severed, Stage, Tells, Unaccepted, Unclosed, Unopened, is_passing}
 use Rattle.ftp_pair_agreement.proofs.FetchServed.{leads_still}
 use Rattle.ftp_pair_agreement.proofs.FetchWants.{lasting_busy}
 use Rattle.ftp_pair_agreement.proofs.Rests.{near_form}
@@ -47,6 +49,7 @@ use Rattle.ftp_pair_agreement.proofs.Still.{IsSeen, near_wants, no_octets, rest_
 use Rattle.ftp_pair_data.specs.Ahead.{is_open}
 use Rattle.ftp_pair_data.proofs.Known.{Dialling, Idling, aside_still, beside, is_receive, one_way}
 use Rattle.ftp_pair_transfers.specs.Deeds.{IsCarried}
+use Rattle.ftp_pair_transfers.proofs.Granted.{grant_stays}
 
 -- ---- the orders
 
@@ -66,22 +69,20 @@ last_carried done order begun is puts = by done (subst AreCarried is puts)
 
 -- ---- what is asked for
 
-has : Option How → Bool
-has None = false
-has (Some how) = true
+-- the settings that are wanted, or others
+abbrev wanted : Representation → Option Representation → Representation
+wanted other None = other
+wanted other (Some settings) = settings
 
--- no offset is asked for
-carried_offset : (op : Op (List ℕ)) (how : How) → IsCarried op → how_of op ≡ Some how → offset_of op ≡ None
-unfolding has
-carried_offset (Ops.Put path octets given) how put is = refl
-carried_offset (Ops.Append path octets given) how put is = refl
-carried_offset (Ops.Get path given) how put is = refl
-carried_offset (Ops.List path given) how put is = refl
-carried_offset (Ops.Names path given) how put is = refl
-carried_offset op how put is = absurd (true≢false (sym (ap has is) ∙ ap has put))
+-- REST takes the offset that is asked for
+carried_placed : (op : Op (List ℕ)) (settings : Representation) → IsCarried op → asked_settings op ≡ Some settings → IsPlacedAt settings (offset_of op)
+carried_placed (Ops.PutFrom path offset octets how) settings put is =
+    ap (λ o. offset_refusal offset (how_in_force (wanted settings o))) (sym is) ∙ put
+carried_placed (Ops.GetFrom path offset how) settings put is = ap (λ o. offset_refusal offset (how_in_force (wanted settings o))) (sym is) ∙ put
+carried_placed op settings put is = tt
 
-pub none_asked : (ask : Ask) → IsAsk ask → IsCarried ask.op → ask.offset ≡ None
-none_asked ask good put = sym good.plan.offset_is ∙ carried_offset ask.op ask.how put good.plan.how_is
+pub is_placed : (ask : Ask) → IsAsk ask → IsCarried ask.op → IsPlacedAt ask.settings ask.offset
+is_placed ask good put = subst (IsPlacedAt ask.settings) good.plan.offset_is (carried_placed ask.op ask.settings put good.plan.asks)
 
 -- ---- what is so
 
@@ -120,12 +121,19 @@ abbrev pub is_ready : ServerLink Transfer → Bool
 is_ready FarData.Ready = true
 is_ready link = false
 
+-- where the server has this, a client that hears wants no close, if that is so of it
+abbrev pub StaysAt : ServerLink Transfer → World → Type 0
+StaysAt link w = is_ready link ≡ true → (count : ℕ) → (near.hears w.near (take count w.control_to_client)).closing ≡ false
+
+abbrev pub Stays : World → Type 0
+Stays w = StaysAt w.far.session.connection w
+
 pub record Known (w : World) : Type 0 where
   pub dials : (endpoint : Endpoint) → near.wants w.near ≡ Want.Connect endpoint → Dialling w
   pub says : (octet : ℕ) (octets : List ℕ) → w.far.owed ≡ octet ∷ octets → w.control_to_server ≡ []
   pub lines : is_transferring w.far.session.connection ≡ true → w.control_to_server ≡ []
   pub idle : is_busy w.near ≡ false → Idling w
-  pub ready : is_ready w.far.session.connection ≡ true → w.control_to_client ≡ []
+  pub ready : Stays w
   pub still : is_upload w.far.session.connection ≡ false → w.data_to_server ≡ []
   pub closed : is_closed_by_near w.link ≡ true → is_upload w.far.session.connection ≡ true
   pub takes : is_upload w.far.session.connection ≡ true → is_near_held w.link ≡ false → w.link ≡ ClosedByNear
@@ -158,10 +166,14 @@ calm_takes Want.CloseAll e = refl
 abbrev Says : World → Type 0
 Says w = (octet : ℕ) (octets : List ℕ) → w.far.owed ≡ octet ∷ octets → w.control_to_server ≡ []
 
+-- it hears nothing where nothing is on its way to it
+none_heard : (w : World) → w.near.closing ≡ false → w.control_to_client ≡ [] → (count : ℕ) → (near.hears w.near (take count w.control_to_client)).closing ≡ false
+none_heard w unclosed none count = ap (λ o. (near.hears w.near o).closing) (ap (take count) none ∙ take-nil count) ∙ unclosed
+
 -- nothing is dialled, given or taken
 pub calm_known : (w : World) → Says w → is_calm (near.wants w.near) ≡ true → is_upload w.far.session.connection ≡ false
-    → (is_transferring w.far.session.connection ≡ true → w.control_to_server ≡ []) → (is_ready w.far.session.connection ≡ true → w.control_to_client ≡ [])
-    → (is_busy w.near ≡ false → Idling w) → is_closed_by_near w.link ≡ false → w.data_to_server ≡ [] → is_giving w.far.session.connection ≡ false
+    → (is_transferring w.far.session.connection ≡ true → w.control_to_server ≡ []) → Stays w → (is_busy w.near ≡ false → Idling w)
+    → is_closed_by_near w.link ≡ false → w.data_to_server ≡ [] → is_giving w.far.session.connection ≡ false
     → w.data_to_client ≡ [] → Known w
 calm_known w says calm none lines ready idle unclosed empty ungiven flat = record {
   dials = λ endpoint e. absurd (true≢false (sym calm ∙ ap is_calm e));
@@ -210,7 +222,8 @@ gives_none false octets = refl
 
 -- ---- while a file is put
 
-module _ (read : Reading) (state : State) (ask : Ask) (good : IsAsk ask) (unplaced : ask.offset ≡ None) (own : List Mark) where
+module _ (read : Reading) (reads : IsReading read) (state : State) (ask : Ask) (good : IsAsk ask) (sound : IsSound state)
+    (placed : IsPlacedAt ask.settings ask.offset) (own : List Mark) where
   abbrev At : Way → World → Type 0
   At way b = AtFetch state ask read own way b
 
@@ -220,16 +233,13 @@ module _ (read : Reading) (state : State) (ask : Ask) (good : IsAsk ask) (unplac
   abbrev carry : Course → (came queue : List ℕ) → Stage
   carry course came queue = Carries (record { course = course; came = came; queue = queue })
 
-  -- no offset is asked for
-  no_offset : (at : ℕ) → ask.offset ≡ Some at → ⊥
-  no_offset at is = none_some (sym unplaced ∙ is)
+  -- REST is not refused
+  not_denied : (at : ℕ) (why : Refusal) → ask.offset ≡ Some at → offset_refusal at (how_in_force ask.settings) ≡ Some why → ⊥
+  not_denied at why is refused = true≢false (sym (ap is_some (sym (subst (IsPlacedAt ask.settings) is placed) ∙ refused)))
     where
-      is_some : Option ℕ → Bool
+      is_some : Option Refusal → Bool
       is_some None = false
-      is_some (Some n) = true
-
-      none_some : None ≡ Some at → ⊥
-      none_some e = true≢false (sym (ap is_some e))
+      is_some (Some why) = true
 
   pub stage_known : (w : World) (s : PlacedAt At w) → IsLasting state ask read own s.way s.base s.here → Known w
   unfolding near.wants
@@ -264,7 +274,7 @@ module _ (read : Reading) (state : State) (ask : Ask) (good : IsAsk ask) (unplac
       calm : (job : Job) (connection : NearConnection) → s.base.near ≡ busy job connection s.base.near
           → is_calm (near.wants (busy job connection w.near)) ≡ true
           → (link : ServerLink Transfer) (closing : Bool) (pending : Pending Names) → s.base.far.session ≡ linked link closing pending s.base.far.session
-          → is_upload link ≡ false → (is_transferring link ≡ true → w.control_to_server ≡ []) → (is_ready link ≡ true → w.control_to_client ≡ [])
+          → is_upload link ≡ false → (is_transferring link ≡ true → w.control_to_server ≡ []) → StaysAt link w
           → (tie : Link) → s.base.link ≡ tie → is_closed_by_near tie ≡ false → s.base.data_to_server ≡ [] → is_giving link ≡ false
           → s.base.data_to_client ≡ [] → Known w
       calm job connection near_is wants link closing pending far_is none lines ready tie tied unclosed empty ungiven flat =
@@ -287,7 +297,7 @@ module _ (read : Reading) (state : State) (ask : Ask) (good : IsAsk ask) (unplac
       -- the client takes octets, over a link that it holds
       falling : (job : Job) → s.base.near ≡ busy job NearData.Open s.base.near → near.wants (busy job NearData.Open w.near) ≡ Want.Receive
           → (link : ServerLink Transfer) (pending : Pending Names) → s.base.far.session ≡ linked link false pending s.base.far.session
-          → is_upload link ≡ false → (is_transferring link ≡ true → w.control_to_server ≡ []) → (is_ready link ≡ true → w.control_to_client ≡ [])
+          → is_upload link ≡ false → (is_transferring link ≡ true → w.control_to_server ≡ []) → StaysAt link w
           → (is_giving link ≡ true → Giving w) → (tie : Link) → s.base.link ≡ tie → is_closed_by_near tie ≡ false → is_near_held tie ≡ true
           → (is_open link ≡ false → tie ≡ ClosedByFar) → s.base.data_to_server ≡ [] → Known w
       falling job near_is wants link pending far_is none lines ready gives tie tied unclosed has shut empty =
@@ -462,14 +472,17 @@ module _ (read : Reading) (state : State) (ask : Ask) (good : IsAsk ask) (unplac
           job_by : Direction → Job
           job_by d = Transferring ask.op (record { replied = Replies.Nothing; abort = Aborts.Unsent; flow = carrying d ask.settings })
 
+          unclosed : w.near.closing ≡ false
+          unclosed = seen.closing ∙ ap (λ v. v.closing) h.near
+
           of : (d : Direction) → ask.sends ≡ d → Known w
           of Down is =
               falling (job_by Down) (h.near ∙ ap (λ d. busy (job_by d) NearData.Open s.base.near) is) refl FarData.Ready _ h.session refl
-              (λ e. absurd (true≢false (sym e))) (λ e. asking _ h.way_is) (λ e. absurd (true≢false (sym e))) _ h.link refl refl (λ e. absurd
+              (λ e. absurd (true≢false (sym e))) (λ e. none_heard w unclosed (asking _ h.way_is)) (λ e. absurd (true≢false (sym e))) _ h.link refl refl (λ e. absurd
               (true≢false e)) h.to_server
           of (Up rise) is =
               calm (job_by (Up rise)) NearData.Open (h.near ∙ ap (λ d. busy (job_by d) NearData.Open s.base.near) is) refl FarData.Ready false _ h.session refl
-              (λ e. absurd (true≢false (sym e))) (λ e. asking _ h.way_is) _ h.link refl h.to_server refl h.to_client
+              (λ e. absurd (true≢false (sym e))) (λ e. none_heard w unclosed (asking _ h.way_is)) _ h.link refl h.to_server refl h.to_client
 
       by_here : (here : At s.way s.base) → IsLasting state ask read own s.way s.base here → Known w
       by_here (inl l) lasts =
@@ -488,7 +501,18 @@ module _ (read : Reading) (state : State) (ask : Ask) (good : IsAsk ask) (unplac
       by_here (inr (PortTaken port false, h)) lasts = quiet _ _ h.near refl _ false Pendings.Nothing h.session refl _ h.link refl h.to_server h.to_client
       by_here (inr (PortDenied port connection, h)) lasts =
           quiet _ _ h.near refl connection false Pendings.Nothing h.session h.fine.0 _ h.link refl h.to_server h.to_client
-      by_here (inr (Restarts at restart early, h)) lasts = absurd (no_offset at h.fine.0)
+      by_here (inr (Restarts at (Denied why) early, h)) lasts = absurd (not_denied at why h.fine.0 h.fine.1)
+      by_here (inr (Restarts at Sent (Dialled true), h)) lasts =
+          calm _ _ h.near refl FarData.Ready false _ h.session refl (λ e. absurd (true≢false (sym e)))
+          (λ e. none_heard w (seen.closing ∙ ap (λ v. v.closing) h.near) (asking _ h.way_is)) _ h.link refl h.to_server refl h.to_client
+      by_here (inr (Restarts at Granted (Dialled true), h)) lasts =
+          calm _ _ h.near refl FarData.Ready false _ h.session refl (λ e. absurd (true≢false (sym e)))
+          (λ e count. grant_stays read reads state ask good sound own (Dialled true) w count
+          (record { base = s.base; way = s.way; cut = s.cut; is = s.is; fits = s.fits; here = inl (at, h) })) _ h.link refl h.to_server refl h.to_client
+      by_here (inr (Restarts at Sent (Dialled false), h)) lasts = quiet _ _ h.near refl _ false _ h.session refl _ h.link refl h.to_server h.to_client
+      by_here (inr (Restarts at Granted (Dialled false), h)) lasts = quiet _ _ h.near refl _ false _ h.session refl _ h.link refl h.to_server h.to_client
+      by_here (inr (Restarts at Sent (Ported port), h)) lasts = quiet _ _ h.near refl _ false _ h.session refl _ h.link refl h.to_server h.to_client
+      by_here (inr (Restarts at Granted (Ported port), h)) lasts = quiet _ _ h.near refl _ false _ h.session refl _ h.link refl h.to_server h.to_client
       by_here (inr (Retrieves (Dialled true), h)) lasts = retrieves h
       by_here (inr (Retrieves (Dialled false), h)) lasts = quiet _ _ h.near refl _ false _ h.session refl _ h.link refl h.to_server h.to_client
       by_here (inr (Retrieves (Ported port), h)) lasts = quiet _ _ h.near refl _ false _ h.session refl _ h.link refl h.to_server h.to_client

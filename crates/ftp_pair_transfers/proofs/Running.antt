@@ -1,6 +1,6 @@
--- Every world that a session comes to in which whole files are put and fetched is known, while the client has left no link of which the server made nothing yet
+-- Every world that a session comes to in which files are put and fetched is known, while the client has left no link of which the server made nothing yet
 -- and no ABOR was sent; what is taken of an upload, and what its end leaves; the moment at which it was begun.
-use Rattle.std.proofs.Common.{◌≡◌, inl, inr, ℕ, true, false, true≢false, List, [], ◌∷◌, ◌++◌, take, refl, sym, ap, subst, ◌∙◌, append-nil, None}
+use Rattle.std.proofs.Common.{◌≡◌, inl, inr, ℕ, Bool, true, false, true≢false, List, [], ◌∷◌, ◌++◌, take, refl, sym, ap, subst, ◌∙◌, append-nil}
 use Rattle.ftp_client_model.specs.Calls as near
 use Rattle.ftp_client_model.specs.Calls.{is_sound}
 use Rattle.ftp_client_model.specs.View.{View as Near}
@@ -8,16 +8,19 @@ use Rattle.ftp_control.specs.Deeds.{Deed, Other}
 use Rattle.ftp_control.specs.Machine.{Aside}
 use Rattle.ftp_client_drive.specs.Side.{Starting, client_side}
 use Rattle.ftp_direct.specs.Direct.{State, answer}
+use Rattle.ftp_endpoint.specs.declared.host.Host.{Host}
+use Rattle.ftp_operation.specs.Answer.{Said}
 use Rattle.ftp_operation.specs.declared.op.Op.{Op}
+use Rattle.ftp_path.specs.Path.{Names}
 use Rattle.ftp_server_model.specs.Calls.{is_upload}
 use Rattle.ftp_server_model.specs.Machine.{IsReading, Reading, is_transferring}
 use Rattle.ftp_server_model.specs.View.{Session, Transfer}
+use Rattle.ftp_server_model.specs.declared.session.Pending.{Pending}
 use Rattle.ftp_server_model.specs.declared.session.ServerLink.{ServerLink}
-use Rattle.ftp_server_model.specs.declared.session.ServerLink.TheVariants as FarData
 use Rattle.ftp_pair_world.specs.Agreement.{Order, Single, Tries}
 use Rattle.ftp_pair_world.specs.Events.{ControlToClient, ControlToServer, DataToClient, is_closed_by_far, is_closed_by_near, pushed, told}
 use Rattle.ftp_pair_world.specs.World.{Mark, Stands, World}
-use Rattle.ftp_pair_dialogues.specs.Fetches.{Ask, Direction, Down, IsAsk, IsTimely, Rise, Up}
+use Rattle.ftp_pair_dialogues.specs.Fetches.{Ask, IsAsk, IsPlacedAt, IsTimely, Rise, Up, linked}
 use Rattle.ftp_pair_dialogues.specs.Login.{AtFree, AtOperation}
 use Rattle.ftp_pair_dialogues.specs.Stage.{Answering, Asking, Way}
 use Rattle.ftp_pair_agreement.specs.Cut.{Cut, PlacedAt, of_ends, world_at}
@@ -25,18 +28,18 @@ use Rattle.ftp_pair_agreement.specs.Follows.{Follows, IsUnlinked, Phase}
 use Rattle.ftp_pair_agreement.specs.Over.{OverRuns}
 use Rattle.ftp_pair_agreement.specs.Rising.{Lift, Settled, Rising, Risen, Offered, Declined, Unjoined}
 use Rattle.ftp_pair_agreement.specs.Runs.{AtClosed, IsFetching, IsFetchingOn, IsTrailing}
-use Rattle.ftp_pair_agreement.specs.Stages.{AtFetch, Carries, Holds, Rises, Stage}
+use Rattle.ftp_pair_agreement.specs.Stages.{Answers, Aside as LeavesAside, AtFetch, Awaits, Carries, Closed, Course, Dialled, Dials, Dismissed, Early, Ended, Given, Giving, Holds, Leaving, LinkLeft, LinkOpen, LinkParting, Lost, PortAsked, PortDenied, PortSaid, PortTaken, PortTold, PortWanted, Ported, Refusing, Restarts, Retrieves, Rises, Severed, Stage, Tells, Unaccepted, Unclosed, Unopened, early_far, far_link, gives_on, tie_of}
 use Rattle.ftp_pair_agreement.proofs.Deliveries.{pushed_client as still_heard, pushed_server as still_told}
 use Rattle.ftp_pair_agreement.proofs.FetchEnds.{ends_fetching}
 use Rattle.ftp_pair_agreement.proofs.FetchRuns.{OnOrHalted, pushed_client, pushed_server, serving_first}
 use Rattle.ftp_pair_agreement.proofs.FetchServed.{leads_still}
 use Rattle.ftp_pair_agreement.proofs.Still.{IsSeen, IsStill, near_wants, seen, seen_placed}
 use Rattle.ftp_pair_data.specs.Honest.{is_unaborted}
-use Rattle.ftp_pair_data.proofs.Known.{aside_still, beside, is_carrying, one_way, stage_known as falling_known}
+use Rattle.ftp_pair_data.proofs.Known.{aside_still, beside, one_way}
 use Rattle.ftp_pair_data.proofs.Running.{free_still, not_halting, not_lost, under_still}
 use Rattle.ftp_pair_data.proofs.Served.{Runs}
 use Rattle.ftp_pair_transfers.specs.Deeds.{begun_at, last_of, number_in}
-use Rattle.ftp_pair_transfers.proofs.Known.{AreCarried, Known, aside_rests, calm_known, gives_none, is_calm, is_ready, last_carried, none_asked, stage_known}
+use Rattle.ftp_pair_transfers.proofs.Known.{AreCarried, Known, aside_rests, calm_known, gives_none, is_calm, is_placed, is_ready, last_carried, stage_known}
 
 -- ---- where neither end wants anything of a data connection
 
@@ -51,15 +54,23 @@ still_known At w s none still =
     far : is_transferring w.far.session.connection ≡ false
     far = aside_still w.far.session.connection still.far.aside
 
--- one that takes octets of an upload is at a transfer
-upload_carries : (link : ServerLink Transfer) → is_upload link ≡ true → is_carrying link ≡ true
-upload_carries (FarData.Transferring transfer) e = refl
-upload_carries FarData.Free e = absurd (true≢false (sym e))
-upload_carries (FarData.Asked verb) e = absurd (true≢false (sym e))
-upload_carries (FarData.Active endpoint) e = absurd (true≢false (sym e))
-upload_carries FarData.Passive e = absurd (true≢false (sym e))
-upload_carries FarData.Ready e = absurd (true≢false (sym e))
-upload_carries (FarData.Opening transfer way) e = absurd (true≢false (sym e))
+-- none are taken behind an opening
+early_takes : (host : Host) (early : Early) → is_upload (early_far host early) ≡ false
+early_takes host (Dialled true) = refl
+early_takes host (Dialled false) = refl
+early_takes host (Ported port) = refl
+
+-- nor in a download
+carry_takes : (listed : Bool) (course : Course) → is_upload (far_link (gives_on listed course) (tie_of course)) ≡ false
+carry_takes listed (Giving begun octet more) = gives_none listed (octet ∷ more)
+carry_takes listed (Given heard true) = refl
+carry_takes listed (Given heard false) = refl
+carry_takes listed (Ended begun clean) = refl
+carry_takes listed (Severed begun) = refl
+carry_takes listed (Refusing why Unclosed) = refl
+carry_takes listed (Refusing why Closed) = refl
+carry_takes listed (Refusing why (Lost clean)) = refl
+carry_takes listed Unopened = refl
 
 -- ---- at a stage
 
@@ -135,12 +146,50 @@ module _ (read : Reading) (state : State) (ask : Ask) (good : IsAsk ask) (own : 
       by_here (inr (Carries c, h)) = none (ap (λ (n : Near). n.closing) h.near)
       by_here (inr (stage, h)) = falling_at ∙ h.to_client
 
+  -- where the server takes octets of an upload one was asked for
+  stage_rises : (w : World) → PlacedAt At w → is_upload w.far.session.connection ≡ true → (rise : Rise) × (ask.sends ≡ Up rise)
+  stage_rises w s takes = by_here s.here
+    where
+      of : IsSeen s.base w
+      of = seen_placed At w s
+
+      never : (link : ServerLink Transfer) (closing : Bool) (pending : Pending Names) → s.base.far.session ≡ linked link closing pending s.base.far.session
+          → is_upload link ≡ false → (rise : Rise) × (ask.sends ≡ Up rise)
+      never link closing pending is none = absurd (true≢false (sym takes ∙ ap (λ (t : Session). is_upload t.connection) (of.session ∙ is) ∙ none))
+
+      by_leaving : (said : Said) (leaves : Leaving) → Holds state ask own (Answers said leaves) s.way s.base → (rise : Rise) × (ask.sends ≡ Up rise)
+      by_leaving said (LeavesAside closes connection pending) h = never connection _ _ h.session (aside_rests connection h.fine.1).0
+      by_leaving said LinkOpen h = never _ _ _ h.session refl
+      by_leaving said LinkLeft h = never _ _ _ h.session refl
+      by_leaving said LinkParting h = never _ _ _ h.session refl
+
+      by_here : At s.way s.base → (rise : Rise) × (ask.sends ≡ Up rise)
+      by_here (inl l) =
+          absurd (true≢false (sym takes
+          ∙ (aside_rests w.far.session.connection (leads_still read state ask good.plan own s.base w s.way of l).0.far.aside).0))
+      by_here (inr (PortAsked closing, h)) = never _ _ _ h.session refl
+      by_here (inr (PortTold port, h)) = never _ _ _ h.session refl
+      by_here (inr (Dials port, h)) = never _ _ _ h.session refl
+      by_here (inr (PortWanted connection pending, h)) = never connection _ _ h.session (aside_rests connection h.fine).0
+      by_here (inr (PortSaid port connection pending, h)) = never connection _ _ h.session (aside_rests connection h.fine.0).0
+      by_here (inr (PortTaken port closing, h)) = never _ _ _ h.session refl
+      by_here (inr (PortDenied port connection, h)) = never connection _ _ h.session (aside_rests connection h.fine.0).0
+      by_here (inr (Restarts at restart early, h)) = never _ _ _ h.session (early_takes s.base.near.here early)
+      by_here (inr (Retrieves early, h)) = never _ _ _ h.session (early_takes s.base.near.here early)
+      by_here (inr (Awaits port begun, h)) = never _ _ _ h.session refl
+      by_here (inr (Unaccepted port, h)) = never _ _ _ h.session refl
+      by_here (inr (Dismissed port why, h)) = never _ _ _ h.session refl
+      by_here (inr (Carries c, h)) = never _ _ _ h.session (carry_takes ask.listed c.course)
+      by_here (inr (Rises rise lift, h)) = (rise, h.ready.2.sends_is)
+      by_here (inr (Tells rise said after, h)) = (rise, h.fine.2)
+      by_here (inr (Answers said leaves, h)) = by_leaving said leaves h
+
 -- ---- in a world
 
 module _ (read : Reading) (reads : IsReading read) (from : State) (begun : List Order) (puts : AreCarried begun) where
   -- of what is under way
-  pub unplaced : (w : World) (f : IsFetching read from begun w) → f.ask.offset ≡ None
-  unplaced w f = none_asked f.ask f.is_ask (last_carried f.done _ begun f.begun_is puts).0
+  placed_at : (w : World) (f : IsFetching read from begun w) → IsPlacedAt f.ask.settings f.ask.offset
+  placed_at w f = is_placed f.ask f.is_ask (last_carried f.done _ begun f.begun_is puts).0
 
   -- the client alone has closed it
   pub not_trailing : (w : World) → (is_closed_by_near w.link ≡ true → is_ready w.far.session.connection ≡ false) → IsTrailing from begun w → ⊥
@@ -169,7 +218,7 @@ module _ (read : Reading) (reads : IsReading read) (from : State) (begun : List 
       by (inl (inl follows)) = by_phase follows follows.phase
       by (inl (inr (inl on))) =
           let f = on.fetching in
-          stage_known read f.now f.ask f.is_ask (unplaced w f) f.own w f.stands on.lasts
+          stage_known read reads f.now f.ask f.is_ask f.sound (placed_at w f) f.own w f.stands on.lasts
       by (inl (inr (inr (inl trailing)))) = absurd (not_trailing w unready trailing)
       by (inl (inr (inr (inr halting)))) = absurd (not_halting read from begun _ _ _ w halting.halting.stands unaborted)
       by (inr (inl trying)) = absurd (last_carried trying.going.done _ begun trying.going.begun_is puts)
@@ -310,20 +359,16 @@ module _ (read : Reading) (reads : IsReading read) (from : State) (moments : ℕ
           stage_timed read f.now f.ask f.is_ask f.own w f.stands rise sends f.moment f.timely
           ∙ sym (moment_end f.done f.ask.op f.moment 0) ∙ ap (λ l. moment_last l 0) (sym f.begun_is) ∙ begun_last moments deeds
 
-      -- a download has no such server
-      by_on : (on : IsFetchingOn read from begun w) (sends : Direction) → on.fetching.ask.sends ≡ sends → w.far.footing.moment ≡ last_of moments
-          (number_in deeds)
-      by_on on (Up rise) is = by_fetching on.fetching rise is
-      by_on on Down is =
+      -- it is an upload that is under way
+      by_on : IsFetchingOn read from begun w → w.far.footing.moment ≡ last_of moments (number_in deeds)
+      by_on on =
           let f = on.fetching in
-          let known = falling_known read f.now f.ask f.is_ask (record { offset = unplaced read reads from begun puts w f; sends = is }) f.own w f.stands
-          on.lasts in
-          let carries = known.carries (upload_carries w.far.session.connection takes) in
-          absurd (true≢false (sym takes ∙ ap is_upload carries.far ∙ gives_none carries.listed (carries.octet ∷ carries.more)))
+          let rises = stage_rises read f.now f.ask f.is_ask f.own w f.stands takes in
+          by_fetching f rises.0 rises.1
 
       by : OverRuns read from begun w → w.far.footing.moment ≡ last_of moments (number_in deeds)
       by (inl (inl f)) = by_phase f.phase
-      by (inl (inr (inl on))) = by_on on on.fetching.ask.sends refl
+      by (inl (inr (inl on))) = by_on on
       by (inl (inr (inr (inl trailing)))) = absurd (not_trailing read reads from begun puts w unready trailing)
       by (inl (inr (inr (inr halting)))) = absurd (not_halting read from begun _ _ _ w halting.halting.stands unaborted)
       by (inr (inl trying)) = absurd (last_carried trying.going.done _ begun trying.going.begun_is puts)
