@@ -6,7 +6,7 @@ use Rattle.ftp_endpoint.specs.declared.host.Host.{Host}
 use Rattle.ftp_ends.specs.Link.{is_accepting, same_host}
 use Rattle.ftp_ends.specs.declared.link.Wants.{Wants}
 use Rattle.ftp_ends.specs.declared.link.Wants.TheVariants as Want
-use Rattle.ftp_control.specs.Asking.{Asked, Came, Ended as EndedBy, Shut}
+use Rattle.ftp_control.specs.Asking.{Asked, Came, Ended as EndedBy, Reset, Shut}
 use Rattle.ftp_control.specs.Deeds.{Calls, ReadsNext, Stand}
 use Rattle.ftp_control.specs.Lane.{IsEnded, IsOpened, Lane}
 use Rattle.ftp_control.specs.Machine.{Aside, Closed, Got, Left, LetGo, Listening, MayLeave, Opened, Waited, Wrote, leaves}
@@ -24,8 +24,8 @@ use Rattle.ftp_server_model.specs.declared.session.ServerLink.TheVariants as Dat
 use Rattle.ftp_pair_world.specs.World.{World, next_listen, port_at}
 use Rattle.ftp_pair_agreement.proofs.Chunks.{both_empty}
 use Rattle.ftp_pair_drives.specs.Alone.{ServerIsCalm}
-use Rattle.ftp_pair_drives.specs.Between.{Awaits, Between, Can, Far as TheServer, Has, Has_ended, Hold, IsOver}
-use Rattle.ftp_pair_drives.specs.Touches.{Accepts, Ends, Listens as ListensAt, Takes as TakesOctets, Writes as WritesOctets}
+use Rattle.ftp_pair_drives.specs.Between.{Awaits, Between, Can, Far as TheServer, Has, Has_ended, Has_lost, Hold, IsOver, IsStanding, with_hold}
+use Rattle.ftp_pair_drives.specs.Touches.{Accepts, Ends, Listens as ListensAt, Resets, Takes as TakesOctets, Writes as WritesOctets}
 use Rattle.ftp_pair_drives.proofs.Worlds.{leads_none}
 use Rattle.ftp_pair_data.specs.Ahead.{Ahead, Fits, Level, Listened, Listens, Opens, accepts, ahead_of, far_ahead, is_asked, is_open}
 use Rattle.ftp_pair_data.proofs.Ahead.{far_is, keeps, listened_level, opened_level}
@@ -481,29 +481,29 @@ module _ (read : Reading) (old new : Stand server_side) (client : Stand client_s
             | inr other ↦ true≢false (ap is_shut other)
           ]
 
-  -- by an end
-  pub server_ends : (left written : Option (List ℕ)) (moment : ℕ) (ahead : Ahead) (between next : Between) (told : ℕ)
-      → Together moment ahead between told old client reports w → Calls {side = server_side} (Left (EndedBy left written)) old new
-      → Can TheServer Ends between next → Goes read [] next told new client reports w
-  server_ends left written moment ahead between next told t did can =
+  -- one that has written all leaves by an end or by a reset
+  leaves_so : (asked : Asked) (hold : Hold) (moment : ℕ) (ahead : Ahead) (between next : Between) (told : ℕ)
+      → Together moment ahead between told old client reports w → Calls {side = server_side} (Left asked) old new → next ≡ with_hold TheServer hold between
+      → is_called hold ≡ false → is_called between.far ≡ false → old.owner.lane.unwritten ≡ [] → Goes read [] next told new client reports w
+  leaves_so asked hold moment ahead between next told t did can apart uncalled none =
       let lane = did.0.1 in
       let is : u ≡ v = ap (λ at. at.server.view) did.0.0 in
       let session : u.session ≡ v.session = ap (λ (f : Far). f.session) is in
-      let hold : next.far ≡ Has_ended = ap (λ (m : Between). m.far) can.1 in
-      let none_open : is_open v.session.connection ≡ false = left_shut (EndedBy left written) moment ahead between told t did in
+      let has : next.far ≡ hold = ap (λ (m : Between). m.far) can in
+      let none_open : is_open v.session.connection ≡ false = left_shut asked moment ahead between told t did in
       let empty : old.owner.lane.untold ≡ [] = none_there moment ahead between told t (shut_untaken v.session.connection none_open) in
       server_stays moment ahead ahead between next told told t (subst (λ (s : Session). Fits ahead s.connection) (sym session) t.beside.fits)
       (ap (λ f. clock_step moment (far_ahead ahead f)) (sym is)) (λ l. l)
-      (ap₂ (λ (s : Stand server_side) (m : Between). s.unheard ++ m.control.to_server) (sym did.1) (sym can.1))
-      (ap (λ (m : Between). m.control.to_client) can.1)
-      (ap₂ (λ o (m : Between). o ++ (m.data_ways.to_server ++ client.owner.lane.unwritten)) (empty ∙ sym lane.untold) (sym can.1))
-      (ap₂ (λ o (m : Between). client.owner.lane.untold ++ (m.data_ways.to_client ++ o)) (did.0.2.1.0 ∙ sym lane.unwritten) (sym can.1))
-      (ap (λ (m : Between). m.near) can.1)
+      (ap₂ (λ (s : Stand server_side) (m : Between). s.unheard ++ m.control.to_server) (sym did.1) (sym can))
+      (ap (λ (m : Between). m.control.to_client) can)
+      (ap₂ (λ o (m : Between). o ++ (m.data_ways.to_server ++ client.owner.lane.unwritten)) (empty ∙ sym lane.untold) (sym can))
+      (ap₂ (λ o (m : Between). client.owner.lane.untold ++ (m.data_ways.to_client ++ o)) (none ∙ sym lane.unwritten) (sym can))
+      (ap (λ (m : Between). m.near) can)
       (record {
         shut = λ e. ap (λ (s : Session). is_open s.connection) session ∙ none_open;
         had = λ e. absurd (both e (ap (λ (s : Session). is_open s.connection) session ∙ none_open));
-        called = λ c e. absurd (both c (ap is_called hold));
-        opened = λ e. absurd (both (t.holds.opened e) (ap is_called can.0));
+        called = λ c e. absurd (both c (ap is_called has ∙ apart));
+        opened = λ e. absurd (both (t.holds.opened e) uncalled);
       })
       (record {
         bare = λ e. lane.untold;
@@ -512,3 +512,20 @@ module _ (read : Reading) (old new : Stand server_side) (client : Stand client_s
         shut = λ e. ap (λ (s : Session). is_open s.connection) session ∙ none_open;
       })
       (record { spare = λ e. lane.unwritten; bare = λ e. lane.unwritten })
+
+  pub server_ends : (left written : Option (List ℕ)) (moment : ℕ) (ahead : Ahead) (between next : Between) (told : ℕ)
+      → Together moment ahead between told old client reports w → Calls {side = server_side} (Left (EndedBy left written)) old new
+      → Can TheServer Ends between next → Goes read [] next told new client reports w
+  server_ends left written moment ahead between next told t did can =
+      leaves_so (EndedBy left written) Has_ended moment ahead between next told t did can.1 refl (ap is_called can.0) did.0.2.1.0
+
+  pub server_resets : (left written : Option (List ℕ)) (moment : ℕ) (ahead : Ahead) (between next : Between) (told : ℕ)
+      → Together moment ahead between told old client reports w → Calls {side = server_side} (Left (Reset left written)) old new
+      → Can TheServer Resets between next → old.owner.lane.unwritten ≡ [] → Goes read [] next told new client reports w
+  server_resets left written moment ahead between next told t did can none =
+      leaves_so (Reset left written) Has_lost moment ahead between next told t did can.1 refl (standing between.far can.0) none
+    where
+      standing : (hold : Hold) → IsStanding hold → is_called hold ≡ false
+      standing Has is = refl
+      standing Has_lost is = refl
+      standing hold is = absurd is

@@ -1,6 +1,6 @@
 -- Two drives that put and fetch files, as a list of a world's events: deed by deed.
 use Rattle.std.proofs.Common.{◌≡◌, ℕ, Bool, true, false, true≢false, List, [], ◌∷◌, ◌++◌, take, Option, Some, None, option_to_list, refl, sym, ap, ap₂, subst, ◌∙◌, append-nil}
-use Rattle.ftp_control.specs.Asking.{Came, Connected, Ended as EndedBy, Shut}
+use Rattle.ftp_control.specs.Asking.{Came, Connected, Ended as EndedBy, Reset, Shut}
 use Rattle.ftp_control.specs.Deeds.{Deed, Done, Heard, Led, Other, Read, Said as Says, Stand}
 use Rattle.ftp_control.specs.Machine.{Aside, Closed, End, Gave, Got, Left, LetGo, Listening, Opened, Received, Waited, Wrote}
 use Rattle.ftp_client_drive.specs.Side.{Reporting, Starting, client_side}
@@ -51,7 +51,7 @@ use Rattle.ftp_pair_transfers.proofs.Known.{AreCarried, Known}
 use Rattle.ftp_pair_transfers.proofs.Running.{hears_serving, world_known, world_timed}
 use Rattle.ftp_pair_transfers.proofs.ServerGiving.{server_gave}
 use Rattle.ftp_pair_transfers.proofs.ServerMoves.{server_heard, server_said}
-use Rattle.ftp_pair_transfers.proofs.ServerStays.{server_accepts, server_aside, server_closed, server_ends, server_got, server_lets, server_listens, server_read, server_shuts, server_waited, server_wrote}
+use Rattle.ftp_pair_transfers.proofs.ServerStays.{server_accepts, server_aside, server_closed, server_ends, server_got, server_lets, server_listens, server_read, server_resets, server_shuts, server_waited, server_wrote}
 use Rattle.ftp_pair_transfers.proofs.ServerTaking.{server_received, server_told_end}
 
 -- the ports of the deeds before one are those of a world too
@@ -229,6 +229,11 @@ module _ (read : Reading) (reads : IsReading read) (moments : ℕ → ℕ) (time
     server_ends read old new client reports o.world is.1 o.serves (known deeds p (listened_in before) old client reports o puts) left written o.last o.ahead
         p q (listened_in before) o.together did can,
     deed_serves (Other (Left (EndedBy left written))) tt old new (tt, is.1) did o.serves,
+  )
+  server_goes (Other (Left (Reset left written))) old new is deeds puts before ports p q can client reports o did told = (
+    server_resets read old new client reports o.world is.1 o.serves (known deeds p (listened_in before) old client reports o puts) left written o.last o.ahead
+        p q (listened_in before) o.together did can is.0,
+    deed_serves (Other (Left (Reset left written))) tt old new is did o.serves,
   )
   server_goes (Other (Left Shut)) old new is deeds puts before ports p q can client reports o did told = (
     subst (λ (m : Between). Goes read [] m (listened_in before) new client reports o.world) (sym can)

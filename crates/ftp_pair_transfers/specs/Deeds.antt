@@ -2,7 +2,7 @@
 -- listens for, and the moments that the server is told as octets that were put end (RFC 959, sections 3.2 and 4.1.3).
 use Rattle.std.specs.Prelude.{◌≡◌, ⊤, ℕ, zero, suc, ◌≤◌, false, true, List, [], ◌∷◌, ◌++◌, None}
 use Rattle.ftp_direct.specs.Direct.{offset_refusal}
-use Rattle.ftp_control.specs.Asking.{Came, Connected, Ended as EndedBy, Shut}
+use Rattle.ftp_control.specs.Asking.{Came, Connected, Ended as EndedBy, Reset, Shut}
 use Rattle.ftp_control.specs.Deeds.{Deed, Done, Heard, Said as Says, Read, Other, Stand, Led}
 use Rattle.ftp_control.specs.Machine.{Held, Aside, Closed, End, Gave, Got, Left, LetGo, Listening, Opened, Received, Waited, Wrote}
 use Rattle.ftp_client_drive.specs.Side.{Reporting, Starting, client_side}
@@ -20,7 +20,7 @@ use Rattle.ftp_pair_downloads.specs.Deeds.{Along, IsPeer, is_dialling}
 -- ---- the server
 
 -- it hears and says; it listens at its ports, accepts its peer there, gives and writes octets, takes octets to the end that it is told, and leaves its data
--- connections by an end: nothing of one fails
+-- connections: none is reset while octets are unwritten, and nothing of one fails
 abbrev pub IsServing : Deed server_side → Held Timed → Type 0
 IsServing (Heard octets) at = ⊤
 IsServing (Says octets) at = ⊤
@@ -36,6 +36,7 @@ IsServing (Other (Wrote octets)) at = ⊤
 IsServing (Other (Waited lost)) at = ⊤
 IsServing (Other (LetGo octets)) at = ⊤
 IsServing (Other (Left (EndedBy left written))) at = ⊤
+IsServing (Other (Left (Reset left written))) at = at.lane.unwritten ≡ []
 IsServing (Other (Left Shut)) at = ⊤
 IsServing (Other Closed) at = ⊤
 IsServing deed at = ⊥
