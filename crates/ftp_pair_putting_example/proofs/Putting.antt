@@ -1,5 +1,5 @@
 -- Deeds of two drives that put a file, one after another, each of which can be done.
-use Rattle.std.proofs.Common.{◌≡◌, inl, ℕ, ◌<◌, Bool, true, false, true≢false, not, ◌&&◌, List, [], ◌∷◌, ◌++◌, length, take, drop, None, refl, sym, ap, subst, ◌∙◌, append-nil, arith}
+use Rattle.std.proofs.Common.{◌≡◌, inl, ℕ, ◌<◌, Bool, true, false, true≢false, ◌&&◌, List, [], ◌∷◌, ◌++◌, length, take, drop, None, refl, sym, ap, subst, ◌∙◌, append-nil, arith}
 use Rattle.ftp_control.specs.Deeds.{Deed, Done, Heard, HearsNext, Led, Other, Read, ReadsNext, Said as Says, Says as SaysNext, Stand}
 use Rattle.ftp_control.specs.Lane.{Lane}
 use Rattle.ftp_control.specs.Machine.{Aside, End, seen}
@@ -191,15 +191,10 @@ other_is : (a b : Bool) → (a && b) ≡ true → b ≡ true
 other_is true b e = e
 other_is false b e = absurd (true≢false (sym e))
 
--- what is not so is false
-not_is : (b : Bool) → not b ≡ true → b ≡ false
-not_is true e = absurd (true≢false (sym e))
-not_is false e = refl
-
--- it may hear octets, and wants to send none and to close nothing before each
+-- it may hear octets, and wants to send none before each
 unfoldable pub can_take : Near → List ℕ → Bool
 can_take n [] = true
-can_take n (octet ∷ octets) = not n.closing && (near.may_hear n && (takes_only (near.wants n) && can_take (near.hears_octet n octet) octets))
+can_take n (octet ∷ octets) = near.may_hear n && (takes_only (near.wants n) && can_take (near.hears_octet n octet) octets)
 
 -- all of them are the first of so many
 take_all : (octets : List ℕ) → octets ≡ take (length octets) octets
@@ -250,10 +245,9 @@ module _ (moments : ℕ → ℕ) (start : Stand server_side) (begun : Stand clie
   near_hears up down server lane [] n can p = p
   near_hears up down server lane (octet ∷ octets) n can p =
       let next : Near = near.hears_octet n octet in
-      let can_hear = other_is (not n.closing) _ can in
-      let more = other_is (near.may_hear n) _ can_hear in
+      let more = other_is (near.may_hear n) _ can in
       let may : (k : ℕ) → k < 1 → near.may_hear (near.hears n (take k (octet ∷ octets))) ≡ true =
-      λ k less. subst (λ i. near.may_hear (near.hears n (take i (octet ∷ octets))) ≡ true) (zero_below k less) (first_is (near.may_hear n) _ can_hear) in
+      λ k less. subst (λ i. near.may_hear (near.hears n (take i (octet ∷ octets))) ≡ true) (zero_below k less) (first_is (near.may_hear n) _ can) in
       let hears : HearsNext (octet ∷ []) (near_in lane n (octet ∷ octets)) (near_in lane next octets) = record {
         hears = (
           (((λ calm. (refl, may)), (λ moved. absurd (moved refl))), inl refl),
@@ -266,7 +260,7 @@ module _ (moments : ℕ → ℕ) (start : Stand server_side) (begun : Stand clie
       } in
       near_hears up down server lane octets next (other_is (takes_only (near.wants n)) _ more)
       (near_turn moments start begun op (Heard (octet ∷ [])) tt listened (lies up down go near_hold far_hold) (lies up down go near_hold far_hold)
-      server (near_in lane n (octet ∷ octets)) (near_in lane next octets) (not_is n.closing (first_is (not n.closing) _ can), refl) hears refl p)
+      server (near_in lane n (octet ∷ octets)) (near_in lane next octets) (tt, refl) hears refl p)
     where
       zero_below : (k : ℕ) → k < 1 → 0 ≡ k
       zero_below k less = omega (arith, less)

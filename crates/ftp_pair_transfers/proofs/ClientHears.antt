@@ -1,7 +1,7 @@
 -- A client that puts files hears octets, as an event of a world.
-use Rattle.std.proofs.Common.{◌≡◌, ℕ, ◌<◌, ◌≤◌, true, false, true≢false, List, [], ◌∷◌, ◌++◌, length, take, drop, option_to_list, refl, sym, ap, ap₂, subst, ◌∙◌, append_assoc, append-nil, arith, length-append}
+use Rattle.std.proofs.Common.{◌≡◌, ℕ, ◌<◌, ◌≤◌, Bool, true, false, true≢false, List, [], ◌∷◌, ◌++◌, length, take, drop, option_to_list, refl, sym, ap, ap₂, subst, ◌∙◌, append_assoc, append-nil, arith, length-append}
 use Rattle.std.proofs.lemmas.List.{take-append-le}
-use Rattle.ftp_control.specs.Deeds.{Heard, HearsNext, Stand}
+use Rattle.ftp_control.specs.Deeds.{HearsNext, Stand}
 use Rattle.ftp_control.specs.Lane.{Lane}
 use Rattle.ftp_client_drive.specs.Side.{client_side}
 use Rattle.ftp_client_model.specs.Calls as near
@@ -30,7 +30,7 @@ use Rattle.ftp_pair_downloads.proofs.ClientMoves.{is_unaborted_same}
 use Rattle.ftp_pair_downloads.proofs.NearForms.{wants_rest}
 use Rattle.ftp_pair_downloads.proofs.Plain.{IsPlainly, plain_unaborted}
 use Rattle.ftp_pair_downloads.proofs.Stands.{ClientFetches, ServerServes, has_port}
-use Rattle.ftp_pair_transfers.specs.Deeds.{IsAsking}
+use Rattle.ftp_pair_transfers.proofs.Blind.{hears_blind}
 use Rattle.ftp_pair_transfers.proofs.Beside.{Goes, Keeping, Together, Writes, rested}
 use Rattle.ftp_pair_transfers.proofs.ClientStays.{client_keeps}
 use Rattle.ftp_pair_transfers.proofs.Known.{AreCarried, Known, is_near_held, is_ready}
@@ -76,7 +76,7 @@ module _ (read : Reading) (server : Stand server_side) (old new : Stand client_s
 
   module _ (reads : IsReading read) (from : State) (begun : List Order) (puts : AreCarried begun) (runs : OverRuns read from begun w) (octet : ℕ)
       (octets : List ℕ) (moment : ℕ) (ahead : Ahead) (between : Between) (told : ℕ) (t : Together moment ahead between told server old reports w)
-      (did : HearsNext (octet ∷ octets) old new) (open_now : old.owner.end.view.closing ≡ false) where
+      (did : HearsNext (octet ∷ octets) old new) where
     abbrev all : List ℕ
     all = octet ∷ octets
 
@@ -89,8 +89,8 @@ module _ (read : Reading) (server : Stand server_side) (old new : Stand client_s
     queue : w.control_to_client ≡ all ++ rest
     queue = t.beside.to_client ∙ ap (λ a. a ++ between.control.to_client) did.next ∙ append_assoc all new.unheard between.control.to_client
 
-    near_is : w.near ≡ taken v
-    near_is = t.beside.near ∙ unclosed (taken v) open_now
+    near_is : w.near ≡ data_closed (taken v)
+    near_is = t.beside.near
 
     is : u ≡ near.hears v all
     is = heard_is all did
@@ -98,12 +98,13 @@ module _ (read : Reading) (server : Stand server_side) (old new : Stand client_s
     same : HearsAlike all v
     same = hears_alike all v
 
-    heard : near.hears w.near all ≡ near.hears (taken v) all
-    heard = ap (λ n. near.hears n all) near_is
+    -- it heard the same, but for a close that is wanted
+    heard : (octets : List ℕ) → data_closed (near.hears w.near octets) ≡ data_closed (near.hears (taken v) octets)
+    heard octets = ap (λ n. data_closed (near.hears n octets)) near_is ∙ hears_blind octets (taken v)
 
-    -- its report aside it heard the same
-    taken_is : taken (near.hears w.near all) ≡ taken u
-    taken_is = ap taken heard ∙ same.view ∙ ap taken (sym is)
+    -- and for its report
+    taken_is : data_closed (taken (near.hears w.near all)) ≡ data_closed (taken u)
+    taken_is = ap taken (heard all) ∙ ap data_closed (same.view ∙ ap taken (sym is))
 
     first : take (length all) w.control_to_client ≡ all
     first = ap (take (length all)) queue ∙ take_front all rest
@@ -119,8 +120,9 @@ module _ (read : Reading) (server : Stand server_side) (old new : Stand client_s
 
     may : (k : ℕ) → k < length all → near.may_hear (near.hears w.near (take k w.control_to_client)) ≡ true
     may k less =
-        ap₂ (λ n q. near.may_hear (near.hears n (take k q))) near_is t.beside.to_client
-        ∙ ap (λ q. near.may_hear (near.hears (taken v) q)) (take-append-le k old.unheard between.control.to_client (enough k less))
+        ap (λ q. near.may_hear (near.hears w.near (take k q))) t.beside.to_client
+        ∙ ap (λ q. near.may_hear (near.hears w.near q)) (take-append-le k old.unheard between.control.to_client (enough k less))
+        ∙ ap near.may_hear (heard (take k old.unheard))
         ∙ (hears_alike (take k old.unheard) v).may ∙ (did.hears.0.0.0 calm).1 k less
 
     unaborted : is_unaborted w.near.job ≡ true
@@ -164,9 +166,16 @@ module _ (read : Reading) (server : Stand server_side) (old new : Stand client_s
     keeping : Keeping between.near u new.owner.lane (settled now)
     keeping = record {
       had = λ e. t.keeping.had (s.held e);
-      shut = λ e. s.closed (ap (λ (n : Near). n.closing) taken_is ∙ e);
+      shut = λ e. by_close v.closing refl e;
       over = λ e. is_false (is_near_held (settled now).link) (λ o. true≢false (sym (s.held o) ∙ heard_over all did t.keeping.over e));
     }
+      where
+        -- it was to close before, and held no link, or it is to close since
+        by_close : (closing : Bool) → v.closing ≡ closing → u.closing ≡ true → is_near_held (settled now).link ≡ false
+        by_close true was e = is_false (is_near_held (settled now).link) (λ o. true≢false (sym (s.held o) ∙ t.keeping.shut was))
+        by_close false was e =
+            let same_near : w.near ≡ taken v = near_is ∙ unclosed (taken v) was in
+            s.closed (ap (λ n. (taken (near.hears n all)).closing) same_near ∙ ap (λ (n : Near). n.closing) (same.view ∙ ap taken (sym is)) ∙ e)
 
     client_hears : Went between told
     client_hears =
@@ -179,7 +188,7 @@ module _ (read : Reading) (server : Stand server_side) (old new : Stand client_s
             together = record {
               beside = record {
                 fits = b.fits;
-                near = s.near ∙ ap data_closed taken_is;
+                near = s.near ∙ taken_is;
                 far = s.far ∙ b.far;
                 to_server = s.same.to_server ∙ b.to_server;
                 to_client = s.same.to_client;
@@ -187,7 +196,7 @@ module _ (read : Reading) (server : Stand server_side) (old new : Stand client_s
                 falling = s.same.falling ∙ b.falling
                     ∙ ap (λ (l : Lane). l.untold ++ (between.data_ways.to_client ++ server.owner.lane.unwritten)) (sym did.hears.1);
                 listens = subst (Listened ahead told) (sym s.same.listens) b.listens;
-                reported = s.reports ∙ ap₂ (λ r n. r ++ option_to_list (report_of n)) b.reported heard
+                reported = s.reports ∙ ap₂ (λ r n. r ++ option_to_list (report_of n)) b.reported (heard all)
                     ∙ append_assoc reports (option_to_list (report_of v)) (option_to_list (report_of (near.hears (taken v) all)))
                     ∙ ap (λ l. reports ++ l) same.report ∙ ap (λ n. reports ++ option_to_list (report_of n)) (sym is)
                     ∙ ap (λ r. r ++ option_to_list (report_of u)) (sym (append-nil reports));
@@ -209,9 +218,9 @@ module _ (read : Reading) (server : Stand server_side) (old new : Stand client_s
 
   -- none or some
   pub client_heard : (reads : IsReading read) (from : State) (begun : List Order) → AreCarried begun → OverRuns read from begun w
-      → (octets : List ℕ) → IsAsking (Heard octets) old.owner → (moment : ℕ) (ahead : Ahead) (between : Between) (told : ℕ)
+      → (octets : List ℕ) → (moment : ℕ) (ahead : Ahead) (between : Between) (told : ℕ)
       → Together moment ahead between told server old reports w → HearsNext octets old new → Went between told
-  client_heard reads from begun puts runs [] may moment ahead between told t did = (
+  client_heard reads from begun puts runs [] moment ahead between told t did = (
     client_keeps read server old new reports w calm known moment ahead between between told t (heard_is [] did) refl
         (ap (λ a. a ++ between.control.to_client) did.next)
         (ap (λ (l : Lane). server.owner.lane.untold ++ (between.data_ways.to_server ++ l.unwritten)) (sym did.hears.1))
@@ -219,5 +228,5 @@ module _ (read : Reading) (server : Stand server_side) (old new : Stand client_s
         (heard_takes [] did t.takes) (heard_gives [] between.near did t.gives) t.keeping.had (heard_over [] did t.keeping.over),
     ap (λ (n : Near). is_sound_at n.standing) (heard_is [] did) ∙ before.sound,
   )
-  client_heard reads from begun puts runs (octet ∷ octets) may moment ahead between told t did =
-      client_hears reads from begun puts runs octet octets moment ahead between told t did may
+  client_heard reads from begun puts runs (octet ∷ octets) moment ahead between told t did =
+      client_hears reads from begun puts runs octet octets moment ahead between told t did

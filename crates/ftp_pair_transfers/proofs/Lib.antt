@@ -1,3 +1,4 @@
+pub mod Blind
 pub mod Granted
 pub mod Known
 pub mod Running

@@ -259,7 +259,7 @@ module _ (read : Reading) (reads : IsReading read) (moments : ℕ → ℕ) (time
       subst (λ (m : Between). Goes read [] m told server new (reports ++ []) o.world × (is_sound new.owner.end.view.standing ≡ true)) (sym can)
       (client_heard read server old new reports o.world is.1 o.serves (asks deeds p told server old reports o puts) plain
       (known deeds p told server old reports o puts) reads (state_of b) (begun_at moments deeds) puts
-      (runs deeds p told server old reports o puts) octets is.0 o.last o.ahead p told
+      (runs deeds p told server old reports o puts) octets o.last o.ahead p told
       o.together did)
   client_goes (Says octets) old new is deeds puts p q can told server reports o plain did = (
     client_said read server old new reports o.world is.1 o.serves (asks deeds p told server old reports o puts)

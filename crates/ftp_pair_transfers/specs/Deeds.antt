@@ -68,10 +68,9 @@ abbrev pub IsTransferred : Op (List ℕ) → Type 0
 IsTransferred op = IsCarried op × (is_dialling (how_of op) ≡ true)
 
 -- it begins such operations, once nothing is to be closed, and is asked for their reports; it dials, gives and writes octets, and takes octets to the end that
--- it is told; it leaves each data connection by an end, and hears no octet before that where it is to close one: nothing of one fails
+-- it is told; it leaves each data connection by an end: nothing of one fails
 abbrev pub IsAsking : Deed client_side → Held Client → Type 0
-IsAsking (Heard []) at = ⊤
-IsAsking (Heard (octet ∷ octets)) at = at.end.view.closing ≡ false
+IsAsking (Heard octets) at = ⊤
 IsAsking (Says octets) at = ⊤
 IsAsking (Read octets) at = ⊤
 IsAsking (Other (Aside (Reporting said))) at = ⊤
