@@ -19,7 +19,7 @@ use Rattle.ftp_tree.specs.Tree.{Table}
 use Rattle.ftp_pair_served.specs.Rooted.{server_but}
 
 -- a count that stays
-stays_counted : (counts : Counts) → CountsOn counts counts
+pub stays_counted : (counts : Counts) → CountsOn counts counts
 stays_counted counts = ((0, omega arith, refl), ((0, omega arith, refl), omega arith))
 
 -- with another map that has the same at the root, a view is the same at the root

@@ -2,6 +2,7 @@ pub mod Joining
 pub mod Seats
 pub mod Waiting
 pub mod Calling
+pub mod Receiving
 pub mod Seeing
 pub mod Rooted
 pub mod HomeTurns

@@ -1,5 +1,5 @@
 -- Each deed of a server, as one of a server of whose map the same stands at and below a root.
-use Rattle.std.proofs.Common.{◌≡◌, ◌≤◌, ℕ, Bool, true, false, List, [], ◌∷◌, length, None, refl, sym, ap, subst, ◌∙◌}
+use Rattle.std.proofs.Common.{◌≡◌, ◌≤◌, ℕ, Bool, true, false, List, [], ◌∷◌, length, take, None, refl, sym, ap, subst, ◌∙◌}
 use Rattle.std.specs.Prelude.{⊤}
 use Rattle.ftp_control.specs.Deeds.{Deed, Done, Ended, Heard, Led, Other, Read, Said, Stand}
 use Rattle.ftp_control.specs.Lane.{Lane}
@@ -25,6 +25,7 @@ use Rattle.ftp_pair_drives.proofs.Calm.{first_is_calm}
 use Rattle.ftp_pair_downloads.specs.Deeds.{Along}
 use Rattle.ftp_pair_served.specs.Rooted.{LogsInAt, StaysAt, server_but, stand_but}
 use Rattle.ftp_pair_served.proofs.Calling.{but_map, clock_but, hears_but, same_at, steps_but}
+use Rattle.ftp_pair_served.proofs.Receiving.{receives_but}
 use Rattle.ftp_pair_served.proofs.Waiting.{break_waits, end_waits, given_waits, no_port_waits, opened_waits, refused_waits}
 
 -- an end with this map and these counts
@@ -105,7 +106,7 @@ module _ (root : Names) (counts : Counts) (table : Table) (old new : Timed) (ali
         seated = both.seated;
       }
 
-  -- each of them but for octets of an upload
+  -- each of them
   does_but : (call : Call ⊤) (lane : Lane) → LogsInAt root (Other call) (held old lane) → Does server_machine call old new → BothDo (Does server_machine call)
   does_but (Aside own) lane logs does = still_but (Does server_machine (Aside own)) does.0 (ap (timed_but table counts) does.0, does.1)
   does_but (Listening port) lane logs does = alone_but (λ v w. ⊥) (listening_step port) (listening_at port root) (λ v. refl) does
@@ -113,7 +114,9 @@ module _ (root : Names) (counts : Counts) (table : Table) (old new : Timed) (ali
       let both = alone_but (λ v w. ⊥) (opened_step host) (opened_at host root) (opened_waits host) does.0 in
       record { map = both.map; does = (both.does, does.1); same = both.same; seated = both.seated }
   does_but (Refused asked) lane logs does = alone_but (λ v w. ⊥) refused_step (refused_step_at root) refused_waits does
-  does_but (Received octets count) lane logs does = absurd logs
+  does_but (Received octets count) lane logs does =
+      let both = receives_but root counts (take count octets) table old.server new.server alike seat none calm does.0 in
+      record { map = both.map; does = (both.calls, does.1); same = both.same; seated = both.seated }
   does_but (Gave count octets rest) lane logs does =
       let both = alone_but (GiveFails count) (given_step count) (given_at count root) (given_waits count) does.1 in
       record {

@@ -5,7 +5,7 @@ use Rattle.std.specs.List.{AllByRecursion}
 use Rattle.std.specs.declared.result.Result.{Result}
 use Rattle.std.specs.declared.result.Result.TheVariants.{Ok, Err}
 use Rattle.ftp_control.specs.Deeds.{Deed, Heard, Other, Stand, with_owner}
-use Rattle.ftp_control.specs.Machine.{Held, Left, Received, held}
+use Rattle.ftp_control.specs.Machine.{Held, Left, held}
 use Rattle.ftp_control.specs.declared.cause.Cause.{Cause}
 use Rattle.ftp_control_drive.specs.declared.drive.Turned.{Turned}
 use Rattle.ftp_control_drive.specs.declared.drive.Turned.TheVariants as Turns
@@ -29,11 +29,10 @@ use Rattle.ftp_pair_served.specs.Alone.{DrivesBy, FindWhatWasLeft, deeds_in, len
 
 -- ---- who stays there
 
--- Who logs in by a deed has this root, whatever stands elsewhere and whenever it is: only a line that is heard logs somebody in. No octets of an upload come
+-- who logs in by a deed has this root, whatever stands elsewhere and whenever it is: only a line that is heard logs somebody in
 abbrev pub LogsInAt : Names → Deed server_side → Held Timed → Type 0
 LogsInAt root (Heard octets) old =
     (read : Reading) → IsReading read → (table : Table) (moment : ℕ) → IsAt root (hears read (clock_step moment (exchanged table old.end.server.view)) octets)
-LogsInAt root (Other (Received octets count)) old = ⊥
 LogsInAt root deed old = ⊤
 
 -- so it is in a deed that leaves both counts, before which no line waits

@@ -26,6 +26,10 @@ use Rattle.ftp_pair_downloads.specs.Claims.{DidFetch}
 use Rattle.ftp_pair_downloads.specs.Deeds.{Along}
 use Rattle.ftp_pair_downloads.specs.Over.{AreOver as AreOverFetching}
 use Rattle.ftp_pair_quitting.specs.Quitting.{HaveQuit as HaveQuitFetching}
+use Rattle.ftp_pair_transfers.specs.Claims.{DidTransfer}
+use Rattle.ftp_pair_transfers.specs.Deeds.{AreMoments, begun_at}
+use Rattle.ftp_pair_transfers.specs.Over.{AreOver as AreOverTransferring, orders_at}
+use Rattle.ftp_pair_transfers.specs.Quitting.{HaveQuit as HaveQuitTransferring}
 use Rattle.ftp_pair_served.specs.Alone.{FindWhatWasLeft, IsOwnDrive, deeds_in, lent_first, part_at, whole}
 use Rattle.ftp_pair_served.specs.Rooted.{IsOwnDriveBut, StaysAt, TurnsStayAt}
 
@@ -51,70 +55,93 @@ module _ {X : Type 0} (part : Holding → X) where
       (tree : Holding) × (part tree ≡ part turn.left)
       × ((marks : List (List Mark)) × AreUnmarked marks × Agrees (state_of b) begun marks (cutoff marks) reports tree.table)
 
-  -- so it is of the deeds of both that were done so far, in this order
-  pub record AgreesAfter (b : Beginning) (moment : ℕ) (order : List Deed) (client : Stand client_side) (turn : Turn) : Type 0 where
-    pub standing : AgreesWith b (begun_in moment (client_deeds order)) (λ marks. None)
+  -- so it is of the deeds of both that were done so far, in this order, which began these operations
+  pub record AgreesAfter (b : Beginning) (begun : List Order) (order : List Deed) (client : Stand client_side) (turn : Turn) : Type 0 where
+    pub standing : AgreesWith b begun (λ marks. None)
         (reports_in (client_deeds order) ++ option_to_list (report_of client.owner.end.view)) turn
-    pub parting : AgreesWith b (begun_in moment (client_deeds order)) (λ marks. Some (length marks))
+    pub parting : AgreesWith b begun (λ marks. Some (length marks))
         (reports_in (client_deeds order) ++ option_to_list (report_of (control_end client.owner.end.view))) turn
 
-  -- of drives that fetch whole files and listings, after each turn
+  -- of drives that put and fetch files and listings, after each turn
+  abbrev pub TransfersAgree : Type 0
+  TransfersAgree =
+      (b : Beginning) → IsFair b → (moments : ℕ → ℕ) → AreMoments moments → (order : List Deed) (between : Between) (turn : Turn) (before : List Turn)
+      (there : Stand server_side) (client : Stand client_side) (did : DidTransfer b moments order between there client)
+      → IsServed turn before did.server_start there (server_deeds order) → AgreesAfter b (begun_at moments (client_deeds order)) order client turn
+
+  -- of drives that fetch whole files and listings alone
   abbrev pub FetchesAgree : Type 0
   FetchesAgree =
       (b : Beginning) → IsFair b → (moment : ℕ) → moment ≤ last_second → (order : List Deed) (between : Between) (turn : Turn) (before : List Turn)
       (there : Stand server_side) (client : Stand client_side) (did : DidFetch b order between there client)
-      → IsServed turn before did.server_start there (server_deeds order) → AgreesAfter b moment order client turn
+      → IsServed turn before did.server_start there (server_deeds order) → AgreesAfter b (begun_in moment (client_deeds order)) order client turn
 
   -- of drives that need no data connection
   abbrev pub AloneAgree : Type 0
   AloneAgree =
       (b : Beginning) → IsFair b → (moment : ℕ) → moment ≤ last_second → (order : List Deed) (between : Between) (turn : Turn) (before : List Turn)
       (there : Stand server_side) (client : Stand client_side) (did : Did b order between there client)
-      → IsServed turn before did.server_start there (server_deeds order) → AgreesAfter b moment order client turn
+      → IsServed turn before did.server_start there (server_deeds order) → AgreesAfter b (begun_in moment (client_deeds order)) order client turn
 
   -- ---- where it is over
 
   -- the answers that a client's drives gave are those of the operations run directly, which leave a map of which this is as the last turn gave it back
-  abbrev pub AreDirect : Beginning → (moment : ℕ) → List (Op (List ℕ) × Said) → Turn → Type 0
-  AreDirect b moment asked turn =
-      (tree : Holding) × (part tree ≡ part turn.left) × AreAnswers (state_of b) (orders_of moment asked) (answers_of asked) tree.table
+  abbrev pub AreDirect : Beginning → List Order → List (Op (List ℕ) × Said) → Turn → Type 0
+  AreDirect b orders asked turn = (tree : Holding) × (part tree ≡ part turn.left) × AreAnswers (state_of b) orders (answers_of asked) tree.table
 
-  -- so it is where it fetched whole files and listings, and the client left
+  -- so it is where it put and fetched files and listings, and the client left
+  abbrev pub TransfersAreDirect : Type 0
+  TransfersAreDirect =
+      (b : Beginning) → IsFair b → (moments : ℕ → ℕ) → AreMoments moments → (asked : List (Op (List ℕ) × Said)) (turn : Turn) (before : List Turn)
+      (there : Stand server_side) (over : AreOverTransferring b moments asked there)
+      → IsServed turn before over.server_start there (deeds_of_server over.drove) → AreDirect b (orders_at moments asked) asked turn
+
+  -- or QUIT was heard
+  abbrev pub TransfersThatQuitAreDirect : Type 0
+  TransfersThatQuitAreDirect =
+      (b : Beginning) → IsFair b → (moments : ℕ → ℕ) → AreMoments moments → (asked : List (Op (List ℕ) × Said)) (turn : Turn) (before : List Turn)
+      (there : Stand server_side) (over : HaveQuitTransferring b moments asked there)
+      → IsServed turn before over.server_start there (deeds_of_server over.drove) → AreDirect b (orders_at moments asked) asked turn
+
+  -- where it fetched whole files and listings alone, and the client left
   abbrev pub FetchesAreDirect : Type 0
   FetchesAreDirect =
       (b : Beginning) → IsFair b → (moment : ℕ) → moment ≤ last_second → (asked : List (Op (List ℕ) × Said)) (turn : Turn) (before : List Turn)
       (there : Stand server_side) (over : AreOverFetching b asked there) → IsServed turn before over.server_start there (deeds_of_server over.drove)
-      → AreDirect b moment asked turn
+      → AreDirect b (orders_of moment asked) asked turn
 
   -- or QUIT was heard
   abbrev pub FetchesThatQuitAreDirect : Type 0
   FetchesThatQuitAreDirect =
       (b : Beginning) → IsFair b → (moment : ℕ) → moment ≤ last_second → (asked : List (Op (List ℕ) × Said)) (turn : Turn) (before : List Turn)
       (there : Stand server_side) (over : HaveQuitFetching b asked there) → IsServed turn before over.server_start there (deeds_of_server over.drove)
-      → AreDirect b moment asked turn
+      → AreDirect b (orders_of moment asked) asked turn
 
   -- where no data connection was wanted, and the client left
   abbrev pub AloneAreDirect : Type 0
   AloneAreDirect =
       (b : Beginning) → IsFair b → (moment : ℕ) → moment ≤ last_second → (asked : List (Op (List ℕ) × Said)) (turn : Turn) (before : List Turn)
       (there : Stand server_side) (over : AreOverAlone b asked there) → IsServed turn before over.server_start there (deeds_of_server over.drove)
-      → AreDirect b moment asked turn
+      → AreDirect b (orders_of moment asked) asked turn
 
   -- or QUIT was heard
   abbrev pub ThatQuitAreDirect : Type 0
   ThatQuitAreDirect =
       (b : Beginning) → IsFair b → (moment : ℕ) → moment ≤ last_second → (asked : List (Op (List ℕ) × Said)) (turn : Turn) (before : List Turn)
       (there : Stand server_side) (over : HaveQuit b asked there) → IsServed turn before over.server_start there (deeds_of_server over.drove)
-      → AreDirect b moment asked turn
+      → AreDirect b (orders_of moment asked) asked turn
 
 -- ---- of all of the tree, or of what stands at and below a root
 
 -- all of these
 pub record Agree {X : Type 0} (part : Holding → X) : Type 0 where
+  pub transferring : TransfersAgree part
   pub fetching : FetchesAgree part
   pub alone : AloneAgree part
 
 pub record Direct {X : Type 0} (part : Holding → X) : Type 0 where
+  pub transferring : TransfersAreDirect part
+  pub transferring_quit : TransfersThatQuitAreDirect part
   pub fetching : FetchesAreDirect part
   pub fetching_quit : FetchesThatQuitAreDirect part
   pub alone : AloneAreDirect part
