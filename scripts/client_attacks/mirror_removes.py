@@ -44,10 +44,15 @@ def listings(rows, runs):
         cut = {"MLSD": lambda session, _, last=reply: session.send(shown, last)}
         seen = runs.down(Shelf({}, cut), OLD, "--delete")
         rows.row(f"a listing that ends with {reply[:3]}: all stays", seen[0] in (1, 3) and seen[1] == ALL, seen)
-    for reply in ("451 left out", "500 what", "550-no\r\n550 nothing"):
-        seen = runs.down(Shelf({"a": b"old a"}, {"MLST": reply}), {"a": b"old a", "b": b"old b"}, "--delete")
-        is_gone = reply.startswith("550")
-        rows.row(f"MLST is answered {reply[:3]}", ("b" not in seen[1], seen[0]) == (is_gone, 0 if is_gone else 1), seen)
+    for gone, what, replies in (
+        (False, "MLST is answered 451", {"MLST": "451 left out"}),
+        (True, "MLST is answered 500, SIZE 550", {"MLST": "500 what", "SIZE": "550 nothing"}),
+        (False, "MLST is answered 500, SIZE 451", {"MLST": "500 what", "SIZE": "451 left out"}),
+        (False, "MLST is answered 500, SIZE 213", {"MLST": "500 what", "SIZE": "213 5"}),
+        (True, "MLST is answered 550", {"MLST": "550-no\r\n550 nothing"}),
+    ):
+        seen = runs.down(Shelf({"a": b"old a"}, replies), {"a": b"old a", "b": b"old b"}, "--delete")
+        rows.row(what, ("b" not in seen[1], seen[0]) == (gone, 0 if gone else 1), seen)
 
 
 def halves(rows, runs):
