@@ -18,8 +18,7 @@ use Rattle.ftp_command.specs.declared.command.Command.{Command}
 use Rattle.ftp_command.specs.declared.value.Value.{Value}
 use Rattle.ftp_command.specs.declared.value.Value.TheVariants as value
 use Rattle.ftp_command.specs.declared.verb.Verb.{Verb}
-use Rattle.ftp_command.proofs.TableLemmas.{four_letters, is_wordy}
-use Rattle.ftp_command.proofs.VerbLemmas.{every_passes}
+use Rattle.ftp_command.proofs.VerbLemmas.{four_letters, is_wordy, every_passes}
 use Rattle.ftp_settings.specs.declared.representation.Kind.TheVariants.{Ascii, Image}
 use Rattle.ftp_settings.specs.declared.representation.Mode.TheVariants.{Stream, Block}
 use Rattle.ftp_command.specs.declared.command.Passive.TheVariants.{Any, Ipv4, Ipv6, Only}

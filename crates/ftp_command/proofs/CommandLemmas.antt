@@ -17,7 +17,7 @@ use Rattle.ftp_command.specs.declared.verb.Verb.TheVariants as verb
 use Rattle.ftp_endpoint.specs.Endpoint.{SaysSix}
 use Rattle.ftp_endpoint.specs.declared.endpoint.Endpoint.{Endpoint}
 use Rattle.ftp_endpoint.specs.Host.{IsOtherProtocol, SaysExtended}
-use Rattle.ftp_command.proofs.TableLemmas.{IsMade, Makes, made_by, makes, said_as}
+use Rattle.ftp_command.proofs.VerbLemmas.{IsMade, Makes, made_by, makes, said_as}
 
 pub err_weaker : {A E : Type 0} (r : Result A E) (P Q : E → Type 0) → IfErr r P → ((e : E) → P e → Q e) → IfErr r Q
 err_weaker (Ok x) P Q h f = tt

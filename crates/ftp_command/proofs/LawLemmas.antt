@@ -31,8 +31,7 @@ use Rattle.ftp_command.specs.declared.verb.Verb.{Verb}
 use Rattle.ftp_endpoint.proofs.EndpointLemmas.{six_same}
 use Rattle.ftp_endpoint.proofs.OnceLemmas.{no_other_protocol, same_extended, same_number}
 use Rattle.ftp_command.proofs.PathLemmas.{path_some}
-use Rattle.ftp_command.proofs.TableLemmas.{IsMade, is_made, made_by, said_as}
-use Rattle.ftp_command.proofs.VerbLemmas.{one_verb}
+use Rattle.ftp_command.proofs.VerbLemmas.{IsMade, is_made, made_by, said_as, one_verb}
 
 -- two texts that differ
 differ : (xs ys : List ℕ) → xs ≡ ys → bytes_eq xs ys ≡ false → ⊥

@@ -1,5 +1,4 @@
 pub mod VerbLemmas
-pub mod TableLemmas
 pub mod ArgumentLemmas
 pub mod SettingLemmas
 pub mod CommandLemmas

@@ -17,7 +17,7 @@ use Rattle.ftp_command.specs.declared.value.Value.TheVariants as value
 use Rattle.ftp_endpoint.specs.Written.{IsV4}
 use Rattle.ftp_endpoint.specs.declared.endpoint.Endpoint.{Endpoint}
 use Rattle.ftp_command.proofs.ArgumentLemmas.{shorter, without-step, trimmed-cons}
-use Rattle.ftp_command.proofs.TableLemmas.{four_letters, is_wordy}
+use Rattle.ftp_command.proofs.VerbLemmas.{four_letters, is_wordy}
 use Rattle.ftp_endpoint.proofs.NumberLemmas.{value_lt}
 
 abbrev is_return : ℕ → Bool

@@ -8,56 +8,14 @@ use Rattle.ftp_endpoint.specs.Number.{SaysNumber}
 use Rattle.ftp_command.specs.Shapes.{Shape}
 use Rattle.ftp_command.specs.Shapes as shape
 use Rattle.ftp_command.specs.Verb.{Names, row}
+pub use Rattle.ftp_command.specs.Verb.{parts}
 use Rattle.ftp_command.specs.declared.command.Command.{Command}
-use Rattle.ftp_command.specs.declared.command.Command.TheVariants as command
 use Rattle.ftp_command.specs.declared.fault.CommandFault.{CommandFault}
 use Rattle.ftp_command.specs.declared.fault.CommandFault.TheVariants.{Unknown, BadArgument, NotDone, BadParameter, Protocol}
 use Rattle.ftp_command.specs.declared.value.Value.{Value}
 use Rattle.ftp_command.specs.declared.value.Value.TheVariants as value
 use Rattle.ftp_command.specs.declared.verb.Role.{Role}
 use Rattle.ftp_command.specs.declared.verb.Verb.{Verb}
-use Rattle.ftp_command.specs.declared.verb.Verb.TheVariants as verb
-
--- a command's verb, and its argument as a value
-abbrev pub parts : Command (List ℕ) → Verb × Value (List ℕ)
-parts (command.User text) = (verb.User, value.Name text)
-parts (command.Pass text) = (verb.Pass, value.Password text)
-parts (command.Acct text) = (verb.Acct, value.Words text)
-parts (command.Cwd text) = (verb.Cwd, value.Path text)
-parts command.Cdup = (verb.Cdup, value.Nothing)
-parts command.Rein = (verb.Rein, value.Nothing)
-parts command.Quit = (verb.Quit, value.Nothing)
-parts (command.Port endpoint) = (verb.Port, value.Six endpoint)
-parts command.Pasv = (verb.Pasv, value.Nothing)
-parts (command.Eprt endpoint) = (verb.Eprt, value.Extended endpoint)
-parts (command.Epsv family) = (verb.Epsv, value.Family family)
-parts (command.Repr kind) = (verb.Repr, value.Kind kind)
-parts (command.Stru structure) = (verb.Stru, value.Structure structure)
-parts (command.Mode mode) = (verb.Mode, value.Mode mode)
-parts (command.Retr text) = (verb.Retr, value.Path text)
-parts (command.Stor text) = (verb.Stor, value.Path text)
-parts (command.Appe text) = (verb.Appe, value.Path text)
-parts (command.Allo octets longest) = (verb.Allo, value.Sizes octets longest)
-parts (command.Rest place) = (verb.Rest, value.Number place)
-parts (command.Rnfr text) = (verb.Rnfr, value.Path text)
-parts (command.Rnto text) = (verb.Rnto, value.Path text)
-parts command.Abor = (verb.Abor, value.Nothing)
-parts (command.Dele text) = (verb.Dele, value.Path text)
-parts (command.Rmd text) = (verb.Rmd, value.Path text)
-parts (command.Mkd text) = (verb.Mkd, value.Path text)
-parts command.Pwd = (verb.Pwd, value.Nothing)
-parts (command.List text) = (verb.List, value.Listed text)
-parts (command.Nlst text) = (verb.Nlst, value.Listed text)
-parts (command.Mlst text) = (verb.Mlst, value.PathOrNone text)
-parts (command.Mlsd text) = (verb.Mlsd, value.PathOrNone text)
-parts (command.Size text) = (verb.Size, value.Path text)
-parts (command.Mdtm text) = (verb.Mdtm, value.Path text)
-parts command.Syst = (verb.Syst, value.Nothing)
-parts command.Stat = (verb.Stat, value.Nothing)
-parts (command.Help text) = (verb.Help, value.WordsOrNone text)
-parts command.Noop = (verb.Noop, value.Nothing)
-parts command.Feat = (verb.Feat, value.Nothing)
-parts (command.Opts text) = (verb.Opts, value.Words text)
 
 abbrev pub verb_of : Command (List ℕ) → Verb
 verb_of command = (parts command).0

@@ -8,9 +8,8 @@ ghost use Rattle.ftp_command.specs.declared.fault.CommandFault.{CommandFault};
 use crate::argument::split_line;
 use crate::command::Command;
 use crate::fault::CommandFault;
-use crate::table::command_of;
 use crate::text::Argument;
-use crate::verb::verb_of;
+use crate::verb::{command_of, verb_of};
 use std::alloc::Allocator;
 
 /// Reads a line without its end as a command (RFC 959, sections 4.1 and 5.3).

@@ -8,7 +8,7 @@ use Rattle.ftp_command.proofs.CarriedLemmas.{IsWord, decimal_fits, value_line, w
 use Rattle.ftp_command.proofs.PathLemmas.{path_short}
 use Rattle.ftp_command.proofs.StatedLemmas.{is_cut}
 use Rattle.ftp_command.specs.Argument.{SaysSizes, argument, is_space, trimmed}
-use Rattle.ftp_command.proofs.TableLemmas.{four_letters, is_wordy}
+use Rattle.ftp_command.proofs.VerbLemmas.{four_letters, is_wordy}
 use Rattle.ftp_command.specs.Command.{Says, SaysValue, value_of, verb_of}
 use Rattle.ftp_command.specs.Line.{IfShort, IsShort, IsStatedValue, IsTypedValue, line_of, spaced, tail}
 use Rattle.ftp_command.specs.Verb.{letters}

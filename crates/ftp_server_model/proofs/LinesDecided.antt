@@ -31,7 +31,7 @@ use Rattle.ftp_path.specs.Path.{IsPathText, is_path_text}
 use Rattle.ftp_server_model.specs.Machine.{IsRead, ReadingExists}
 use Rattle.ftp_server_model.specs.declared.heard.HeardLine.{HeardLine}
 use Rattle.ftp_server_model.specs.declared.heard.HeardLine.TheVariants.{Bad, Asks}
-use Rattle.ftp_command.proofs.TableLemmas.{IsMade, Makes, made_by, makes, said_as, said_with}
+use Rattle.ftp_command.proofs.VerbLemmas.{IsMade, Makes, made_by, makes, said_as, said_with}
 use Rattle.ftp_command.proofs.VerbLemmas.{every, verbs}
 use Rattle.ftp_server_model.proofs.Deciding.{Decided, yes_if, and_then, and_both, or_else, unless, never, is_true, at_most, same_number, same_text}
 use Rattle.ftp_server_model.proofs.EndpointsDecided.{six, extended, other_protocol, some_value, this_value}

@@ -1,5 +1,5 @@
 use Rattle.ftp_command.proofs.CommandLemmas.{not_extended, not_six}
-use Rattle.ftp_command.proofs.table.command_of.Goals as goal
+use Rattle.ftp_command.proofs.verb.command_of.Goals as goal
 
 pub returns-in-Err-six-clause-refuses : goal.returns-in-Err-six-clause-refuses
 returns-in-Err-six-clause-refuses g c =
