@@ -136,6 +136,10 @@ pub removed-limits : (table : Table) (path : Names) → (removed table path).lim
 unfolding removed
 removed-limits table path = refl
 
+pub installed-limits : (table : Table) (path : Names) (octets : List ℕ) (moment : ℕ) → (installed table path octets moment).limits ≡ table.limits
+unfolding installed
+installed-limits table path octets moment = refl
+
 pub freed-limits : (onto : Bool) (table : Table) (from to : Names) → (freed onto table from to).limits ≡ table.limits
 unfolding freed
 freed-limits onto table from to =

@@ -22,15 +22,12 @@ use Rattle.ftp_server_model.specs.declared.session.Transfer.TheVariants as Trans
 use Rattle.ftp_server_several.specs.Deeds.{AreDeeds, Deed, IsSame, acts, ends, breaks, rests}
 use Rattle.ftp_server_several.proofs.DeedLemmas.{calls_are_deeds, same_given_out}
 use Rattle.ftp_server_laws.specs.Maps.{Changes, Mapped, MappedSo, Unchanged, line_changes}
+use Rattle.ftp_server_laws.proofs.FileLemmas.{installed-limits}
 use Rattle.ftp_server_laws.proofs.LineTurns.{lines_change_the_map}
 
 -- a session over a map of the same limits
 abbrev Keeps : (s t : Session) → Type 0
 Keeps s t = t.table.limits ≡ s.table.limits
-
-installed-limits : (table : Table) (path : Names) (octets : List ℕ) (moment : ℕ) → (installed table path octets moment).limits ≡ table.limits
-unfolding installed
-installed-limits table path octets moment = refl
 
 -- with another part of the same limits
 part_keeps : (s : Session) (part : Table) → part.limits ≡ (seen s).limits → Keeps s (with_seen part s)
