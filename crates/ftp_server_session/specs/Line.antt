@@ -1,9 +1,8 @@
 -- A line as a session is given it, and what it leaves where it could not be done.
-use Rattle.std.specs.Prelude.{◌≡◌, ℕ, List, Bool, true, false, Result, Ok, Err}
+use Rattle.std.specs.Prelude.{◌≡◌, ℕ, List, true, Result, Ok, Err}
 use Rattle.ftp_command.specs.Command.{value_of}
 use Rattle.ftp_command.specs.Line.{IfGiven}
 use Rattle.ftp_command.specs.declared.command.Command.{Command}
-use Rattle.ftp_command.specs.declared.command.Command.TheVariants as command
 use Rattle.ftp_command.specs.declared.value.Value.{Value}
 use Rattle.ftp_command.specs.declared.value.Value.TheVariants as value
 use Rattle.ftp_path.specs.Path.{IsPathText, Names}
@@ -32,11 +31,6 @@ ValueHasPathTexts other = Unit {0}
 -- the same of a command
 abbrev pub HasPathTexts : Command (List ℕ) → Type 0
 HasPathTexts command = ValueHasPathTexts (value_of command)
-
--- USER alone gives its name away
-abbrev pub is_user : Command (List ℕ) → Bool
-is_user (command.User name) = true
-is_user other = false
 
 -- the same of a line
 abbrev pub HeardPaths : HeardLine (List ℕ) → Type 0

@@ -1,8 +1,8 @@
 // What each command does, one arm a verb in the order of RFC 959, section 4.1.
-ghost use Rattle.std.specs.Prelude.{◌≡◌, OnErr, false, true};
+ghost use Rattle.std.specs.Prelude.{◌≡◌, OnErr, true};
 ghost use Rattle.ftp_server_model.specs.Act.{act};
 ghost use Rattle.ftp_server_model.specs.Failing.{may_fail};
-ghost use Rattle.ftp_server_session.specs.Line.{HasPathTexts, is_user};
+ghost use Rattle.ftp_server_session.specs.Line.{HasPathTexts};
 
 use crate::footing::Footing;
 use crate::session::Session;
@@ -17,8 +17,8 @@ impl<A: Allocator + Copy, T: Tree<A>, J: ServerTransfer<A, T>> Session<A, T, J> 
     ghost use Rattle.ftp_server_session.specs.Little.{LeavesLittle, name_len};
     ghost use Rattle.ftp_server_session.specs.Session.{Turns, footing_of};
 
-    /// Does a command, after what the line before left pending for it. An ABOR during a transfer is not done here. The name of USER is
-    /// kept; any other command is lent, and let go here alone.
+    /// Does a command, after what the line before left pending for it. An ABOR during a transfer is not done here. Of the texts of commands
+    /// the name of USER alone is kept.
     pub(crate) fn act(
         &mut self,
         footing: &Footing<A>,
@@ -32,48 +32,24 @@ impl<A: Allocator + Copy, T: Tree<A>, J: ServerTransfer<A, T>> Session<A, T, J> 
     {
         match command {
             Command::User(name) => self.user(&footing.accounts, name),
-            other => {
-                let done = self.act_on(footing, &other, pending);
-                drop(other);
-                done
-            }
-        }
-    }
-
-    /// Does a command that is not USER.
-    fn act_on(
-        &mut self,
-        footing: &Footing<A>,
-        command: &Command<Argument<A>>,
-        pending: &Pending<Path<A>>,
-    ) -> Result<ReplyKind<Path<A>>, Fault>
-        requires paths { HasPathTexts command.now }
-        requires other { is_user command.now ≡ false }
-        ensures turn { Turns T.table T.failures J.view (act (footing_of footing.now) command.now pending.now) self.old self.new result }
-        ensures little { LeavesLittle 0 self.old self.new result }
-        ensures may_fail { OnErr result (may_fail command.now ≡ true) }
-    {
-        match command {
-            // It does not come here.
-            Command::User(_) => Ok(ReplyKind::Nothing),
             Command::Pass(word) => self.pass(&footing.accounts, word.octets()),
             Command::Acct(_) => Ok(ReplyKind::Fixed(FixedReply::NotNeeded)),
             Command::Cwd(text) => self.change_dir(text.octets()),
             Command::Cdup => Ok(self.go_up()),
             Command::Rein => Ok(self.rein()),
             Command::Quit => Ok(self.quit()),
-            Command::Port(endpoint) => Ok(self.port(footing, *endpoint)),
+            Command::Port(endpoint) => Ok(self.port(footing, endpoint)),
             Command::Pasv => Ok(self.pasv(footing)),
-            Command::Eprt(endpoint) => Ok(self.port(footing, *endpoint)),
-            Command::Epsv(family) => Ok(self.epsv(footing, *family)),
-            Command::Repr(kind) => Ok(self.set_kind(*kind)),
-            Command::Stru(structure) => Ok(self.set_structure(*structure)),
-            Command::Mode(mode) => Ok(self.set_mode(*mode)),
+            Command::Eprt(endpoint) => Ok(self.port(footing, endpoint)),
+            Command::Epsv(family) => Ok(self.epsv(footing, family)),
+            Command::Repr(kind) => Ok(self.set_kind(kind)),
+            Command::Stru(structure) => Ok(self.set_structure(structure)),
+            Command::Mode(mode) => Ok(self.set_mode(mode)),
             Command::Retr(text) => self.retr(pending, text.octets()),
             Command::Stor(text) => self.stor(pending, text.octets()),
             Command::Appe(text) => self.appe(text.octets()),
             Command::Allo(_, _) => Ok(ReplyKind::Fixed(FixedReply::NotNeeded)),
-            Command::Rest(offset) => Ok(self.rest(*offset)),
+            Command::Rest(offset) => Ok(self.rest(offset)),
             Command::Rnfr(text) => self.rename_from(text.octets()),
             Command::Rnto(text) => self.rename_to(pending, text.octets()),
             Command::Abor => Ok(ReplyKind::Fixed(FixedReply::AbortDone)),
@@ -81,10 +57,10 @@ impl<A: Allocator + Copy, T: Tree<A>, J: ServerTransfer<A, T>> Session<A, T, J> 
             Command::Rmd(text) => self.remove_dir(text.octets()),
             Command::Mkd(text) => self.make_dir(text.octets()),
             Command::Pwd => Ok(ReplyKind::Here),
-            Command::List(text) => self.list(text),
-            Command::Nlst(text) => self.nlst(text),
-            Command::Mlst(text) => self.entry(text),
-            Command::Mlsd(text) => self.mlsd(text),
+            Command::List(text) => self.list(&text),
+            Command::Nlst(text) => self.nlst(&text),
+            Command::Mlst(text) => self.entry(&text),
+            Command::Mlsd(text) => self.mlsd(&text),
             Command::Size(text) => self.size(text.octets()),
             Command::Mdtm(text) => self.modified(text.octets()),
             Command::Syst => Ok(ReplyKind::Fixed(FixedReply::System)),
