@@ -3,8 +3,6 @@ pub mod Ahead
 pub mod Hearing
 pub mod Known
 pub mod Running
-pub mod Closing
 pub mod Moves
 pub mod Settling
-pub mod Faring
 pub mod Rising

@@ -1,22 +1,17 @@
--- What uploads will rest on: the events of a world while octets rise, each from a world whose ends want nothing of it. The client gives an octet, the server
--- takes some and is told of the end; and a client that closes its open link has left it alone.
-use Rattle.std.proofs.Common.{◌≡◌, ℕ, ◌<◌, ◌≤◌, true, false, not, ◌&&◌, List, [], ◌∷◌, ◌++◌, length, take, drop, option_to_list, sym, ap, ap₂, subst, ◌∙◌, arith, length-append}
-use Rattle.std.specs.Prelude.{if◌then◌else◌}
+-- The events of a world while octets rise, each from a world whose ends want nothing of it: the client gives an octet, and the server takes some and is told of
+-- the end.
+use Rattle.std.proofs.Common.{◌≡◌, ℕ, ◌<◌, ◌≤◌, true, not, ◌&&◌, List, [], ◌∷◌, ◌++◌, length, take, drop, sym, ap, ap₂, subst, ◌∙◌, arith, length-append}
 use Rattle.std.proofs.lemmas.Bool.{or_right}
 use Rattle.ftp_ends.specs.Octets.{has_octets}
 use Rattle.ftp_client_model.specs.Calls as near
-use Rattle.ftp_client_model.specs.Calls.{report_of}
 use Rattle.ftp_server_model.specs.Calls as far
 use Rattle.ftp_server_model.specs.Machine.{Reading}
 use Rattle.ftp_pair_world.specs.Events.{DataToServer, Deliver, Delivers, DeliversBy, End, Moves, Takes, can_happen, can_move, can_take, is_closed_by_near, lends_none, pulled, pushed, taking}
-use Rattle.ftp_pair_world.specs.Serving.{after_event, link_closed_by_near}
-use Rattle.ftp_pair_world.specs.World.{ClosedByNear, Opened, World, gone}
-use Rattle.ftp_pair_drives.proofs.Taken.{taken}
+use Rattle.ftp_pair_world.specs.Serving.{after_event}
+use Rattle.ftp_pair_world.specs.World.{ClosedByNear, World, gone}
 use Rattle.ftp_pair_drives.proofs.Worlds.{LeadsOn, one_leads}
-use Rattle.ftp_pair_data.specs.Ahead.{is_asked}
 use Rattle.ftp_pair_data.proofs.Moves.{Rested, can_say, drop_front, filled_enough, near_closed, one_given, some_there, take_front}
-use Rattle.ftp_pair_data.proofs.Served.{Runs, after_settles, far_shut, far_told, near_shut, rests, settled}
-use Rattle.ftp_pair_data.proofs.Settling.{far_idle}
+use Rattle.ftp_pair_data.proofs.Served.{Runs, after_settles, rests, settled}
 
 module _ (read : Reading) where
   -- the client gives an octet
@@ -74,17 +69,3 @@ module _ (read : Reading) where
       let can : can_happen (End DataToServer) w ≡ true =
       ap₂ (λ l q. is_closed_by_near l && not (has_octets q) && not (has_octets (near.to_give w.near))) link empty ∙ ap (λ g. not (has_octets g)) given in
       one_leads read (End DataToServer) w (settled new) tt (can, sym (after_settles new (near_closed w r) runs))
-
--- a client that closes its open link leaves it alone, and its report is taken
-pub near_leaves : (w : World) → w.near.closing ≡ true → w.link ≡ Opened → w.far.session.closing ≡ false → is_asked w.far.session.connection ≡ false
-    → settled w ≡ record w {
-      near = taken (near.data_closed w.near);
-      link = ClosedByNear;
-      reports = w.reports ++ option_to_list (report_of w.near);
-    }
-near_leaves w closing link unclosed none =
-    let u : World = record w { near = near.data_closed w.near; link = ClosedByNear } in
-    let shut : near_shut w ≡ u = ap₂ (λ c l. if c then link_closed_by_near l (record w { near = near.data_closed w.near }) else w) closing link in
-    ap (λ (x : World).
-    let y : World = far_told (far_shut x) in record y { near = taken y.near; reports = y.reports ++ option_to_list (report_of y.near) }) shut
-    ∙ ap (λ (y : World). record y { near = taken y.near; reports = y.reports ++ option_to_list (report_of y.near) }) (far_idle u unclosed none)

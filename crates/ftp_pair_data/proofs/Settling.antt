@@ -1,8 +1,8 @@
 -- What a world is once it has done what is due after an event: of one that moved its client alone, and of one that moved its server alone.
-use Rattle.std.proofs.Common.{◌≡◌, ℕ, Bool, true, false, true≢false, [], ◌++◌, Option, Some, None, option_to_list, refl, sym, ap, subst, ◌∙◌, append-nil}
+use Rattle.std.proofs.Common.{◌≡◌, ℕ, Bool, true, false, true≢false, ◌++◌, Option, Some, None, option_to_list, refl, sym, ap, subst, ◌∙◌, append-nil}
 use Rattle.std.specs.Prelude.{if◌then◌else◌}
 use Rattle.ftp_operation.specs.Answer.{Said}
-use Rattle.ftp_client_model.specs.Calls.{data_closed, report_of, report_of_job}
+use Rattle.ftp_client_model.specs.Calls.{report_of, report_of_job}
 use Rattle.ftp_client_model.specs.View.{Job, Told, View as Near}
 use Rattle.ftp_server_model.specs.Calls.{close_step, listening_step}
 use Rattle.ftp_server_model.specs.View.{Transfer, View as Far}
@@ -10,12 +10,11 @@ use Rattle.ftp_server_model.specs.declared.session.PassiveVerb.TheVariants as As
 use Rattle.ftp_server_model.specs.declared.session.ServerLink.{ServerLink}
 use Rattle.ftp_server_model.specs.declared.session.ServerLink.TheVariants as Data
 use Rattle.ftp_pair_world.specs.Events.{is_closed_by_near}
-use Rattle.ftp_pair_world.specs.Serving.{link_closed_by_far, link_closed_by_near, near_closes}
+use Rattle.ftp_pair_world.specs.Serving.{link_closed_by_far, near_closes}
 use Rattle.ftp_pair_world.specs.World.{ClosedByFar, ClosedByNear, Gone, Link, Opened, World, next_listen, port_at}
 use Rattle.ftp_pair_drives.proofs.Taken.{taken}
 use Rattle.ftp_pair_data.specs.Ahead.{Ahead, Fits, Level, Listened, Listens, far_ahead, is_asked}
 use Rattle.ftp_pair_data.proofs.Ahead.{closed_is}
-use Rattle.ftp_pair_data.proofs.Closing.{is_joined}
 use Rattle.ftp_pair_data.proofs.Served.{far_shut, far_told, near_shut, settled}
 
 -- a server with this data connection
@@ -33,104 +32,12 @@ pub record Same (old new : World) : Type 0 where
   pub cutoff : new.cutoff ≡ old.cutoff
   pub link : is_closed_by_near new.link ≡ false
 
--- ---- the client moved
-
-pub record NearSettles (old new : World) : Type 0 where
-  pub near : new.near ≡ data_closed (taken old.near)
-  pub far : new.far ≡ old.far
-  pub listens : new.listens ≡ old.listens
-  pub reports : new.reports ≡ old.reports ++ option_to_list (report_of old.near)
-  pub same : Same old new
-
--- its close is done
-shut_same : (w : World) → w.data_to_server ≡ [] → is_closed_by_near w.link ≡ false
-    → (w.near.closing ≡ true → (w.data_to_client ≡ []) × (is_joined w.link ≡ false)) → Same w (near_shut w) × ((near_shut w).far ≡ w.far)
-    × ((near_shut w).near ≡ data_closed w.near) × ((near_shut w).listens ≡ w.listens) × ((near_shut w).reports ≡ w.reports)
-shut_same w to_server unclosed closes = by w.near.closing refl
-  where
-    by_link : (link : Link) → w.link ≡ link → is_closed_by_near link ≡ false → w.data_to_client ≡ [] → is_joined link ≡ false
-        → let u : World = link_closed_by_near link (record w { near = data_closed w.near }) in
-        Same w u × (u.far ≡ w.far) × (u.near ≡ data_closed w.near) × (u.listens ≡ w.listens) × (u.reports ≡ w.reports)
-    by_link Gone is one none two = (
-      record {
-        to_server = refl;
-        to_client = refl;
-        data_to_server = refl;
-        data_to_client = refl;
-        control = refl;
-        marks = refl;
-        cutoff = refl;
-        link = ap is_closed_by_near is;
-      },
-      refl,
-      refl,
-      refl,
-      refl,
-    )
-    by_link ClosedByFar is one none two = (
-      record {
-        to_server = refl;
-        to_client = refl;
-        data_to_server = sym to_server;
-        data_to_client = sym none;
-        control = refl;
-        marks = refl;
-        cutoff = refl;
-        link = refl;
-      },
-      refl,
-      refl,
-      refl,
-      refl,
-    )
-    by_link Opened is one none two = absurd (true≢false two)
-    by_link ClosedByNear is one none two = absurd (true≢false one)
-
-    by : (closing : Bool) → w.near.closing ≡ closing → let u : World = (if closing then near_closes w else w) in
-        Same w u × (u.far ≡ w.far) × (u.near ≡ data_closed w.near) × (u.listens ≡ w.listens) × (u.reports ≡ w.reports)
-    by false is = (
-      record { to_server = refl; to_client = refl; data_to_server = refl; data_to_client = refl; control = refl; marks = refl; cutoff = refl; link = unclosed },
-      refl,
-      ap (λ c. record w.near { closing = c }) is,
-      refl,
-      refl,
-    )
-    by true is =
-        let done = closes is in
-        by_link w.link refl unclosed done.0 done.1
-
 -- a server that wants nothing of it stays
 pub far_idle : (w : World) → w.far.session.closing ≡ false → is_asked w.far.session.connection ≡ false → far_told (far_shut w) ≡ w
 far_idle w unclosed none =
     let first : far_shut w ≡ w = ap (λ c. if c then link_closed_by_far w.link (record w { far = close_step w.far }) else w) unclosed in
     ap far_told first
     ∙ ap (λ a. if a then record w { far = listening_step (port_at w.listens) w.far; listens = next_listen w.listens } else w) none
-
-pub near_settles : (w : World) → w.far.session.closing ≡ false → is_asked w.far.session.connection ≡ false → w.data_to_server ≡ []
-    → is_closed_by_near w.link ≡ false → (w.near.closing ≡ true → (w.data_to_client ≡ []) × (is_joined w.link ≡ false)) → NearSettles w (settled w)
-near_settles w unclosed none to_server link closes =
-    let shut = shut_same w to_server link closes in
-    let u : World = near_shut w in
-    let idle : far_told (far_shut u) ≡ u =
-    far_idle u (ap (λ (f : Far). f.session.closing) shut.1 ∙ unclosed) (ap (λ (f : Far). is_asked f.session.connection) shut.1 ∙ none) in
-    let is : settled w ≡ record u { near = taken u.near; reports = u.reports ++ option_to_list (report_of u.near) } =
-    ap (λ (x : World). record x { near = taken x.near; reports = x.reports ++ option_to_list (report_of x.near) }) idle in
-    record {
-      near = ap (λ (x : World). x.near) is ∙ ap taken shut.2;
-      far = ap (λ (x : World). x.far) is ∙ shut.1;
-      listens = ap (λ (x : World). x.listens) is ∙ shut.3;
-      reports = ap (λ (x : World). x.reports) is ∙ (λ i. shut.4 i ++ option_to_list (report_of (shut.2 i)));
-      same = record {
-        to_server = ap (λ (x : World). x.control_to_server) is ∙ shut.0.to_server;
-        to_client = ap (λ (x : World). x.control_to_client) is ∙ shut.0.to_client;
-        data_to_server = ap (λ (x : World). x.data_to_server) is ∙ shut.0.data_to_server;
-        data_to_client = ap (λ (x : World). x.data_to_client) is ∙ shut.0.data_to_client;
-        control = ap (λ (x : World). x.control) is ∙ shut.0.control;
-        marks = ap (λ (x : World). x.marks) is ∙ shut.0.marks;
-        cutoff = ap (λ (x : World). x.cutoff) is ∙ shut.0.cutoff;
-        link = ap (λ (x : World). is_closed_by_near x.link) is ∙ shut.0.link;
-      };
-    }
 
 -- ---- the server moved
 

@@ -1,2 +1,2 @@
 pub mod Ahead
-pub mod Honest
+pub mod Unaborted

@@ -22,7 +22,7 @@ use Rattle.ftp_server_several.specs.Company.{IsSeated}
 use Rattle.ftp_server_several.specs.Several.{exchanged}
 use Rattle.ftp_tree.specs.Tree.{Table}
 use Rattle.ftp_pair_drives.proofs.Calm.{first_is_calm}
-use Rattle.ftp_pair_downloads.specs.Deeds.{Along}
+use Rattle.ftp_pair_deeds.specs.Deeds.{Along}
 use Rattle.ftp_pair_served.specs.Rooted.{LogsInAt, StaysAt, server_but, stand_but}
 use Rattle.ftp_pair_served.proofs.Calling.{but_map, clock_but, hears_but, same_at, steps_but}
 use Rattle.ftp_pair_served.proofs.Receiving.{receives_but}

@@ -8,14 +8,11 @@ use Rattle.ftp_server_drive.specs.Side.{server_side}
 use Rattle.ftp_server_lent.specs.Lending.{Holding, tree_of, with_tree_at}
 use Rattle.ftp_server_lent.specs.Turning.{AllGoOn, AreTurns, TakesTurn, Turn}
 use Rattle.ftp_pair_drives.proofs.Theorems.{drives_agree, drives_over_are_the_direct_run, drives_that_quit_are_the_direct_run, parting_agrees}
-use Rattle.ftp_pair_downloads.proofs.Concluding.{fetches_agree, fetches_parting_agree}
-use Rattle.ftp_pair_downloads.proofs.Ending.{fetches_over_are_the_direct_run}
-use Rattle.ftp_pair_quitting.proofs.Concluding.{fetches_that_quit_are_the_direct_run}
 use Rattle.ftp_pair_transfers.proofs.Concluding.{transfers_agree, transfers_parting_agree}
 use Rattle.ftp_pair_transfers.proofs.Ending.{transfers_over_are_the_direct_run}
 use Rattle.ftp_pair_transfers.proofs.Quitting.{transfers_that_quit_are_the_direct_run}
 use Rattle.ftp_pair_served.specs.Alone.{FindWhatWasLeft, deeds_in, lent_first, part_at, whole}
-use Rattle.ftp_pair_downloads.specs.Deeds.{Along}
+use Rattle.ftp_pair_deeds.specs.Deeds.{Along}
 use Rattle.ftp_pair_served.specs.Rooted.{StaysAt, TurnsStayAt}
 use Rattle.ftp_pair_served.specs.Served.{Agree, Direct, DrivesAreCutUp, ServedAgree, ServedAreDirect, TurnsAreServed}
 
@@ -26,10 +23,6 @@ module _ {X : Type 0} (part : Holding → X) where
     transferring = λ b fair moments timed order between turn before there client did served. record {
       standing = (tree_of there.owner.end, served.leaves, transfers_agree b fair moments timed order between there client did);
       parting = (tree_of there.owner.end, served.leaves, transfers_parting_agree b fair moments timed order between there client did);
-    };
-    fetching = λ b fair moment timed order between turn before there client did served. record {
-      standing = (tree_of there.owner.end, served.leaves, fetches_agree b fair moment timed order between there client did);
-      parting = (tree_of there.owner.end, served.leaves, fetches_parting_agree b fair moment timed order between there client did);
     };
     alone = λ b fair moment timed order between turn before there client did served. record {
       standing = (tree_of there.owner.end, served.leaves, drives_agree b fair moment timed order between there client did);
@@ -43,10 +36,6 @@ module _ {X : Type 0} (part : Holding → X) where
         (tree_of there.owner.end, served.leaves, transfers_over_are_the_direct_run b fair moments timed asked there over);
     transferring_quit = λ b fair moments timed asked turn before there over served.
         (tree_of there.owner.end, served.leaves, transfers_that_quit_are_the_direct_run b fair moments timed asked there over);
-    fetching = λ b fair moment timed asked turn before there over served.
-        (tree_of there.owner.end, served.leaves, fetches_over_are_the_direct_run b fair moment timed asked there over);
-    fetching_quit = λ b fair moment timed asked turn before there over served.
-        (tree_of there.owner.end, served.leaves, fetches_that_quit_are_the_direct_run b fair moment timed asked there over);
     alone = λ b fair moment timed asked turn before there over served.
         (tree_of there.owner.end, served.leaves, drives_over_are_the_direct_run b fair moment timed asked there over);
     quit = λ b fair moment timed asked turn before there over served.

@@ -24,7 +24,7 @@ use Rattle.ftp_server_several.specs.Company.{IsSeated}
 use Rattle.ftp_server_several.specs.Several.{exchanged}
 use Rattle.ftp_tree.specs.Tree.{Table}
 use Rattle.ftp_pair_drives.specs.Alone.{ServerIsCalm}
-use Rattle.ftp_pair_downloads.specs.Deeds.{Along}
+use Rattle.ftp_pair_deeds.specs.Deeds.{Along}
 use Rattle.ftp_pair_served.specs.Alone.{DrivesBy, FindWhatWasLeft, deeds_in, lent_first, part_at}
 
 -- ---- who stays there

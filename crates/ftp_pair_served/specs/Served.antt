@@ -22,10 +22,7 @@ use Rattle.ftp_pair_drives.specs.Between.{Between, Turn as Deed, client_deeds, s
 use Rattle.ftp_pair_drives.specs.Claims.{Did}
 use Rattle.ftp_pair_drives.specs.Over.{AreOver as AreOverAlone, answers_of, deeds_of_server, orders_of}
 use Rattle.ftp_pair_drives.specs.Quitting.{HaveQuit}
-use Rattle.ftp_pair_downloads.specs.Claims.{DidFetch}
-use Rattle.ftp_pair_downloads.specs.Deeds.{Along}
-use Rattle.ftp_pair_downloads.specs.Over.{AreOver as AreOverFetching}
-use Rattle.ftp_pair_quitting.specs.Quitting.{HaveQuit as HaveQuitFetching}
+use Rattle.ftp_pair_deeds.specs.Deeds.{Along}
 use Rattle.ftp_pair_transfers.specs.Claims.{DidTransfer}
 use Rattle.ftp_pair_transfers.specs.Deeds.{AreMoments, begun_at}
 use Rattle.ftp_pair_transfers.specs.Over.{AreOver as AreOverTransferring, orders_at}
@@ -69,13 +66,6 @@ module _ {X : Type 0} (part : Holding → X) where
       (there : Stand server_side) (client : Stand client_side) (did : DidTransfer b moments order between there client)
       → IsServed turn before did.server_start there (server_deeds order) → AgreesAfter b (begun_at moments (client_deeds order)) order client turn
 
-  -- of drives that fetch whole files and listings alone
-  abbrev pub FetchesAgree : Type 0
-  FetchesAgree =
-      (b : Beginning) → IsFair b → (moment : ℕ) → moment ≤ last_second → (order : List Deed) (between : Between) (turn : Turn) (before : List Turn)
-      (there : Stand server_side) (client : Stand client_side) (did : DidFetch b order between there client)
-      → IsServed turn before did.server_start there (server_deeds order) → AgreesAfter b (begun_in moment (client_deeds order)) order client turn
-
   -- of drives that need no data connection
   abbrev pub AloneAgree : Type 0
   AloneAgree =
@@ -103,20 +93,6 @@ module _ {X : Type 0} (part : Holding → X) where
       (there : Stand server_side) (over : HaveQuitTransferring b moments asked there)
       → IsServed turn before over.server_start there (deeds_of_server over.drove) → AreDirect b (orders_at moments asked) asked turn
 
-  -- where it fetched whole files and listings alone, and the client left
-  abbrev pub FetchesAreDirect : Type 0
-  FetchesAreDirect =
-      (b : Beginning) → IsFair b → (moment : ℕ) → moment ≤ last_second → (asked : List (Op (List ℕ) × Said)) (turn : Turn) (before : List Turn)
-      (there : Stand server_side) (over : AreOverFetching b asked there) → IsServed turn before over.server_start there (deeds_of_server over.drove)
-      → AreDirect b (orders_of moment asked) asked turn
-
-  -- or QUIT was heard
-  abbrev pub FetchesThatQuitAreDirect : Type 0
-  FetchesThatQuitAreDirect =
-      (b : Beginning) → IsFair b → (moment : ℕ) → moment ≤ last_second → (asked : List (Op (List ℕ) × Said)) (turn : Turn) (before : List Turn)
-      (there : Stand server_side) (over : HaveQuitFetching b asked there) → IsServed turn before over.server_start there (deeds_of_server over.drove)
-      → AreDirect b (orders_of moment asked) asked turn
-
   -- where no data connection was wanted, and the client left
   abbrev pub AloneAreDirect : Type 0
   AloneAreDirect =
@@ -136,14 +112,11 @@ module _ {X : Type 0} (part : Holding → X) where
 -- all of these
 pub record Agree {X : Type 0} (part : Holding → X) : Type 0 where
   pub transferring : TransfersAgree part
-  pub fetching : FetchesAgree part
   pub alone : AloneAgree part
 
 pub record Direct {X : Type 0} (part : Holding → X) : Type 0 where
   pub transferring : TransfersAreDirect part
   pub transferring_quit : TransfersThatQuitAreDirect part
-  pub fetching : FetchesAreDirect part
-  pub fetching_quit : FetchesThatQuitAreDirect part
   pub alone : AloneAreDirect part
   pub quit : ThatQuitAreDirect part
 

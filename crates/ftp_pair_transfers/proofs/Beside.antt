@@ -22,9 +22,9 @@ use Rattle.ftp_pair_data.specs.Ahead.{Ahead, Fits, Listened, far_ahead, is_asked
 use Rattle.ftp_pair_data.proofs.Ahead.{Keeps, keeps}
 use Rattle.ftp_pair_data.proofs.Moves.{Rested}
 use Rattle.ftp_pair_data.proofs.Served.{rests}
-use Rattle.ftp_pair_downloads.proofs.Beside.{Holds, Takes, is_had, is_sound}
-use Rattle.ftp_pair_downloads.proofs.NearForms.{wants_rest}
-use Rattle.ftp_pair_downloads.proofs.Stands.{ClientFetches, ServerServes}
+use Rattle.ftp_pair_deeds.proofs.Holding.{Holds, Takes, is_had, is_sound}
+use Rattle.ftp_pair_deeds.proofs.NearForms.{wants_rest}
+use Rattle.ftp_pair_deeds.proofs.Stands.{ClientFetches, ServerServes}
 use Rattle.ftp_pair_transfers.proofs.Known.{is_near_held, is_ready}
 
 -- ---- the relation

@@ -33,11 +33,10 @@ use Rattle.ftp_pair_data.proofs.Hearing.{at_link}
 use Rattle.ftp_pair_data.proofs.Known.{Dialling as IsDialling}
 use Rattle.ftp_pair_data.proofs.Moves.{Rested, opens}
 use Rattle.ftp_pair_data.proofs.Served.{Runs, far_wants, rests, settled}
-use Rattle.ftp_pair_downloads.proofs.Beside.{both, is_called, is_had, is_sound, unclosed}
-use Rattle.ftp_pair_downloads.proofs.FarForms.{told_speaks}
-use Rattle.ftp_pair_downloads.proofs.NearForms.{Dialling, busy_same, dialled_any, dialled_closing, dialling_of, wants_rest}
-use Rattle.ftp_pair_downloads.proofs.ServerStays.{none_later}
-use Rattle.ftp_pair_downloads.proofs.Stands.{ClientFetches, ServerServes}
+use Rattle.ftp_pair_deeds.proofs.Holding.{both, is_called, is_had, is_sound, unclosed}
+use Rattle.ftp_pair_deeds.proofs.FarForms.{none_later, told_speaks}
+use Rattle.ftp_pair_deeds.proofs.NearForms.{Dialling, busy_same, dialled_any, dialled_closing, dialling_of, wants_rest}
+use Rattle.ftp_pair_deeds.proofs.Stands.{ClientFetches, ServerServes}
 use Rattle.ftp_pair_transfers.proofs.Beside.{Goes, IsBeside, Together, rested}
 use Rattle.ftp_pair_transfers.proofs.Known.{Known}
 use Rattle.ftp_pair_transfers.proofs.Settling.{NearSettles, near_settles}

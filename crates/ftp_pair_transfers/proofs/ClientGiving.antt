@@ -28,10 +28,10 @@ use Rattle.ftp_pair_data.proofs.Moves.{Rested}
 use Rattle.ftp_pair_data.proofs.Rising.{near_gives_one}
 use Rattle.ftp_pair_data.proofs.Served.{rests, settled}
 use Rattle.ftp_pair_data.proofs.Settling.{none_taken}
-use Rattle.ftp_pair_downloads.proofs.Beside.{Takes, both, is_had, is_sound, unclosed}
-use Rattle.ftp_pair_downloads.proofs.NearForms.{busy_same, no_close, wants_rest}
-use Rattle.ftp_pair_downloads.proofs.Plain.{IsPlainly}
-use Rattle.ftp_pair_downloads.proofs.Stands.{ClientFetches, ServerServes}
+use Rattle.ftp_pair_deeds.proofs.Holding.{Takes, both, is_had, is_sound, unclosed}
+use Rattle.ftp_pair_deeds.proofs.NearForms.{busy_same, no_close, wants_rest}
+use Rattle.ftp_pair_deeds.proofs.Plain.{IsPlainly}
+use Rattle.ftp_pair_deeds.proofs.Stands.{ClientFetches, ServerServes}
 use Rattle.ftp_pair_transfers.proofs.Beside.{Goes, Together, Writes, rested}
 use Rattle.ftp_pair_transfers.proofs.ClientStays.{client_stays}
 use Rattle.ftp_pair_transfers.proofs.FarForms.{upload_takes}

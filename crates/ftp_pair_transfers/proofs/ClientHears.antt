@@ -21,15 +21,14 @@ use Rattle.ftp_pair_drives.specs.Alone.{ClientIsCalm}
 use Rattle.ftp_pair_drives.specs.Between.{Between, Hold}
 use Rattle.ftp_pair_drives.proofs.Taken.{HearsAlike, hears_alike, taken}
 use Rattle.ftp_pair_data.specs.Ahead.{Ahead, Listened}
-use Rattle.ftp_pair_data.specs.Honest.{is_unaborted}
+use Rattle.ftp_pair_data.specs.Unaborted.{is_unaborted}
 use Rattle.ftp_pair_data.proofs.Moves.{Rested, drop_front, near_hears, take_front}
 use Rattle.ftp_pair_data.proofs.Served.{rests, settled}
 use Rattle.ftp_client_model.specs.Calls.{is_sound as is_sound_at}
-use Rattle.ftp_pair_downloads.proofs.Beside.{Takes, is_false, is_sound, unclosed}
-use Rattle.ftp_pair_downloads.proofs.ClientMoves.{is_unaborted_same}
-use Rattle.ftp_pair_downloads.proofs.NearForms.{wants_rest}
-use Rattle.ftp_pair_downloads.proofs.Plain.{IsPlainly, plain_unaborted}
-use Rattle.ftp_pair_downloads.proofs.Stands.{ClientFetches, ServerServes, has_port}
+use Rattle.ftp_pair_deeds.proofs.Holding.{Takes, is_false, is_sound, unclosed}
+use Rattle.ftp_pair_deeds.proofs.NearForms.{is_unaborted_same, wants_rest}
+use Rattle.ftp_pair_deeds.proofs.Plain.{IsPlainly, plain_unaborted}
+use Rattle.ftp_pair_deeds.proofs.Stands.{ClientFetches, ServerServes, has_port}
 use Rattle.ftp_pair_transfers.proofs.Blind.{hears_blind}
 use Rattle.ftp_pair_transfers.proofs.Beside.{Goes, Keeping, Together, Writes, rested}
 use Rattle.ftp_pair_transfers.proofs.ClientStays.{client_keeps}

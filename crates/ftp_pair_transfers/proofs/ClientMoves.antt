@@ -26,9 +26,9 @@ use Rattle.ftp_pair_drives.proofs.Taken.{free_none, free_same, taken}
 use Rattle.ftp_pair_data.specs.Ahead.{Ahead, Listened}
 use Rattle.ftp_pair_data.proofs.Moves.{Rested, begins, near_says}
 use Rattle.ftp_pair_data.proofs.Served.{rests, settled}
-use Rattle.ftp_pair_downloads.proofs.Beside.{Holds, Takes, both, is_had, is_sound, unclosed}
-use Rattle.ftp_pair_downloads.proofs.NearForms.{starts_closing, wants_rest}
-use Rattle.ftp_pair_downloads.proofs.Stands.{ClientFetches, ServerServes}
+use Rattle.ftp_pair_deeds.proofs.Holding.{Holds, Takes, both, is_had, is_sound, unclosed}
+use Rattle.ftp_pair_deeds.proofs.NearForms.{starts_closing, wants_rest}
+use Rattle.ftp_pair_deeds.proofs.Stands.{ClientFetches, ServerServes}
 use Rattle.ftp_pair_transfers.proofs.Beside.{Comes, Goes, Together, Writes, rested}
 use Rattle.ftp_pair_transfers.proofs.Known.{Known, is_near_held}
 use Rattle.ftp_pair_transfers.proofs.Settling.{NearSettles, near_settles}

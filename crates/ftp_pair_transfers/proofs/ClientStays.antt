@@ -27,9 +27,9 @@ use Rattle.ftp_pair_drives.proofs.Worlds.{leads_none}
 use Rattle.ftp_pair_data.specs.Ahead.{Ahead}
 use Rattle.ftp_pair_data.proofs.Known.{is_receive}
 use Rattle.ftp_pair_data.proofs.Served.{rests}
-use Rattle.ftp_pair_downloads.proofs.Beside.{Holds, Takes, both, is_false, is_had, is_sound, unclosed}
-use Rattle.ftp_pair_downloads.proofs.NearForms.{idle_free, wants_rest}
-use Rattle.ftp_pair_downloads.proofs.Stands.{ClientFetches}
+use Rattle.ftp_pair_deeds.proofs.Holding.{Holds, Takes, both, is_false, is_had, is_sound, unclosed}
+use Rattle.ftp_pair_deeds.proofs.NearForms.{idle_free, wants_rest}
+use Rattle.ftp_pair_deeds.proofs.Stands.{ClientFetches}
 use Rattle.ftp_pair_transfers.proofs.NearForms.{is_accept, never_accepts}
 use Rattle.ftp_pair_transfers.proofs.Beside.{Comes, Goes, Keeping, Together, Writes}
 use Rattle.ftp_pair_transfers.proofs.Known.{Known, is_near_held}

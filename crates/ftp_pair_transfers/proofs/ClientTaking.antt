@@ -21,9 +21,9 @@ use Rattle.ftp_pair_drives.proofs.Taken.{taken}
 use Rattle.ftp_pair_data.specs.Ahead.{Ahead, Listened}
 use Rattle.ftp_pair_data.proofs.Moves.{Rested, near_takes}
 use Rattle.ftp_pair_data.proofs.Served.{rests, settled}
-use Rattle.ftp_pair_downloads.proofs.Beside.{Takes, both, is_sound, unclosed}
-use Rattle.ftp_pair_downloads.proofs.NearForms.{Taking, receives_closing, taking_of, taking_same, wants_rest}
-use Rattle.ftp_pair_downloads.proofs.Stands.{ClientFetches, ServerServes}
+use Rattle.ftp_pair_deeds.proofs.Holding.{Takes, both, is_sound, unclosed}
+use Rattle.ftp_pair_deeds.proofs.NearForms.{Taking, receives_closing, taking_of, taking_same, wants_rest}
+use Rattle.ftp_pair_deeds.proofs.Stands.{ClientFetches, ServerServes}
 use Rattle.ftp_pair_transfers.proofs.Beside.{Goes, Together, Writes, rested}
 use Rattle.ftp_pair_transfers.proofs.ClientStays.{client_stays}
 use Rattle.ftp_pair_transfers.proofs.Known.{Known, is_near_held, is_ready}

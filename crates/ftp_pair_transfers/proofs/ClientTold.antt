@@ -26,14 +26,14 @@ use Rattle.ftp_pair_drives.specs.Between.{Between, Can, Near as TheClient}
 use Rattle.ftp_pair_drives.specs.Touches.{ToldEnd}
 use Rattle.ftp_pair_drives.proofs.Taken.{taken}
 use Rattle.ftp_pair_data.specs.Ahead.{Ahead, Level, Listened, Listens, Opens, is_open}
-use Rattle.ftp_pair_data.specs.Honest.{is_unaborted}
+use Rattle.ftp_pair_data.specs.Unaborted.{is_unaborted}
 use Rattle.ftp_pair_data.proofs.Moves.{Rested, ends}
 use Rattle.ftp_pair_data.proofs.Served.{rests, settled}
-use Rattle.ftp_pair_downloads.proofs.Beside.{Holds, both, is_called, is_false, is_had}
-use Rattle.ftp_pair_downloads.proofs.FarForms.{given_none, told_passive}
-use Rattle.ftp_pair_downloads.proofs.NearForms.{Taking, end_closing, taking_of, wants_rest}
-use Rattle.ftp_pair_downloads.proofs.Plain.{IsPlainly}
-use Rattle.ftp_pair_downloads.proofs.Stands.{ClientFetches, ServerServes}
+use Rattle.ftp_pair_deeds.proofs.Holding.{Holds, both, is_called, is_false, is_had}
+use Rattle.ftp_pair_deeds.proofs.FarForms.{given_none, told_passive}
+use Rattle.ftp_pair_deeds.proofs.NearForms.{Taking, end_closing, taking_of, wants_rest}
+use Rattle.ftp_pair_deeds.proofs.Plain.{IsPlainly}
+use Rattle.ftp_pair_deeds.proofs.Stands.{ClientFetches, ServerServes}
 use Rattle.ftp_pair_transfers.proofs.Beside.{Comes, Goes, Together, Writes, rested}
 use Rattle.ftp_pair_transfers.proofs.ClientTaking.{taking_is}
 use Rattle.ftp_pair_transfers.proofs.Known.{AreCarried, Known, is_near_held}

@@ -17,8 +17,8 @@ use Rattle.ftp_pair_drives.specs.Claims.{Begins}
 use Rattle.ftp_pair_drives.specs.Over.{answers_of, deeds_of_drive}
 use Rattle.ftp_pair_drives.proofs.Concluding.{ends_keep_the_map}
 use Rattle.ftp_pair_drives.proofs.Ending.{reported_free}
-use Rattle.ftp_pair_downloads.specs.Over.{AreMidst, IsMidst}
-use Rattle.ftp_pair_downloads.proofs.Ending.{Went}
+use Rattle.ftp_pair_deeds.specs.Deeds.{AreMidst, IsMidst}
+use Rattle.ftp_pair_deeds.proofs.Along.{Went}
 use Rattle.ftp_pair_transfers.specs.Claims.{DidTransfer}
 use Rattle.ftp_pair_transfers.specs.Deeds.{ClientTransfers, begun_at, number_in}
 use Rattle.ftp_pair_transfers.specs.Over.{AreTransferred, TransfersOverAreTheDirectRun, deeds_in, orders_at}

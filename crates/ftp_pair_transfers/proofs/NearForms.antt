@@ -15,7 +15,7 @@ use Rattle.ftp_client_model.specs.declared.client.Replied.TheVariants as Replies
 use Rattle.ftp_pair_dialogues.specs.Fetches.{busy}
 use Rattle.ftp_pair_dialogues.proofs.Sending.{gives_all, gives_some}
 use Rattle.ftp_pair_agreement.specs.Rising.{sending}
-use Rattle.ftp_pair_downloads.proofs.Stands.{has_port}
+use Rattle.ftp_pair_deeds.proofs.Stands.{has_port}
 
 -- ---- what it wants
 

@@ -21,10 +21,9 @@ use Rattle.ftp_pair_drives.proofs.Leaving.{quits_table}
 use Rattle.ftp_pair_drives.proofs.Quitting.{Quits}
 use Rattle.ftp_pair_drives.proofs.Taken.{free_none}
 use Rattle.ftp_pair_data.proofs.Running.{all_runs}
-use Rattle.ftp_pair_downloads.proofs.Ending.{Went}
-use Rattle.ftp_pair_quitting.specs.Quitting.{GaveAndLeft}
-use Rattle.ftp_pair_quitting.proofs.Closing.{AtQuit, at_quit, begins_quit}
-use Rattle.ftp_pair_quitting.proofs.Resting.{idle_at, rests_so}
+use Rattle.ftp_pair_deeds.proofs.Along.{Went}
+use Rattle.ftp_pair_deeds.proofs.Closing.{AtQuit, LeftSince, at_quit, begins_quit}
+use Rattle.ftp_pair_deeds.proofs.Resting.{idle_at, rests_so}
 use Rattle.ftp_pair_transfers.specs.Claims.{DidTransfer}
 use Rattle.ftp_pair_transfers.specs.Deeds.{AreMoments, ClientTransfers, begun_at}
 use Rattle.ftp_pair_transfers.specs.Over.{orders_at}
@@ -47,7 +46,7 @@ drop_all (deed ∷ deeds) = drop_all deeds
 
 -- as a session that fetched ends
 leaves_so : (deeds : List (Deed server_side)) (start now : Stand server_side) (led : Led deeds start now) → LeavesAlong deeds start now led
-    → GaveAndLeft (length deeds) deeds start now led
+    → LeftSince (length deeds) deeds start now led
 leaves_so [] start now led leaves = tt
 leaves_so (deed ∷ before) start now led leaves = (leaves_so before start led.0 led.1 leaves.0, leaves.1.0, leaves.1.1)
 

@@ -13,7 +13,7 @@ use Rattle.ftp_pair_agreement.specs.Follows.{IsFree, Phase}
 use Rattle.ftp_pair_agreement.specs.Over.{OverRuns}
 use Rattle.ftp_pair_agreement.proofs.Still.{rest_world, seen}
 use Rattle.ftp_pair_drives.proofs.Leaving.{is_entered, not_logging, not_more}
-use Rattle.ftp_pair_quitting.proofs.Resting.{Idles}
+use Rattle.ftp_pair_deeds.proofs.Resting.{Idles}
 use Rattle.ftp_pair_transfers.proofs.Known.{AreCarried, is_ready, last_carried}
 use Rattle.ftp_pair_transfers.proofs.Running.{not_trailing}
 

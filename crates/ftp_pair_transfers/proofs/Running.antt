@@ -34,7 +34,7 @@ use Rattle.ftp_pair_agreement.proofs.FetchEnds.{ends_fetching}
 use Rattle.ftp_pair_agreement.proofs.FetchRuns.{OnOrHalted, pushed_client, pushed_server, serving_first}
 use Rattle.ftp_pair_agreement.proofs.FetchServed.{leads_still}
 use Rattle.ftp_pair_agreement.proofs.Still.{IsSeen, IsStill, near_wants, seen, seen_placed}
-use Rattle.ftp_pair_data.specs.Honest.{is_unaborted}
+use Rattle.ftp_pair_data.specs.Unaborted.{is_unaborted}
 use Rattle.ftp_pair_data.proofs.Known.{aside_still, beside, one_way}
 use Rattle.ftp_pair_data.proofs.Running.{free_still, not_halting, not_lost, under_still}
 use Rattle.ftp_pair_data.proofs.Served.{Runs}

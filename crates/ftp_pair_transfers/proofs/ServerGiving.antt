@@ -30,10 +30,9 @@ use Rattle.ftp_pair_data.specs.Ahead.{Ahead, Level, Listened, Listens, Opens, ac
 use Rattle.ftp_pair_data.proofs.Moves.{Rested, far_gives_one}
 use Rattle.ftp_pair_data.proofs.Served.{Runs, far_wants, rests, settled}
 use Rattle.ftp_pair_data.proofs.Settling.{FarSettles, far_settles, next_ahead}
-use Rattle.ftp_pair_downloads.proofs.Beside.{Holds, both, is_called, is_false, is_had, is_sound}
-use Rattle.ftp_pair_downloads.proofs.FarForms.{GivenKeeps, Sending, given_all, given_is, given_keeps, given_shut, gives_on, giving, is_send, no_close, sending_of}
-use Rattle.ftp_pair_downloads.proofs.ServerStays.{none_later}
-use Rattle.ftp_pair_downloads.proofs.Stands.{ClientFetches, ServerServes}
+use Rattle.ftp_pair_deeds.proofs.Holding.{Holds, both, is_called, is_false, is_had, is_sound}
+use Rattle.ftp_pair_deeds.proofs.FarForms.{GivenKeeps, Sending, given_all, given_is, given_keeps, given_shut, gives_on, giving, is_send, no_close, none_later, sending_of}
+use Rattle.ftp_pair_deeds.proofs.Stands.{ClientFetches, ServerServes}
 use Rattle.ftp_pair_transfers.proofs.Beside.{Comes, Goes, Together, Writes, rested}
 use Rattle.ftp_pair_transfers.proofs.Known.{Known, is_giving, is_near_held}
 use Rattle.ftp_pair_transfers.proofs.ServerStays.{server_stays}

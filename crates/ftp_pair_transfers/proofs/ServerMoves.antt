@@ -27,10 +27,9 @@ use Rattle.ftp_pair_data.proofs.Hearing.{Turns, at_link, is_aimed, is_dialled, o
 use Rattle.ftp_pair_data.proofs.Moves.{Rested, far_hears, far_says}
 use Rattle.ftp_pair_data.proofs.Served.{Runs, far_wants, settled}
 use Rattle.ftp_pair_data.proofs.Settling.{FarSettles, far_settles, fits_next, next_ahead}
-use Rattle.ftp_pair_downloads.proofs.Beside.{Holds, both, is_ahead, is_called, is_false, is_had, is_sound}
-use Rattle.ftp_pair_downloads.proofs.FarForms.{called_speaks, first_of_some, quiet_of, same_opens, waiting_open, waits_unasked}
-use Rattle.ftp_pair_downloads.proofs.ServerStays.{none_later}
-use Rattle.ftp_pair_downloads.proofs.Stands.{ClientFetches, ServerServes}
+use Rattle.ftp_pair_deeds.proofs.Holding.{Holds, both, is_ahead, is_called, is_false, is_had, is_sound}
+use Rattle.ftp_pair_deeds.proofs.FarForms.{called_speaks, first_of_some, none_later, quiet_of, same_opens, waiting_open, waits_unasked}
+use Rattle.ftp_pair_deeds.proofs.Stands.{ClientFetches, ServerServes}
 use Rattle.ftp_pair_transfers.proofs.Beside.{Comes, Goes, Together, Writes, rested}
 use Rattle.ftp_pair_transfers.proofs.FarForms.{upload_takes}
 use Rattle.ftp_pair_transfers.proofs.Known.{Known, is_near_held}

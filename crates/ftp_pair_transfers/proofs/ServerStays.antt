@@ -30,10 +30,9 @@ use Rattle.ftp_pair_drives.proofs.Worlds.{leads_none}
 use Rattle.ftp_pair_data.specs.Ahead.{Ahead, Fits, Level, Listened, Listens, Opens, accepts, ahead_of, far_ahead, is_asked, is_open}
 use Rattle.ftp_pair_data.proofs.Ahead.{far_is, keeps, listened_level, opened_level}
 use Rattle.ftp_pair_data.proofs.Served.{far_wants}
-use Rattle.ftp_pair_downloads.proofs.Beside.{Holds, both, is_called, is_false, is_had, is_sound}
-use Rattle.ftp_pair_downloads.proofs.FarForms.{accepts_accepts, asked_apart, asked_listens, is_listen, leaves_open, never_all, no_close, opened_is, opened_shut, told_passive}
-use Rattle.ftp_pair_downloads.proofs.ServerStays.{none_later}
-use Rattle.ftp_pair_downloads.proofs.Stands.{ServerServes}
+use Rattle.ftp_pair_deeds.proofs.Holding.{Holds, both, is_called, is_false, is_had, is_sound}
+use Rattle.ftp_pair_deeds.proofs.FarForms.{accepts_accepts, asked_apart, asked_listens, is_listen, leaves_open, never_all, no_close, none_later, opened_is, opened_shut, told_passive}
+use Rattle.ftp_pair_deeds.proofs.Stands.{ServerServes}
 use Rattle.ftp_pair_transfers.proofs.Beside.{Comes, Goes, Together, Writes}
 use Rattle.ftp_pair_transfers.proofs.FarForms.{is_receive, receives_upload, shut_untaken}
 use Rattle.ftp_pair_transfers.proofs.Known.{Known}

@@ -28,17 +28,16 @@ use Rattle.ftp_pair_drives.specs.Touches.{ToldEnd}
 use Rattle.ftp_pair_drives.proofs.Calm.{first_is_calm}
 use Rattle.ftp_pair_drives.proofs.Worlds.{LeadsOn}
 use Rattle.ftp_pair_data.specs.Ahead.{Ahead, Level, Listened, Listens, Opens, accepts, far_ahead, is_asked, is_open}
-use Rattle.ftp_pair_data.specs.Honest.{is_unaborted}
+use Rattle.ftp_pair_data.specs.Unaborted.{is_unaborted}
 use Rattle.ftp_pair_data.proofs.Ahead.{closed_is}
 use Rattle.ftp_pair_data.proofs.Moves.{Rested, take_front}
 use Rattle.ftp_pair_data.proofs.Rising.{far_ends, far_takes}
 use Rattle.ftp_pair_data.proofs.Served.{Runs, far_wants, settled}
 use Rattle.ftp_pair_data.proofs.Settling.{FarSettles, far_settles, next_ahead}
-use Rattle.ftp_pair_downloads.proofs.Beside.{both, is_false, is_had, is_sound}
-use Rattle.ftp_pair_downloads.proofs.ClientMoves.{is_unaborted_same}
-use Rattle.ftp_pair_downloads.proofs.FarForms.{no_close}
-use Rattle.ftp_pair_downloads.proofs.ServerStays.{none_later}
-use Rattle.ftp_pair_downloads.proofs.Stands.{ClientFetches, ServerServes}
+use Rattle.ftp_pair_deeds.proofs.Holding.{both, is_false, is_had, is_sound}
+use Rattle.ftp_pair_deeds.proofs.NearForms.{is_unaborted_same}
+use Rattle.ftp_pair_deeds.proofs.FarForms.{no_close, none_later}
+use Rattle.ftp_pair_deeds.proofs.Stands.{ClientFetches, ServerServes}
 use Rattle.ftp_pair_transfers.proofs.Beside.{Comes, Goes, Together, Writes, rested}
 use Rattle.ftp_pair_transfers.proofs.FarForms.{Takes, end_shut, is_receive, may_front, receives_beside, receives_upload, upload_takes}
 use Rattle.ftp_pair_transfers.proofs.Known.{AreCarried, Known, is_near_held}

@@ -26,17 +26,16 @@ use Rattle.ftp_pair_drives.proofs.Simulating.{reported_is}
 use Rattle.ftp_pair_drives.proofs.Taken.{reports_is, taken}
 use Rattle.ftp_pair_drives.proofs.Worlds.{LeadsOn, leads_none, leads_then}
 use Rattle.ftp_pair_data.specs.Ahead.{Ahead, Level, far_ahead, is_asked, is_open}
-use Rattle.ftp_pair_data.specs.Honest.{is_unaborted}
+use Rattle.ftp_pair_data.specs.Unaborted.{is_unaborted}
 use Rattle.ftp_pair_data.proofs.Running.{all_runs}
 use Rattle.ftp_pair_data.proofs.Served.{Runs}
-use Rattle.ftp_pair_downloads.specs.Deeds.{ArePorts, listened_in}
-use Rattle.ftp_pair_downloads.proofs.Beside.{both}
-use Rattle.ftp_pair_downloads.proofs.ClientMoves.{is_unaborted_same}
-use Rattle.ftp_pair_downloads.proofs.NearForms.{starts_standing}
-use Rattle.ftp_pair_downloads.proofs.Plain.{IsPlain, IsPlainly, plain_unaborted, starts_plain}
-use Rattle.ftp_pair_downloads.proofs.Plainly.{deed_plain, deed_sound}
-use Rattle.ftp_pair_downloads.proofs.Serves.{deed_serves}
-use Rattle.ftp_pair_downloads.proofs.Stands.{ClientFetches, ServerServes}
+use Rattle.ftp_pair_deeds.specs.Deeds.{ArePorts, listened_in}
+use Rattle.ftp_pair_deeds.proofs.Holding.{both}
+use Rattle.ftp_pair_deeds.proofs.NearForms.{is_unaborted_same, starts_standing}
+use Rattle.ftp_pair_deeds.proofs.Plain.{IsPlain, IsPlainly, plain_unaborted, starts_plain}
+use Rattle.ftp_pair_deeds.proofs.Plainly.{deed_plain, deed_sound}
+use Rattle.ftp_pair_deeds.proofs.Serves.{deed_serves}
+use Rattle.ftp_pair_deeds.proofs.Stands.{ClientFetches, ServerServes}
 use Rattle.ftp_pair_transfers.specs.Claims.{TransfersAreOfWorlds}
 use Rattle.ftp_pair_transfers.specs.Deeds.{AreMoments, AreToldAt, ClientTransfers, AsksAlong, IsCarried, IsTransferred, IsToldAt, ServerTransfers, ServesAlong, begun_at, last_of, number_in}
 use Rattle.ftp_pair_transfers.proofs.Beside.{Goes, Together}

@@ -22,7 +22,7 @@ use Rattle.ftp_pair_agreement.proofs.Rests.{near_form}
 use Rattle.ftp_pair_agreement.proofs.Still.{IsSeen, seen_placed}
 use Rattle.ftp_pair_agreement.proofs.UploadData.{AtRise, rise_ends, rise_is}
 use Rattle.ftp_pair_agreement.proofs.UploadRuns.{moved_pushes}
-use Rattle.ftp_pair_data.specs.Honest.{is_unaborted}
+use Rattle.ftp_pair_data.specs.Unaborted.{is_unaborted}
 use Rattle.ftp_pair_data.proofs.Known.{beside}
 use Rattle.ftp_pair_data.proofs.Running.{not_halting}
 use Rattle.ftp_pair_data.proofs.Served.{Runs}

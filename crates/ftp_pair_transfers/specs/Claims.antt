@@ -7,8 +7,8 @@ use Rattle.ftp_client_model.specs.Calls.{control_end, is_busy, report_of}
 use Rattle.ftp_pair_drives.specs.Alone.{reports_in}
 use Rattle.ftp_pair_drives.specs.Between.{Between, Happened, Turn, client_deeds, server_deeds}
 use Rattle.ftp_pair_drives.specs.Claims.{Begins}
-use Rattle.ftp_pair_downloads.specs.Claims.{HoldsBoth}
-use Rattle.ftp_pair_downloads.specs.Deeds.{ArePorts}
+use Rattle.ftp_pair_deeds.specs.Holds.{HoldsBoth}
+use Rattle.ftp_pair_deeds.specs.Deeds.{ArePorts}
 use Rattle.ftp_pair_transfers.specs.Deeds.{AreMoments, AreToldAt, AsksAlong, ServesAlong, begun_at}
 use Rattle.ftp_pair_world.specs.Agreement.{Agrees, Leads}
 use Rattle.ftp_pair_world.specs.Claims.{AreAnswers, AreTimed, AreUnmarked, Beginning, IsFair, state_of, world_of}

@@ -15,7 +15,7 @@ use Rattle.ftp_tree.specs.Sound.{last_second}
 use Rattle.ftp_pair_world.specs.Agreement.{Order}
 use Rattle.ftp_pair_drives.specs.Alone.{ClientIsCalm, ServerIsCalm, begun_by}
 use Rattle.ftp_pair_drives.specs.Between.{Client as ByClient, Server as ByServer, Turn, client_deeds, server_deeds}
-use Rattle.ftp_pair_downloads.specs.Deeds.{Along, IsPeer, is_dialling}
+use Rattle.ftp_pair_deeds.specs.Deeds.{Along, IsPeer, is_dialling}
 
 -- ---- the server
 

@@ -11,8 +11,7 @@ use Rattle.ftp_pair_drives.specs.Alone.{ClientIsCalm}
 use Rattle.ftp_pair_drives.specs.Between.{Between, Happened, Turn, client_deeds, server_deeds}
 use Rattle.ftp_pair_drives.specs.Claims.{Begins}
 use Rattle.ftp_pair_drives.specs.Over.{Answers, answers_of, deeds_of_drive, deeds_of_server}
-use Rattle.ftp_pair_downloads.specs.Deeds.{ArePorts}
-use Rattle.ftp_pair_downloads.specs.Over.{AreMidst}
+use Rattle.ftp_pair_deeds.specs.Deeds.{AreMidst, ArePorts}
 use Rattle.ftp_pair_transfers.specs.Deeds.{AreMoments, AreToldAt, AsksAlong, IsTransferred, ServesAlong}
 use Rattle.ftp_pair_world.specs.Agreement.{Order, Single}
 use Rattle.ftp_pair_world.specs.Claims.{AreAnswers, Beginning, IsFair, state_of}

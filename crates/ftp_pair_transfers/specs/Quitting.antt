@@ -16,8 +16,7 @@ use Rattle.ftp_pair_drives.specs.Between.{Between, Happened, Turn, client_deeds,
 use Rattle.ftp_pair_drives.specs.Claims.{Begins}
 use Rattle.ftp_pair_drives.specs.Over.{answers_of, deeds_of_server}
 use Rattle.ftp_pair_drives.specs.Quitting.{HappenedAlone, quitting}
-use Rattle.ftp_pair_downloads.specs.Deeds.{Along, ArePorts}
-use Rattle.ftp_pair_quitting.specs.Quitting.{IsLast}
+use Rattle.ftp_pair_deeds.specs.Deeds.{Along, ArePorts, IsLast}
 use Rattle.ftp_pair_transfers.specs.Deeds.{AreMoments, AreToldAt, ServesAlong}
 use Rattle.ftp_pair_transfers.specs.Over.{AreTransferred, deeds_in, orders_at}
 

@@ -1,0 +1,55 @@
+-- What is so of each end's data connection while a world is beside both drives.
+use Rattle.std.proofs.Common.{◌≡◌, Bool, true, false, true≢false, [], refl, sym, ap, ◌∙◌}
+use Rattle.ftp_control.specs.Lane.{Lane}
+use Rattle.ftp_control.specs.declared.whole.Fate.{Fate}
+use Rattle.ftp_control.specs.declared.whole.Fate.TheVariants.{Sound}
+use Rattle.ftp_client_model.specs.Calls.{data_closed}
+use Rattle.ftp_client_model.specs.View.{View as Near}
+use Rattle.ftp_server_model.specs.View.{Session}
+use Rattle.ftp_pair_drives.specs.Between.{Has, Hold, Is_called}
+use Rattle.ftp_pair_data.specs.Ahead.{Ahead, Opens, accepts, is_open}
+
+-- it has it; it was dialled
+abbrev pub is_had : Hold → Bool
+is_had Has = true
+is_had hold = false
+
+abbrev pub is_called : Hold → Bool
+is_called Is_called = true
+is_called hold = false
+
+abbrev pub is_ahead : Ahead → Bool
+is_ahead Opens = true
+is_ahead ahead = false
+
+-- what is so of a server: one that is to close has none open; it has what is open; and a world is ahead by an opening just where one that waits was dialled
+pub record Holds (ahead : Ahead) (hold : Hold) (s : Session) : Type 0 where
+  pub shut : s.closing ≡ true → is_open s.connection ≡ false
+  pub had : is_open s.connection ≡ true → is_had hold ≡ true
+  pub called : is_called hold ≡ true → accepts s.connection ≡ true → is_ahead ahead ≡ true
+  pub opened : is_ahead ahead ≡ true → is_called hold ≡ true
+
+-- octets may come and go
+abbrev pub is_sound : Fate → Bool
+is_sound Sound = true
+is_sound fate = false
+
+-- what came and was not told is of one that stands and is sound
+pub record Takes (lane : Lane) : Type 0 where
+  pub bare : lane.stands ≡ false → lane.untold ≡ []
+  pub over : is_sound lane.fate ≡ false → lane.untold ≡ []
+
+-- ---- small steps
+
+-- what cannot be true is false
+pub is_false : (b : Bool) → (b ≡ true → ⊥) → b ≡ false
+is_false true none = absurd (none refl)
+is_false false none = refl
+
+-- both cannot be
+pub both : {b : Bool} → b ≡ true → b ≡ false → ⊥
+both one other = true≢false (sym one ∙ other)
+
+-- an end that wants no close holds the same once that is done
+pub unclosed : (n : Near) → n.closing ≡ false → data_closed n ≡ n
+unclosed n is = ap (λ c. record n { closing = c }) (sym is)

@@ -1,0 +1,11 @@
+pub mod Stands
+pub mod Along
+pub mod NearForms
+pub mod FarForms
+pub mod Holding
+pub mod Plain
+pub mod Plainly
+pub mod Serves
+pub mod Parting
+pub mod Resting
+pub mod Closing

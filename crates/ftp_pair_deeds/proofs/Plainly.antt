@@ -1,0 +1,115 @@
+-- A client that is plain stays so by each deed but those that begin an operation and give octets: it has no port of its own and sends no ABOR; and by each of
+-- these but hearing and being told of an end it does not fail.
+use Rattle.std.proofs.Common.{◌≡◌, true, [], ◌∷◌, length, take, refl, sym, ap, subst, ◌∙◌}
+use Rattle.std.specs.Prelude.{⊤}
+use Rattle.ftp_control.specs.Asking.{Connected, Ended as EndedBy, Shut}
+use Rattle.ftp_control.specs.Deeds.{Deed, Done, Heard, Other, Read, Said as Says, Stand}
+use Rattle.ftp_control.specs.Machine.{Aside, Closed, End, Got, Held, Left, LetGo, Opened, Received, Waited}
+use Rattle.ftp_client_drive.specs.Side.{Reporting, client_side}
+use Rattle.ftp_client_model.specs.Calls.{data_opened, is_sound, receives}
+use Rattle.ftp_client_model.specs.Failing.{Client}
+use Rattle.ftp_client_model.specs.View.{Doing, Idle, Job, Told, Transferring, View as Near, Waiting}
+use Rattle.ftp_pair_drives.specs.Alone.{ClientIsCalm}
+use Rattle.ftp_pair_drives.proofs.Taken.{idle_of, reports_is, taken}
+use Rattle.ftp_pair_deeds.proofs.NearForms.{dialled_standing, dialling_of, receives_standing}
+use Rattle.ftp_pair_deeds.proofs.Plain.{IsPlainJob, IsPlainly, ended_plain, hears_plain, opened_plain, received_plain}
+
+-- ---- deeds of a client that gives no octet of a data connection
+
+-- it hears and says, is asked for its report, dials, takes octets to the end that it is told, and leaves a data connection by an end; it begins nothing
+abbrev pub IsTaking : Deed client_side → Type 0
+IsTaking (Heard octets) = ⊤
+IsTaking (Says octets) = ⊤
+IsTaking (Read octets) = ⊤
+IsTaking (Other (Aside (Reporting said))) = ⊤
+IsTaking (Other (Opened host (Connected endpoint left written ∷ []) at_first so_far rest)) = ⊤
+IsTaking (Other (Got octets)) = ⊤
+IsTaking (Other (Received octets count)) = ⊤
+IsTaking (Other End) = ⊤
+IsTaking (Other (Waited lost)) = ⊤
+IsTaking (Other (LetGo octets)) = ⊤
+IsTaking (Other (Left (EndedBy left written))) = ⊤
+IsTaking (Other (Left Shut)) = ⊤
+IsTaking (Other Closed) = ⊤
+IsTaking deed = ⊥
+
+-- so it does, and it was not refused memory
+abbrev pub ClientTakes : Deed client_side → (old new : Held Client) → Type 0
+ClientTakes deed old new = IsTaking deed × ClientIsCalm old new
+
+-- ---- that it stays plain
+
+-- once its report is taken
+taken_plain : (n : Near) → IsPlainly n → IsPlainly (taken n)
+taken_plain n p = record { job = by n.job p.job; port = p.port; run = p.run }
+  where
+    by : (job : Job) → IsPlainJob job → IsPlainJob (idle_of job)
+    by (Told said) plain = tt
+    by Idle plain = plain
+    by (Waiting op) plain = plain
+    by (Doing op step) plain = plain
+    by (Transferring op transfer) plain = plain
+
+module _ (old new : Stand client_side) where
+  abbrev v : Near
+  v = old.owner.end.view
+
+  abbrev u : Near
+  u = new.owner.end.view
+
+  -- it is this now
+  is_now : (n : Near) → u ≡ n → IsPlainly n → IsPlainly u
+  is_now n is p = subst IsPlainly (sym is) p
+
+  -- a deed
+  pub deed_plain : (deed : Deed client_side) → ClientTakes deed old.owner new.owner → Done deed old new → IsPlainly v → IsPlainly u
+  deed_plain (Heard octets) is did p =
+      is_now _ (did.hears.0.0.0 is.1).0 (hears_plain (take (length octets) old.unheard) v p)
+  deed_plain (Says octets) is did p = is_now _ did.gives.gave.0 (record { job = p.job; port = p.port; run = p.run })
+  deed_plain (Read octets) is did p = is_now v (ap (λ o. o.end.view) did.owner) p
+  deed_plain (Other (Aside (Reporting said))) is did p = is_now (taken v) (did.0.0.1.0 ∙ reports_is v) (taken_plain v p)
+  deed_plain (Other (Opened host (Connected endpoint left written ∷ []) at_first so_far rest)) is did p =
+      is_now _ (did.0.0.0.0.0 is.1) (opened_plain host v p)
+  deed_plain (Other (Got octets)) is did p = is_now v (ap (λ c. c.view) did.0.0) p
+  deed_plain (Other (Received octets count)) is did p = is_now _ (did.0.0.0.0 is.1).0 (received_plain (take count octets) v p)
+  deed_plain (Other End) is did p = is_now _ (did.0.0.0.0 is.1) (ended_plain v p)
+  deed_plain (Other (Waited lost)) is did p = is_now v (ap (λ c. c.view) did.0.0) p
+  deed_plain (Other (LetGo octets)) is did p = is_now v (ap (λ c. c.view) did.0.0.0) p
+  deed_plain (Other (Left (EndedBy left written))) is did p = is_now v (ap (λ c. c.view) did.0.0) p
+  deed_plain (Other (Left Shut)) is did p = is_now v (ap (λ c. c.view) did.0.0) p
+  deed_plain (Other Closed) is did p = is_now _ did.0.0.0 (record { job = p.job; port = p.port; run = p.run })
+  deed_plain deed is did p = absurd is.0
+
+-- ---- that it has not failed
+
+-- a deed but hearing, and being told of an end
+abbrev pub IsElse : Deed client_side → Type 0
+IsElse (Heard octets) = ⊥
+IsElse (Other End) = ⊥
+IsElse deed = Unit {0}
+
+module _ (old new : Stand client_side) (sound : is_sound old.owner.end.view.standing ≡ true) where
+  -- it stands as this
+  now_sound : (n : Near) → new.owner.end.view ≡ n → n.standing ≡ old.owner.end.view.standing → is_sound new.owner.end.view.standing ≡ true
+  now_sound n is same = ap (λ (x : Near). is_sound x.standing) is ∙ ap is_sound same ∙ sound
+
+pub deed_sound : (deed : Deed client_side) → IsElse deed → (old new : Stand client_side) → ClientTakes deed old.owner new.owner → Done deed old new
+    → is_sound old.owner.end.view.standing ≡ true → is_sound new.owner.end.view.standing ≡ true
+deed_sound (Says octets) other old new is did sound = now_sound old new sound _ did.gives.gave.0 refl
+deed_sound (Read octets) other old new is did sound = now_sound old new sound old.owner.end.view (ap (λ o. o.end.view) did.owner) refl
+deed_sound (Other (Aside (Reporting said))) other old new is did sound =
+    now_sound old new sound (taken old.owner.end.view) (did.0.0.1.0 ∙ reports_is old.owner.end.view) refl
+deed_sound (Other (Opened host (Connected endpoint left written ∷ []) at_first so_far rest)) other old new is did sound =
+    now_sound old new sound (data_opened host old.owner.end.view) (did.0.0.0.0.0 is.1)
+    (dialled_standing endpoint host old.owner.end.view (dialling_of endpoint old.owner.end.view did.0.2.0))
+deed_sound (Other (Got octets)) other old new is did sound = now_sound old new sound old.owner.end.view (ap (λ c. c.view) did.0.0) refl
+deed_sound (Other (Received octets count)) other old new is did sound =
+    now_sound old new sound (receives old.owner.end.view (take count octets)) (did.0.0.0.0 is.1).0 (receives_standing (take count octets) old.owner.end.view)
+deed_sound (Other (Waited lost)) other old new is did sound = now_sound old new sound old.owner.end.view (ap (λ c. c.view) did.0.0) refl
+deed_sound (Other (LetGo octets)) other old new is did sound = now_sound old new sound old.owner.end.view (ap (λ c. c.view) did.0.0.0) refl
+deed_sound (Other (Left (EndedBy left written))) other old new is did sound = now_sound old new sound old.owner.end.view (ap (λ c. c.view) did.0.0) refl
+deed_sound (Other (Left Shut)) other old new is did sound = now_sound old new sound old.owner.end.view (ap (λ c. c.view) did.0.0) refl
+deed_sound (Other Closed) other old new is did sound = now_sound old new sound _ did.0.0.0 refl
+deed_sound (Heard octets) other old new is did sound = absurd other
+deed_sound (Other End) other old new is did sound = absurd other
+deed_sound deed other old new is did sound = absurd is.0

@@ -1,0 +1,28 @@
+-- How both ends stand while data goes.
+use Rattle.std.specs.Prelude.{◌≡◌, Bool, true, false, None}
+use Rattle.ftp_control.specs.Machine.{Held}
+use Rattle.ftp_client_model.specs.Calls.{is_sound}
+use Rattle.ftp_client_model.specs.Failing.{Client}
+use Rattle.ftp_client_model.specs.declared.client.ClientLink.{ClientLink}
+use Rattle.ftp_client_model.specs.declared.client.ClientLink.TheVariants as Data
+use Rattle.ftp_server_drive.specs.Side.{Timed}
+use Rattle.ftp_server_model.specs.declared.session.Life.TheVariants as Lives
+use Rattle.ftp_pair_data.specs.Unaborted.{is_unaborted}
+
+-- a server that runs, and at which no line waits
+pub record ServerServes (at : Held Timed) : Type 0 where
+  pub running : at.end.server.view.session.life ≡ Lives.Running
+  pub none_waits : at.end.server.view.waiting ≡ None
+
+-- a client that has a port of its own, or wants one
+abbrev pub has_port : ClientLink → Bool
+has_port Data.ListenWanted = true
+has_port (Data.Listening port) = true
+has_port (Data.Accepting port) = true
+has_port link = false
+
+-- it has not failed, has no port of its own, and sent no ABOR
+pub record ClientFetches (at : Held Client) : Type 0 where
+  pub sound : is_sound at.end.view.standing ≡ true
+  pub dials : has_port at.end.view.connection ≡ false
+  pub unaborted : is_unaborted at.end.view.job ≡ true

@@ -1,5 +1,0 @@
-use Rattle.ftp_pair_downloads.proofs.Ending.{fetches_over_are_the_direct_run}
-use Rattle.ftp_pair_downloads.proofs.laws.fetches_over_are_the_direct_run.Goals as goal
-
-pub returns : goal.returns
-returns c = fetches_over_are_the_direct_run

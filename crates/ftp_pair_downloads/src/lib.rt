@@ -1,4 +1,0 @@
-//! Two drives that fetch whole files and listings over passive data connections, as the events of a world: laws, and no code (RFC 959, section 2.3).
-#![tactic(auto)]
-
-pub mod laws;

@@ -1,0 +1,6 @@
+pub mod Playing
+pub mod Moves
+pub mod Ending
+pub mod FetchPlayed
+pub mod PutPlayed
+pub mod Fair

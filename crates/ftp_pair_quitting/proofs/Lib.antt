@@ -1,3 +1,0 @@
-pub mod Resting
-pub mod Closing
-pub mod Concluding
