@@ -5,9 +5,7 @@ use Rattle.ftp_control.specs.declared.whole.Fate.{Fate}
 use Rattle.ftp_control.specs.declared.whole.Fate.TheVariants.{Sound}
 use Rattle.ftp_client_model.specs.Calls.{data_closed}
 use Rattle.ftp_client_model.specs.View.{View as Near}
-use Rattle.ftp_server_model.specs.View.{Session}
 use Rattle.ftp_pair_drives.specs.Between.{Has, Hold, Is_called}
-use Rattle.ftp_pair_data.specs.Ahead.{Ahead, Opens, accepts, is_open}
 
 -- it has it; it was dialled
 abbrev pub is_had : Hold → Bool
@@ -17,17 +15,6 @@ is_had hold = false
 abbrev pub is_called : Hold → Bool
 is_called Is_called = true
 is_called hold = false
-
-abbrev pub is_ahead : Ahead → Bool
-is_ahead Opens = true
-is_ahead ahead = false
-
--- what is so of a server: one that is to close has none open; it has what is open; and a world is ahead by an opening just where one that waits was dialled
-pub record Holds (ahead : Ahead) (hold : Hold) (s : Session) : Type 0 where
-  pub shut : s.closing ≡ true → is_open s.connection ≡ false
-  pub had : is_open s.connection ≡ true → is_had hold ≡ true
-  pub called : is_called hold ≡ true → accepts s.connection ≡ true → is_ahead ahead ≡ true
-  pub opened : is_ahead ahead ≡ true → is_called hold ≡ true
 
 -- octets may come and go
 abbrev pub is_sound : Fate → Bool

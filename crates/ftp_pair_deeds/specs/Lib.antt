@@ -1,3 +1,2 @@
 pub mod Deeds
-pub mod Holds
 pub mod Bare

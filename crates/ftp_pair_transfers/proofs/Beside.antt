@@ -18,14 +18,16 @@ use Rattle.ftp_pair_world.specs.World.{Stands, World}
 use Rattle.ftp_pair_drives.specs.Between.{Between, Hold}
 use Rattle.ftp_pair_drives.proofs.Taken.{taken, taken_none}
 use Rattle.ftp_pair_drives.proofs.Worlds.{LeadsOn}
-use Rattle.ftp_pair_data.specs.Ahead.{Ahead, Fits, Listened, far_ahead, is_asked, is_open}
-use Rattle.ftp_pair_data.proofs.Ahead.{Keeps, keeps}
+use Rattle.ftp_pair_data.specs.Ahead.{is_asked, is_open}
+use Rattle.ftp_pair_transfers.specs.Ahead.{Ahead, Fits, Listened, far_ahead, is_parted}
+use Rattle.ftp_pair_transfers.proofs.Ahead.{Holds, Keeps, keeps}
 use Rattle.ftp_pair_data.proofs.Moves.{Rested}
 use Rattle.ftp_pair_data.proofs.Served.{rests}
-use Rattle.ftp_pair_deeds.proofs.Holding.{Holds, Takes, is_had, is_sound}
+use Rattle.ftp_pair_deeds.proofs.Holding.{Takes, is_had, is_sound}
 use Rattle.ftp_pair_deeds.proofs.NearForms.{wants_rest}
 use Rattle.ftp_pair_deeds.proofs.Stands.{ClientFetches, ServerServes}
 use Rattle.ftp_pair_transfers.proofs.Known.{is_near_held, is_ready}
+use Rattle.ftp_pair_transfers.proofs.Twins.{HasTwin}
 
 -- ---- the relation
 
@@ -65,9 +67,10 @@ pub record Keeping (hold : Hold) (n : Near) (lane : Lane) (w : World) : Type 0 w
   pub shut : n.closing ≡ true → is_near_held w.link ≡ false
   pub over : is_sound lane.fate ≡ false → is_near_held w.link ≡ false
 
--- all of these
-pub record Together (moment : ℕ) (ahead : Ahead) (between : Between) (told : ℕ) (server : Stand server_side) (client : Stand client_side) (reports : List Said)
-    (w : World) : Type 0 where
+-- all of these, and where a link's end was told there alone, that the world has a twin
+pub record Together (read : Reading) (begun : List Order) (moment : ℕ) (ahead : Ahead) (between : Between) (told : ℕ) (server : Stand server_side)
+    (client : Stand client_side)
+    (reports : List Said) (w : World) : Type 0 where
   pub beside : IsBeside moment ahead between told server client reports w
   pub holds : Holds ahead between.far server.owner.end.server.view.session
   pub comes : Comes between.far server.owner.end.server.view.session server.owner.lane
@@ -75,15 +78,16 @@ pub record Together (moment : ℕ) (ahead : Ahead) (between : Between) (told : �
   pub takes : Takes client.owner.lane
   pub gives : Writes between.near client.owner.lane
   pub keeping : Keeping between.near client.owner.end.view client.owner.lane w
+  pub twin : is_parted ahead ≡ true → HasTwin read begun w
 
--- events lead on to a world that is so again
-pub record Goes (read : Reading) (begun : List Order) (between : Between) (told : ℕ) (server : Stand server_side) (client : Stand client_side)
+-- events that begin these lead on to a world that is so again, when these were begun
+pub record Goes (read : Reading) (more begun : List Order) (between : Between) (told : ℕ) (server : Stand server_side) (client : Stand client_side)
     (reports : List Said) (w : World) : Type 0 where
   pub world : World
-  pub leads : LeadsOn read begun w world
+  pub leads : LeadsOn read more w world
   pub moment : ℕ
   pub ahead : Ahead
-  pub together : Together moment ahead between told server client reports world
+  pub together : Together read begun moment ahead between told server client reports world
 
 -- ---- it rests
 

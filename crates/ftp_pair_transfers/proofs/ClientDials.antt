@@ -21,6 +21,7 @@ use Rattle.ftp_server_model.specs.Calls.{clock_step, is_upload, opened_step}
 use Rattle.ftp_server_model.specs.Machine.{Reading, completed, waited}
 use Rattle.ftp_server_model.specs.View.{View as Far}
 use Rattle.ftp_server_model.specs.declared.session.ServerLink.TheVariants as Data
+use Rattle.ftp_pair_world.specs.Agreement.{Order}
 use Rattle.ftp_pair_world.specs.Claims.{AreUnmarked}
 use Rattle.ftp_pair_world.specs.Events.{is_asked_for, is_closed_by_near, is_gone, lends_none, link_opens}
 use Rattle.ftp_pair_world.specs.World.{Opened as LinkOpened, World}
@@ -28,7 +29,8 @@ use Rattle.ftp_pair_drives.specs.Alone.{ClientIsCalm}
 use Rattle.ftp_pair_drives.specs.Between.{Awaits, Between, Can, Hold, Is_called, Near as TheClient}
 use Rattle.ftp_pair_drives.specs.Touches.{Dials}
 use Rattle.ftp_pair_drives.proofs.Taken.{taken, taken_none, taken_wants}
-use Rattle.ftp_pair_data.specs.Ahead.{Ahead, Level, Listens, Opens, accepts, far_ahead, is_asked, is_open}
+use Rattle.ftp_pair_data.specs.Ahead.{accepts, is_asked, is_open}
+use Rattle.ftp_pair_transfers.specs.Ahead.{Ahead, Level, Listens, Opens, Parted, far_ahead}
 use Rattle.ftp_pair_data.proofs.Hearing.{at_link}
 use Rattle.ftp_pair_data.proofs.Known.{Dialling as IsDialling}
 use Rattle.ftp_pair_data.proofs.Moves.{Rested, opens}
@@ -41,7 +43,7 @@ use Rattle.ftp_pair_transfers.proofs.Beside.{Goes, IsBeside, Together, rested}
 use Rattle.ftp_pair_transfers.proofs.Known.{Known}
 use Rattle.ftp_pair_transfers.proofs.Settling.{NearSettles, near_settles}
 
-module _ (read : Reading) (server : Stand server_side) (old new : Stand client_side) (reports : List Said) (w : World)
+module _ (read : Reading) (orders : List Order) (server : Stand server_side) (old new : Stand client_side) (reports : List Said) (w : World)
     (calm : ClientIsCalm old.owner new.owner) (serves : ServerServes server.owner) (before : ClientFetches old.owner) (after : ClientFetches new.owner)
     (known : Known w) where
   abbrev v : Near
@@ -73,7 +75,7 @@ module _ (read : Reading) (server : Stand server_side) (old new : Stand client_s
     had : IsOpened host (Connected endpoint left written ∷ []) at_first so_far rest old.owner.lane new.owner.lane
     had = did.0.1
 
-    module _ (ahead : Ahead) (t : Together moment ahead between told server old reports w) where
+    module _ (ahead : Ahead) (t : Together read orders moment ahead between told server old reports w) where
       n_is : w.near ≡ taken v
       n_is = t.beside.near ∙ unclosed (taken v) dialling.closing
 
@@ -83,7 +85,7 @@ module _ (read : Reading) (server : Stand server_side) (old new : Stand client_s
       near_is : w.near ≡ v
       near_is = n_is ∙ busy_same v (ap is_busy (sym n_is) ∙ there.busy)
 
-    opened : (ahead : Ahead) → (t : Together moment ahead between told server old reports w) → data_opened w.far.footing.here w.near ≡ u
+    opened : (ahead : Ahead) → (t : Together read orders moment ahead between told server old reports w) → data_opened w.far.footing.here w.near ≡ u
     opened ahead t =
         ap (data_opened w.far.footing.here) (near_is ahead t) ∙ dialled_any endpoint w.far.footing.here host v dialling ∙ sym (did.0.0.0.0.0 calm)
 
@@ -93,7 +95,7 @@ module _ (read : Reading) (server : Stand server_side) (old new : Stand client_s
     abbrev open_world : World
     open_world = link_opens (lends_none w)
 
-    level : Together moment Level between told server old reports w → Goes read [] next told server new (reports ++ []) w
+    level : Together read orders moment Level between told server old reports w → Goes read [] orders next told server new (reports ++ []) w
     unfolding far.data_opened
     level t = record {
       world = settled open_world;
@@ -133,6 +135,7 @@ module _ (read : Reading) (server : Stand server_side) (old new : Stand client_s
         takes = record { bare = λ e. had.untold; over = λ e. had.untold };
         gives = record { spare = λ e. had.unwritten; bare = λ e. had.unwritten };
         keeping = record { had = λ e. has_now; shut = λ e. absurd (both e closing); over = λ e. absurd (both (ap is_sound had.fate) e) };
+        twin = λ e. absurd (true≢false (sym e));
       };
     }
       where
@@ -208,10 +211,13 @@ module _ (read : Reading) (server : Stand server_side) (old new : Stand client_s
         climbs : server.owner.lane.untold ++ (next.data_ways.to_server ++ new.owner.lane.unwritten) ≡ []
         climbs = ap₂ (λ o (m : Between). o ++ (m.data_ways.to_server ++ new.owner.lane.unwritten)) none_came can.2 ∙ had.unwritten
 
-    pub client_dials : (ahead : Ahead) → Together moment ahead between told server old reports w → Goes read [] next told server new (reports ++ []) w
+    pub client_dials : (ahead : Ahead) → Together read orders moment ahead between told server old reports w
+        → Goes read [] orders next told server new (reports ++ []) w
     client_dials Level t = level t
     client_dials Opens t = absurd (both (t.holds.opened refl) (awaits between.far can.1).1)
     client_dials (Listens port) t =
         let says : has_octets w.far.owed ≡ true =
         ap (λ (f : Far). has_octets f.owed) t.beside.far ∙ told_speaks x.session.connection t.beside.fits port x.session.closing x in
         absurd (both says (ap has_octets (there (Listens port) t).owes))
+    client_dials (Parted accepted) t =
+        absurd (true≢false (sym (ap accepts (there (Parted accepted) t).far) ∙ ap (λ (f : Far). accepts f.session.connection) t.beside.far))

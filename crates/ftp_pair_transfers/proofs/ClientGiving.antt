@@ -15,6 +15,7 @@ use Rattle.ftp_operation.specs.declared.op.Op.{Op}
 use Rattle.ftp_server_drive.specs.Side.{server_side}
 use Rattle.ftp_server_model.specs.Machine.{Reading}
 use Rattle.ftp_server_model.specs.View.{View as Far}
+use Rattle.ftp_pair_world.specs.Agreement.{Order}
 use Rattle.ftp_pair_world.specs.Claims.{AreUnmarked}
 use Rattle.ftp_pair_world.specs.Events.{is_closed_by_far}
 use Rattle.ftp_pair_world.specs.World.{Opened, World}
@@ -22,7 +23,8 @@ use Rattle.ftp_pair_drives.specs.Alone.{ClientIsCalm}
 use Rattle.ftp_pair_drives.specs.Between.{Between}
 use Rattle.ftp_pair_drives.proofs.Taken.{taken, taken_wants}
 use Rattle.ftp_pair_drives.proofs.Worlds.{LeadsOn, leads_then}
-use Rattle.ftp_pair_data.specs.Ahead.{Ahead, Listened, is_asked}
+use Rattle.ftp_pair_data.specs.Ahead.{is_asked}
+use Rattle.ftp_pair_transfers.specs.Ahead.{Ahead, Listened}
 use Rattle.ftp_pair_data.proofs.Known.{is_receive}
 use Rattle.ftp_pair_data.proofs.Moves.{Rested}
 use Rattle.ftp_pair_data.proofs.Rising.{near_gives_one}
@@ -141,7 +143,7 @@ module _ (read : Reading) where
 
 -- ---- of a drive
 
-module _ (read : Reading) (server : Stand server_side) (old new : Stand client_side) (reports : List Said) (w : World)
+module _ (read : Reading) (orders : List Order) (server : Stand server_side) (old new : Stand client_side) (reports : List Said) (w : World)
     (calm : ClientIsCalm old.owner new.owner) (serves : ServerServes server.owner) (before : ClientFetches old.owner) (known : Known w) where
   abbrev v : Near
   v = old.owner.end.view
@@ -150,7 +152,7 @@ module _ (read : Reading) (server : Stand server_side) (old new : Stand client_s
   u = new.owner.end.view
 
   module _ (count : ℕ) (octets : List ℕ) (rest : Rest) (moment : ℕ) (ahead : Ahead) (between : Between) (told : ℕ)
-      (did : Calls {side = client_side} (Gave count octets rest) old new) (t : Together moment ahead between told server old reports w) where
+      (did : Calls {side = client_side} (Gave count octets rest) old new) (t : Together read orders moment ahead between told server old reports w) where
     open_now : v.closing ≡ false
     open_now = no_close v Want.Send did.0.2 refl
 
@@ -226,11 +228,11 @@ module _ (read : Reading) (server : Stand server_side) (old new : Stand client_s
     none_then : option_to_list (report_of u) ≡ []
     none_then = ap (λ n. option_to_list (report_of n)) is ∙ ap option_to_list (lifted_sound l.op left l.mark v).none
 
-    by_octets : (given : List ℕ) → octets ≡ given → Goes read [] between told server new (reports ++ []) w
+    by_octets : (given : List ℕ) → octets ≡ given → Goes read [] orders between told server new (reports ++ []) w
     by_octets [] none =
         let all : left ≡ whole = ap (λ o. o ++ left) (sym none) ∙ both_are in
         let same : u ≡ v = is ∙ ap (λ o. lifted l.op o l.mark v) all ∙ sym form in
-        client_stays read server old new reports w calm known moment ahead between between told [] t (ap (λ n. data_closed (taken n)) (sym same))
+        client_stays read orders server old new reports w calm known moment ahead between between told [] t (ap (λ n. data_closed (taken n)) (sym same))
         (ap (λ n. option_to_list (report_of n)) (sym same)) refl (ap (λ (s : Stand client_side). s.unheard ++ between.control.to_client) (sym did.1))
         (ap (λ o. server.owner.lane.untold ++ (between.data_ways.to_server ++ o))
         (sym (unwritten ∙ ap (λ o. old.owner.lane.unwritten ++ o) none ∙ append-nil old.owner.lane.unwritten)))
@@ -280,8 +282,9 @@ module _ (read : Reading) (server : Stand server_side) (old new : Stand client_s
               shut = λ c. e.closed (ap (λ (n : Near). n.closing) (sym is) ∙ c);
               over = λ c. absurd (both (ap (λ (l : Lane). is_sound l.fate) lane ∙ ap is_sound did.0.1.1.1) c);
             };
+            twin = λ c. absurd (true≢false (ap is_near_held (sym l.link ∙ (t.twin c).link)));
           };
         }
 
-    pub client_gave : Goes read [] between told server new (reports ++ []) w
+    pub client_gave : Goes read [] orders between told server new (reports ++ []) w
     client_gave = by_octets octets refl

@@ -1,4 +1,4 @@
--- A client that puts files hears octets, as an event of a world.
+-- A client that puts files hears octets, as an event of a world; and where it is told that REST was refused, the end of its link is told there at once.
 use Rattle.std.proofs.Common.{◌≡◌, ℕ, ◌<◌, ◌≤◌, Bool, true, false, true≢false, List, [], ◌∷◌, ◌++◌, length, take, drop, option_to_list, refl, sym, ap, ap₂, subst, ◌∙◌, append_assoc, append-nil, arith, length-append}
 use Rattle.std.proofs.lemmas.List.{take-append-le}
 use Rattle.ftp_control.specs.Deeds.{HearsNext, Stand}
@@ -10,22 +10,29 @@ use Rattle.ftp_client_model.specs.View.{View as Near}
 use Rattle.ftp_direct.specs.Direct.{State}
 use Rattle.ftp_operation.specs.Answer.{Said}
 use Rattle.ftp_server_drive.specs.Side.{server_side}
+use Rattle.ftp_server_model.specs.Calls.{clock_step, close_step}
 use Rattle.ftp_server_model.specs.Machine.{IsReading, Reading}
 use Rattle.ftp_server_model.specs.View.{View as Far}
+use Rattle.ftp_server_model.specs.declared.session.ServerLink.TheVariants as Data
 use Rattle.ftp_pair_world.specs.Agreement.{Order}
 use Rattle.ftp_pair_world.specs.Claims.{AreUnmarked}
 use Rattle.ftp_pair_world.specs.Events.{is_closed_by_near}
 use Rattle.ftp_pair_world.specs.World.{World}
 use Rattle.ftp_pair_agreement.specs.Over.{OverRuns}
+use Rattle.ftp_pair_agreement.proofs.OverRunning.{over_lead}
 use Rattle.ftp_pair_drives.specs.Alone.{ClientIsCalm}
 use Rattle.ftp_pair_drives.specs.Between.{Between, Hold}
-use Rattle.ftp_pair_drives.proofs.Taken.{HearsAlike, hears_alike, taken}
-use Rattle.ftp_pair_data.specs.Ahead.{Ahead, Listened}
+use Rattle.ftp_pair_drives.proofs.Worlds.{LeadsOn, leads_then}
+use Rattle.ftp_pair_drives.proofs.Taken.{HearsAlike, hears_alike, taken, taken_none}
+use Rattle.ftp_pair_transfers.specs.Ahead.{Ahead, Level, Listened, Listens, Opens, Parted, far_ahead, freed, is_left}
+use Rattle.ftp_pair_transfers.proofs.Ahead.{Holds, opens_ready}
+use Rattle.ftp_pair_data.specs.Ahead.{is_asked}
 use Rattle.ftp_pair_data.specs.Unaborted.{is_unaborted}
 use Rattle.ftp_pair_data.proofs.Moves.{Rested, drop_front, near_hears, take_front}
 use Rattle.ftp_pair_data.proofs.Served.{rests, settled}
 use Rattle.ftp_client_model.specs.Calls.{is_sound as is_sound_at}
 use Rattle.ftp_pair_deeds.proofs.Holding.{Takes, is_false, is_sound, unclosed}
+use Rattle.ftp_pair_deeds.proofs.FarForms.{told_passive}
 use Rattle.ftp_pair_deeds.proofs.NearForms.{is_unaborted_same, wants_rest}
 use Rattle.ftp_pair_deeds.proofs.Plain.{IsPlainly, plain_unaborted}
 use Rattle.ftp_pair_deeds.proofs.Stands.{ClientFetches, ServerServes, has_port}
@@ -33,10 +40,14 @@ use Rattle.ftp_pair_transfers.proofs.Blind.{hears_blind}
 use Rattle.ftp_pair_transfers.proofs.Beside.{Goes, Keeping, Together, Writes, rested}
 use Rattle.ftp_pair_transfers.proofs.ClientStays.{client_keeps}
 use Rattle.ftp_pair_transfers.proofs.Known.{AreCarried, Known, is_near_held, is_ready}
+use Rattle.ftp_pair_transfers.specs.Deeds.{AreGranted}
+use Rattle.ftp_pair_transfers.proofs.Granted.{granted_stays}
+use Rattle.ftp_pair_transfers.proofs.Parting.{Parts, parts, ready_is, ready_untaken}
 use Rattle.ftp_pair_transfers.proofs.Running.{hears_closing, hears_sound}
 use Rattle.ftp_pair_transfers.proofs.Settling.{NearSettles, near_settles}
+use Rattle.ftp_pair_transfers.proofs.Twins.{near_heard}
 
-module _ (read : Reading) (server : Stand server_side) (old new : Stand client_side) (reports : List Said) (w : World)
+module _ (read : Reading) (begun : List Order) (server : Stand server_side) (old new : Stand client_side) (reports : List Said) (w : World)
     (calm : ClientIsCalm old.owner new.owner) (serves : ServerServes server.owner) (before : ClientFetches old.owner) (plain : IsPlainly new.owner.end.view)
     (known : Known w) where
   abbrev v : Near
@@ -47,7 +58,7 @@ module _ (read : Reading) (server : Stand server_side) (old new : Stand client_s
 
   -- events lead on to a world that is so again, and the client has not failed
   abbrev Went : Between → ℕ → Type 0
-  Went between told = Goes read [] between told server new (reports ++ []) w × (is_sound_at u.standing ≡ true)
+  Went between told = Goes read [] begun between told server new (reports ++ []) w × (is_sound_at u.standing ≡ true)
 
   -- ---- octets are heard
 
@@ -73,8 +84,8 @@ module _ (read : Reading) (server : Stand server_side) (old new : Stand client_s
       → is_sound new.owner.lane.fate ≡ false → is_near_held w.link ≡ false
   heard_over octets did over e = over (ap (λ (l : Lane). is_sound l.fate) (sym did.hears.1) ∙ e)
 
-  module _ (reads : IsReading read) (from : State) (begun : List Order) (puts : AreCarried begun) (runs : OverRuns read from begun w) (octet : ℕ)
-      (octets : List ℕ) (moment : ℕ) (ahead : Ahead) (between : Between) (told : ℕ) (t : Together moment ahead between told server old reports w)
+  module _ (reads : IsReading read) (from : State) (puts : AreCarried begun) (runs : OverRuns read from begun w) (octet : ℕ)
+      (octets : List ℕ) (moment : ℕ) (ahead : Ahead) (between : Between) (told : ℕ) (t : Together read begun moment ahead between told server old reports w)
       (did : HearsNext (octet ∷ octets) old new) where
     abbrev all : List ℕ
     all = octet ∷ octets
@@ -153,12 +164,6 @@ module _ (read : Reading) (server : Stand server_side) (old new : Stand client_s
         (λ e. hears_closing read reads from begun puts w (length all) runs t.beside.control t.beside.unready unaborted unaborted_then
         (ap (λ (n : Near). n.closing) pushed_near ∙ e))
 
-    -- of the server's link something was made, where the client alone has closed it
-    unready : is_closed_by_near (settled now).link ≡ true → is_ready w.far.session.connection ≡ false
-    unready left = is_false (is_ready w.far.session.connection) (λ ready.
-        let link : (settled now).link ≡ w.link = s.stays (ap (λ (n : Near). n.closing) (sym pushed_near) ∙ known.ready ready (length all)) in
-        true≢false (sym ready ∙ t.beside.unready (ap is_closed_by_near (sym link) ∙ left)))
-
     unwritten : new.owner.lane.unwritten ≡ old.owner.lane.unwritten
     unwritten = ap (λ (l : Lane). l.unwritten) did.hears.1
 
@@ -176,12 +181,23 @@ module _ (read : Reading) (server : Stand server_side) (old new : Stand client_s
             let same_near : w.near ≡ taken v = near_is ∙ unclosed (taken v) was in
             s.closed (ap (λ n. (taken (near.hears n all)).closing) same_near ∙ ap (λ (n : Near). n.closing) (same.view ∙ ap taken (sym is)) ∙ e)
 
-    client_hears : Went between told
-    client_hears =
+    leads : LeadsOn read [] w (settled now)
+    leads = near_hears read octet octets rest w r queue may wants
+
+    reported : (settled now).reports ≡ (reports ++ []) ++ option_to_list (report_of u)
+    reported =
+        s.reports ∙ ap₂ (λ r n. r ++ option_to_list (report_of n)) t.beside.reported (heard all)
+        ∙ append_assoc reports (option_to_list (report_of v)) (option_to_list (report_of (near.hears (taken v) all)))
+        ∙ ap (λ l. reports ++ l) same.report ∙ ap (λ n. reports ++ option_to_list (report_of n)) (sym is)
+        ∙ ap (λ r. r ++ option_to_list (report_of u)) (sym (append-nil reports))
+
+    -- of the server's link something was made, where the client alone has closed it
+    stays : (is_closed_by_near (settled now).link ≡ true → is_ready w.far.session.connection ≡ false) → Went between told
+    stays unready =
         let b = t.beside in (
           record {
             world = settled now;
-            leads = near_hears read octet octets rest w r queue may wants;
+            leads = leads;
             moment = moment;
             ahead = ahead;
             together = record {
@@ -195,10 +211,7 @@ module _ (read : Reading) (server : Stand server_side) (old new : Stand client_s
                 falling = s.same.falling ∙ b.falling
                     ∙ ap (λ (l : Lane). l.untold ++ (between.data_ways.to_client ++ server.owner.lane.unwritten)) (sym did.hears.1);
                 listens = subst (Listened ahead told) (sym s.same.listens) b.listens;
-                reported = s.reports ∙ ap₂ (λ r n. r ++ option_to_list (report_of n)) b.reported (heard all)
-                    ∙ append_assoc reports (option_to_list (report_of v)) (option_to_list (report_of (near.hears (taken v) all)))
-                    ∙ ap (λ l. reports ++ l) same.report ∙ ap (λ n. reports ++ option_to_list (report_of n)) (sym is)
-                    ∙ ap (λ r. r ++ option_to_list (report_of u)) (sym (append-nil reports));
+                reported = reported;
                 control = s.same.control ∙ b.control;
                 unready = λ e. ap (λ (f : Far). is_ready f.session.connection) s.far ∙ unready e;
                 marks = subst AreUnmarked (sym s.same.marks) b.marks;
@@ -210,22 +223,151 @@ module _ (read : Reading) (server : Stand server_side) (old new : Stand client_s
               takes = heard_takes all did t.takes;
               gives = heard_gives all between.near did t.gives;
               keeping = keeping;
+              twin = λ e. near_heard read reads begun octet octets rest w (t.twin e) r queue may wants;
             };
           },
           sound,
         )
 
+    -- or nothing was yet
+    module _ (left : is_closed_by_near (settled now).link ≡ true) (ready : is_ready w.far.session.connection ≡ true) where
+      near_now : (settled now).near ≡ data_closed (taken u)
+      near_now = s.near ∙ taken_is
+
+      unaborted_now : is_unaborted (settled now).near.job ≡ true
+      unaborted_now =
+          ap (λ (n : Near). is_unaborted n.job) near_now ∙ is_unaborted_same u ∙ plain_unaborted u plain
+
+      rested_now : Rested (settled now)
+      rested_now = record {
+        near_rests = ap (λ n. rests (near.wants n)) near_now ∙ wants_rest (data_closed (taken u)) sound plain.port refl;
+        near_open = ap (λ (n : Near). n.closing) near_now;
+        none = ap report_of near_now ∙ taken_none u;
+        runs = record { running = ap (λ (f : Far). f.session.life) s.far ∙ r.runs.running; none_waits = ap (λ (f : Far). f.waiting) s.far ∙ r.runs.none_waits };
+        far_open = ap (λ (f : Far). f.session.closing) s.far ∙ r.far_open;
+        none_asked = ap (λ (f : Far). is_asked f.session.connection) s.far ∙ r.none_asked;
+      }
+
+      -- nothing rises
+      none_rises : w.data_to_server ≡ []
+      none_rises = known.still (ready_untaken w.far.session.connection ready)
+
+      runs_now : OverRuns read from begun (settled now)
+      runs_now =
+          subst (λ l. OverRuns read from l (settled now)) (append-nil begun)
+          (over_lead read reads from begun leads.events [] w (settled now) leads.timed runs leads.leads)
+
+      -- REST refuses an offset of those that were begun
+      refused : AreGranted begun → ⊥
+      refused granted =
+          let open_then : now.near.closing ≡ false =
+          ap (λ (n : Near). n.closing) (sym pushed_near)
+          ∙ granted_stays read reads from begun puts w runs t.beside.control t.beside.unready unaborted granted ready (length all) in
+          true≢false (sym ready ∙ t.beside.unready (ap is_closed_by_near (sym (s.stays open_then)) ∙ left))
+
+      ready_now : is_ready (settled now).far.session.connection ≡ true
+      ready_now = ap (λ (f : Far). is_ready f.session.connection) s.far ∙ ready
+
+      p : Parts read reads from begun puts (settled now) runs_now (s.same.control ∙ t.beside.control) unaborted_now left ready_now refused
+      p = parts read reads from begun puts (settled now) runs_now (s.same.control ∙ t.beside.control) unaborted_now left ready_now refused rested_now
+          (s.same.rising ∙ none_rises)
+
+      -- how the drive's server stands then
+      record Behind : Type 0 where
+        accepted : Bool
+        fits : is_left accepted server.owner.end.server.view.session.connection ≡ true
+        far : close_step (freed w.far) ≡ clock_step moment (far_ahead (Parted accepted) server.owner.end.server.view)
+        listens : w.listens ≡ told
+        holds : Holds (Parted accepted) between.far server.owner.end.server.view.session
+
+      behind_by : (ahead : Ahead) → Together read begun moment ahead between told server old reports w → Behind
+      behind_by Level t = record {
+        accepted = true;
+        fits = ap (is_left true) (ready_is server.owner.end.server.view.session.connection
+            (ap (λ (f : Far). is_ready f.session.connection) (sym t.beside.far) ∙ ready));
+        far = ap (λ f. close_step (freed f)) t.beside.far;
+        listens = t.beside.listens;
+        holds = record { shut = t.holds.shut; had = t.holds.had; called = t.holds.called; opened = t.holds.opened };
+      }
+      behind_by Opens t =
+          let x : Far = server.owner.end.server.view in
+          let passive : x.session.connection ≡ Data.Passive =
+          opens_ready x.session.connection t.beside.fits x (ap (λ (f : Far). is_ready f.session.connection) (sym t.beside.far) ∙ ready) in
+          record {
+            accepted = false;
+            fits = ap (is_left false) passive;
+            far = ap (λ f. close_step (freed f)) t.beside.far
+                ∙ ap (λ l. close_step (freed (clock_step moment (far_ahead Opens (record x { session = record x.session { connection = l } }))))) passive;
+            listens = t.beside.listens;
+            holds = record { shut = t.holds.shut; had = t.holds.had; called = t.holds.called; opened = t.holds.opened };
+          }
+      behind_by (Listens port) t =
+          let x : Far = server.owner.end.server.view in
+          absurd (true≢false (sym ready ∙ ap (λ (f : Far). is_ready f.session.connection) t.beside.far
+          ∙ ap is_ready (told_passive x.session.connection t.beside.fits port x)))
+      behind_by (Parted accepted) t = absurd (true≢false (sym ready ∙ ap (λ (f : Far). is_ready f.session.connection) t.beside.far))
+
+      parts_now : Went between told
+      parts_now =
+          let b = t.beside in
+          let h : Behind = behind_by ahead t in (
+            record {
+              world = p.new;
+              leads = leads_then read [] [] w (settled now) p.new leads p.leads;
+              moment = moment;
+              ahead = Parted h.accepted;
+              together = record {
+                beside = record {
+                  fits = h.fits;
+                  near = p.near ∙ near_now;
+                  far = p.far ∙ ap (λ (f : Far). close_step (freed f)) s.far ∙ h.far;
+                  to_server = p.to_server ∙ s.same.to_server ∙ b.to_server;
+                  to_client = p.to_client ∙ s.same.to_client;
+                  rising = p.rising ∙ sym none_rises ∙ b.rising ∙ ap (λ o. server.owner.lane.untold ++ (between.data_ways.to_server ++ o)) (sym unwritten);
+                  falling = p.falling ∙ sym p.none_fell ∙ s.same.falling ∙ b.falling
+                      ∙ ap (λ (l : Lane). l.untold ++ (between.data_ways.to_client ++ server.owner.lane.unwritten)) (sym did.hears.1);
+                  listens = p.listens ∙ s.same.listens ∙ h.listens;
+                  reported = p.reports ∙ reported;
+                  control = p.control ∙ s.same.control ∙ b.control;
+                  unready = λ e. absurd (true≢false (sym e ∙ p.unclosed));
+                  marks = subst AreUnmarked (sym (p.marks ∙ s.same.marks)) b.marks;
+                  cutoff = p.cutoff ∙ s.same.cutoff ∙ b.cutoff;
+                };
+                holds = h.holds;
+                comes = t.comes;
+                serves = t.serves;
+                takes = heard_takes all did t.takes;
+                gives = heard_gives all between.near did t.gives;
+                keeping = record {
+                  had = λ e. absurd (p.unheld e);
+                  shut = λ e. is_false (is_near_held p.new.link) p.unheld;
+                  over = λ e. is_false (is_near_held p.new.link) p.unheld;
+                };
+                twin = λ e. p.twin;
+              };
+            },
+            sound,
+          )
+
+    client_hears : Went between told
+    client_hears = by (is_closed_by_near (settled now).link) (is_ready w.far.session.connection) refl refl
+      where
+        by : (left ready : Bool) → is_closed_by_near (settled now).link ≡ left → is_ready w.far.session.connection ≡ ready → Went between told
+        by true true left ready = parts_now left ready
+        by true false left unready = stays (λ e. unready)
+        by false ready left some = stays (λ e. absurd (true≢false (sym e ∙ left)))
+
   -- none or some
-  pub client_heard : (reads : IsReading read) (from : State) (begun : List Order) → AreCarried begun → OverRuns read from begun w
+  pub client_heard : (reads : IsReading read) (from : State) → AreCarried begun → OverRuns read from begun w
       → (octets : List ℕ) → (moment : ℕ) (ahead : Ahead) (between : Between) (told : ℕ)
-      → Together moment ahead between told server old reports w → HearsNext octets old new → Went between told
-  client_heard reads from begun puts runs [] moment ahead between told t did = (
-    client_keeps read server old new reports w calm known moment ahead between between told t (heard_is [] did) refl
+      → Together read begun moment ahead between told server old reports w → HearsNext octets old new → Went between told
+  client_heard reads from puts runs [] moment ahead between told t did = (
+    client_keeps read begun server old new reports w calm known moment ahead between between told t (heard_is [] did) refl
         (ap (λ a. a ++ between.control.to_client) did.next)
         (ap (λ (l : Lane). server.owner.lane.untold ++ (between.data_ways.to_server ++ l.unwritten)) (sym did.hears.1))
         (ap (λ (l : Lane). l.untold ++ (between.data_ways.to_client ++ server.owner.lane.unwritten)) (sym did.hears.1)) refl
         (heard_takes [] did t.takes) (heard_gives [] between.near did t.gives) t.keeping.had (heard_over [] did t.keeping.over),
     ap (λ (n : Near). is_sound_at n.standing) (heard_is [] did) ∙ before.sound,
   )
-  client_heard reads from begun puts runs (octet ∷ octets) moment ahead between told t did =
-      client_hears reads from begun puts runs octet octets moment ahead between told t did
+  client_heard reads from puts runs (octet ∷ octets) moment ahead between told t did =
+      client_hears reads from puts runs octet octets moment ahead between told t did

@@ -14,31 +14,35 @@ use Rattle.ftp_operation.specs.declared.op.Op.{Op}
 use Rattle.ftp_server_drive.specs.Side.{server_side}
 use Rattle.ftp_server_model.specs.Calls as far
 use Rattle.ftp_server_model.specs.Calls.{clock_step}
-use Rattle.ftp_server_model.specs.Machine.{Reading}
+use Rattle.ftp_server_model.specs.Machine.{IsReading, Reading}
 use Rattle.ftp_tree.specs.Sound.{last_second}
-use Rattle.ftp_pair_world.specs.Agreement.{Single}
+use Rattle.ftp_pair_world.specs.Agreement.{Order, Single}
 use Rattle.ftp_pair_world.specs.Claims.{AreUnmarked}
 use Rattle.ftp_pair_world.specs.Events.{is_asked_for, is_closed_by_far, is_closed_by_near, is_gone}
 use Rattle.ftp_pair_world.specs.World.{Gone, Mark, World}
 use Rattle.ftp_pair_drives.specs.Alone.{ClientIsCalm}
 use Rattle.ftp_pair_drives.specs.Between.{Between, Near as TheClient, sent}
 use Rattle.ftp_pair_drives.proofs.Taken.{free_none, free_same, taken}
-use Rattle.ftp_pair_data.specs.Ahead.{Ahead, Listened}
-use Rattle.ftp_pair_data.proofs.Moves.{Rested, begins, near_says}
+use Rattle.ftp_pair_transfers.specs.Ahead.{Ahead, Listened}
+use Rattle.ftp_pair_data.proofs.Moves.{Rested, begins, near_says, near_saying}
 use Rattle.ftp_pair_data.proofs.Served.{rests, settled}
-use Rattle.ftp_pair_deeds.proofs.Holding.{Holds, Takes, both, is_had, is_sound, unclosed}
+use Rattle.ftp_pair_deeds.proofs.Holding.{Takes, both, is_had, is_sound, unclosed}
+use Rattle.ftp_pair_transfers.proofs.Ahead.{Holds}
 use Rattle.ftp_pair_deeds.proofs.NearForms.{starts_closing, wants_rest}
 use Rattle.ftp_pair_deeds.proofs.Stands.{ClientFetches, ServerServes}
 use Rattle.ftp_pair_transfers.proofs.Beside.{Comes, Goes, Together, Writes, rested}
+use Rattle.ftp_pair_transfers.specs.Deeds.{IsCarried}
 use Rattle.ftp_pair_transfers.proofs.Known.{Known, is_near_held}
 use Rattle.ftp_pair_transfers.proofs.Settling.{NearSettles, near_settles}
+use Rattle.ftp_pair_transfers.proofs.Twins.{begun_too, near_said}
 
 -- an operation that begins has no mark
 more_unmarked : (marks : List (List Mark)) → AreUnmarked marks → AreUnmarked (marks ++ [] ∷ [])
 more_unmarked [] unmarked = (refl, tt)
 more_unmarked (mark ∷ marks) unmarked = (unmarked.0, more_unmarked marks unmarked.1)
 
-module _ (read : Reading) (server : Stand server_side) (old new : Stand client_side) (reports : List Said) (w : World)
+module _ (read : Reading) (reads : IsReading read) (orders : List Order) (server : Stand server_side) (old new : Stand client_side) (reports : List Said)
+    (w : World)
     (calm : ClientIsCalm old.owner new.owner) (serves : ServerServes server.owner) (before : ClientFetches old.owner) (after : ClientFetches new.owner)
     (known : Known w) where
   abbrev v : Near
@@ -48,9 +52,10 @@ module _ (read : Reading) (server : Stand server_side) (old new : Stand client_s
   u = new.owner.end.view
 
   -- octets are said
-  pub client_said : (octets : List ℕ) (moment : ℕ) (ahead : Ahead) (between next : Between) (told : ℕ) → Together moment ahead between told server old reports w
+  pub client_said : (octets : List ℕ) (moment : ℕ) (ahead : Ahead) (between next : Between) (told : ℕ)
+      → Together read orders moment ahead between told server old reports w
       → SaysNext octets old new → next ≡ record between { control = sent TheClient octets between.control }
-      → Goes read [] next told server new (reports ++ []) w
+      → Goes read [] orders next told server new (reports ++ []) w
   client_said octets moment ahead between next told t says can =
       let b = t.beside in
       let count = says.gives.count in
@@ -60,7 +65,7 @@ module _ (read : Reading) (server : Stand server_side) (old new : Stand client_s
       ap (λ (n : Near). n.owed) b.near ∙ sym (take-append-drop count v.owed) ∙ ap (λ o. o ++ rest) (sym says.gives.owed) in
       let lane : new.owner.lane ≡ old.owner.lane = says.gives.lane in
       record {
-        world = _;
+        world = near_saying read octets rest w;
         leads = near_says read octets rest w (rested moment ahead between told server old reports w b serves before) owed;
         moment = moment;
         ahead = ahead;
@@ -92,15 +97,16 @@ module _ (read : Reading) (server : Stand server_side) (old new : Stand client_s
             shut = λ e. t.keeping.shut (ap (λ (n : Near). n.closing) (sym is) ∙ e);
             over = λ e. t.keeping.over (ap (λ (l : Lane). is_sound l.fate) (sym lane) ∙ e);
           };
+          twin = λ e. near_said read reads orders octets rest w (t.twin e) (rested moment ahead between told server old reports w b serves before) owed;
         };
       }
 
   -- ---- an operation begins
 
-  pub client_begins : (op : Op (List ℕ)) (at : ℕ) → at ≤ last_second → (moment : ℕ) (ahead : Ahead) (between : Between) (told : ℕ)
-      → Together moment ahead between told server old reports w → v.closing ≡ false → Calls {side = client_side} (Aside (Starting op)) old new
-      → Goes read (Single op at ∷ []) between told server new (reports ++ []) w
-  client_begins op at timed moment ahead between told t open_now did =
+  pub client_begins : (op : Op (List ℕ)) → IsCarried op → (at : ℕ) → at ≤ last_second → (moment : ℕ) (ahead : Ahead) (between : Between) (told : ℕ)
+      → Together read orders moment ahead between told server old reports w → v.closing ≡ false → Calls {side = client_side} (Aside (Starting op)) old new
+      → Goes read (Single op at ∷ []) (orders ++ Single op at ∷ []) between told server new (reports ++ []) w
+  client_begins op carried at timed moment ahead between told t open_now did =
       let b = t.beside in
       let r : Rested w = rested moment ahead between told server old reports w b serves before in
       let free : is_busy v ≡ false = did.0.0.0 in
@@ -150,5 +156,6 @@ module _ (read : Reading) (server : Stand server_side) (old new : Stand client_s
             shut = λ e. absurd (both e closing);
             over = λ e. ap is_near_held link;
           };
+          twin = λ e. begun_too read reads orders op carried at timed w (t.twin e) r (ap is_busy near_is ∙ free) idle.wants wants;
         };
       }

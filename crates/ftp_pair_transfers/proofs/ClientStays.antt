@@ -17,6 +17,7 @@ use Rattle.ftp_client_model.specs.View.{View as Near}
 use Rattle.ftp_operation.specs.Answer.{Said}
 use Rattle.ftp_server_drive.specs.Side.{server_side}
 use Rattle.ftp_server_model.specs.Machine.{Reading}
+use Rattle.ftp_pair_world.specs.Agreement.{Order}
 use Rattle.ftp_pair_world.specs.World.{World}
 use Rattle.ftp_pair_drives.specs.Alone.{ClientIsCalm}
 use Rattle.ftp_pair_drives.specs.Between.{Between, Can, Has_ended, Hold, Near as TheClient}
@@ -24,17 +25,18 @@ use Rattle.ftp_pair_drives.specs.Touches.{Ends, Takes as TakesOctets, Writes as 
 use Rattle.ftp_pair_agreement.proofs.Chunks.{both_empty}
 use Rattle.ftp_pair_drives.proofs.Taken.{reports_is, taken, taken_none, taken_twice, taken_wants}
 use Rattle.ftp_pair_drives.proofs.Worlds.{leads_none}
-use Rattle.ftp_pair_data.specs.Ahead.{Ahead}
+use Rattle.ftp_pair_transfers.specs.Ahead.{Ahead}
 use Rattle.ftp_pair_data.proofs.Known.{is_receive}
 use Rattle.ftp_pair_data.proofs.Served.{rests}
-use Rattle.ftp_pair_deeds.proofs.Holding.{Holds, Takes, both, is_false, is_had, is_sound, unclosed}
+use Rattle.ftp_pair_deeds.proofs.Holding.{Takes, both, is_false, is_had, is_sound, unclosed}
+use Rattle.ftp_pair_transfers.proofs.Ahead.{Holds}
 use Rattle.ftp_pair_deeds.proofs.NearForms.{idle_free, wants_rest}
 use Rattle.ftp_pair_deeds.proofs.Stands.{ClientFetches}
 use Rattle.ftp_pair_transfers.proofs.NearForms.{is_accept, never_accepts}
 use Rattle.ftp_pair_transfers.proofs.Beside.{Comes, Goes, Keeping, Together, Writes}
 use Rattle.ftp_pair_transfers.proofs.Known.{Known, is_near_held}
 
-module _ (read : Reading) (server : Stand server_side) (old new : Stand client_side) (reports : List Said) (w : World)
+module _ (read : Reading) (orders : List Order) (server : Stand server_side) (old new : Stand client_side) (reports : List Said) (w : World)
     (calm : ClientIsCalm old.owner new.owner) (known : Known w) where
   abbrev v : Near
   v = old.owner.end.view
@@ -52,11 +54,11 @@ module _ (read : Reading) (server : Stand server_side) (old new : Stand client_s
 
   -- a world stays beside
   pub client_stays : (moment : ℕ) (ahead : Ahead) (between next : Between) (told : ℕ) (more : List Said)
-      → Together moment ahead between told server old reports w → data_closed (taken v) ≡ data_closed (taken u)
+      → Together read orders moment ahead between told server old reports w → data_closed (taken v) ≡ data_closed (taken u)
       → option_to_list (report_of v) ≡ more ++ option_to_list (report_of u)
       → next.control.to_server ≡ between.control.to_server → old.unheard ++ between.control.to_client ≡ new.unheard ++ next.control.to_client
       → Climbs between next → Falls between next → next.far ≡ between.far → Takes new.owner.lane → Writes next.near new.owner.lane
-      → Keeping next.near u new.owner.lane w → Goes read [] next told server new (reports ++ more) w
+      → Keeping next.near u new.owner.lane w → Goes read [] orders next told server new (reports ++ more) w
   client_stays moment ahead between next told more t is said other queue climbs falls hold takes gives keeping = record {
     world = w;
     leads = leads_none read w;
@@ -84,24 +86,26 @@ module _ (read : Reading) (server : Stand server_side) (old new : Stand client_s
       takes = takes;
       gives = gives;
       keeping = keeping;
+      twin = t.twin;
     };
   }
 
   -- the client holds the same
-  pub client_keeps : (moment : ℕ) (ahead : Ahead) (between next : Between) (told : ℕ) → Together moment ahead between told server old reports w → u ≡ v
+  pub client_keeps : (moment : ℕ) (ahead : Ahead) (between next : Between) (told : ℕ) → Together read orders moment ahead between told server old reports w
+      → u ≡ v
       → next.control.to_server ≡ between.control.to_server → old.unheard ++ between.control.to_client ≡ new.unheard ++ next.control.to_client
       → Climbs between next → Falls between next → next.far ≡ between.far → Takes new.owner.lane → Writes next.near new.owner.lane
       → (is_near_held w.link ≡ true → is_had next.near ≡ true) → (is_sound new.owner.lane.fate ≡ false → is_near_held w.link ≡ false)
-      → Goes read [] next told server new (reports ++ []) w
+      → Goes read [] orders next told server new (reports ++ []) w
   client_keeps moment ahead between next told t is other queue climbs falls hold takes gives had over =
       client_stays moment ahead between next told [] t (ap (λ n. data_closed (taken n)) (sym is)) (ap (λ n. option_to_list (report_of n)) (sym is)) other queue
       climbs falls hold takes gives (record { had = had; shut = λ e. t.keeping.shut (ap (λ (n : Near). n.closing) (sym is) ∙ e); over = over })
 
   -- by a call that moves no control octets
-  client_idle : (moment : ℕ) (ahead : Ahead) (between next : Between) (told : ℕ) → Together moment ahead between told server old reports w → u ≡ v
+  client_idle : (moment : ℕ) (ahead : Ahead) (between next : Between) (told : ℕ) → Together read orders moment ahead between told server old reports w → u ≡ v
       → new.unheard ≡ old.unheard → next.control ≡ between.control → Climbs between next → Falls between next → next.far ≡ between.far
       → Takes new.owner.lane → Writes next.near new.owner.lane → (is_near_held w.link ≡ true → is_had next.near ≡ true)
-      → (is_sound new.owner.lane.fate ≡ false → is_near_held w.link ≡ false) → Goes read [] next told server new (reports ++ []) w
+      → (is_sound new.owner.lane.fate ≡ false → is_near_held w.link ≡ false) → Goes read [] orders next told server new (reports ++ []) w
   client_idle moment ahead between next told t is unheard control climbs falls hold takes gives had over =
       client_keeps moment ahead between next told t is (ap (λ c. c.to_server) control) (ap₂ (λ a c. a ++ c.to_client) (sym unheard) (sym control))
       climbs falls hold takes gives had over
@@ -119,7 +123,7 @@ module _ (read : Reading) (server : Stand server_side) (old new : Stand client_s
   -- ---- a client that takes no octets
 
   -- has none before it
-  none_falls : (moment : ℕ) (ahead : Ahead) (between : Between) (told : ℕ) → Together moment ahead between told server old reports w
+  none_falls : (moment : ℕ) (ahead : Ahead) (between : Between) (told : ℕ) → Together read orders moment ahead between told server old reports w
       → is_receive (near.wants v) ≡ false → w.data_to_client ≡ []
   none_falls moment ahead between told t none = by v.closing refl
     where
@@ -130,7 +134,7 @@ module _ (read : Reading) (server : Stand server_side) (old new : Stand client_s
           known.falls (ap (λ x. is_receive (near.wants x)) n ∙ ap is_receive (taken_wants v) ∙ none)
 
   -- so nothing came that it was not told
-  none_untold : (moment : ℕ) (ahead : Ahead) (between : Between) (told : ℕ) → Together moment ahead between told server old reports w
+  none_untold : (moment : ℕ) (ahead : Ahead) (between : Between) (told : ℕ) → Together read orders moment ahead between told server old reports w
       → w.data_to_client ≡ [] → old.owner.lane.untold ≡ []
   none_untold moment ahead between told t none =
       (both_empty old.owner.lane.untold (between.data_ways.to_client ++ server.owner.lane.unwritten) (sym t.beside.falling ∙ none)).0
@@ -138,9 +142,10 @@ module _ (read : Reading) (server : Stand server_side) (old new : Stand client_s
   -- ---- the deeds
 
   -- octets are read
-  pub client_read : (octets : List ℕ) (moment : ℕ) (ahead : Ahead) (between next : Between) (told : ℕ) → Together moment ahead between told server old reports w
+  pub client_read : (octets : List ℕ) (moment : ℕ) (ahead : Ahead) (between next : Between) (told : ℕ)
+      → Together read orders moment ahead between told server old reports w
       → ReadsNext octets old new → between.control.to_client ≡ octets ++ next.control.to_client → next.control.to_server ≡ between.control.to_server
-      → next.data_ways ≡ between.data_ways → next.far ≡ between.far → next.near ≡ between.near → Goes read [] next told server new (reports ++ []) w
+      → next.data_ways ≡ between.data_ways → next.far ≡ between.far → next.near ≡ between.near → Goes read [] orders next told server new (reports ++ []) w
   client_read octets moment ahead between next told t did front other ways hold near =
       let lane : new.owner.lane ≡ old.owner.lane = ap (λ o. o.lane) did.owner in
       client_keeps moment ahead between next told t (ap (λ o. o.end.view) did.owner) other
@@ -152,8 +157,8 @@ module _ (read : Reading) (server : Stand server_side) (old new : Stand client_s
 
   -- its report is taken
   pub client_reports : (said : Option Said) (moment : ℕ) (ahead : Ahead) (between : Between) (told : ℕ)
-      → Together moment ahead between told server old reports w
-      → Calls {side = client_side} (Aside (Reporting said)) old new → Goes read [] between told server new (reports ++ option_to_list said) w
+      → Together read orders moment ahead between told server old reports w
+      → Calls {side = client_side} (Aside (Reporting said)) old new → Goes read [] orders between told server new (reports ++ option_to_list said) w
   client_reports said moment ahead between told t did =
       let is : u ≡ taken v = did.0.0.1.0 ∙ reports_is v in
       let lane : new.owner.lane ≡ old.owner.lane = did.0.1 in
@@ -169,8 +174,9 @@ module _ (read : Reading) (server : Stand server_side) (old new : Stand client_s
       })
 
   -- it is waited at
-  pub client_waited : (lost : Bool) (moment : ℕ) (ahead : Ahead) (between : Between) (told : ℕ) → Together moment ahead between told server old reports w
-      → Calls {side = client_side} (Waited lost) old new → Goes read [] between told server new (reports ++ []) w
+  pub client_waited : (lost : Bool) (moment : ℕ) (ahead : Ahead) (between : Between) (told : ℕ)
+      → Together read orders moment ahead between told server old reports w
+      → Calls {side = client_side} (Waited lost) old new → Goes read [] orders between told server new (reports ++ []) w
   client_waited lost moment ahead between told t did =
       let held = did.0.1.holds in
       client_idle moment ahead between between told t (ap (λ c. c.view) did.0.0) (ap (λ (s : Stand client_side). s.unheard) did.1) refl
@@ -181,8 +187,10 @@ module _ (read : Reading) (server : Stand server_side) (old new : Stand client_s
       t.keeping.had (same_over held.fate t.keeping.over)
 
   -- octets come
-  pub client_got : (octets : List ℕ) (moment : ℕ) (ahead : Ahead) (between next : Between) (told : ℕ) → Together moment ahead between told server old reports w
-      → Calls {side = client_side} (Got octets) old new → Can TheClient (TakesOctets octets) between next → Goes read [] next told server new (reports ++ []) w
+  pub client_got : (octets : List ℕ) (moment : ℕ) (ahead : Ahead) (between next : Between) (told : ℕ)
+      → Together read orders moment ahead between told server old reports w
+      → Calls {side = client_side} (Got octets) old new → Can TheClient (TakesOctets octets) between next
+      → Goes read [] orders next told server new (reports ++ []) w
   client_got octets moment ahead between next told t did can =
       let got = did.0.1 in
       let near : next.near ≡ between.near = ap (λ (m : Between). m.near) can.2 in
@@ -203,8 +211,9 @@ module _ (read : Reading) (server : Stand server_side) (old new : Stand client_s
       (λ e. has) (same_over got.fate t.keeping.over)
 
   -- octets that came are let go: there are none
-  pub client_lets : (octets : List ℕ) (moment : ℕ) (ahead : Ahead) (between : Between) (told : ℕ) → Together moment ahead between told server old reports w
-      → Calls {side = client_side} (LetGo octets) old new → Goes read [] between told server new (reports ++ []) w
+  pub client_lets : (octets : List ℕ) (moment : ℕ) (ahead : Ahead) (between : Between) (told : ℕ)
+      → Together read orders moment ahead between told server old reports w
+      → Calls {side = client_side} (LetGo octets) old new → Goes read [] orders between told server new (reports ++ []) w
   client_lets octets moment ahead between told t did =
       let lane = did.0.1.1 in
       let none : old.owner.lane.untold ≡ [] =
@@ -230,9 +239,9 @@ module _ (read : Reading) (server : Stand server_side) (old new : Stand client_s
 
   -- octets are written
   pub client_wrote : (octets : List ℕ) (moment : ℕ) (ahead : Ahead) (between next : Between) (told : ℕ)
-      → Together moment ahead between told server old reports w
+      → Together read orders moment ahead between told server old reports w
       → Calls {side = client_side} (Wrote octets) old new → Can TheClient (WritesOctets octets) between next
-      → Goes read [] next told server new (reports ++ []) w
+      → Goes read [] orders next told server new (reports ++ []) w
   client_wrote octets moment ahead between next told t did can =
       let wrote = did.0.1 in
       let near : next.near ≡ between.near = ap (λ (m : Between). m.near) can.1 in
@@ -256,8 +265,8 @@ module _ (read : Reading) (server : Stand server_side) (old new : Stand client_s
       (λ e. has) (same_over wrote.fate t.keeping.over)
 
   -- a close is told
-  pub client_closed : (moment : ℕ) (ahead : Ahead) (between : Between) (told : ℕ) → Together moment ahead between told server old reports w
-      → Calls {side = client_side} Closed old new → Goes read [] between told server new (reports ++ []) w
+  pub client_closed : (moment : ℕ) (ahead : Ahead) (between : Between) (told : ℕ) → Together read orders moment ahead between told server old reports w
+      → Calls {side = client_side} Closed old new → Goes read [] orders between told server new (reports ++ []) w
   client_closed moment ahead between told t did =
       let is : u ≡ data_closed v = did.0.0.0 in
       let lane : new.owner.lane ≡ old.owner.lane = did.0.1.0 in
@@ -271,8 +280,8 @@ module _ (read : Reading) (server : Stand server_side) (old new : Stand client_s
       })
 
   -- the port alone is left
-  pub client_shuts : (moment : ℕ) (ahead : Ahead) (between : Between) (told : ℕ) → Together moment ahead between told server old reports w
-      → Calls {side = client_side} (Left Shut) old new → Goes read [] between told server new (reports ++ []) w
+  pub client_shuts : (moment : ℕ) (ahead : Ahead) (between : Between) (told : ℕ) → Together read orders moment ahead between told server old reports w
+      → Calls {side = client_side} (Left Shut) old new → Goes read [] orders between told server new (reports ++ []) w
   client_shuts moment ahead between told t did =
       let left = did.0.1 in
       let fallen : old.owner.lane.stands ≡ false = is_false old.owner.lane.stands (λ e. absurd (stood e left.ended)) in
@@ -297,7 +306,7 @@ module _ (read : Reading) (server : Stand server_side) (old new : Stand client_s
 
   -- one that leaves what it has holds it no more in a world
   left_held : (asks : ClientFetches old.owner) (asked : Asked) (moment : ℕ) (ahead : Ahead) (between : Between) (told : ℕ)
-      → Together moment ahead between told server old reports w → Calls {side = client_side} (Left asked) old new → is_near_held w.link ≡ false
+      → Together read orders moment ahead between told server old reports w → Calls {side = client_side} (Left asked) old new → is_near_held w.link ≡ false
   left_held asks asked moment ahead between told t did = by_fate old.owner.lane.fate refl did.0.2.0
     where
       idle : is_under_way v.job ≡ false → is_near_held w.link ≡ false
@@ -330,8 +339,8 @@ module _ (read : Reading) (server : Stand server_side) (old new : Stand client_s
 
   -- a data connection is left by an end
   pub client_ends : (asks : ClientFetches old.owner) (left written : Option (List ℕ)) (moment : ℕ) (ahead : Ahead) (between next : Between) (told : ℕ)
-      → Together moment ahead between told server old reports w → Calls {side = client_side} (Left (EndedBy left written)) old new
-      → Can TheClient Ends between next → Goes read [] next told server new (reports ++ []) w
+      → Together read orders moment ahead between told server old reports w → Calls {side = client_side} (Left (EndedBy left written)) old new
+      → Can TheClient Ends between next → Goes read [] orders next told server new (reports ++ []) w
   client_ends asks left written moment ahead between next told t did can =
       let lane = did.0.1 in
       let free : is_near_held w.link ≡ false = left_held asks (EndedBy left written) moment ahead between told t did in

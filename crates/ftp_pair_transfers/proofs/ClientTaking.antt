@@ -1,5 +1,5 @@
 -- A client takes octets of a file or a listing, as an event of a world, in a session that also puts files.
-use Rattle.std.proofs.Common.{◌≡◌, ℕ, ◌<◌, ◌≤◌, true, false, List, [], ◌∷◌, ◌++◌, length, take, min, option_to_list, refl, sym, ap, ap₂, subst, ◌∙◌, append_assoc, arith, length-take}
+use Rattle.std.proofs.Common.{◌≡◌, ℕ, ◌<◌, ◌≤◌, true, false, true≢false, List, [], ◌∷◌, ◌++◌, length, take, min, option_to_list, refl, sym, ap, ap₂, subst, ◌∙◌, append_assoc, arith, length-take}
 use Rattle.std.proofs.lemmas.List.{take-append-le, take-take}
 use Rattle.ftp_control.specs.Deeds.{Calls, Stand}
 use Rattle.ftp_control.specs.Lane.{Lane, with_untold}
@@ -12,13 +12,15 @@ use Rattle.ftp_operation.specs.Answer.{Said}
 use Rattle.ftp_server_drive.specs.Side.{server_side}
 use Rattle.ftp_server_model.specs.Machine.{Reading}
 use Rattle.ftp_server_model.specs.View.{View as Far}
+use Rattle.ftp_pair_world.specs.Agreement.{Order}
 use Rattle.ftp_pair_world.specs.Claims.{AreUnmarked}
-use Rattle.ftp_pair_world.specs.Events.{DataToClient, is_closed_by_near, pushed}
+use Rattle.ftp_pair_world.specs.Events.{DataToClient, is_closed_by_far, is_closed_by_near, pushed}
 use Rattle.ftp_pair_world.specs.World.{World}
 use Rattle.ftp_pair_drives.specs.Alone.{ClientIsCalm}
 use Rattle.ftp_pair_drives.specs.Between.{Between}
 use Rattle.ftp_pair_drives.proofs.Taken.{taken}
-use Rattle.ftp_pair_data.specs.Ahead.{Ahead, Listened}
+use Rattle.ftp_pair_data.specs.Ahead.{is_open}
+use Rattle.ftp_pair_transfers.specs.Ahead.{Ahead, Listened}
 use Rattle.ftp_pair_data.proofs.Moves.{Rested, near_takes}
 use Rattle.ftp_pair_data.proofs.Served.{rests, settled}
 use Rattle.ftp_pair_deeds.proofs.Holding.{Takes, both, is_sound, unclosed}
@@ -30,13 +32,15 @@ use Rattle.ftp_pair_transfers.proofs.Known.{Known, is_near_held, is_ready}
 use Rattle.ftp_pair_transfers.proofs.Settling.{NearSettles, near_settles}
 
 -- a client that takes octets is as a world's
-pub taking_is : (moment : ℕ) (ahead : Ahead) (between : Between) (told : ℕ) (server : Stand server_side) (client : Stand client_side) (reports : List Said)
-    (w : World) → Together moment ahead between told server client reports w → Taking client.owner.end.view → w.near ≡ client.owner.end.view
-taking_is moment ahead between told server client reports w t taking =
+pub taking_is : (read : Reading) (orders : List Order) (moment : ℕ) (ahead : Ahead) (between : Between) (told : ℕ) (server : Stand server_side)
+    (client : Stand client_side)
+    (reports : List Said) (w : World) → Together read orders moment ahead between told server client reports w → Taking client.owner.end.view
+    → w.near ≡ client.owner.end.view
+taking_is read orders moment ahead between told server client reports w t taking =
     let v : Near = client.owner.end.view in
     t.beside.near ∙ ap data_closed (taking_same v taking) ∙ unclosed v taking.closing
 
-module _ (read : Reading) (server : Stand server_side) (old new : Stand client_side) (reports : List Said) (w : World)
+module _ (read : Reading) (orders : List Order) (server : Stand server_side) (old new : Stand client_side) (reports : List Said) (w : World)
     (calm : ClientIsCalm old.owner new.owner) (serves : ServerServes server.owner) (before : ClientFetches old.owner) (after : ClientFetches new.owner)
     (known : Known w) where
   abbrev v : Near
@@ -51,12 +55,12 @@ module _ (read : Reading) (server : Stand server_side) (old new : Stand client_s
   -- ---- octets are taken
 
   module _ (octets : List ℕ) (count : ℕ) (moment : ℕ) (ahead : Ahead) (between : Between) (told : ℕ)
-      (t : Together moment ahead between told server old reports w) (did : Calls {side = client_side} (Received octets count) old new) where
+      (t : Together read orders moment ahead between told server old reports w) (did : Calls {side = client_side} (Received octets count) old new) where
     taking : Taking v
     taking = taking_of v did.0.2.1
 
     near_is : w.near ≡ v
-    near_is = taking_is moment ahead between told server old reports w t taking
+    near_is = taking_is read orders moment ahead between told server old reports w t taking
 
     is : u ≡ receives v (take count octets)
     is = (did.0.0.0.0 calm).0
@@ -89,10 +93,10 @@ module _ (read : Reading) (server : Stand server_side) (old new : Stand client_s
     ways = between.data_ways.to_client ++ server.owner.lane.unwritten
 
     -- none is
-    none_taken : take count octets ≡ [] → Goes read [] between told server new (reports ++ []) w
+    none_taken : take count octets ≡ [] → Goes read [] orders between told server new (reports ++ []) w
     none_taken none =
         let same : u ≡ v = is ∙ ap (receives v) none in
-        client_stays read server old new reports w calm known moment ahead between between told [] t (ap (λ n. data_closed (taken n)) (sym same))
+        client_stays read orders server old new reports w calm known moment ahead between between told [] t (ap (λ n. data_closed (taken n)) (sym same))
         (ap (λ n. option_to_list (report_of n)) (sym same)) refl (ap (λ (s : Stand client_side). s.unheard ++ between.control.to_client) (sym did.1))
         (ap (λ (l : Lane). server.owner.lane.untold ++ (between.data_ways.to_server ++ l.unwritten)) (sym lane))
         (ap (λ o. o ++ ways) (did.0.1.0 ∙ ap (λ o. o ++ new.owner.lane.untold) none)) refl takes gives
@@ -142,7 +146,7 @@ module _ (read : Reading) (server : Stand server_side) (old new : Stand client_s
       link : (settled now).link ≡ w.link
       link = s.stays (ap (λ (n : Near). n.closing) got ∙ closing)
 
-      some_taken : Goes read [] between told server new (reports ++ []) w
+      some_taken : Goes read [] orders between told server new (reports ++ []) w
       some_taken =
           let b = t.beside in
           record {
@@ -177,12 +181,16 @@ module _ (read : Reading) (server : Stand server_side) (old new : Stand client_s
                 shut = λ e. absurd (both e closing);
                 over = λ e. ap is_near_held link ∙ over e;
               };
+              twin = λ e.
+                  let k = t.twin e in
+                  absurd (true≢false (sym (ap is_closed_by_far (known.down (ap near.wants near_is ∙ did.0.2.1) (ap is_open k.none)))
+                  ∙ ap is_closed_by_far k.link));
             };
           }
 
-    pub client_received : Goes read [] between told server new (reports ++ []) w
+    pub client_received : Goes read [] orders between told server new (reports ++ []) w
     client_received = by_octets (take count octets) refl
       where
-        by_octets : (given : List ℕ) → take count octets ≡ given → Goes read [] between told server new (reports ++ []) w
+        by_octets : (given : List ℕ) → take count octets ≡ given → Goes read [] orders between told server new (reports ++ []) w
         by_octets [] none = none_taken none
         by_octets (octet ∷ more) some = some_taken octet more some

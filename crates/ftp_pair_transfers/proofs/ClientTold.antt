@@ -25,11 +25,13 @@ use Rattle.ftp_pair_drives.specs.Alone.{ClientIsCalm}
 use Rattle.ftp_pair_drives.specs.Between.{Between, Can, Near as TheClient}
 use Rattle.ftp_pair_drives.specs.Touches.{ToldEnd}
 use Rattle.ftp_pair_drives.proofs.Taken.{taken}
-use Rattle.ftp_pair_data.specs.Ahead.{Ahead, Level, Listened, Listens, Opens, is_open}
+use Rattle.ftp_pair_data.specs.Ahead.{is_open}
+use Rattle.ftp_pair_transfers.specs.Ahead.{Ahead, Level, Listened, Listens, Opens, Parted}
 use Rattle.ftp_pair_data.specs.Unaborted.{is_unaborted}
 use Rattle.ftp_pair_data.proofs.Moves.{Rested, ends}
 use Rattle.ftp_pair_data.proofs.Served.{rests, settled}
-use Rattle.ftp_pair_deeds.proofs.Holding.{Holds, both, is_called, is_false, is_had}
+use Rattle.ftp_pair_deeds.proofs.Holding.{both, is_called, is_false, is_had}
+use Rattle.ftp_pair_transfers.proofs.Ahead.{Holds}
 use Rattle.ftp_pair_deeds.proofs.FarForms.{given_none, told_passive}
 use Rattle.ftp_pair_deeds.proofs.NearForms.{Taking, end_closing, taking_of, wants_rest}
 use Rattle.ftp_pair_deeds.proofs.Plain.{IsPlainly}
@@ -40,7 +42,7 @@ use Rattle.ftp_pair_transfers.proofs.Known.{AreCarried, Known, is_near_held}
 use Rattle.ftp_pair_transfers.proofs.Running.{ends_sound}
 use Rattle.ftp_pair_transfers.proofs.Settling.{NearSettles, near_settles}
 
-module _ (read : Reading) (server : Stand server_side) (old new : Stand client_side) (reports : List Said) (w : World)
+module _ (read : Reading) (begun : List Order) (server : Stand server_side) (old new : Stand client_side) (reports : List Said) (w : World)
     (calm : ClientIsCalm old.owner new.owner) (serves : ServerServes server.owner) (before : ClientFetches old.owner) (plain : IsPlainly new.owner.end.view)
     (known : Known w) where
   abbrev v : Near
@@ -54,14 +56,14 @@ module _ (read : Reading) (server : Stand server_side) (old new : Stand client_s
 
   -- ---- the end is told
 
-  module _ (moment : ℕ) (ahead : Ahead) (between next : Between) (told : ℕ) (t : Together moment ahead between told server old reports w)
-      (did : Calls {side = client_side} End old new) (can : Can TheClient ToldEnd between next) (reads : IsReading read) (from : State) (begun : List Order)
+  module _ (moment : ℕ) (ahead : Ahead) (between next : Between) (told : ℕ) (t : Together read begun moment ahead between told server old reports w)
+      (did : Calls {side = client_side} End old new) (can : Can TheClient ToldEnd between next) (reads : IsReading read) (from : State)
       (puts : AreCarried begun) (runs : OverRuns read from begun w) where
     taking : Taking v
     taking = taking_of v did.0.2
 
     near_is : w.near ≡ v
-    near_is = taking_is moment ahead between told server old reports w t taking
+    near_is = taking_is read begun moment ahead between told server old reports w t taking
 
     is : u ≡ data_end v
     is = did.0.0.0.0 calm
@@ -73,11 +75,12 @@ module _ (read : Reading) (server : Stand server_side) (old new : Stand client_s
     shut : is_open x.session.connection ≡ false
     shut = is_false (is_open x.session.connection) (λ e. both (t.holds.had e) (ap is_had can.0))
 
-    shut_there : (ahead : Ahead) → Together moment ahead between told server old reports w → is_open w.far.session.connection ≡ false
+    shut_there : (ahead : Ahead) → Together read begun moment ahead between told server old reports w → is_open w.far.session.connection ≡ false
     shut_there Level t = ap (λ (f : Far). is_open f.session.connection) t.beside.far ∙ shut
     shut_there Opens t = absurd (both (t.holds.opened refl) (ap is_called can.0))
     shut_there (Listens port) t =
         ap (λ (f : Far). is_open f.session.connection) t.beside.far ∙ ap is_open (told_passive x.session.connection t.beside.fits port x)
+    shut_there (Parted accepted) t = ap (λ (f : Far). is_open f.session.connection) t.beside.far
 
     none : w.data_to_client ≡ []
     none =
@@ -120,7 +123,7 @@ module _ (read : Reading) (server : Stand server_side) (old new : Stand client_s
         ∙ ends_sound read reads from begun puts w runs t.beside.unready (ap (λ (n : Near). is_unaborted n.job) near_is ∙ before.unaborted)
         (ap is_closed_by_far link) none
 
-    pub client_told_end : Goes read [] next told server new (reports ++ []) w × (is_sound u.standing ≡ true)
+    pub client_told_end : Goes read [] begun next told server new (reports ++ []) w × (is_sound u.standing ≡ true)
     client_told_end =
         let b = t.beside in
         let give : far.to_give w.far ≡ [] =
@@ -166,6 +169,7 @@ module _ (read : Reading) (server : Stand server_side) (old new : Stand client_s
                 shut = λ e. absurd (both e closing);
                 over = λ e. ap is_near_held link_then;
               };
+              twin = λ e. absurd (true≢false (sym (ap is_closed_by_far link) ∙ ap is_closed_by_far (t.twin e).link));
             };
           },
           sound,

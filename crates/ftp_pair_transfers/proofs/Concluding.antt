@@ -19,7 +19,7 @@ use Rattle.ftp_pair_drives.specs.Alone.{begun_by, reports_in}
 use Rattle.ftp_pair_drives.specs.Between.{client_deeds}
 use Rattle.ftp_pair_drives.proofs.Taken.{cut_alike, free_none, reports_is, taken}
 use Rattle.ftp_pair_drives.proofs.Worlds.{LeadsOn, leads_then}
-use Rattle.ftp_pair_data.proofs.Ahead.{keeps}
+use Rattle.ftp_pair_transfers.proofs.Ahead.{keeps}
 use Rattle.ftp_pair_transfers.specs.Deeds.{begun_at, number_in}
 use Rattle.ftp_pair_transfers.specs.Claims.{TransfersAgree, TransfersAreTheDirectRun, TransfersPartingAgree}
 use Rattle.ftp_pair_deeds.proofs.Parting.{cut_report, parts}

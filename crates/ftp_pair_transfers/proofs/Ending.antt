@@ -1,6 +1,5 @@
 -- The deeds of drives that are over, of which the client's put and fetched files, put together.
 use Rattle.std.proofs.Common.{◌≡◌, ℕ, suc, ◌+◌, false, List, [], ◌∷◌, ◌++◌, length, Some, refl, sym, ap, subst, ◌∙◌, append-nil, length-append}
-use Rattle.ftp_control.specs.Asking.{Shut}
 use Rattle.ftp_control.specs.Deeds.{Deed, Other, Stand}
 use Rattle.ftp_control.specs.Machine.{Aside}
 use Rattle.ftp_client_drive.specs.Side.{Begun, Reporting, Starting, client_side}
@@ -40,7 +39,8 @@ none_to_close [] start now put none = ap (λ (s : Stand client_side). s.owner.en
 none_to_close (asked ∷ before) start now put none = ap (λ v. v.closing) put.2.drove.did.sums.led.2.0.0.0
 
 -- the deeds of a client's drives
-pub answers_go : (asked : List (Op (List ℕ) × Said)) (start now : Stand client_side) (put : AreTransferred asked start now) → start.owner.end.view.closing ≡ false
+pub answers_go : (asked : List (Op (List ℕ) × Said)) (start now : Stand client_side) (put : AreTransferred asked start now)
+    → start.owner.end.view.closing ≡ false
     → Went ClientTransfers (deeds_in asked start now put) start now
 answers_go [] start now put none = (put, tt)
 answers_go (asked ∷ before) start now put none =
@@ -158,7 +158,7 @@ transfers_over_are_the_direct_run b fair moments timed asked server over =
     let direct = transfers_are_the_direct_run b fair moments timed over.turns over.between over.last over.client did
     (transferred_free b over.server_start asked over.client_start over.client over.begins over.put) told in
     let table : server.owner.end.server.view.session.table ≡ over.last.owner.end.server.view.session.table =
-    ends_keep_the_map Shut over.last server over.server_end in
+    ends_keep_the_map over.closed over.last server over.server_end in
     subst (λ (t : Table). AreAnswers (state_of b) (orders_at moments asked) (answers_of asked) t) (sym table)
     (subst (λ (r : List Said). AreAnswers (state_of b) (orders_at moments asked) r over.last.owner.end.server.view.session.table) answers
     (subst (λ (o : List Order). AreAnswers (state_of b) o (reports_in (client_deeds over.turns)) over.last.owner.end.server.view.session.table) orders

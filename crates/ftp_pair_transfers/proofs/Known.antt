@@ -1,30 +1,28 @@
--- What is so of every world that a session comes to in which files are put and fetched, nothing was left by the client alone before a transfer, and no
--- ABOR was sent.
-use Rattle.std.proofs.Common.{◌≡◌, inl, inr, ℕ, Bool, true, false, true≢false, List, [], ◌∷◌, ◌++◌, take, Option, Some, None, refl, sym, ap, subst, ◌∙◌}
-use Rattle.std.proofs.Math.Seq.{take-nil}
+-- What is so of every world that a session comes to in which files are put and fetched, where the client alone has left no link of which the server made
+-- nothing yet, and no ABOR was sent.
+use Rattle.std.proofs.Common.{◌≡◌, inl, inr, ℕ, Bool, true, false, true≢false, List, [], ◌∷◌, ◌++◌, Option, None, refl, sym, ap, subst, ◌∙◌}
 use Rattle.std.specs.Prelude.{⊤}
 use Rattle.ftp_ends.specs.Link.{same_host}
 use Rattle.ftp_ends.specs.Reply.{Reply}
 use Rattle.ftp_ends.specs.declared.link.Wants.{Wants}
 use Rattle.ftp_ends.specs.declared.link.Wants.TheVariants as Want
 use Rattle.ftp_operation.specs.declared.op.Op.{Op}
-use Rattle.ftp_operation.specs.declared.op.Op.TheVariants as Ops
-use Rattle.ftp_direct.specs.Direct.{State, offset_refusal}
-use Rattle.ftp_direct.specs.declared.refusal.Refusal.{Refusal}
+use Rattle.ftp_direct.specs.Direct.{State}
 use Rattle.ftp_path.specs.Path.{Names}
 use Rattle.ftp_wire.specs.Decoder.{Decoder}
 use Rattle.ftp_client_model.specs.Calls as near
 use Rattle.ftp_client_model.specs.Calls.{is_busy}
-use Rattle.ftp_client_model.specs.Plan.{asked_settings, count_of, offset_of}
-use Rattle.ftp_client_model.specs.View.{Job, Transferring}
+use Rattle.ftp_client_model.specs.Plan.{count_of}
+use Rattle.ftp_client_model.specs.View.{Doing, Job, Transferring}
 use Rattle.ftp_client_model.specs.declared.client.Abort.TheVariants as Aborts
 use Rattle.ftp_client_model.specs.declared.client.ClientLink.{ClientLink as NearConnection}
 use Rattle.ftp_client_model.specs.declared.client.ClientLink.TheVariants as NearData
 use Rattle.ftp_client_model.specs.declared.client.Replied.TheVariants as Replies
+use Rattle.ftp_client_model.specs.declared.client.Step.TheVariants as Steps
 use Rattle.ftp_endpoint.specs.declared.endpoint.Endpoint.{Endpoint}
 use Rattle.ftp_server_model.specs.Calls.{is_upload}
-use Rattle.ftp_server_model.specs.Machine.{IsReading, Reading, is_transferring}
-use Rattle.ftp_server_model.specs.View.{Transfer, how_in_force}
+use Rattle.ftp_server_model.specs.Machine.{Reading, is_transferring}
+use Rattle.ftp_server_model.specs.View.{Transfer}
 use Rattle.ftp_server_model.specs.declared.session.Keep.{Keep}
 use Rattle.ftp_server_model.specs.declared.session.Pending.{Pending}
 use Rattle.ftp_server_model.specs.declared.session.Pending.TheVariants as Pendings
@@ -34,10 +32,9 @@ use Rattle.ftp_server_model.specs.declared.session.Transfer.TheVariants as Trans
 use Rattle.ftp_pair_world.specs.Agreement.{Order, Single, Tries}
 use Rattle.ftp_pair_world.specs.Events.{is_closed_by_far, is_closed_by_near}
 use Rattle.ftp_pair_world.specs.World.{ClosedByFar, ClosedByNear, Link, Mark, Opened, World}
-use Rattle.ftp_settings.specs.declared.representation.Representation.{Representation}
-use Rattle.ftp_pair_dialogues.specs.Dialogue.{IsSound, is_aside}
-use Rattle.ftp_pair_dialogues.specs.Fetches.{Ask, Direction, Down, IsAsk, IsPlacedAt, Rise, Up, busy, carrying, giving_of, linked}
-use Rattle.ftp_pair_dialogues.specs.Stage.{Answering, Asking, Way}
+use Rattle.ftp_pair_dialogues.specs.Dialogue.{is_aside}
+use Rattle.ftp_pair_dialogues.specs.Fetches.{Ask, Direction, Down, IsAsk, Rise, Up, busy, carrying, giving_of, linked}
+use Rattle.ftp_pair_dialogues.specs.Stage.{Answering, Way}
 use Rattle.ftp_pair_dialogues.proofs.Fetching.{own_host}
 use Rattle.ftp_pair_agreement.specs.Cut.{PlacedAt, world_at}
 use Rattle.ftp_pair_agreement.specs.Rising.{Closing, Declined, Lift, Offered, Risen, Rising, Settled, Shut, Unjoined, Vanished, held, lift_passes, sending}
@@ -48,8 +45,7 @@ use Rattle.ftp_pair_agreement.proofs.Rests.{near_form}
 use Rattle.ftp_pair_agreement.proofs.Still.{IsSeen, near_wants, no_octets, rest_placed, seen_placed}
 use Rattle.ftp_pair_data.specs.Ahead.{is_open}
 use Rattle.ftp_pair_data.proofs.Known.{Dialling, Idling, aside_still, beside, is_receive, one_way}
-use Rattle.ftp_pair_transfers.specs.Deeds.{IsCarried}
-use Rattle.ftp_pair_transfers.proofs.Granted.{grant_stays}
+use Rattle.ftp_pair_transfers.specs.Deeds.{AreGranted, IsCarried}
 
 -- ---- the orders
 
@@ -59,6 +55,18 @@ AreCarried [] = ⊤
 AreCarried (Single op moment ∷ orders) = IsCarried op × AreCarried orders
 AreCarried (Tries upload moment ∷ orders) = ⊥
 
+-- orders after orders
+pub both_carried : (front given : List Order) → AreCarried front → AreCarried given → AreCarried (front ++ given)
+both_carried [] given one other = other
+both_carried (Single op moment ∷ front) given one other = (one.0, both_carried front given one.1 other)
+both_carried (Tries upload moment ∷ front) given one other = absurd one
+
+-- of the first of them
+pub front_granted : (front given : List Order) → AreGranted (front ++ given) → AreGranted front
+front_granted [] given granted = tt
+front_granted (Single op moment ∷ front) given granted = (granted.0, front_granted front given granted.1)
+front_granted (Tries upload moment ∷ front) given granted = tt
+
 pub last_carried : (done : List Order) (order : Order) (begun : List Order) → begun ≡ done ++ order ∷ [] → AreCarried begun → AreCarried (order ∷ [])
 last_carried done order begun is puts = by done (subst AreCarried is puts)
   where
@@ -66,23 +74,6 @@ last_carried done order begun is puts = by done (subst AreCarried is puts)
     by [] w = w
     by (Single op moment ∷ done) w = by done w.1
     by (Tries upload moment ∷ done) w = absurd w
-
--- ---- what is asked for
-
--- the settings that are wanted, or others
-abbrev wanted : Representation → Option Representation → Representation
-wanted other None = other
-wanted other (Some settings) = settings
-
--- REST takes the offset that is asked for
-carried_placed : (op : Op (List ℕ)) (settings : Representation) → IsCarried op → asked_settings op ≡ Some settings → IsPlacedAt settings (offset_of op)
-carried_placed (Ops.PutFrom path offset octets how) settings put is =
-    ap (λ o. offset_refusal offset (how_in_force (wanted settings o))) (sym is) ∙ put
-carried_placed (Ops.GetFrom path offset how) settings put is = ap (λ o. offset_refusal offset (how_in_force (wanted settings o))) (sym is) ∙ put
-carried_placed op settings put is = tt
-
-pub is_placed : (ask : Ask) → IsAsk ask → IsCarried ask.op → IsPlacedAt ask.settings ask.offset
-is_placed ask good put = subst (IsPlacedAt ask.settings) good.plan.offset_is (carried_placed ask.op ask.settings put good.plan.asks)
 
 -- ---- what is so
 
@@ -121,19 +112,11 @@ abbrev pub is_ready : ServerLink Transfer → Bool
 is_ready FarData.Ready = true
 is_ready link = false
 
--- where the server has this, a client that hears wants no close, if that is so of it
-abbrev pub StaysAt : ServerLink Transfer → World → Type 0
-StaysAt link w = is_ready link ≡ true → (count : ℕ) → (near.hears w.near (take count w.control_to_client)).closing ≡ false
-
-abbrev pub Stays : World → Type 0
-Stays w = StaysAt w.far.session.connection w
-
 pub record Known (w : World) : Type 0 where
   pub dials : (endpoint : Endpoint) → near.wants w.near ≡ Want.Connect endpoint → Dialling w
   pub says : (octet : ℕ) (octets : List ℕ) → w.far.owed ≡ octet ∷ octets → w.control_to_server ≡ []
   pub lines : is_transferring w.far.session.connection ≡ true → w.control_to_server ≡ []
   pub idle : is_busy w.near ≡ false → Idling w
-  pub ready : Stays w
   pub still : is_upload w.far.session.connection ≡ false → w.data_to_server ≡ []
   pub closed : is_closed_by_near w.link ≡ true → is_upload w.far.session.connection ≡ true
   pub takes : is_upload w.far.session.connection ≡ true → is_near_held w.link ≡ false → w.link ≡ ClosedByNear
@@ -166,21 +149,16 @@ calm_takes Want.CloseAll e = refl
 abbrev Says : World → Type 0
 Says w = (octet : ℕ) (octets : List ℕ) → w.far.owed ≡ octet ∷ octets → w.control_to_server ≡ []
 
--- it hears nothing where nothing is on its way to it
-none_heard : (w : World) → w.near.closing ≡ false → w.control_to_client ≡ [] → (count : ℕ) → (near.hears w.near (take count w.control_to_client)).closing ≡ false
-none_heard w unclosed none count = ap (λ o. (near.hears w.near o).closing) (ap (take count) none ∙ take-nil count) ∙ unclosed
-
 -- nothing is dialled, given or taken
 pub calm_known : (w : World) → Says w → is_calm (near.wants w.near) ≡ true → is_upload w.far.session.connection ≡ false
-    → (is_transferring w.far.session.connection ≡ true → w.control_to_server ≡ []) → Stays w → (is_busy w.near ≡ false → Idling w)
+    → (is_transferring w.far.session.connection ≡ true → w.control_to_server ≡ []) → (is_busy w.near ≡ false → Idling w)
     → is_closed_by_near w.link ≡ false → w.data_to_server ≡ [] → is_giving w.far.session.connection ≡ false
     → w.data_to_client ≡ [] → Known w
-calm_known w says calm none lines ready idle unclosed empty ungiven flat = record {
+calm_known w says calm none lines idle unclosed empty ungiven flat = record {
   dials = λ endpoint e. absurd (true≢false (sym calm ∙ ap is_calm e));
   says = says;
   lines = lines;
   idle = idle;
-  ready = ready;
   still = λ e. empty;
   closed = λ e. absurd (true≢false (sym e ∙ unclosed));
   takes = λ e h. absurd (true≢false (sym e ∙ none));
@@ -207,7 +185,7 @@ pub held_takes : (past : Bool) (path : Names) (keep : Keep) (d : Decoder) → is
 held_takes false path keep d = refl
 held_takes true path keep d = refl
 
-held_busy : (past : Bool) (path : Names) (keep : Keep) (d : Decoder) → is_ready (held past path keep d) ≡ false
+pub held_busy : (past : Bool) (path : Names) (keep : Keep) (d : Decoder) → is_ready (held past path keep d) ≡ false
 held_busy false path keep d = refl
 held_busy true path keep d = refl
 
@@ -222,8 +200,7 @@ gives_none false octets = refl
 
 -- ---- while a file is put
 
-module _ (read : Reading) (reads : IsReading read) (state : State) (ask : Ask) (good : IsAsk ask) (sound : IsSound state)
-    (placed : IsPlacedAt ask.settings ask.offset) (own : List Mark) where
+module _ (read : Reading) (state : State) (ask : Ask) (good : IsAsk ask) (own : List Mark) where
   abbrev At : Way → World → Type 0
   At way b = AtFetch state ask read own way b
 
@@ -232,14 +209,6 @@ module _ (read : Reading) (reads : IsReading read) (state : State) (ask : Ask) (
 
   abbrev carry : Course → (came queue : List ℕ) → Stage
   carry course came queue = Carries (record { course = course; came = came; queue = queue })
-
-  -- REST is not refused
-  not_denied : (at : ℕ) (why : Refusal) → ask.offset ≡ Some at → offset_refusal at (how_in_force ask.settings) ≡ Some why → ⊥
-  not_denied at why is refused = true≢false (sym (ap is_some (sym (subst (IsPlacedAt ask.settings) is placed) ∙ refused)))
-    where
-      is_some : Option Refusal → Bool
-      is_some None = false
-      is_some (Some why) = true
 
   pub stage_known : (w : World) (s : PlacedAt At w) → IsLasting state ask read own s.way s.base s.here → Known w
   unfolding near.wants
@@ -264,26 +233,23 @@ module _ (read : Reading) (reads : IsReading read) (state : State) (ask : Ask) (
           → w.far.session.connection ≡ link
       link_is link closing pending is = ap (λ v. v.connection) (seen.session ∙ is)
 
-      -- replies alone are on their way, or a line
+      -- replies alone are on their way
       replying : (rows : List Reply) → s.way ≡ Answering rows → w.control_to_server ≡ []
       replying rows way = ap (λ (u : World). u.control_to_server) s.is ∙ ap (λ v. (world_at s.base v s.cut).control_to_server) way
-
-      asking : (text : List ℕ) → s.way ≡ Asking text → w.control_to_client ≡ []
-      asking text way = ap (λ (u : World). u.control_to_client) s.is ∙ ap (λ v. (world_at s.base v s.cut).control_to_client) way
 
       calm : (job : Job) (connection : NearConnection) → s.base.near ≡ busy job connection s.base.near
           → is_calm (near.wants (busy job connection w.near)) ≡ true
           → (link : ServerLink Transfer) (closing : Bool) (pending : Pending Names) → s.base.far.session ≡ linked link closing pending s.base.far.session
-          → is_upload link ≡ false → (is_transferring link ≡ true → w.control_to_server ≡ []) → StaysAt link w
+          → is_upload link ≡ false → (is_transferring link ≡ true → w.control_to_server ≡ [])
           → (tie : Link) → s.base.link ≡ tie → is_closed_by_near tie ≡ false → s.base.data_to_server ≡ [] → is_giving link ≡ false
           → s.base.data_to_client ≡ [] → Known w
-      calm job connection near_is wants link closing pending far_is none lines ready tie tied unclosed empty ungiven flat =
+      calm job connection near_is wants link closing pending far_is none lines tie tied unclosed empty ungiven flat =
           let is = link_is link closing pending far_is in
           calm_known w (one_way At w s) (ap (λ v. is_calm (near.wants v)) (near_form s.base w seen job connection near_is) ∙ wants)
-          (ap is_upload is ∙ none) (λ e. lines (sym (ap is_transferring is) ∙ e)) (λ e. ready (sym (ap is_ready is) ∙ e)) (λ free. absurd (busy_now free))
+          (ap is_upload is ∙ none) (λ e. lines (sym (ap is_transferring is) ∙ e)) (λ free. absurd (busy_now free))
           (ap is_closed_by_near (link_at ∙ tied) ∙ unclosed) (rising_at ∙ empty) (ap is_giving is ∙ ungiven) (falling_at ∙ flat)
 
-      -- where no transfer is under way, and none is ready
+      -- where no transfer is under way
       quiet : (job : Job) (connection : NearConnection) → s.base.near ≡ busy job connection s.base.near
           → is_calm (near.wants (busy job connection w.near)) ≡ true
           → (link : ServerLink Transfer) (closing : Bool) (pending : Pending Names) → s.base.far.session ≡ linked link closing pending s.base.far.session
@@ -291,16 +257,15 @@ module _ (read : Reading) (reads : IsReading read) (state : State) (ask : Ask) (
           → s.base.data_to_client ≡ [] → Known w
       quiet job connection near_is wants link closing pending far_is aside tie tied unclosed empty flat =
           calm job connection near_is wants link closing pending far_is (aside_rests link aside).0
-          (λ e. absurd (true≢false (sym e ∙ aside_still link aside))) (λ e. absurd (true≢false (sym e ∙ (aside_rests link aside).1))) tie tied unclosed empty
-          (aside_rests link aside).2 flat
+          (λ e. absurd (true≢false (sym e ∙ aside_still link aside))) tie tied unclosed empty (aside_rests link aside).2 flat
 
       -- the client takes octets, over a link that it holds
       falling : (job : Job) → s.base.near ≡ busy job NearData.Open s.base.near → near.wants (busy job NearData.Open w.near) ≡ Want.Receive
           → (link : ServerLink Transfer) (pending : Pending Names) → s.base.far.session ≡ linked link false pending s.base.far.session
-          → is_upload link ≡ false → (is_transferring link ≡ true → w.control_to_server ≡ []) → StaysAt link w
+          → is_upload link ≡ false → (is_transferring link ≡ true → w.control_to_server ≡ [])
           → (is_giving link ≡ true → Giving w) → (tie : Link) → s.base.link ≡ tie → is_closed_by_near tie ≡ false → is_near_held tie ≡ true
           → (is_open link ≡ false → tie ≡ ClosedByFar) → s.base.data_to_server ≡ [] → Known w
-      falling job near_is wants link pending far_is none lines ready gives tie tied unclosed has shut empty =
+      falling job near_is wants link pending far_is none lines gives tie tied unclosed has shut empty =
           let is = link_is link false pending far_is in
           let wants_now : near.wants w.near ≡ Want.Receive = ap near.wants (near_form s.base w seen job NearData.Open near_is) ∙ wants in
           record {
@@ -308,7 +273,6 @@ module _ (read : Reading) (reads : IsReading read) (state : State) (ask : Ask) (
             says = one_way At w s;
             lines = λ e. lines (sym (ap is_transferring is) ∙ e);
             idle = λ free. absurd (busy_now free);
-            ready = λ e. ready (sym (ap is_ready is) ∙ e);
             still = λ e. rising_at ∙ empty;
             closed = λ e. absurd (true≢false (sym e ∙ ap is_closed_by_near (link_at ∙ tied) ∙ unclosed));
             takes = λ e h. absurd (true≢false (sym e ∙ ap is_upload is ∙ none));
@@ -335,7 +299,6 @@ module _ (read : Reading) (reads : IsReading read) (state : State) (ask : Ask) (
             says = λ octet octets e. alone;
             lines = λ e. alone;
             idle = λ free. absurd (busy_now free);
-            ready = λ e. absurd (true≢false (sym e ∙ ap is_ready is ∙ held_busy past path keep d));
             still = λ e. absurd (true≢false (sym held_now ∙ e));
             closed = λ e. held_now;
             takes = λ e h. takes h;
@@ -370,7 +333,6 @@ module _ (read : Reading) (reads : IsReading read) (state : State) (ask : Ask) (
             says = one_way At w s;
             lines = λ e. absurd (true≢false (sym e ∙ ap is_transferring far));
             idle = λ free. absurd (busy_now free);
-            ready = λ e. absurd (true≢false (sym e ∙ ap is_ready far));
             still = λ e. rising_at ∙ h.to_server;
             closed = λ e. absurd (true≢false (sym e ∙ ap is_closed_by_near (link_at ∙ h.link)));
             takes = λ e held. absurd (true≢false (sym e ∙ ap is_upload far));
@@ -397,12 +359,12 @@ module _ (read : Reading) (reads : IsReading read) (state : State) (ask : Ask) (
       by_course (GivesOctets begun octet more) came queue h lasts =
           let is = link_is (FarData.Transferring (giving_of ask.listed (octet ∷ more))) false Pendings.Nothing h.session in
           falling _ h.near refl (FarData.Transferring (giving_of ask.listed (octet ∷ more))) Pendings.Nothing h.session (gives_none ask.listed (octet ∷ more))
-          (λ e. replying _ h.way_is) (λ e. absurd (true≢false (sym e))) (λ e. record { listed = ask.listed; octet = octet; more = more; far = is }) _ h.link
+          (λ e. replying _ h.way_is) (λ e. record { listed = ask.listed; octet = octet; more = more; far = is }) _ h.link
           refl
           refl (λ e. absurd (true≢false e)) h.to_server
       by_course (Given heard true) came queue h lasts =
-          falling _ h.near refl FarData.Free Pendings.Nothing h.session refl (λ e. absurd (true≢false (sym e))) (λ e. absurd (true≢false (sym e)))
-          (λ e. absurd (true≢false (sym e))) _ h.link refl refl (λ e. refl) h.to_server
+          falling _ h.near refl FarData.Free Pendings.Nothing h.session refl (λ e. absurd (true≢false (sym e))) (λ e. absurd (true≢false (sym e))) _ h.link
+          refl refl (λ e. refl) h.to_server
       by_course (Given heard false) came queue h lasts = absurd (true≢false lasts)
       by_course (Ended begun true) came queue h lasts =
           quiet _ _ h.near refl _ false Pendings.Nothing h.session refl _ h.link refl h.to_server (h.to_client ∙ h.fine.2)
@@ -412,8 +374,8 @@ module _ (read : Reading) (reads : IsReading read) (state : State) (ask : Ask) (
           quiet _ _ h.near refl _ false Pendings.Nothing h.session refl _ h.link refl h.to_server (h.to_client ∙ h.fine.1.1)
       by_course (Refusing why Unclosed) came queue h lasts = absurd (true≢false lasts)
       by_course (Refusing why Closed) came queue h lasts =
-          falling _ h.near refl FarData.Free Pendings.Nothing h.session refl (λ e. absurd (true≢false (sym e))) (λ e. absurd (true≢false (sym e)))
-          (λ e. absurd (true≢false (sym e))) _ h.link refl refl (λ e. refl) h.to_server
+          falling _ h.near refl FarData.Free Pendings.Nothing h.session refl (λ e. absurd (true≢false (sym e))) (λ e. absurd (true≢false (sym e))) _ h.link
+          refl refl (λ e. refl) h.to_server
       by_course (Refusing why (Lost clean)) came queue h lasts =
           quiet _ _ h.near refl _ false Pendings.Nothing h.session refl _ h.link refl h.to_server (h.to_client ∙ h.fine.1.1)
       by_course Unopened came queue h lasts =
@@ -465,6 +427,13 @@ module _ (read : Reading) (reads : IsReading read) (state : State) (ask : Ask) (
       by_lift rise (Declined why Closing) h lasts = absurd (true≢false lasts)
       by_lift rise Unjoined h lasts = quiet _ _ h.near refl _ false Pendings.Nothing h.session refl _ h.link refl h.to_server h.to_client
 
+      -- REST is asked for or answered over a link that the client dialled
+      readied : {pending : Pending Names} → s.base.near ≡ busy (Doing ask.op Steps.Restart) NearData.Open s.base.near
+          → s.base.far.session ≡ linked FarData.Ready false pending s.base.far.session → s.base.link ≡ Opened → s.base.data_to_server ≡ []
+          → s.base.data_to_client ≡ [] → Known w
+      readied near_is far_is tied empty flat =
+          calm _ _ near_is refl FarData.Ready false _ far_is refl (λ e. absurd (true≢false (sym e))) _ tied refl empty refl flat
+
       -- before the 150 octets are taken, or nothing is done
       retrieves : Stood (Retrieves (Dialled true)) s.way s.base → Known w
       retrieves h = of ask.sends refl
@@ -472,24 +441,20 @@ module _ (read : Reading) (reads : IsReading read) (state : State) (ask : Ask) (
           job_by : Direction → Job
           job_by d = Transferring ask.op (record { replied = Replies.Nothing; abort = Aborts.Unsent; flow = carrying d ask.settings })
 
-          unclosed : w.near.closing ≡ false
-          unclosed = seen.closing ∙ ap (λ v. v.closing) h.near
-
           of : (d : Direction) → ask.sends ≡ d → Known w
           of Down is =
               falling (job_by Down) (h.near ∙ ap (λ d. busy (job_by d) NearData.Open s.base.near) is) refl FarData.Ready _ h.session refl
-              (λ e. absurd (true≢false (sym e))) (λ e. none_heard w unclosed (asking _ h.way_is)) (λ e. absurd (true≢false (sym e))) _ h.link refl refl (λ e. absurd
-              (true≢false e)) h.to_server
+              (λ e. absurd (true≢false (sym e))) (λ e. absurd (true≢false (sym e))) _ h.link refl refl (λ e. absurd (true≢false e)) h.to_server
           of (Up rise) is =
               calm (job_by (Up rise)) NearData.Open (h.near ∙ ap (λ d. busy (job_by d) NearData.Open s.base.near) is) refl FarData.Ready false _ h.session refl
-              (λ e. absurd (true≢false (sym e))) (λ e. none_heard w unclosed (asking _ h.way_is)) _ h.link refl h.to_server refl h.to_client
+              (λ e. absurd (true≢false (sym e))) _ h.link refl h.to_server refl h.to_client
 
       by_here : (here : At s.way s.base) → IsLasting state ask read own s.way s.base here → Known w
       by_here (inl l) lasts =
           let still = (leads_still read state ask good.plan own s.base w s.way seen l).0 in
           let rests = aside_rests w.far.session.connection still.far.aside in
           calm_known w (one_way At w s) (ap is_calm (near_wants w.near still.near)) rests.0
-          (λ e. absurd (true≢false (sym e ∙ aside_still w.far.session.connection still.far.aside))) (λ e. absurd (true≢false (sym e ∙ rests.1)))
+          (λ e. absurd (true≢false (sym e ∙ aside_still w.far.session.connection still.far.aside)))
           (λ free. absurd (busy_now free)) (ap is_closed_by_near (link_at ∙ l.link)) (rising_at ∙ l.to_server) rests.2 (falling_at ∙ l.to_client)
       by_here (inr (PortAsked closing, h)) lasts = absurd (true≢false lasts)
       by_here (inr (PortTold port, h)) lasts = quiet _ _ h.near refl _ false Pendings.Nothing h.session refl _ h.link refl h.to_server h.to_client
@@ -501,14 +466,11 @@ module _ (read : Reading) (reads : IsReading read) (state : State) (ask : Ask) (
       by_here (inr (PortTaken port false, h)) lasts = quiet _ _ h.near refl _ false Pendings.Nothing h.session refl _ h.link refl h.to_server h.to_client
       by_here (inr (PortDenied port connection, h)) lasts =
           quiet _ _ h.near refl connection false Pendings.Nothing h.session h.fine.0 _ h.link refl h.to_server h.to_client
-      by_here (inr (Restarts at (Denied why) early, h)) lasts = absurd (not_denied at why h.fine.0 h.fine.1)
-      by_here (inr (Restarts at Sent (Dialled true), h)) lasts =
-          calm _ _ h.near refl FarData.Ready false _ h.session refl (λ e. absurd (true≢false (sym e)))
-          (λ e. none_heard w (seen.closing ∙ ap (λ v. v.closing) h.near) (asking _ h.way_is)) _ h.link refl h.to_server refl h.to_client
-      by_here (inr (Restarts at Granted (Dialled true), h)) lasts =
-          calm _ _ h.near refl FarData.Ready false _ h.session refl (λ e. absurd (true≢false (sym e)))
-          (λ e count. grant_stays read reads state ask good sound own (Dialled true) w count
-          (record { base = s.base; way = s.way; cut = s.cut; is = s.is; fits = s.fits; here = inl (at, h) })) _ h.link refl h.to_server refl h.to_client
+      by_here (inr (Restarts at (Denied why) (Dialled true), h)) lasts = readied h.near h.session h.link h.to_server h.to_client
+      by_here (inr (Restarts at Sent (Dialled true), h)) lasts = readied h.near h.session h.link h.to_server h.to_client
+      by_here (inr (Restarts at Granted (Dialled true), h)) lasts = readied h.near h.session h.link h.to_server h.to_client
+      by_here (inr (Restarts at (Denied why) (Dialled false), h)) lasts = quiet _ _ h.near refl _ false _ h.session refl _ h.link refl h.to_server h.to_client
+      by_here (inr (Restarts at (Denied why) (Ported port), h)) lasts = quiet _ _ h.near refl _ false _ h.session refl _ h.link refl h.to_server h.to_client
       by_here (inr (Restarts at Sent (Dialled false), h)) lasts = quiet _ _ h.near refl _ false _ h.session refl _ h.link refl h.to_server h.to_client
       by_here (inr (Restarts at Granted (Dialled false), h)) lasts = quiet _ _ h.near refl _ false _ h.session refl _ h.link refl h.to_server h.to_client
       by_here (inr (Restarts at Sent (Ported port), h)) lasts = quiet _ _ h.near refl _ false _ h.session refl _ h.link refl h.to_server h.to_client
@@ -517,11 +479,9 @@ module _ (read : Reading) (reads : IsReading read) (state : State) (ask : Ask) (
       by_here (inr (Retrieves (Dialled false), h)) lasts = quiet _ _ h.near refl _ false _ h.session refl _ h.link refl h.to_server h.to_client
       by_here (inr (Retrieves (Ported port), h)) lasts = quiet _ _ h.near refl _ false _ h.session refl _ h.link refl h.to_server h.to_client
       by_here (inr (Awaits port false, h)) lasts =
-          calm _ _ h.near refl _ false Pendings.Nothing h.session refl (λ e. replying _ h.way_is) (λ e. absurd (true≢false
-          (sym e))) _ h.link refl h.to_server refl h.to_client
+          calm _ _ h.near refl _ false Pendings.Nothing h.session refl (λ e. replying _ h.way_is) _ h.link refl h.to_server refl h.to_client
       by_here (inr (Awaits port true, h)) lasts =
-          calm _ _ h.near refl _ false Pendings.Nothing h.session refl (λ e. replying _ h.way_is) (λ e. absurd (true≢false
-          (sym e))) _ h.link refl h.to_server refl h.to_client
+          calm _ _ h.near refl _ false Pendings.Nothing h.session refl (λ e. replying _ h.way_is) _ h.link refl h.to_server refl h.to_client
       by_here (inr (Unaccepted port, h)) lasts = quiet _ _ h.near refl _ false Pendings.Nothing h.session refl _ h.link refl h.to_server h.to_client
       by_here (inr (Dismissed port why, h)) lasts = quiet _ _ h.near refl _ false Pendings.Nothing h.session refl _ h.link refl h.to_server h.to_client
       by_here (inr (Carries c, h)) lasts = by_course c.course c.came c.queue h lasts

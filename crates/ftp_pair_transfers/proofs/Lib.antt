@@ -1,11 +1,15 @@
 pub mod Blind
-pub mod Granted
 pub mod Known
+pub mod Ahead
+pub mod Left
 pub mod Running
+pub mod Granted
 pub mod Taking
 pub mod FarForms
 pub mod NearForms
 pub mod Settling
+pub mod Twins
+pub mod Parting
 pub mod Beside
 pub mod ServerStays
 pub mod ServerMoves

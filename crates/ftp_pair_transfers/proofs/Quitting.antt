@@ -1,5 +1,5 @@
 -- What both did before QUIT was written is the direct run, and after it the map stays.
-use Rattle.std.proofs.Common.{◌≡◌, ℕ, false, List, [], ◌∷◌, ◌++◌, drop, length, option_to_list, take, refl, sym, ap, subst, ◌∙◌, append-nil}
+use Rattle.std.proofs.Common.{◌≡◌, ℕ, Bool, true, false, List, [], ◌∷◌, ◌++◌, drop, length, option_to_list, take, refl, sym, ap, subst, ◌∙◌, append-nil}
 use Rattle.ftp_client_drive.specs.Side.{client_side}
 use Rattle.ftp_client_model.specs.View.{View as Near}
 use Rattle.ftp_client_model.specs.declared.client.Standing.TheVariants as Standings
@@ -8,7 +8,7 @@ use Rattle.ftp_control.specs.Deeds.{Deed, Led, Stand}
 use Rattle.ftp_operation.specs.Answer.{Said}
 use Rattle.ftp_server_drive.specs.Side.{Timed, server_side}
 use Rattle.ftp_server_model.proofs.LinesDecided.{reading_exists}
-use Rattle.ftp_server_model.specs.Machine.{IsReading, Reading}
+use Rattle.ftp_server_model.specs.Machine.{IsReading, Reading, is_connection_busy}
 use Rattle.ftp_server_model.specs.View.{View as Far}
 use Rattle.ftp_tree.specs.Tree.{Table}
 use Rattle.ftp_pair_world.specs.Agreement.{Order}
@@ -20,14 +20,17 @@ use Rattle.ftp_pair_drives.specs.Quitting.{HappenedAlone, quitting}
 use Rattle.ftp_pair_drives.proofs.Leaving.{quits_table}
 use Rattle.ftp_pair_drives.proofs.Quitting.{Quits}
 use Rattle.ftp_pair_drives.proofs.Taken.{free_none}
+use Rattle.ftp_pair_data.specs.Ahead as plainly
 use Rattle.ftp_pair_data.proofs.Running.{all_runs}
 use Rattle.ftp_pair_deeds.proofs.Along.{Went}
 use Rattle.ftp_pair_deeds.proofs.Closing.{AtQuit, LeftSince, at_quit, begins_quit}
-use Rattle.ftp_pair_deeds.proofs.Resting.{idle_at, rests_so}
+use Rattle.ftp_pair_deeds.proofs.Resting.{AtRest, IsIdle, idle_at, rests_so}
+use Rattle.ftp_pair_transfers.specs.Ahead.{Ahead, Fits, Level, Listens, Opens, Parted, far_ahead}
 use Rattle.ftp_pair_transfers.specs.Claims.{DidTransfer}
 use Rattle.ftp_pair_transfers.specs.Deeds.{AreMoments, ClientTransfers, begun_at}
 use Rattle.ftp_pair_transfers.specs.Over.{orders_at}
 use Rattle.ftp_pair_transfers.specs.Quitting.{LeavesAlong, TransfersThatQuitAreTheDirectRun}
+use Rattle.ftp_pair_transfers.proofs.Ahead.{left_is, left_link}
 use Rattle.ftp_pair_transfers.proofs.Concluding.{transfers_are_the_direct_run}
 use Rattle.ftp_pair_transfers.proofs.Ending.{answers_are, answers_go, as_many, orders_are, transferred_free}
 use Rattle.ftp_pair_transfers.proofs.Resting.{idles}
@@ -60,6 +63,18 @@ finals_keep read reads table deeds start now led leaves old last happened quits 
     let same : q.mid ≡ start = subst (λ d. Led d start q.mid) (drop_all deeds) q.led in
     q.quits table (subst (λ m. Quits table m old) (sym same) quits)
 
+-- where a world's server is at rest so is the drive's
+rests_now : (ahead : Ahead) (v : Far) → Fits ahead v.session.connection → IsIdle (far_ahead ahead v) → AtRest v
+rests_now Level v fits idle = rests_so plainly.Level v fits (record { ear = idle.ear; owed = idle.owed; aside = idle.aside })
+rests_now Opens v fits idle = rests_so plainly.Opens v fits (record { ear = idle.ear; owed = idle.owed; aside = idle.aside })
+rests_now (Listens port) v fits idle = rests_so (plainly.Listens port) v fits (record { ear = idle.ear; owed = idle.owed; aside = idle.aside })
+rests_now (Parted accepted) v fits idle =
+    record { ear = idle.ear; owed = idle.owed; idle = ap is_connection_busy (left_is accepted v.session.connection fits) ∙ by accepted }
+  where
+    by : (accepted : Bool) → is_connection_busy (left_link accepted) ≡ false
+    by true = refl
+    by false = refl
+
 -- ---- both
 
 -- where each operation has its report and the client is logged in, the server hears QUIT next
@@ -83,7 +98,7 @@ quits_next read reads b fair moments timed turns between server client did free 
     let standing : w.near.standing ≡ Standings.Entered = ap (λ (u : Near). u.standing) s.near ∙ entered in
     let carried = in_carried moments (client_deeds turns) did.client_start client did.client_led did.gives in
     let idle = idles read reads (state_of b) begun carried w s.unready s.cutoff all runs standing in
-    begins_quit server between o.serves (sym s.to_server ∙ idle.to_server) (rests_so o.ahead v s.fits (idle_at o.last w.far _ s.far idle.far))
+    begins_quit server between o.serves (sym s.to_server ∙ idle.to_server) (rests_now o.ahead v s.fits (idle_at o.last w.far _ s.far idle.far))
 
 pub transfers_that_quit_are_the_direct_run : TransfersThatQuitAreTheDirectRun
 transfers_that_quit_are_the_direct_run b fair moments timed asked server over =

@@ -20,7 +20,7 @@ use Rattle.ftp_server_model.specs.declared.session.ServerLink.{ServerLink}
 use Rattle.ftp_pair_world.specs.Agreement.{Order, Single, Tries}
 use Rattle.ftp_pair_world.specs.Events.{ControlToClient, ControlToServer, DataToClient, is_closed_by_far, is_closed_by_near, pushed, told}
 use Rattle.ftp_pair_world.specs.World.{Mark, Stands, World}
-use Rattle.ftp_pair_dialogues.specs.Fetches.{Ask, IsAsk, IsPlacedAt, IsTimely, Rise, Up, linked}
+use Rattle.ftp_pair_dialogues.specs.Fetches.{Ask, IsAsk, IsTimely, Rise, Up, linked}
 use Rattle.ftp_pair_dialogues.specs.Login.{AtFree, AtOperation}
 use Rattle.ftp_pair_dialogues.specs.Stage.{Answering, Asking, Way}
 use Rattle.ftp_pair_agreement.specs.Cut.{Cut, PlacedAt, of_ends, world_at}
@@ -39,7 +39,7 @@ use Rattle.ftp_pair_data.proofs.Known.{aside_still, beside, one_way}
 use Rattle.ftp_pair_data.proofs.Running.{free_still, not_halting, not_lost, under_still}
 use Rattle.ftp_pair_data.proofs.Served.{Runs}
 use Rattle.ftp_pair_transfers.specs.Deeds.{begun_at, last_of, number_in}
-use Rattle.ftp_pair_transfers.proofs.Known.{AreCarried, Known, aside_rests, calm_known, gives_none, is_calm, is_placed, is_ready, last_carried, stage_known}
+use Rattle.ftp_pair_transfers.proofs.Known.{AreCarried, Known, aside_rests, calm_known, gives_none, is_calm, is_ready, last_carried, stage_known}
 
 -- ---- where neither end wants anything of a data connection
 
@@ -47,7 +47,6 @@ still_known : (At : Way → World → Type 0) (w : World) → PlacedAt At w → 
 still_known At w s none still =
     let rests = aside_rests w.far.session.connection still.far.aside in
     calm_known w (one_way At w s) (ap is_calm (near_wants w.near still.near)) rests.0 (λ e. absurd (true≢false (sym e ∙ far)))
-    (λ e. absurd (true≢false (sym e ∙ rests.1)))
     (λ free. record { link = none.link; to_client = none.to_client; wants = near_wants w.near still.near; far = far }) (ap is_closed_by_near none.link)
     none.to_server rests.2 none.to_client
   where
@@ -187,10 +186,6 @@ module _ (read : Reading) (state : State) (ask : Ask) (good : IsAsk ask) (own : 
 -- ---- in a world
 
 module _ (read : Reading) (reads : IsReading read) (from : State) (begun : List Order) (puts : AreCarried begun) where
-  -- of what is under way
-  placed_at : (w : World) (f : IsFetching read from begun w) → IsPlacedAt f.ask.settings f.ask.offset
-  placed_at w f = is_placed f.ask f.is_ask (last_carried f.done _ begun f.begun_is puts).0
-
   -- the client alone has closed it
   pub not_trailing : (w : World) → (is_closed_by_near w.link ≡ true → is_ready w.far.session.connection ≡ false) → IsTrailing from begun w → ⊥
   not_trailing w unready t =
@@ -218,7 +213,7 @@ module _ (read : Reading) (reads : IsReading read) (from : State) (begun : List 
       by (inl (inl follows)) = by_phase follows follows.phase
       by (inl (inr (inl on))) =
           let f = on.fetching in
-          stage_known read reads f.now f.ask f.is_ask f.sound (placed_at w f) f.own w f.stands on.lasts
+          stage_known read f.now f.ask f.is_ask f.own w f.stands on.lasts
       by (inl (inr (inr (inl trailing)))) = absurd (not_trailing w unready trailing)
       by (inl (inr (inr (inr halting)))) = absurd (not_halting read from begun _ _ _ w halting.halting.stands unaborted)
       by (inr (inl trying)) = absurd (last_carried trying.going.done _ begun trying.going.begun_is puts)

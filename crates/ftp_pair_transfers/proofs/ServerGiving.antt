@@ -19,6 +19,7 @@ use Rattle.ftp_server_model.specs.declared.session.ServerLink.{ServerLink}
 use Rattle.ftp_server_model.specs.declared.session.Transfer.TheVariants as Transfers
 use Rattle.ftp_server_model.specs.declared.session.Life.TheVariants as Lives
 use Rattle.ftp_server_model.specs.declared.session.ServerLink.TheVariants as Data
+use Rattle.ftp_pair_world.specs.Agreement.{Order}
 use Rattle.ftp_pair_world.specs.Claims.{AreUnmarked}
 use Rattle.ftp_pair_world.specs.Events.{is_closed_by_near}
 use Rattle.ftp_pair_world.specs.World.{World, port_at}
@@ -26,11 +27,12 @@ use Rattle.ftp_pair_dialogues.specs.Fetches.{giving_of}
 use Rattle.ftp_pair_drives.specs.Alone.{ServerIsCalm}
 use Rattle.ftp_pair_drives.specs.Between.{Between, Has, Hold}
 use Rattle.ftp_pair_drives.proofs.Worlds.{LeadsOn, leads_then}
-use Rattle.ftp_pair_data.specs.Ahead.{Ahead, Level, Listened, Listens, Opens, accepts, far_ahead, is_asked, is_open}
+use Rattle.ftp_pair_data.specs.Ahead.{accepts, is_asked, is_open}
+use Rattle.ftp_pair_transfers.specs.Ahead.{Ahead, Level, Listened, Listens, Opens, Parted, far_ahead, is_left}
 use Rattle.ftp_pair_data.proofs.Moves.{Rested, far_gives_one}
 use Rattle.ftp_pair_data.proofs.Served.{Runs, far_wants, rests, settled}
-use Rattle.ftp_pair_data.proofs.Settling.{FarSettles, far_settles, next_ahead}
-use Rattle.ftp_pair_deeds.proofs.Holding.{Holds, both, is_called, is_false, is_had, is_sound}
+use Rattle.ftp_pair_transfers.proofs.Ahead.{FarSettles, Holds, far_settles, next_ahead}
+use Rattle.ftp_pair_deeds.proofs.Holding.{both, is_called, is_false, is_had, is_sound}
 use Rattle.ftp_pair_deeds.proofs.FarForms.{GivenKeeps, Sending, given_all, given_is, given_keeps, given_shut, gives_on, giving, is_send, no_close, none_later, sending_of}
 use Rattle.ftp_pair_deeds.proofs.Stands.{ClientFetches, ServerServes}
 use Rattle.ftp_pair_transfers.proofs.Beside.{Comes, Goes, Together, Writes, rested}
@@ -176,7 +178,7 @@ had_uncalled : (hold : Hold) → is_had hold ≡ true → is_called hold ≡ fal
 had_uncalled Has e = refl
 had_uncalled hold e = absurd (true≢false (sym e))
 
-module _ (read : Reading) (old new : Stand server_side) (client : Stand client_side) (reports : List Said) (w : World)
+module _ (read : Reading) (orders : List Order) (old new : Stand server_side) (client : Stand client_side) (reports : List Said) (w : World)
     (calm : ServerIsCalm old.owner new.owner) (before : ServerServes old.owner) (asks : ClientFetches client.owner)
     (known : Known w) where
   abbrev v : Far
@@ -225,7 +227,7 @@ module _ (read : Reading) (old new : Stand server_side) (client : Stand client_s
     link_open : is_open v.session.connection ≡ true
     link_open = ap is_open s.is
 
-    module _ (t : Together moment Level between told old client reports w) where
+    module _ (t : Together read orders moment Level between told old client reports w) where
       had : is_had between.far ≡ true
       had = t.holds.had link_open
 
@@ -275,12 +277,12 @@ module _ (read : Reading) (old new : Stand server_side) (client : Stand client_s
       same octet more first all =
           is ∙ ap (λ l. completed (giving s.listed l v)) (all ∙ first) ∙ gives_on s.listed octet more v ∙ ap (λ l. giving s.listed l v) (sym first) ∙ sym vg
 
-      by_octets : (given : List ℕ) → octets ≡ given → Goes read [] between told new client reports w
+      by_octets : (given : List ℕ) → octets ≡ given → Goes read [] orders between told new client reports w
       by_octets [] none =
           let n = some in
           let same_view : u ≡ v = same n.0 n.1 n.2 (ap (λ o. o ++ left) (sym none) ∙ whole) in
-          server_stays read old new client reports w calm before known moment Level Level between between told told t fits
-          (ap (λ f. clock_step moment (far_ahead Level f)) (sym same_view)) (λ l. l)
+          server_stays read orders old new client reports w calm before known moment Level Level between between told told t fits
+          (ap (λ f. clock_step moment (far_ahead Level f)) (sym same_view)) (λ l. l) (λ e. e)
           (ap (λ (s : Stand server_side). s.unheard ++ between.control.to_server) (sym did.1)) refl
           (ap (λ (l : Lane). l.untold ++ (between.data_ways.to_server ++ client.owner.lane.unwritten)) (sym lane))
           (ap (λ o. client.owner.lane.untold ++ (between.data_ways.to_client ++ o))
@@ -328,11 +330,15 @@ module _ (read : Reading) (old new : Stand server_side) (client : Stand client_s
                 shut = λ x. is_false (is_near_held g.new.link) (λ y. both (e.held y) (t.keeping.shut x));
                 over = λ x. is_false (is_near_held g.new.link) (λ y. both (e.held y) (t.keeping.over x));
               };
+              twin = λ x. absurd (true≢false (sym x));
             };
           }
 
     -- the server gave these
-    pub server_gave : (ahead : Ahead) → Together moment ahead between told old client reports w → Goes read [] between told new client reports w
+    pub server_gave : (ahead : Ahead) → Together read orders moment ahead between told old client reports w
+        → Goes read [] orders between told new client reports w
     server_gave Level t = by_octets t octets refl
     server_gave (Listens port) t = absurd (both t.beside.fits (ap is_asked s.is))
     server_gave Opens t = absurd (both t.beside.fits (ap accepts s.is))
+    server_gave (Parted true) t = absurd (both t.beside.fits (ap (is_left true) s.is))
+    server_gave (Parted false) t = absurd (both t.beside.fits (ap (is_left false) s.is))

@@ -9,11 +9,14 @@ use Rattle.ftp_operation.specs.Answer.{Said}
 use Rattle.ftp_server_drive.specs.Side.{ends_line, server_side}
 use Rattle.ftp_server_model.specs.Calls as far
 use Rattle.ftp_server_model.specs.Calls.{clock_step, close_step, control_step, given_step, wants_of}
+use Rattle.ftp_client_model.specs.View.{View as Near}
+use Rattle.ftp_server_model.specs.Endpoint.{is_standing}
 use Rattle.ftp_server_model.specs.Machine.{IsReading, Reading, hears_octet, is_transferring, may_hear}
 use Rattle.ftp_server_model.specs.View.{Session, Transfer, View as Far}
 use Rattle.ftp_server_model.specs.declared.session.ServerLink.{ServerLink}
 use Rattle.ftp_server_model.specs.declared.session.ServerLink.TheVariants as Data
 use Rattle.ftp_server_model.specs.declared.session.Way.TheVariants as Ways
+use Rattle.ftp_pair_world.specs.Agreement.{Order}
 use Rattle.ftp_pair_world.specs.Claims.{AreUnmarked}
 use Rattle.ftp_pair_world.specs.World.{World, port_at}
 use Rattle.ftp_pair_world.specs.Events.{is_closed_by_near}
@@ -21,20 +24,25 @@ use Rattle.ftp_pair_drives.specs.Alone.{ServerIsCalm}
 use Rattle.ftp_pair_drives.specs.Between.{Between, Far as TheServer, Hold, sent}
 use Rattle.ftp_pair_drives.proofs.Moments.{octet_moment}
 use Rattle.ftp_pair_drives.proofs.ServerSteps.{HearsAt, hears_at}
-use Rattle.ftp_pair_data.specs.Ahead.{Ahead, Fits, Level, Listened, Listens, Opens, accepts, ahead_of, far_ahead, is_asked, is_open}
-use Rattle.ftp_pair_data.proofs.Ahead.{Keeps, closed_is, far_is, keeps, says_after}
+use Rattle.ftp_pair_data.specs.Ahead.{accepts, is_asked, is_open}
+use Rattle.ftp_pair_data.specs.Unaborted.{is_unaborted}
+use Rattle.ftp_pair_transfers.specs.Ahead.{Ahead, Fits, Level, Listened, Listens, Opens, Parted, ahead_of, far_ahead, is_left, is_parted}
+use Rattle.ftp_pair_data.proofs.Ahead.{closed_is}
 use Rattle.ftp_pair_data.proofs.Hearing.{Turns, at_link, is_aimed, is_dialled, octet_opened, octet_turns}
-use Rattle.ftp_pair_data.proofs.Moves.{Rested, far_hears, far_says}
+use Rattle.ftp_pair_data.proofs.Moves.{Rested, far_hears, far_says, far_saying}
 use Rattle.ftp_pair_data.proofs.Served.{Runs, far_wants, settled}
-use Rattle.ftp_pair_data.proofs.Settling.{FarSettles, far_settles, fits_next, next_ahead}
-use Rattle.ftp_pair_deeds.proofs.Holding.{Holds, both, is_ahead, is_called, is_false, is_had, is_sound}
+use Rattle.ftp_pair_transfers.proofs.Ahead.{FarSettles, Holds, Keeps, far_is, far_settles, fits_next, is_ahead, keeps, left_is, left_link, next_ahead, next_whole, says_after}
+use Rattle.ftp_pair_deeds.proofs.Holding.{both, is_called, is_false, is_had, is_sound}
+use Rattle.ftp_pair_deeds.proofs.NearForms.{is_unaborted_same}
 use Rattle.ftp_pair_deeds.proofs.FarForms.{called_speaks, first_of_some, none_later, quiet_of, same_opens, waiting_open, waits_unasked}
 use Rattle.ftp_pair_deeds.proofs.Stands.{ClientFetches, ServerServes}
 use Rattle.ftp_pair_transfers.proofs.Beside.{Comes, Goes, Together, Writes, rested}
 use Rattle.ftp_pair_transfers.proofs.FarForms.{upload_takes}
 use Rattle.ftp_pair_transfers.proofs.Known.{Known, is_near_held}
+use Rattle.ftp_pair_transfers.proofs.Left.{Goes as LeftGoes, Leaves, Remains, Starts, is_spare, octet_goes}
 use Rattle.ftp_pair_transfers.proofs.ServerStays.{server_stays}
 use Rattle.ftp_pair_transfers.proofs.Settling.{far_held}
+use Rattle.ftp_pair_transfers.proofs.Twins.{HasTwin, awaiting, far_heard, far_said, none_begins}
 
 -- with these and those to say
 abbrev owing : List ℕ → Far → Far
@@ -49,7 +57,8 @@ next_not : (asked : Bool) (port : ℕ) → is_ahead (next_ahead asked port) ≡ 
 next_not true port = refl
 next_not false port = refl
 
-module _ (read : Reading) (reads : IsReading read) (old new : Stand server_side) (client : Stand client_side) (reports : List Said) (w : World)
+module _ (read : Reading) (reads : IsReading read) (orders : List Order) (old new : Stand server_side) (client : Stand client_side) (reports : List Said)
+    (w : World)
     (calm : ServerIsCalm old.owner new.owner) (before : ServerServes old.owner) (asks : ClientFetches client.owner) (known : Known w)
     (runs_on : (octet : ℕ) (queue : List ℕ) → w.control_to_server ≡ octet ∷ queue → Runs (hears_octet read w.far octet)) where
   abbrev v : Far
@@ -60,8 +69,9 @@ module _ (read : Reading) (reads : IsReading read) (old new : Stand server_side)
 
   -- ---- octets are said
 
-  pub server_said : (octets : List ℕ) (moment : ℕ) (ahead : Ahead) (between next : Between) (told : ℕ) → Together moment ahead between told old client reports w
-      → SaysNext octets old new → next ≡ record between { control = sent TheServer octets between.control } → Goes read [] next told new client reports w
+  pub server_said : (octets : List ℕ) (moment : ℕ) (ahead : Ahead) (between next : Between) (told : ℕ)
+      → Together read orders moment ahead between told old client reports w
+      → SaysNext octets old new → next ≡ record between { control = sent TheServer octets between.control } → Goes read [] orders next told new client reports w
   server_said octets moment ahead between next told t says can =
       let b = t.beside in
       let count = says.gives.count in
@@ -75,7 +85,7 @@ module _ (read : Reading) (reads : IsReading read) (old new : Stand server_side)
       let more : w.far.owed ≡ octets ++ g.owed = ap (λ (f : Far). f.owed) whole in
       let lane : new.owner.lane ≡ old.owner.lane = says.gives.lane in
       record {
-        world = _;
+        world = far_saying read octets g.owed w;
         leads = far_says read octets g.owed w (rested moment ahead between told old client reports w b before asks) more;
         moment = moment;
         ahead = ahead;
@@ -103,6 +113,7 @@ module _ (read : Reading) (reads : IsReading read) (old new : Stand server_side)
           takes = t.takes;
           gives = subst (λ (m : Between). Writes m.near client.owner.lane) (sym can) t.gives;
           keeping = record { had = λ e. ap (λ (m : Between). is_had m.near) can ∙ t.keeping.had e; shut = t.keeping.shut; over = t.keeping.over };
+          twin = λ e. far_said read reads orders octets g.owed w (t.twin e) (rested moment ahead between told old client reports w b before asks) more;
         };
       }
 
@@ -131,32 +142,32 @@ module _ (read : Reading) (reads : IsReading read) (old new : Stand server_side)
 
     -- events lead on to a world that is so again, and the server serves
     abbrev Went : Type 0
-    Went = Goes read [] between told new client reports w × ServerServes new.owner
+    Went = Goes read [] orders between told new client reports w × ServerServes new.owner
 
     -- an octet that is on its way
-    on_way : (ahead : Ahead) → Together moment ahead between told old client reports w
+    on_way : (ahead : Ahead) → Together read orders moment ahead between told old client reports w
         → w.control_to_server ≡ octet ∷ (new.unheard ++ between.control.to_server)
     on_way ahead t = t.beside.to_server ∙ ap (λ a. a ++ between.control.to_server) next
 
-    runs : (ahead : Ahead) → Together moment ahead between told old client reports w → Runs (hears_octet read w.far octet)
+    runs : (ahead : Ahead) → Together read orders moment ahead between told old client reports w → Runs (hears_octet read w.far octet)
     runs ahead t = runs_on octet (new.unheard ++ between.control.to_server) (on_way ahead t)
 
     -- nor is a link left by the client alone
-    unclosed_now : (ahead : Ahead) → Together moment ahead between told old client reports w → is_closed_by_near w.link ≡ false
+    unclosed_now : (ahead : Ahead) → Together read orders moment ahead between told old client reports w → is_closed_by_near w.link ≡ false
     unclosed_now ahead t =
         is_false (is_closed_by_near w.link)
         (λ e. no_octets octet (new.unheard ++ between.control.to_server) w.control_to_server (on_way ahead t)
         (known.lines (upload_takes w.far.session.connection (known.closed e)).busy))
 
     -- a world's server that heard it is as the drive's, or is ahead by an opening
-    finish : (ahead onward : Ahead) → (t : Together moment ahead between told old client reports w) → (h : Heard octet)
+    finish : (ahead onward : Ahead) → (t : Together read orders moment ahead between told old client reports w) → (h : Heard octet)
         → may_hear w.far ≡ true → Runs (hears_octet read w.far octet)
         → ((f : FarSettles now (settled now)) → (settled now).far ≡ clock_step moment (far_ahead onward u)) → Fits onward u.session.connection
         → ((f : FarSettles now (settled now)) → Listened onward told (settled now).listens)
         → (is_called between.far ≡ true → accepts u.session.connection ≡ true → is_ahead onward ≡ true)
-        → (is_ahead onward ≡ true → is_called between.far ≡ true)
-        → Goes read [] between told new client reports w
-    finish ahead onward t h may runs far fits listens called opened =
+        → (is_ahead onward ≡ true → is_called between.far ≡ true) → (is_parted onward ≡ true → HasTwin read orders (settled now))
+        → Goes read [] orders between told new client reports w
+    finish ahead onward t h may runs far fits listens called opened twin =
         let b = t.beside in
         let r : Rested w = rested moment ahead between told old client reports w b before asks in
         let queue : w.control_to_server ≡ octet ∷ (new.unheard ++ between.control.to_server) = b.to_server ∙ ap (λ a. a ++ between.control.to_server) next in
@@ -200,11 +211,12 @@ module _ (read : Reading) (reads : IsReading read) (old new : Stand server_side)
               shut = λ e. is_false (is_near_held (settled now).link) (λ o. both (far_held now r.near_open o) (t.keeping.shut e));
               over = λ e. is_false (is_near_held (settled now).link) (λ o. both (far_held now r.near_open o) (t.keeping.over e));
             };
+            twin = twin;
           };
         }
 
     -- as the drive's
-    finish_level : (ahead : Ahead) → (t : Together moment ahead between told old client reports w) → (h : Heard octet) → may_hear w.far ≡ true
+    finish_level : (ahead : Ahead) → (t : Together read orders moment ahead between told old client reports w) → (h : Heard octet) → may_hear w.far ≡ true
         → hears_octet read w.far octet ≡ clock_step moment u → w.listens ≡ told
         → (is_called between.far ≡ true → accepts u.session.connection ≡ true → ⊥) → Went
     finish_level ahead t h may is count none =
@@ -216,7 +228,7 @@ module _ (read : Reading) (reads : IsReading read) (old new : Stand server_side)
               fits
               (λ f. subst (λ n. Listened onward n (settled now).listens) count
               (subst (λ (x : Far). Listened (next_ahead (is_asked x.session.connection) port) w.listens (settled now).listens) is f.listens))
-              (λ c e. absurd (none c e)) (λ e. absurd (both e (next_not asked port))),
+              (λ c e. absurd (none c e)) (λ e. absurd (both e (next_not asked port))) (λ e. absurd (both e (next_whole asked port))),
           record {
             running = ap (λ (f : Far). f.session.life) (sym is) ∙ (runs ahead t).running;
             none_waits = ap (λ (f : Far). f.waiting) (sym is) ∙ (runs ahead t).none_waits;
@@ -224,7 +236,7 @@ module _ (read : Reading) (reads : IsReading read) (old new : Stand server_side)
         )
 
     -- ahead by an opening
-    finish_ahead : (t : Together moment Opens between told old client reports w) → (h : Heard octet) → may_hear w.far ≡ true
+    finish_ahead : (t : Together read orders moment Opens between told old client reports w) → (h : Heard octet) → may_hear w.far ≡ true
         → hears_octet read w.far octet ≡ clock_step moment (ahead_of Opens (heard_far octet)) → accepts (heard_far octet).session.connection ≡ true
         → Went
     finish_ahead t h may is waits =
@@ -244,7 +256,7 @@ module _ (read : Reading) (reads : IsReading read) (old new : Stand server_side)
               (λ f. subst (λ n. Listened Opens n (settled now).listens) t.beside.listens
               (subst (λ a. Listened (next_ahead a port) w.listens (settled now).listens) (ap (λ (f : Far). is_asked f.session.connection) is ∙ unasked)
               f.listens))
-              (λ c e. refl) (λ e. t.holds.opened refl),
+              (λ c e. refl) (λ e. t.holds.opened refl) (λ e. absurd (true≢false (sym e))),
           record {
             running = ap (λ (f : Far). f.session.life) h.is ∙ sym kept.life ∙ ap (λ (f : Far). f.session.life) ahead_is
                 ∙ ap (λ (f : Far). f.session.life) (sym is) ∙ (runs Opens t).running;
@@ -254,7 +266,7 @@ module _ (read : Reading) (reads : IsReading read) (old new : Stand server_side)
         )
 
     -- by how far a world is ahead
-    hears_so : (ahead : Ahead) → Together moment ahead between told old client reports w → HearsNext (octet ∷ []) old new
+    hears_so : (ahead : Ahead) → Together read orders moment ahead between told old client reports w → HearsNext (octet ∷ []) old new
         → Went
     hears_so ahead t did = by ahead t
       where
@@ -270,12 +282,12 @@ module _ (read : Reading) (reads : IsReading read) (old new : Stand server_side)
         unasked : is_asked v.session.connection ≡ false
         unasked = waits_unasked v.session.connection (sym (ap waits (far_wants v before.running unclosed)) ∙ waits_now)
 
-        queue : (ahead : Ahead) → Together moment ahead between told old client reports w
+        queue : (ahead : Ahead) → Together read orders moment ahead between told old client reports w
             → w.control_to_server ≡ octet ∷ (new.unheard ++ between.control.to_server)
         queue ahead t = t.beside.to_server ∙ ap (λ a. a ++ between.control.to_server) next
 
         -- an octet is on its way, so no transfer is under way there
-        still_there : (ahead : Ahead) → Together moment ahead between told old client reports w → is_transferring w.far.session.connection ≡ false
+        still_there : (ahead : Ahead) → Together read orders moment ahead between told old client reports w → is_transferring w.far.session.connection ≡ false
         still_there ahead t =
             is_false (is_transferring w.far.session.connection)
             (λ e. no_octets octet (new.unheard ++ between.control.to_server) w.control_to_server (queue ahead t) (known.lines e))
@@ -313,7 +325,7 @@ module _ (read : Reading) (reads : IsReading read) (old new : Stand server_side)
               };
         }
 
-        by_level : Together moment Level between told old client reports w → Went
+        by_level : Together read orders moment Level between told old client reports w → Went
         by_level t =
             let wf : w.far ≡ clock_step moment v = t.beside.far ∙ ap (clock_step moment) (closed_is v unclosed) in
             let still : is_transferring v.session.connection ≡ false =
@@ -324,7 +336,7 @@ module _ (read : Reading) (reads : IsReading read) (old new : Stand server_side)
             (λ c e. true≢false (sym (t.holds.called c (got.turns.accepted (ap (λ (f : Far). accepts f.session.connection) (sym got.is) ∙ e)).0)))
 
         -- it waits for who comes, before a line
-        by_passive : Together moment Opens between told old client reports w → v.session.connection ≡ Data.Passive
+        by_passive : Together read orders moment Opens between told old client reports w → v.session.connection ≡ Data.Passive
             → Went
         by_passive t link =
             let vp : v ≡ at_link Data.Passive false v = λ i. record v { session = record v.session { connection = link i; closing = unclosed i } } in
@@ -339,7 +351,7 @@ module _ (read : Reading) (reads : IsReading read) (old new : Stand server_side)
             (is_false (is_open (heard_far octet).session.connection) (λ e. both (got.turns.opened e).0 (ap is_open link)))
             (is_false (is_dialled (heard_far octet).session.connection) (λ e. both (got.turns.dialled e) (ap is_aimed link)))
           where
-            by_waits : (t : Together moment Opens between told old client reports w) → (got : Heard octet) → may_hear w.far ≡ true
+            by_waits : (t : Together read orders moment Opens between told old client reports w) → (got : Heard octet) → may_hear w.far ≡ true
                 → hears_octet read w.far octet ≡ clock_step moment (ahead_of Opens (heard_far octet)) → (waits : Bool)
                 → accepts (heard_far octet).session.connection ≡ waits
                 → is_open (heard_far octet).session.connection ≡ false → is_dialled (heard_far octet).session.connection ≡ false → Went
@@ -352,7 +364,7 @@ module _ (read : Reading) (reads : IsReading read) (old new : Stand server_side)
                 (λ c e. both (ap (λ (f : Far). accepts f.session.connection) (sym got.is) ∙ e) is)
 
         -- behind one: none comes onward
-        by_opening : Together moment Opens between told old client reports w → (transfer : Transfer)
+        by_opening : Together read orders moment Opens between told old client reports w → (transfer : Transfer)
             → v.session.connection ≡ Data.Opening transfer Ways.Accept → Went
         by_opening t transfer link =
             let vp : v ≡ at_link (Data.Opening transfer Ways.Accept) false v =
@@ -370,7 +382,7 @@ module _ (read : Reading) (reads : IsReading read) (old new : Stand server_side)
                 let first = first_of_some w.far.owed (ap (λ (f : Far). has_octets f.owed) wf ∙ says) in
                 no_octets octet (new.unheard ++ between.control.to_server) w.control_to_server (queue Opens t) (known.says first.0 first.1 first.2)
 
-        by_link : Together moment Opens between told old client reports w → (link : ServerLink Transfer) → v.session.connection ≡ link
+        by_link : Together read orders moment Opens between told old client reports w → (link : ServerLink Transfer) → v.session.connection ≡ link
             → accepts link ≡ true → Went
         by_link t Data.Passive is e = by_passive t is
         by_link t (Data.Opening transfer Ways.Accept) is e = by_opening t transfer is
@@ -381,22 +393,131 @@ module _ (read : Reading) (reads : IsReading read) (old new : Stand server_side)
         by_link t Data.Ready is e = absurd (true≢false (sym e))
         by_link t (Data.Transferring transfer) is e = absurd (true≢false (sym e))
 
-        by : (ahead : Ahead) → Together moment ahead between told old client reports w → Went
+        -- the client left a data connection over which nothing was asked for
+        by_parted : (accepted : Bool) → Together read orders moment (Parted accepted) between told old client reports w → Went
+        by_parted accepted t = by_goes (octet_goes read octet v)
+          where
+            conn : v.session.connection ≡ left_link accepted
+            conn = left_is accepted v.session.connection t.beside.fits
+
+            vp : v ≡ at_link (left_link accepted) false v
+            vp = λ i. record v { session = record v.session { connection = conn i; closing = unclosed i } }
+
+            spare : (accepted : Bool) → is_spare (left_link accepted) ≡ true
+            spare true = refl
+            spare false = refl
+
+            left_stands : (accepted : Bool) → is_left accepted (left_link accepted) ≡ true
+            left_stands true = refl
+            left_stands false = refl
+
+            quiet_link : (accepted : Bool) → is_transferring (left_link accepted) ≡ false
+            quiet_link true = refl
+            quiet_link false = refl
+
+            wf : w.far ≡ clock_step moment (at_link Data.Free false v)
+            wf = t.beside.far
+
+            got : Heard octet
+            got = heard_of (ap is_transferring conn ∙ quiet_link accepted)
+
+            may : may_hear w.far ≡ true
+            may = ap may_hear wf ∙ heard.may.0
+
+            r : Rested w
+            r = rested moment (Parted accepted) between told old client reports w t.beside before asks
+
+            -- what the world's server is then, and its twin's, and the drive's
+            there : hears_octet read w.far octet ≡ clock_step moment (hears_octet read (at_link Data.Free false v) octet)
+            there = ap (λ f. hears_octet read f octet) wf ∙ octet_moment read octet moment (at_link Data.Free false v) refl
+
+            beyond : hears_octet read (awaiting w.far) octet ≡ clock_step moment (hears_octet read (at_link Data.Passive false v) octet)
+            beyond = ap (λ f. hears_octet read (awaiting f) octet) wf ∙ octet_moment read octet moment (at_link Data.Passive false v) refl
+
+            here : u ≡ clock_step got.m (hears_octet read (at_link (left_link accepted) false v) octet)
+            here = got.is ∙ ap (λ f. clock_step got.m (hears_octet read f octet)) vp
+
+            remains : Remains (λ l. hears_octet read (at_link l false v) octet) → Went
+            remains g =
+                let y_is : hears_octet read w.far octet ≡ clock_step moment (at_link Data.Free false g.far) =
+                there ∙ ap (clock_step moment) (g.is Data.Free refl) in
+                let z_is : hears_octet read (awaiting w.far) octet ≡ clock_step moment (at_link Data.Passive false g.far) =
+                beyond ∙ ap (clock_step moment) (g.is Data.Passive refl) in
+                let u_is : u ≡ clock_step got.m (at_link (left_link accepted) false g.far) = here
+                ∙ ap (clock_step got.m) (g.is (left_link accepted) (spare accepted)) in
+                let stays : u.session.connection ≡ left_link accepted = ap (λ (f : Far). f.session.connection) u_is in
+                let none : (hears_octet read w.far octet).session.connection ≡ Data.Free = ap (λ (f : Far). f.session.connection) y_is in (
+                  finish (Parted accepted) (Parted accepted) t got may (runs (Parted accepted) t)
+                      (λ f. f.far ∙ ap (λ (x : Far). far_ahead (next_ahead (is_asked x.session.connection) port) x) y_is
+                      ∙ ap (λ x. clock_step moment (far_ahead (Parted accepted) x)) (sym u_is))
+                      (ap (is_left accepted) stays ∙ left_stands accepted)
+                      (λ f. subst (λ a. Listened (next_ahead a port) w.listens (settled now).listens) (ap is_asked none) f.listens ∙ t.beside.listens)
+                      (λ c e. t.holds.called c (ap accepts (conn ∙ sym stays) ∙ e)) t.holds.opened
+                      (λ e. far_heard read reads orders octet (new.unheard ++ between.control.to_server) w (t.twin refl) r (on_way (Parted accepted) t) may
+                      (runs (Parted accepted) t) (z_is ∙ ap awaiting (sym y_is)) (ap (λ (f : Far). f.session.closing) y_is) none),
+                  record {
+                    running = ap (λ (f : Far). f.session.life) u_is ∙ ap (λ (f : Far). f.session.life) (sym y_is) ∙ (runs (Parted accepted) t).running;
+                    none_waits = ap (λ (f : Far). f.waiting) u_is ∙ ap (λ (f : Far). f.waiting) (sym y_is) ∙ (runs (Parted accepted) t).none_waits;
+                  },
+                )
+
+            leaves : Leaves (λ l. hears_octet read (at_link l false v) octet) → Went
+            leaves g =
+                let y_is : hears_octet read w.far octet ≡ clock_step moment (at_link g.link false g.far) =
+                there ∙ ap (clock_step moment) (g.is Data.Free refl) in
+                let u_is : u ≡ clock_step got.m (at_link g.link (is_standing (left_link accepted)) g.far) = here
+                ∙ ap (clock_step got.m) (g.is (left_link accepted) (spare accepted)) in
+                let asked : Bool = is_asked u.session.connection in
+                let onward : Ahead = next_ahead asked port in
+                let fits : Fits onward u.session.connection = fits_next u.session.connection port in
+                let asked_is : is_asked (hears_octet read w.far octet).session.connection ≡ asked =
+                ap (λ (f : Far). is_asked f.session.connection) y_is ∙ ap (λ (f : Far). is_asked f.session.connection) (sym u_is) in (
+                  finish (Parted accepted) onward t got may (runs (Parted accepted) t)
+                      (λ f. f.far ∙ ap (λ (x : Far). far_ahead (next_ahead (is_asked x.session.connection) port) x) y_is
+                      ∙ ap (λ (x : Far). far_ahead (next_ahead (is_asked x.session.connection) port) (clock_step moment x)) (sym u_is)
+                      ∙ (keeps onward u fits).clock moment)
+                      fits
+                      (λ f. subst (λ n. Listened onward n (settled now).listens) t.beside.listens
+                      (subst (λ a. Listened (next_ahead a port) w.listens (settled now).listens) asked_is f.listens))
+                      (λ c e. absurd (both e (ap (λ (f : Far). accepts f.session.connection) u_is ∙ g.alone)))
+                      (λ e. absurd (both e (next_not asked port))) (λ e. absurd (both e (next_whole asked port))),
+                  record {
+                    running = ap (λ (f : Far). f.session.life) u_is ∙ ap (λ (f : Far). f.session.life) (sym y_is) ∙ (runs (Parted accepted) t).running;
+                    none_waits = ap (λ (f : Far). f.waiting) u_is ∙ ap (λ (f : Far). f.waiting) (sym y_is) ∙ (runs (Parted accepted) t).none_waits;
+                  },
+                )
+
+            -- no transfer begins
+            starts : Starts (λ l. hears_octet read (at_link l false v) octet) → ⊥
+            starts g =
+                none_begins read reads orders octet (new.unheard ++ between.control.to_server) g.transfer w (t.twin refl) (on_way (Parted accepted) t)
+                t.beside.control
+                (ap (λ (n : Near). is_unaborted n.job) t.beside.near ∙ is_unaborted_same client.owner.end.view ∙ asks.unaborted)
+                (ap (λ (f : Far). f.session.connection) beyond ∙ g.is)
+
+            by_goes : LeftGoes (λ l. hears_octet read (at_link l false v) octet) → Went
+            by_goes (inl g) = remains g
+            by_goes (inr (inl g)) = leaves g
+            by_goes (inr (inr g)) = absurd (starts g)
+
+        by : (ahead : Ahead) → Together read orders moment ahead between told old client reports w → Went
         by Level t = by_level t
+        by (Parted accepted) t = by_parted accepted t
         by (Listens other) t = absurd (both t.beside.fits unasked)
         by Opens t = by_link t v.session.connection refl t.beside.fits
 
   -- none is heard, or one
-  pub server_heard : (octets : List ℕ) (moment : ℕ) (ahead : Ahead) (between : Between) (told : ℕ) → Together moment ahead between told old client reports w
-      → HearsNext octets old new → Goes read [] between told new client reports w × ServerServes new.owner
+  pub server_heard : (octets : List ℕ) (moment : ℕ) (ahead : Ahead) (between : Between) (told : ℕ)
+      → Together read orders moment ahead between told old client reports w
+      → HearsNext octets old new → Goes read [] orders between told new client reports w × ServerServes new.owner
   server_heard [] moment ahead between told t did =
       let heard = hears_at read reads (ends_line old.unheard) [] old.owner.end new.owner.end did.hears.0.1 calm before.none_waits in
       let session : u.session ≡ v.session = ap (λ (f : Far). f.session) heard.is in
       let untold : new.owner.lane.untold ≡ old.owner.lane.untold = ap (λ (l : Lane). l.untold) did.hears.1 in (
-        server_stays read old new client reports w calm before known moment ahead ahead between between told told t
+        server_stays read orders old new client reports w calm before known moment ahead ahead between between told told t
             (subst (λ (s : Session). Fits ahead s.connection) (sym session) t.beside.fits)
             (ap (clock_step moment) (sym ((keeps ahead v t.beside.fits).clock heard.moment)) ∙ ap (λ f. clock_step moment (far_ahead ahead f)) (sym heard.is))
-            (λ l. l) (ap (λ a. a ++ between.control.to_server) did.next) refl
+            (λ l. l) (λ e. e) (ap (λ a. a ++ between.control.to_server) did.next) refl
             (ap (λ o. o ++ (between.data_ways.to_server ++ client.owner.lane.unwritten)) (sym untold))
             (ap (λ (l : Lane). client.owner.lane.untold ++ (between.data_ways.to_client ++ l.unwritten)) (sym did.hears.1)) refl
             (subst (Holds ahead between.far) (sym session) t.holds)

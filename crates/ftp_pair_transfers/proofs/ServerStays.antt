@@ -21,16 +21,20 @@ use Rattle.ftp_server_model.specs.Calls.{clock_step, close_step, is_upload, list
 use Rattle.ftp_server_model.specs.Machine.{Reading}
 use Rattle.ftp_server_model.specs.View.{Session, View as Far}
 use Rattle.ftp_server_model.specs.declared.session.ServerLink.TheVariants as Data
+use Rattle.ftp_pair_world.specs.Agreement.{Order}
 use Rattle.ftp_pair_world.specs.World.{World, next_listen, port_at}
 use Rattle.ftp_pair_agreement.proofs.Chunks.{both_empty}
 use Rattle.ftp_pair_drives.specs.Alone.{ServerIsCalm}
 use Rattle.ftp_pair_drives.specs.Between.{Awaits, Between, Can, Far as TheServer, Has, Has_ended, Has_lost, Hold, IsOver, IsStanding, with_hold}
 use Rattle.ftp_pair_drives.specs.Touches.{Accepts, Ends, Listens as ListensAt, Resets, Takes as TakesOctets, Writes as WritesOctets}
 use Rattle.ftp_pair_drives.proofs.Worlds.{leads_none}
-use Rattle.ftp_pair_data.specs.Ahead.{Ahead, Fits, Level, Listened, Listens, Opens, accepts, ahead_of, far_ahead, is_asked, is_open}
-use Rattle.ftp_pair_data.proofs.Ahead.{far_is, keeps, listened_level, opened_level}
+use Rattle.ftp_pair_data.specs.Ahead.{accepts, is_asked, is_open}
+use Rattle.ftp_pair_transfers.specs.Ahead.{Ahead, Fits, Level, Listened, Listens, Opens, Parted, ahead_of, far_ahead, is_left, is_parted}
+use Rattle.ftp_pair_data.proofs.Ahead.{listened_level, opened_level}
+use Rattle.ftp_pair_transfers.proofs.Ahead.{Holds, far_is, is_ahead, keeps, left_is, left_rests}
+use Rattle.ftp_pair_data.proofs.Hearing.{at_link}
 use Rattle.ftp_pair_data.proofs.Served.{far_wants}
-use Rattle.ftp_pair_deeds.proofs.Holding.{Holds, both, is_called, is_false, is_had, is_sound}
+use Rattle.ftp_pair_deeds.proofs.Holding.{both, is_called, is_false, is_had, is_sound}
 use Rattle.ftp_pair_deeds.proofs.FarForms.{accepts_accepts, asked_apart, asked_listens, is_listen, leaves_open, never_all, no_close, none_later, opened_is, opened_shut, told_passive}
 use Rattle.ftp_pair_deeds.proofs.Stands.{ServerServes}
 use Rattle.ftp_pair_transfers.proofs.Beside.{Comes, Goes, Together, Writes}
@@ -47,7 +51,7 @@ called_spare : (hold : Hold) → is_called hold ≡ true → is_had hold ≡ fal
 called_spare Has e = absurd (true≢false (sym e))
 called_spare hold e = refl
 
-module _ (read : Reading) (old new : Stand server_side) (client : Stand client_side) (reports : List Said) (w : World)
+module _ (read : Reading) (orders : List Order) (old new : Stand server_side) (client : Stand client_side) (reports : List Said) (w : World)
     (calm : ServerIsCalm old.owner new.owner) (before : ServerServes old.owner) (known : Known w) where
   abbrev v : Far
   v = old.owner.end.server.view
@@ -66,13 +70,14 @@ module _ (read : Reading) (old new : Stand server_side) (client : Stand client_s
       ≡ client.owner.lane.untold ++ (next.data_ways.to_client ++ new.owner.lane.unwritten)
 
   -- a world stays beside
-  pub server_stays : (moment : ℕ) (ahead onward : Ahead) (between next : Between) (told count : ℕ) → Together moment ahead between told old client reports w
+  pub server_stays : (moment : ℕ) (ahead onward : Ahead) (between next : Between) (told count : ℕ)
+      → Together read orders moment ahead between told old client reports w
       → Fits onward u.session.connection → clock_step moment (far_ahead ahead v) ≡ clock_step moment (far_ahead onward u)
-      → (Listened ahead told w.listens → Listened onward count w.listens)
+      → (Listened ahead told w.listens → Listened onward count w.listens) → (is_parted onward ≡ true → is_parted ahead ≡ true)
       → old.unheard ++ between.control.to_server ≡ new.unheard ++ next.control.to_server → next.control.to_client ≡ between.control.to_client
       → Climbs between next → Falls between next → next.near ≡ between.near → Holds onward next.far u.session → Comes next.far u.session new.owner.lane
-      → Writes next.far new.owner.lane → Goes read [] next count new client reports w
-  server_stays moment ahead onward between next told count t fits far listens queue other climbs falls near holds comes serves = record {
+      → Writes next.far new.owner.lane → Goes read [] orders next count new client reports w
+  server_stays moment ahead onward between next told count t fits far listens parts queue other climbs falls near holds comes serves = record {
     world = w;
     leads = leads_none read w;
     moment = moment;
@@ -99,18 +104,19 @@ module _ (read : Reading) (old new : Stand server_side) (client : Stand client_s
       takes = t.takes;
       gives = subst (λ (h : Hold). Writes h client.owner.lane) (sym near) t.gives;
       keeping = record { had = λ e. ap is_had near ∙ t.keeping.had e; shut = t.keeping.shut; over = t.keeping.over };
+      twin = λ e. t.twin (parts e);
     };
   }
 
   -- the server holds the same, but for a moment that it may have been told
-  server_keeps : (moment : ℕ) (ahead : Ahead) (between next : Between) (told : ℕ) → Together moment ahead between told old client reports w
+  server_keeps : (moment : ℕ) (ahead : Ahead) (between next : Between) (told : ℕ) → Together read orders moment ahead between told old client reports w
       → clock_step moment (far_ahead ahead v) ≡ clock_step moment (far_ahead ahead u) → u.session ≡ v.session
       → old.unheard ++ between.control.to_server ≡ new.unheard ++ next.control.to_server → next.control.to_client ≡ between.control.to_client
       → Climbs between next → Falls between next → next.far ≡ between.far → next.near ≡ between.near → Comes between.far v.session new.owner.lane
-      → Writes between.far new.owner.lane → Goes read [] next told new client reports w
+      → Writes between.far new.owner.lane → Goes read [] orders next told new client reports w
   server_keeps moment ahead between next told t far session queue other climbs falls hold near comes serves =
       server_stays moment ahead ahead between next told told t (subst (λ (s : Session). Fits ahead s.connection) (sym session) t.beside.fits) far (λ l. l)
-      queue other climbs falls near
+      (λ e. e) queue other climbs falls near
       (subst (λ (h : Hold). Holds ahead h u.session) (sym hold) (subst (λ (s : Session). Holds ahead between.far s) (sym session) t.holds))
       (subst (λ (h : Hold). Comes h u.session new.owner.lane) (sym hold) (subst (λ (s : Session). Comes between.far s new.owner.lane) (sym session) comes))
       (subst (λ (h : Hold). Writes h new.owner.lane) (sym hold) serves)
@@ -134,9 +140,10 @@ module _ (read : Reading) (old new : Stand server_side) (client : Stand client_s
   same_comes hold lane comes = subst (Comes hold v.session) (sym lane) comes
 
   -- octets are read
-  pub server_read : (octets : List ℕ) (moment : ℕ) (ahead : Ahead) (between next : Between) (told : ℕ) → Together moment ahead between told old client reports w
+  pub server_read : (octets : List ℕ) (moment : ℕ) (ahead : Ahead) (between next : Between) (told : ℕ)
+      → Together read orders moment ahead between told old client reports w
       → ReadsNext octets old new → between.control.to_server ≡ octets ++ next.control.to_server → next.control.to_client ≡ between.control.to_client
-      → next.data_ways ≡ between.data_ways → next.far ≡ between.far → next.near ≡ between.near → Goes read [] next told new client reports w
+      → next.data_ways ≡ between.data_ways → next.far ≡ between.far → next.near ≡ between.near → Goes read [] orders next told new client reports w
   server_read octets moment ahead between next told t did front other ways hold near =
       let lane : new.owner.lane ≡ old.owner.lane = ap (λ o. o.lane) did.owner in
       let is : u ≡ v = ap (λ o. o.end.server.view) did.owner in
@@ -147,24 +154,26 @@ module _ (read : Reading) (old new : Stand server_side) (client : Stand client_s
       (same_comes between.far lane t.comes) (subst (Writes between.far) (sym lane) t.serves)
 
   -- a call that leaves the end as it is
-  server_idle : (moment : ℕ) (ahead : Ahead) (between next : Between) (told : ℕ) → Together moment ahead between told old client reports w → u ≡ v
+  server_idle : (moment : ℕ) (ahead : Ahead) (between next : Between) (told : ℕ) → Together read orders moment ahead between told old client reports w → u ≡ v
       → new.unheard ≡ old.unheard → next.control ≡ between.control → Climbs between next → Falls between next → next.far ≡ between.far
-      → next.near ≡ between.near → Comes between.far v.session new.owner.lane → Writes between.far new.owner.lane → Goes read [] next told new client reports w
+      → next.near ≡ between.near → Comes between.far v.session new.owner.lane → Writes between.far new.owner.lane
+      → Goes read [] orders next told new client reports w
   server_idle moment ahead between next told t is unheard control climbs falls hold near comes serves =
       server_keeps moment ahead between next told t (ap (λ f. clock_step moment (far_ahead ahead f)) (sym is)) (ap (λ (f : Far). f.session) is)
       (ap₂ (λ a c. a ++ c.to_server) (sym unheard) (sym control)) (ap (λ c. c.to_client) control) climbs falls hold near comes serves
 
   -- it is asked whether it is done
-  pub server_aside : (moment : ℕ) (ahead : Ahead) (between : Between) (told : ℕ) → Together moment ahead between told old client reports w
-      → Calls {side = server_side} (Aside tt) old new → Goes read [] between told new client reports w
+  pub server_aside : (moment : ℕ) (ahead : Ahead) (between : Between) (told : ℕ) → Together read orders moment ahead between told old client reports w
+      → Calls {side = server_side} (Aside tt) old new → Goes read [] orders between told new client reports w
   server_aside moment ahead between told t did =
       let lane : new.owner.lane ≡ old.owner.lane = did.0.1 in
       server_idle moment ahead between between told t (ap (λ at. at.server.view) did.0.0.0) (ap (λ (s : Stand server_side). s.unheard) did.1) refl
       (same_lane between lane) (same_falls between lane) refl refl (same_comes between.far lane t.comes) (subst (Writes between.far) (sym lane) t.serves)
 
   -- it is waited at
-  pub server_waited : (lost : Bool) (moment : ℕ) (ahead : Ahead) (between : Between) (told : ℕ) → Together moment ahead between told old client reports w
-      → Calls {side = server_side} (Waited lost) old new → Goes read [] between told new client reports w
+  pub server_waited : (lost : Bool) (moment : ℕ) (ahead : Ahead) (between : Between) (told : ℕ)
+      → Together read orders moment ahead between told old client reports w
+      → Calls {side = server_side} (Waited lost) old new → Goes read [] orders between told new client reports w
   server_waited lost moment ahead between told t did =
       let held = did.0.1.holds in
       server_idle moment ahead between between told t (ap (λ at. at.server.view) did.0.0) (ap (λ (s : Stand server_side). s.unheard) did.1) refl
@@ -180,14 +189,14 @@ module _ (read : Reading) (old new : Stand server_side) (client : Stand client_s
   -- ---- a server that takes no octets
 
   -- has none before it
-  none_there : (moment : ℕ) (ahead : Ahead) (between : Between) (told : ℕ) → Together moment ahead between told old client reports w
+  none_there : (moment : ℕ) (ahead : Ahead) (between : Between) (told : ℕ) → Together read orders moment ahead between told old client reports w
       → is_upload v.session.connection ≡ false → old.owner.lane.untold ≡ []
   none_there moment ahead between told t none = by ahead t
     where
       first : (front rest : List ℕ) → w.data_to_server ≡ front ++ rest → w.data_to_server ≡ [] → front ≡ []
       first front rest is empty = (both_empty front rest (sym is ∙ empty)).0
 
-      by : (ahead : Ahead) → Together moment ahead between told old client reports w → old.owner.lane.untold ≡ []
+      by : (ahead : Ahead) → Together read orders moment ahead between told old client reports w → old.owner.lane.untold ≡ []
       by Level t =
           first old.owner.lane.untold (between.data_ways.to_server ++ client.owner.lane.unwritten) t.beside.rising
           (known.still (ap (λ (f : Far). is_upload f.session.connection) t.beside.far ∙ none))
@@ -196,10 +205,14 @@ module _ (read : Reading) (old new : Stand server_side) (client : Stand client_s
           first old.owner.lane.untold (between.data_ways.to_server ++ client.owner.lane.unwritten) t.beside.rising
           (known.still (ap (λ (f : Far). is_upload f.session.connection) t.beside.far
           ∙ ap is_upload (told_passive v.session.connection t.beside.fits port v)))
+      by (Parted accepted) t =
+          first old.owner.lane.untold (between.data_ways.to_server ++ client.owner.lane.unwritten) t.beside.rising
+          (known.still (ap (λ (f : Far). is_upload f.session.connection) t.beside.far))
 
   -- octets that came are let go: there are none
-  pub server_lets : (octets : List ℕ) (moment : ℕ) (ahead : Ahead) (between : Between) (told : ℕ) → Together moment ahead between told old client reports w
-      → Calls {side = server_side} (LetGo octets) old new → Goes read [] between told new client reports w
+  pub server_lets : (octets : List ℕ) (moment : ℕ) (ahead : Ahead) (between : Between) (told : ℕ)
+      → Together read orders moment ahead between told old client reports w
+      → Calls {side = server_side} (LetGo octets) old new → Goes read [] orders between told new client reports w
   server_lets octets moment ahead between told t did =
       let lane = did.0.1.1 in
       let none : old.owner.lane.untold ≡ [] = none_there moment ahead between told t (untaken v.session.closing refl) in
@@ -226,8 +239,9 @@ module _ (read : Reading) (old new : Stand server_side) (client : Stand client_s
           sym (receives_upload v.session.connection) ∙ ap is_receive (sym (far_wants v before.running is)) ∙ not_receive (far.wants v) did.0.0.1
 
   -- octets come
-  pub server_got : (octets : List ℕ) (moment : ℕ) (ahead : Ahead) (between next : Between) (told : ℕ) → Together moment ahead between told old client reports w
-      → Calls {side = server_side} (Got octets) old new → Can TheServer (TakesOctets octets) between next → Goes read [] next told new client reports w
+  pub server_got : (octets : List ℕ) (moment : ℕ) (ahead : Ahead) (between next : Between) (told : ℕ)
+      → Together read orders moment ahead between told old client reports w
+      → Calls {side = server_side} (Got octets) old new → Can TheServer (TakesOctets octets) between next → Goes read [] orders next told new client reports w
   server_got octets moment ahead between next told t did can =
       let got = did.0.1 in
       let has : is_had between.far ≡ true = ap is_had can.0 in
@@ -249,8 +263,9 @@ module _ (read : Reading) (old new : Stand server_side) (client : Stand client_s
 
   -- octets are written
   pub server_wrote : (octets : List ℕ) (moment : ℕ) (ahead : Ahead) (between next : Between) (told : ℕ)
-      → Together moment ahead between told old client reports w
-      → Calls {side = server_side} (Wrote octets) old new → Can TheServer (WritesOctets octets) between next → Goes read [] next told new client reports w
+      → Together read orders moment ahead between told old client reports w
+      → Calls {side = server_side} (Wrote octets) old new → Can TheServer (WritesOctets octets) between next
+      → Goes read [] orders next told new client reports w
   server_wrote octets moment ahead between next told t did can =
       let wrote = did.0.1 in
       let has : is_had between.far ≡ true = ap is_had can.0 in
@@ -271,14 +286,14 @@ module _ (read : Reading) (old new : Stand server_side) (client : Stand client_s
       (record { spare = λ e. absurd (both has e); bare = λ e. absurd (both (wrote.stands ∙ wrote.is_open.0) e) })
 
   -- it is told that a close is done
-  pub server_closed : (moment : ℕ) (ahead : Ahead) (between : Between) (told : ℕ) → Together moment ahead between told old client reports w
-      → Calls {side = server_side} Closed old new → Goes read [] between told new client reports w
+  pub server_closed : (moment : ℕ) (ahead : Ahead) (between : Between) (told : ℕ) → Together read orders moment ahead between told old client reports w
+      → Calls {side = server_side} Closed old new → Goes read [] orders between told new client reports w
   server_closed moment ahead between told t did =
       let lane : new.owner.lane ≡ old.owner.lane = did.0.1.0 in
       let is : u ≡ close_step v = did.0.0.0.done calm ∙ none_later (close_step v) before.none_waits in
       let link : u.session.connection ≡ v.session.connection = ap (λ (f : Far). f.session.connection) is in
       server_stays moment ahead ahead between between told told t (subst (Fits ahead) (sym link) t.beside.fits)
-      (ap (λ f. clock_step moment (far_ahead ahead f)) (sym is)) (λ l. l)
+      (ap (λ f. clock_step moment (far_ahead ahead f)) (sym is)) (λ l. l) (λ e. e)
       (ap (λ (s : Stand server_side). s.unheard ++ between.control.to_server) (sym did.1)) refl (same_lane between lane) (same_falls between lane) refl
       (record {
         shut = λ e. absurd (both e (ap (λ (f : Far). f.session.closing) is));
@@ -297,9 +312,10 @@ module _ (read : Reading) (old new : Stand server_side) (client : Stand client_s
   -- ---- a port
 
   -- it is told that
-  pub server_listens : (port : ℕ) (moment : ℕ) (ahead : Ahead) (between next : Between) (told : ℕ) → Together moment ahead between told old client reports w
+  pub server_listens : (port : ℕ) (moment : ℕ) (ahead : Ahead) (between next : Between) (told : ℕ)
+      → Together read orders moment ahead between told old client reports w
       → Calls {side = server_side} (Listening port) old new → Can TheServer (ListensAt (Some port)) between next → port ≡ port_at told
-      → Goes read [] next (next_listen told) new client reports w
+      → Goes read [] orders next (next_listen told) new client reports w
   server_listens port moment ahead between next told t did can same = by ahead t
     where
       unclosed : v.session.closing ≡ false
@@ -335,14 +351,16 @@ module _ (read : Reading) (old new : Stand server_side) (client : Stand client_s
       hold : next.far ≡ Awaits port
       hold = ap (λ (m : Between). m.far) can.1
 
-      by : (ahead : Ahead) → Together moment ahead between told old client reports w → Goes read [] next (next_listen told) new client reports w
+      by : (ahead : Ahead) → Together read orders moment ahead between told old client reports w
+          → Goes read [] orders next (next_listen told) new client reports w
       by Level t = absurd (both asked t.beside.fits)
       by Opens t = absurd (both t.beside.fits (asked_apart v.session.connection asked))
+      by (Parted accepted) t = absurd (both asked (left_rests accepted v.session.connection t.beside.fits).1)
       by (Listens other) t =
           let port_is : other ≡ port = t.beside.listens.1 ∙ sym same in
           server_stays moment (Listens other) Level between next told (next_listen told) t (ap is_asked passive)
           (ap (λ p. clock_step moment (far_ahead (Listens p) v)) port_is ∙ ap (clock_step moment) (sym (listened_level port v unclosed))
-          ∙ ap (λ f. clock_step moment (far_ahead Level f)) (sym is)) (λ l. l.0)
+          ∙ ap (λ f. clock_step moment (far_ahead Level f)) (sym is)) (λ l. l.0) (λ e. absurd (true≢false (sym e)))
           (ap₂ (λ (s : Stand server_side) (m : Between). s.unheard ++ m.control.to_server) (sym did.1) (sym can.1))
           (ap (λ (m : Between). m.control.to_client) can.1)
           (ap₂ (λ o (m : Between). o ++ (m.data_ways.to_server ++ client.owner.lane.unwritten)) (empty ∙ sym untold) (sym can.1))
@@ -361,9 +379,9 @@ module _ (read : Reading) (old new : Stand server_side) (client : Stand client_s
 
   -- is accepted
   pub server_accepts : (host from : Host) (left written at_first so_far : Option (List ℕ)) (rest : Rest) (moment : ℕ) (ahead : Ahead) (between next : Between)
-      (told : ℕ) → Together moment ahead between told old client reports w
+      (told : ℕ) → Together read orders moment ahead between told old client reports w
       → Calls {side = server_side} (Opened host (Came from left written ∷ []) at_first so_far rest) old new → Can TheServer (Accepts from) between next
-      → same_host host v.footing.peer ≡ true → Goes read [] next told new client reports w
+      → same_host host v.footing.peer ≡ true → Goes read [] orders next told new client reports w
   server_accepts host from left written at_first so_far rest moment ahead between next told t did can same = by ahead t
     where
       wants : far.wants v ≡ Want.Accept
@@ -375,15 +393,15 @@ module _ (read : Reading) (old new : Stand server_side) (client : Stand client_s
       waits : accepts v.session.connection ≡ true
       waits = sym (accepts_accepts v.session.connection) ∙ ap is_accepting (sym (far_wants v before.running unclosed)) ∙ ap is_accepting wants
 
-      level : far_ahead Level (opened_step host v) ≡ far_ahead Opens v
-      level = opened_level host v waits unclosed same
+      at_level : far_ahead Level (opened_step host v) ≡ far_ahead Opens v
+      at_level = opened_level host v waits unclosed same
 
       is : u ≡ opened_step host v
       is = did.0.0.0.0.done calm ∙ none_later (opened_step host v)
-          (ap (λ (f : Far). f.waiting) level ∙ (keeps Opens v waits).waiting ∙ before.none_waits)
+          (ap (λ (f : Far). f.waiting) at_level ∙ (keeps Opens v waits).waiting ∙ before.none_waits)
 
       fits : is_asked u.session.connection ≡ false
-      fits = ap (λ (f : Far). is_asked f.session.connection) is ∙ ap (λ (f : Far). is_asked f.session.connection) level ∙ (keeps Opens v waits).told
+      fits = ap (λ (f : Far). is_asked f.session.connection) is ∙ ap (λ (f : Far). is_asked f.session.connection) at_level ∙ (keeps Opens v waits).told
 
       opened : u ≡ ahead_of Opens v
       opened = is ∙ opened_is host v same
@@ -402,12 +420,12 @@ module _ (read : Reading) (old new : Stand server_side) (client : Stand client_s
       empty : old.owner.lane.untold ≡ new.owner.lane.untold
       empty = t.comes.bare had.none ∙ sym had.untold
 
-      by : (ahead : Ahead) → Together moment ahead between told old client reports w → Goes read [] next told new client reports w
-      by Level t = absurd (true≢false (sym (t.holds.called (ap is_called can.0) waits)))
-      by (Listens port) t = absurd (both waits (asked_apart v.session.connection t.beside.fits))
-      by Opens t =
-          server_stays moment Opens Level between next told told t fits
-          (ap (clock_step moment) (sym level) ∙ ap (λ f. clock_step moment (far_ahead Level f)) (sym is)) (λ l. l)
+      -- a world that was ahead so is no more
+      level : (ahead onward : Ahead) → Together read orders moment ahead between told old client reports w → Fits onward u.session.connection
+          → clock_step moment (far_ahead ahead v) ≡ clock_step moment (far_ahead onward u) → (Listened ahead told w.listens → Listened onward told w.listens)
+          → (is_parted onward ≡ true → is_parted ahead ≡ true) → is_ahead onward ≡ false → Goes read [] orders next told new client reports w
+      level ahead onward t fits far listens parts none =
+          server_stays moment ahead onward between next told told t fits far listens parts
           (ap₂ (λ (s : Stand server_side) (m : Between). s.unheard ++ m.control.to_server) (sym did.1) (sym can.1))
           (ap (λ (m : Between). m.control.to_client) can.1)
           (ap₂ (λ o (m : Between). o ++ (m.data_ways.to_server ++ client.owner.lane.unwritten)) empty (sym can.1))
@@ -417,7 +435,7 @@ module _ (read : Reading) (old new : Stand server_side) (client : Stand client_s
             shut = shut;
             had = λ e. ap is_had hold;
             called = λ c e. absurd (both c (ap is_called hold));
-            opened = λ e. absurd (true≢false (sym e));
+            opened = λ e. absurd (both e none);
           })
           (record {
             bare = λ e. had.untold;
@@ -427,10 +445,24 @@ module _ (read : Reading) (old new : Stand server_side) (client : Stand client_s
           })
           (record { spare = λ e. had.unwritten; bare = λ e. had.unwritten })
 
+      by : (ahead : Ahead) → Together read orders moment ahead between told old client reports w → Goes read [] orders next told new client reports w
+      by Level t = absurd (true≢false (sym (t.holds.called (ap is_called can.0) waits)))
+      by (Listens port) t = absurd (both waits (asked_apart v.session.connection t.beside.fits))
+      by Opens t =
+          level Opens Level t fits (ap (clock_step moment) (sym at_level) ∙ ap (λ f. clock_step moment (far_ahead Level f)) (sym is)) (λ l. l)
+          (λ e. absurd (true≢false (sym e))) refl
+      by (Parted true) t = absurd (both waits (ap accepts (left_is true v.session.connection t.beside.fits)))
+      by (Parted false) t =
+          let vp : v ≡ at_link Data.Passive false v =
+          λ i. record v { session = record v.session { connection = left_is false v.session.connection t.beside.fits i; closing = unclosed i } } in
+          let ready : u ≡ at_link Data.Ready false v = opened ∙ ap (ahead_of Opens) vp in
+          level (Parted false) (Parted true) t (ap (λ (f : Far). is_left true f.session.connection) ready)
+          (ap (λ f. clock_step moment (far_ahead (Parted true) f)) (sym ready)) (λ l. l) (λ e. refl) refl
+
   -- ---- a data connection is left
 
   -- one that leaves what it has has none open
-  left_shut : (asked : Asked) (moment : ℕ) (ahead : Ahead) (between : Between) (told : ℕ) → Together moment ahead between told old client reports w
+  left_shut : (asked : Asked) (moment : ℕ) (ahead : Ahead) (between : Between) (told : ℕ) → Together read orders moment ahead between told old client reports w
       → Calls {side = server_side} (Left asked) old new → is_open v.session.connection ≡ false
   left_shut asked moment ahead between told t did = by_fate old.owner.lane.fate refl did.0.2.0
     where
@@ -451,8 +483,8 @@ module _ (read : Reading) (old new : Stand server_side) (client : Stand client_s
       by_fate Over is may = t.comes.shut (ap is_sound is)
 
   -- the port alone
-  pub server_shuts : (moment : ℕ) (ahead : Ahead) (between : Between) (told : ℕ) → Together moment ahead between told old client reports w
-      → Calls {side = server_side} (Left Shut) old new → Goes read [] between told new client reports w
+  pub server_shuts : (moment : ℕ) (ahead : Ahead) (between : Between) (told : ℕ) → Together read orders moment ahead between told old client reports w
+      → Calls {side = server_side} (Left Shut) old new → Goes read [] orders between told new client reports w
   server_shuts moment ahead between told t did =
       let left = did.0.1 in
       let fallen : old.owner.lane.stands ≡ false = is_false old.owner.lane.stands (λ e. absurd (stood e left.ended)) in
@@ -482,8 +514,9 @@ module _ (read : Reading) (old new : Stand server_side) (client : Stand client_s
 
   -- one that has written all leaves by an end or by a reset
   leaves_so : (asked : Asked) (hold : Hold) (moment : ℕ) (ahead : Ahead) (between next : Between) (told : ℕ)
-      → Together moment ahead between told old client reports w → Calls {side = server_side} (Left asked) old new → next ≡ with_hold TheServer hold between
-      → is_called hold ≡ false → is_called between.far ≡ false → old.owner.lane.unwritten ≡ [] → Goes read [] next told new client reports w
+      → Together read orders moment ahead between told old client reports w → Calls {side = server_side} (Left asked) old new
+      → next ≡ with_hold TheServer hold between
+      → is_called hold ≡ false → is_called between.far ≡ false → old.owner.lane.unwritten ≡ [] → Goes read [] orders next told new client reports w
   leaves_so asked hold moment ahead between next told t did can apart uncalled none =
       let lane = did.0.1 in
       let is : u ≡ v = ap (λ at. at.server.view) did.0.0 in
@@ -492,7 +525,7 @@ module _ (read : Reading) (old new : Stand server_side) (client : Stand client_s
       let none_open : is_open v.session.connection ≡ false = left_shut asked moment ahead between told t did in
       let empty : old.owner.lane.untold ≡ [] = none_there moment ahead between told t (shut_untaken v.session.connection none_open) in
       server_stays moment ahead ahead between next told told t (subst (λ (s : Session). Fits ahead s.connection) (sym session) t.beside.fits)
-      (ap (λ f. clock_step moment (far_ahead ahead f)) (sym is)) (λ l. l)
+      (ap (λ f. clock_step moment (far_ahead ahead f)) (sym is)) (λ l. l) (λ e. e)
       (ap₂ (λ (s : Stand server_side) (m : Between). s.unheard ++ m.control.to_server) (sym did.1) (sym can))
       (ap (λ (m : Between). m.control.to_client) can)
       (ap₂ (λ o (m : Between). o ++ (m.data_ways.to_server ++ client.owner.lane.unwritten)) (empty ∙ sym lane.untold) (sym can))
@@ -513,14 +546,14 @@ module _ (read : Reading) (old new : Stand server_side) (client : Stand client_s
       (record { spare = λ e. lane.unwritten; bare = λ e. lane.unwritten })
 
   pub server_ends : (left written : Option (List ℕ)) (moment : ℕ) (ahead : Ahead) (between next : Between) (told : ℕ)
-      → Together moment ahead between told old client reports w → Calls {side = server_side} (Left (EndedBy left written)) old new
-      → Can TheServer Ends between next → Goes read [] next told new client reports w
+      → Together read orders moment ahead between told old client reports w → Calls {side = server_side} (Left (EndedBy left written)) old new
+      → Can TheServer Ends between next → Goes read [] orders next told new client reports w
   server_ends left written moment ahead between next told t did can =
       leaves_so (EndedBy left written) Has_ended moment ahead between next told t did can.1 refl (ap is_called can.0) did.0.2.1.0
 
   pub server_resets : (left written : Option (List ℕ)) (moment : ℕ) (ahead : Ahead) (between next : Between) (told : ℕ)
-      → Together moment ahead between told old client reports w → Calls {side = server_side} (Left (Reset left written)) old new
-      → Can TheServer Resets between next → old.owner.lane.unwritten ≡ [] → Goes read [] next told new client reports w
+      → Together read orders moment ahead between told old client reports w → Calls {side = server_side} (Left (Reset left written)) old new
+      → Can TheServer Resets between next → old.owner.lane.unwritten ≡ [] → Goes read [] orders next told new client reports w
   server_resets left written moment ahead between next told t did can none =
       leaves_so (Reset left written) Has_lost moment ahead between next told t did can.1 refl (standing between.far can.0) none
     where

@@ -27,13 +27,14 @@ use Rattle.ftp_pair_drives.specs.Between.{Between, Can, Far as TheServer}
 use Rattle.ftp_pair_drives.specs.Touches.{ToldEnd}
 use Rattle.ftp_pair_drives.proofs.Calm.{first_is_calm}
 use Rattle.ftp_pair_drives.proofs.Worlds.{LeadsOn}
-use Rattle.ftp_pair_data.specs.Ahead.{Ahead, Level, Listened, Listens, Opens, accepts, far_ahead, is_asked, is_open}
+use Rattle.ftp_pair_data.specs.Ahead.{accepts, is_asked, is_open}
+use Rattle.ftp_pair_transfers.specs.Ahead.{Ahead, Level, Listened, Listens, Opens, Parted, far_ahead}
 use Rattle.ftp_pair_data.specs.Unaborted.{is_unaborted}
 use Rattle.ftp_pair_data.proofs.Ahead.{closed_is}
 use Rattle.ftp_pair_data.proofs.Moves.{Rested, take_front}
 use Rattle.ftp_pair_data.proofs.Rising.{far_ends, far_takes}
 use Rattle.ftp_pair_data.proofs.Served.{Runs, far_wants, settled}
-use Rattle.ftp_pair_data.proofs.Settling.{FarSettles, far_settles, next_ahead}
+use Rattle.ftp_pair_transfers.proofs.Ahead.{FarSettles, far_settles, left_rests, next_ahead}
 use Rattle.ftp_pair_deeds.proofs.Holding.{both, is_false, is_had, is_sound}
 use Rattle.ftp_pair_deeds.proofs.NearForms.{is_unaborted_same}
 use Rattle.ftp_pair_deeds.proofs.FarForms.{no_close, none_later}
@@ -56,11 +57,11 @@ module _ (read : Reading) (reads : IsReading read) (from : State) (begun : List 
 
   -- events lead on to a world that is so again, and the server serves
   abbrev Went : Between → ℕ → Type 0
-  Went between told = Goes read [] between told new client reports w × ServerServes new.owner
+  Went between told = Goes read [] begun between told new client reports w × ServerServes new.owner
 
   -- a server that wants octets takes those of an upload
   module _ (wants : far.wants v ≡ Want.Receive) (moment : ℕ) (ahead : Ahead) (between : Between) (told : ℕ)
-      (t : Together moment ahead between told old client reports w) where
+      (t : Together read begun moment ahead between told old client reports w) where
     unclosed : v.session.closing ≡ false
     unclosed = no_close v Want.Receive wants refl
 
@@ -83,7 +84,7 @@ module _ (read : Reading) (reads : IsReading read) (from : State) (begun : List 
   -- ---- octets are taken
 
   module _ (octets : List ℕ) (count : ℕ) (moment : ℕ) (between : Between) (told : ℕ) (did : Calls {side = server_side} (Received octets count) old new)
-      (t : Together moment Level between told old client reports w) where
+      (t : Together read begun moment Level between told old client reports w) where
     open_now : v.session.closing ≡ false
     open_now = unclosed did.0.2.1 moment Level between told t
 
@@ -117,9 +118,9 @@ module _ (read : Reading) (reads : IsReading read) (from : State) (begun : List 
     none_taken : take count octets ≡ [] → Went between told
     none_taken none =
         let same : u ≡ v = is ∙ ap (receives v) none in (
-          server_stays read old new client reports w calm before known moment Level Level between between told told t
+          server_stays read begun old new client reports w calm before known moment Level Level between between told told t
               (ap (λ (f : Far). is_asked f.session.connection) same ∙ (form did.0.2.1 moment Level between told t).unasked)
-              (ap (λ f. clock_step moment (far_ahead Level f)) (sym same)) (λ l. l)
+              (ap (λ f. clock_step moment (far_ahead Level f)) (sym same)) (λ l. l) (λ e. e)
               (ap (λ (s : Stand server_side). s.unheard ++ between.control.to_server) (sym did.1)) refl
               (ap (λ o. o ++ ways) (did.0.1.0 ∙ ap (λ o. o ++ new.owner.lane.untold) none))
               (ap (λ (l : Lane). client.owner.lane.untold ++ (between.data_ways.to_client ++ l.unwritten)) (sym lane)) refl
@@ -223,6 +224,7 @@ module _ (read : Reading) (reads : IsReading read) (from : State) (begun : List 
                 takes = t.takes;
                 gives = t.gives;
                 keeping = record { had = t.keeping.had; shut = t.keeping.shut; over = t.keeping.over };
+                twin = λ e. absurd (true≢false (sym e));
               };
             },
             record {
@@ -239,17 +241,20 @@ module _ (read : Reading) (reads : IsReading read) (from : State) (begun : List 
         by_octets (octet ∷ more) some = some_taken octet more some
 
   pub server_received : (octets : List ℕ) (count : ℕ) (moment : ℕ) (ahead : Ahead) (between : Between) (told : ℕ)
-      → Calls {side = server_side} (Received octets count) old new → Together moment ahead between told old client reports w → Went between told
+      → Calls {side = server_side} (Received octets count) old new → Together read begun moment ahead between told old client reports w → Went between told
   server_received octets count moment Level between told did t = received_level octets count moment between told did t
   server_received octets count moment Opens between told did t =
       absurd (both t.beside.fits (form did.0.2.1 moment Opens between told t).alone)
   server_received octets count moment (Listens port) between told did t =
       absurd (both t.beside.fits (form did.0.2.1 moment (Listens port) between told t).unasked)
+  server_received octets count moment (Parted accepted) between told did t =
+      absurd (both (takes did.0.2.1 moment (Parted accepted) between told t) (left_rests accepted v.session.connection t.beside.fits).0)
 
   -- ---- the end is told
 
   module _ (moment : ℕ) (between next : Between) (told : ℕ) (did : Calls {side = server_side} End old new) (can : Can TheServer ToldEnd between next)
-      (timed : is_upload w.far.session.connection ≡ true → w.far.footing.moment ≡ did.0.0.0) (t : Together moment Level between told old client reports w) where
+      (timed : is_upload w.far.session.connection ≡ true → w.far.footing.moment ≡ did.0.0.0)
+      (t : Together read begun moment Level between told old client reports w) where
     end_open : v.session.closing ≡ false
     end_open = unclosed did.0.2 moment Level between told t
 
@@ -372,6 +377,7 @@ module _ (read : Reading) (reads : IsReading read) (from : State) (begun : List 
                 over = λ e. is_false
                     (is_near_held (settled end_now).link) held_not;
               };
+              twin = λ e. absurd (true≢false (sym e));
             };
           },
           record {
@@ -382,9 +388,11 @@ module _ (read : Reading) (reads : IsReading read) (from : State) (begun : List 
 
   pub server_told_end : (moment : ℕ) (ahead : Ahead) (between next : Between) (told : ℕ) (did : Calls {side = server_side} End old new)
       → Can TheServer ToldEnd between next
-      → (is_upload w.far.session.connection ≡ true → w.far.footing.moment ≡ did.0.0.0) → Together moment ahead between told old client reports w
+      → (is_upload w.far.session.connection ≡ true → w.far.footing.moment ≡ did.0.0.0) → Together read begun moment ahead between told old client reports w
       → Went next told
   server_told_end moment Level between next told did can timed t = ended_level moment between next told did can timed t
   server_told_end moment Opens between next told did can timed t = absurd (both t.beside.fits (form did.0.2 moment Opens between told t).alone)
   server_told_end moment (Listens port) between next told did can timed t =
       absurd (both t.beside.fits (form did.0.2 moment (Listens port) between told t).unasked)
+  server_told_end moment (Parted accepted) between next told did can timed t =
+      absurd (both (takes did.0.2 moment (Parted accepted) between told t) (left_rests accepted v.session.connection t.beside.fits).0)

@@ -15,7 +15,7 @@ use Rattle.ftp_operation.specs.declared.op.Op.TheVariants as Ops
 use Rattle.ftp_server_drive.specs.Side.{server_side}
 use Rattle.ftp_server_model.specs.Calls as far
 use Rattle.ftp_server_model.specs.Machine.{IsReading, Reading, hears, hears_octet}
-use Rattle.ftp_pair_world.specs.Agreement.{Order, Single, Tries}
+use Rattle.ftp_pair_world.specs.Agreement.{Order, Single}
 use Rattle.ftp_pair_world.specs.Claims.{Beginning, IsFair, state_of, world_of}
 use Rattle.ftp_pair_world.specs.World.{World}
 use Rattle.ftp_pair_agreement.specs.Over.{OverRuns}
@@ -25,12 +25,13 @@ use Rattle.ftp_pair_drives.specs.Claims.{Begins}
 use Rattle.ftp_pair_drives.proofs.Simulating.{reported_is}
 use Rattle.ftp_pair_drives.proofs.Taken.{reports_is, taken}
 use Rattle.ftp_pair_drives.proofs.Worlds.{LeadsOn, leads_none, leads_then}
-use Rattle.ftp_pair_data.specs.Ahead.{Ahead, Level, far_ahead, is_asked, is_open}
+use Rattle.ftp_pair_data.specs.Ahead.{is_asked, is_open}
+use Rattle.ftp_pair_transfers.specs.Ahead.{Ahead, Level, far_ahead, is_parted}
 use Rattle.ftp_pair_data.specs.Unaborted.{is_unaborted}
 use Rattle.ftp_pair_data.proofs.Running.{all_runs}
 use Rattle.ftp_pair_data.proofs.Served.{Runs}
 use Rattle.ftp_pair_deeds.specs.Deeds.{ArePorts, listened_in}
-use Rattle.ftp_pair_deeds.proofs.Holding.{both}
+use Rattle.ftp_pair_deeds.proofs.Holding.{both, is_false}
 use Rattle.ftp_pair_deeds.proofs.NearForms.{is_unaborted_same, starts_standing}
 use Rattle.ftp_pair_deeds.proofs.Plain.{IsPlain, IsPlainly, plain_unaborted, starts_plain}
 use Rattle.ftp_pair_deeds.proofs.Plainly.{deed_plain, deed_sound}
@@ -46,7 +47,7 @@ use Rattle.ftp_pair_transfers.proofs.ClientMoves.{client_begins, client_said}
 use Rattle.ftp_pair_transfers.proofs.ClientStays.{client_closed, client_ends, client_got, client_lets, client_read, client_reports, client_shuts, client_waited, client_wrote}
 use Rattle.ftp_pair_transfers.proofs.ClientTaking.{client_received}
 use Rattle.ftp_pair_transfers.proofs.ClientTold.{client_told_end}
-use Rattle.ftp_pair_transfers.proofs.Known.{AreCarried, Known}
+use Rattle.ftp_pair_transfers.proofs.Known.{AreCarried, Known, both_carried}
 use Rattle.ftp_pair_transfers.proofs.Running.{hears_serving, world_known, world_timed}
 use Rattle.ftp_pair_transfers.proofs.ServerGiving.{server_gave}
 use Rattle.ftp_pair_transfers.proofs.ServerMoves.{server_heard, server_said}
@@ -60,12 +61,6 @@ earlier deed before ports = ports
 
 -- ---- what was begun
 
--- orders after orders
-both_carried : (front given : List Order) → AreCarried front → AreCarried given → AreCarried (front ++ given)
-both_carried [] given one other = other
-both_carried (Single op moment ∷ front) given one other = (one.0, both_carried front given one.1 other)
-both_carried (Tries upload moment ∷ front) given one other = absurd one
-
 -- a deed begins such an operation, or nothing
 by_carried : (moment : ℕ) (deed : Deed client_side) (old new : client_side.End) → ClientTransfers deed old new → AreCarried (begun_by moment deed)
 by_carried moment (Other (Aside (Starting op))) old new is = (is.0.0.0, tt)
@@ -78,6 +73,15 @@ in_carried moments [] start now led gives = tt
 in_carried moments (deed ∷ before) start now led gives =
     both_carried (begun_at moments before) (begun_by (moments (number_in before)) deed) (in_carried moments before start led.0 led.1 gives.0)
     (by_carried (moments (number_in before)) deed led.0.owner now.owner gives.1)
+
+-- what was begun after a deed
+abbrev orders_after : (moment : ℕ) → Deed client_side → List Order → List Order
+orders_after moment (Other (Aside (Starting op))) orders = orders ++ Single op moment ∷ []
+orders_after moment deed orders = orders
+
+orders_are : (moment : ℕ) (deed : Deed client_side) (orders : List Order) → orders_after moment deed orders ≡ orders ++ begun_by moment deed
+orders_are moment (Other (Aside (Starting op))) orders = refl
+orders_are moment deed orders = sym (append-nil orders)
 
 -- one that begins an operation stands as before
 starts_sound : (op : Op (List ℕ)) (old new : Stand client_side) → ClientIsCalm old.owner new.owner → Done (Other (Aside (Starting op))) old new
@@ -108,7 +112,7 @@ module _ (read : Reading) (reads : IsReading read) (moments : ℕ → ℕ) (time
     pub leads : LeadsOn read begun (world_of b) world
     pub last : ℕ
     pub ahead : Ahead
-    pub together : Together last ahead between told server client reports world
+    pub together : Together read begun last ahead between told server client reports world
     pub serves : ServerServes server.owner
     pub plain : IsPlainly client.owner.end.view
     pub sound : is_sound client.owner.end.view.standing ≡ true
@@ -145,44 +149,50 @@ module _ (read : Reading) (reads : IsReading read) (moments : ℕ → ℕ) (time
       → AreCarried (begun_at moments deeds) → (before : List (Deed server_side)) → ArePorts (deed ∷ before) → (p q : Between) → CanTurn (Server deed) p q
       → (client : Stand client_side) (reports : List Said) → (o : Reached (begun_at moments deeds) p (listened_in before) old client reports)
       → (did : Done deed old new) → IsToldAt deed old new did (last_of moments (number_in deeds))
-      → Goes read [] q (listened_in (deed ∷ before)) new client reports o.world × ServerServes new.owner
+      → Goes read [] (begun_at moments deeds) q (listened_in (deed ∷ before)) new client reports o.world × ServerServes new.owner
   server_goes (Heard octets) old new is deeds puts before ports p q can client reports o did told =
-      subst (λ (m : Between). Goes read [] m (listened_in before) new client reports o.world × ServerServes new.owner) (sym can)
-      (server_heard read reads old new client reports o.world is.1 o.serves (asks deeds p (listened_in before) old client reports o puts)
+      subst (λ (m : Between). Goes read [] (begun_at moments deeds) m (listened_in before) new client reports o.world × ServerServes new.owner) (sym can)
+      (server_heard read reads (begun_at moments deeds) old new client reports o.world is.1 o.serves
+      (asks deeds p (listened_in before) old client reports o puts)
       (known deeds p (listened_in before) old client reports o puts) (hears_on deeds p (listened_in before) old client reports o puts) octets o.last o.ahead p
       (listened_in before) o.together did)
   server_goes (Says octets) old new is deeds puts before ports p q can client reports o did told = (
-    server_said read reads old new client reports o.world is.1 o.serves (asks deeds p (listened_in before) old client reports o puts)
+    server_said read reads (begun_at moments deeds) old new client reports o.world is.1 o.serves (asks deeds p (listened_in before) old client reports o puts)
         (known deeds p (listened_in before) old client reports o puts) (hears_on deeds p (listened_in before) old client reports o puts) octets
         o.last o.ahead p q (listened_in before) o.together did can,
     deed_serves (Says octets) tt old new (tt, is.1) did o.serves,
   )
   server_goes (Read octets) old new is deeds puts before ports p q can client reports o did told = (
-    server_read read old new client reports o.world is.1 o.serves (known deeds p (listened_in before) old client reports o puts) octets o.last o.ahead p q
+    server_read read (begun_at moments deeds) old new client reports o.world is.1 o.serves (known deeds p (listened_in before) old client reports o puts)
+        octets o.last o.ahead p q
         (listened_in before) o.together did can.0
         (ap (λ (m : Between). m.control.to_client) can.1) (ap (λ (m : Between). m.data_ways) can.1) (ap (λ (m : Between). m.far) can.1) (ap (λ
         (m : Between). m.near) can.1),
     deed_serves (Read octets) tt old new (tt, is.1) did o.serves,
   )
   server_goes (Other (Aside tt)) old new is deeds puts before ports p q can client reports o did told = (
-    subst (λ (m : Between). Goes read [] m (listened_in before) new client reports o.world) (sym can)
-        (server_aside read old new client reports o.world is.1 o.serves (known deeds p (listened_in before) old client reports o puts) o.last o.ahead p
+    subst (λ (m : Between). Goes read [] (begun_at moments deeds) m (listened_in before) new client reports o.world) (sym can)
+        (server_aside read (begun_at moments deeds) old new client reports o.world is.1 o.serves
+        (known deeds p (listened_in before) old client reports o puts) o.last o.ahead p
         (listened_in before) o.together did),
     deed_serves (Other (Aside tt)) tt old new (tt, is.1) did o.serves,
   )
   server_goes (Other (Listening port)) old new is deeds puts before ports p q can client reports o did told = (
-    server_listens read old new client reports o.world is.1 o.serves (known deeds p (listened_in before) old client reports o puts) port o.last o.ahead p q
+    server_listens read (begun_at moments deeds) old new client reports o.world is.1 o.serves (known deeds p (listened_in before) old client reports o puts)
+        port o.last o.ahead p q
         (listened_in before) o.together did can ports.1,
     deed_serves (Other (Listening port)) tt old new (tt, is.1) did o.serves,
   )
   server_goes (Other (Opened host (Came from left written ∷ []) at_first so_far rest)) old new is deeds puts before ports p q can client reports o did told = (
-    server_accepts read old new client reports o.world is.1 o.serves (known deeds p (listened_in before) old client reports o puts) host from left written
+    server_accepts read (begun_at moments deeds) old new client reports o.world is.1 o.serves (known deeds p (listened_in before) old client reports o puts)
+        host from left written
         at_first so_far rest o.last o.ahead p q (listened_in before)
         o.together did can is.0,
     deed_serves (Other (Opened host (Came from left written ∷ []) at_first so_far rest)) tt old new is did o.serves,
   )
   server_goes (Other (Got octets)) old new is deeds puts before ports p q can client reports o did told = (
-    server_got read old new client reports o.world is.1 o.serves (known deeds p (listened_in before) old client reports o puts) octets o.last o.ahead p q
+    server_got read (begun_at moments deeds) old new client reports o.world is.1 o.serves (known deeds p (listened_in before) old client reports o puts)
+        octets o.last o.ahead p q
         (listened_in before) o.together did can,
     record {
       running = ap (λ at. at.server.view.session.life) did.0.0 ∙ o.serves.running;
@@ -190,7 +200,7 @@ module _ (read : Reading) (reads : IsReading read) (moments : ℕ → ℕ) (time
     },
   )
   server_goes (Other (Received octets count)) old new is deeds puts before ports p q can client reports o did told =
-      subst (λ (m : Between). Goes read [] m (listened_in before) new client reports o.world × ServerServes new.owner) (sym can)
+      subst (λ (m : Between). Goes read [] (begun_at moments deeds) m (listened_in before) new client reports o.world × ServerServes new.owner) (sym can)
       (server_received read reads (state_of b) (begun_at moments deeds) puts old new client reports o.world is.1 o.serves
       (asks deeds p (listened_in before) old client reports o puts) (known deeds p (listened_in before) old client reports o puts)
       (runs deeds p (listened_in before) old client reports o puts) octets count o.last o.ahead p (listened_in before) did o.together)
@@ -202,47 +212,54 @@ module _ (read : Reading) (reads : IsReading read) (moments : ℕ → ℕ) (time
       o.together.beside.control o.together.beside.unready (unaborted deeds p (listened_in before) old client reports o puts) takes
       ∙ sym told) o.together
   server_goes (Other (Gave count octets rest)) old new is deeds puts before ports p q can client reports o did told = (
-    subst (λ (m : Between). Goes read [] m (listened_in before) new client reports o.world) (sym can)
-        (server_gave read old new client reports o.world is.1 o.serves (asks deeds p (listened_in before) old client reports o puts)
+    subst (λ (m : Between). Goes read [] (begun_at moments deeds) m (listened_in before) new client reports o.world) (sym can)
+        (server_gave read (begun_at moments deeds) old new client reports o.world is.1 o.serves (asks deeds p (listened_in before) old client reports o puts)
         (known deeds p (listened_in before) old client reports o puts) count octets rest o.last p (listened_in before) did o.ahead o.together),
     deed_serves (Other (Gave count octets rest)) tt old new (tt, is.1) did o.serves,
   )
   server_goes (Other (Wrote octets)) old new is deeds puts before ports p q can client reports o did told = (
-    server_wrote read old new client reports o.world is.1 o.serves (known deeds p (listened_in before) old client reports o puts) octets o.last o.ahead p q
+    server_wrote read (begun_at moments deeds) old new client reports o.world is.1 o.serves (known deeds p (listened_in before) old client reports o puts)
+        octets o.last o.ahead p q
         (listened_in before) o.together did can,
     deed_serves (Other (Wrote octets)) tt old new (tt, is.1) did o.serves,
   )
   server_goes (Other (Waited lost)) old new is deeds puts before ports p q can client reports o did told = (
-    subst (λ (m : Between). Goes read [] m (listened_in before) new client reports o.world) (sym can)
-        (server_waited read old new client reports o.world is.1 o.serves (known deeds p (listened_in before) old client reports o puts) lost o.last o.ahead p
+    subst (λ (m : Between). Goes read [] (begun_at moments deeds) m (listened_in before) new client reports o.world) (sym can)
+        (server_waited read (begun_at moments deeds) old new client reports o.world is.1 o.serves
+        (known deeds p (listened_in before) old client reports o puts) lost o.last o.ahead p
         (listened_in before) o.together did),
     deed_serves (Other (Waited lost)) tt old new (tt, is.1) did o.serves,
   )
   server_goes (Other (LetGo octets)) old new is deeds puts before ports p q can client reports o did told = (
-    subst (λ (m : Between). Goes read [] m (listened_in before) new client reports o.world) (sym can)
-        (server_lets read old new client reports o.world is.1 o.serves (known deeds p (listened_in before) old client reports o puts) octets o.last o.ahead p
+    subst (λ (m : Between). Goes read [] (begun_at moments deeds) m (listened_in before) new client reports o.world) (sym can)
+        (server_lets read (begun_at moments deeds) old new client reports o.world is.1 o.serves (known deeds p (listened_in before) old client reports o puts)
+        octets o.last o.ahead p
         (listened_in before) o.together did),
     deed_serves (Other (LetGo octets)) tt old new (tt, is.1) did o.serves,
   )
   server_goes (Other (Left (EndedBy left written))) old new is deeds puts before ports p q can client reports o did told = (
-    server_ends read old new client reports o.world is.1 o.serves (known deeds p (listened_in before) old client reports o puts) left written o.last o.ahead
+    server_ends read (begun_at moments deeds) old new client reports o.world is.1 o.serves (known deeds p (listened_in before) old client reports o puts) left
+        written o.last o.ahead
         p q (listened_in before) o.together did can,
     deed_serves (Other (Left (EndedBy left written))) tt old new (tt, is.1) did o.serves,
   )
   server_goes (Other (Left (Reset left written))) old new is deeds puts before ports p q can client reports o did told = (
-    server_resets read old new client reports o.world is.1 o.serves (known deeds p (listened_in before) old client reports o puts) left written o.last o.ahead
+    server_resets read (begun_at moments deeds) old new client reports o.world is.1 o.serves (known deeds p (listened_in before) old client reports o puts)
+        left written o.last o.ahead
         p q (listened_in before) o.together did can is.0,
     deed_serves (Other (Left (Reset left written))) tt old new is did o.serves,
   )
   server_goes (Other (Left Shut)) old new is deeds puts before ports p q can client reports o did told = (
-    subst (λ (m : Between). Goes read [] m (listened_in before) new client reports o.world) (sym can)
-        (server_shuts read old new client reports o.world is.1 o.serves (known deeds p (listened_in before) old client reports o puts) o.last o.ahead p
+    subst (λ (m : Between). Goes read [] (begun_at moments deeds) m (listened_in before) new client reports o.world) (sym can)
+        (server_shuts read (begun_at moments deeds) old new client reports o.world is.1 o.serves
+        (known deeds p (listened_in before) old client reports o puts) o.last o.ahead p
         (listened_in before) o.together did),
     deed_serves (Other (Left Shut)) tt old new (tt, is.1) did o.serves,
   )
   server_goes (Other Closed) old new is deeds puts before ports p q can client reports o did told = (
-    subst (λ (m : Between). Goes read [] m (listened_in before) new client reports o.world) (sym can)
-        (server_closed read old new client reports o.world is.1 o.serves (known deeds p (listened_in before) old client reports o puts) o.last o.ahead p
+    subst (λ (m : Between). Goes read [] (begun_at moments deeds) m (listened_in before) new client reports o.world) (sym can)
+        (server_closed read (begun_at moments deeds) old new client reports o.world is.1 o.serves
+        (known deeds p (listened_in before) old client reports o puts) o.last o.ahead p
         (listened_in before) o.together did),
     deed_serves (Other Closed) tt old new (tt, is.1) did o.serves,
   )
@@ -252,100 +269,110 @@ module _ (read : Reading) (reads : IsReading read) (moments : ℕ → ℕ) (time
   client_goes : (deed : Deed client_side) (old new : Stand client_side) → ClientTransfers deed old.owner new.owner → (deeds : List (Deed client_side))
       → AreCarried (begun_at moments deeds) → (p q : Between) → CanTurn (Client deed) p q → (told : ℕ) (server : Stand server_side) (reports : List Said)
       → (o : Reached (begun_at moments deeds) p told server old reports) → IsPlainly new.owner.end.view → Done deed old new
-      → Goes read (begun_by (moments (number_in deeds)) deed) q told server new (reports ++ reported_by deed) o.world
+      → Goes read (begun_by (moments (number_in deeds)) deed) (orders_after (moments (number_in deeds)) deed (begun_at moments deeds)) q told server new
+      (reports ++ reported_by deed) o.world
       × (is_sound new.owner.end.view.standing ≡ true)
   client_goes (Heard octets) old new is deeds puts p q can told server reports o plain did =
-      subst (λ (m : Between). Goes read [] m told server new (reports ++ []) o.world × (is_sound new.owner.end.view.standing ≡ true)) (sym can)
-      (client_heard read server old new reports o.world is.1 o.serves (asks deeds p told server old reports o puts) plain
-      (known deeds p told server old reports o puts) reads (state_of b) (begun_at moments deeds) puts
+      subst (λ (m : Between). Goes read [] (begun_at moments deeds) m told server new (reports ++ []) o.world × (is_sound new.owner.end.view.standing ≡ true))
+      (sym can)
+      (client_heard read (begun_at moments deeds) server old new reports o.world is.1 o.serves (asks deeds p told server old reports o puts) plain
+      (known deeds p told server old reports o puts) reads (state_of b) puts
       (runs deeds p told server old reports o puts) octets o.last o.ahead p told
       o.together did)
   client_goes (Says octets) old new is deeds puts p q can told server reports o plain did = (
-    client_said read server old new reports o.world is.1 o.serves (asks deeds p told server old reports o puts)
+    client_said read reads (begun_at moments deeds) server old new reports o.world is.1 o.serves (asks deeds p told server old reports o puts)
         (fetches new plain (deed_sound (Says octets) tt old new (tt, is.1) did o.sound)) (known deeds p told server old reports o puts) octets o.last o.ahead
         p q told
         o.together did can,
     deed_sound (Says octets) tt old new (tt, is.1) did o.sound,
   )
   client_goes (Read octets) old new is deeds puts p q can told server reports o plain did = (
-    client_read read server old new reports o.world is.1 (known deeds p told server old reports o puts) octets o.last o.ahead p q told o.together did
+    client_read read (begun_at moments deeds) server old new reports o.world is.1 (known deeds p told server old reports o puts) octets o.last o.ahead p q
+        told o.together did
         can.0 (ap (λ (m : Between). m.control.to_server) can.1) (ap (λ (m : Between). m.data_ways) can.1) (ap (λ (m : Between). m.far) can.1) (ap (λ
         (m : Between). m.near) can.1),
     deed_sound (Read octets) tt old new (tt, is.1) did o.sound,
   )
   client_goes (Other (Aside (Reporting said))) old new is deeds puts p q can told server reports o plain did = (
-    subst (λ (l : List Said). Goes read [] q told server new (reports ++ l) o.world) (sym (reported_is said))
-        (subst (λ (m : Between). Goes read [] m told server new (reports ++ option_to_list said) o.world) (sym can)
-        (client_reports read server old new reports o.world is.1 (known deeds p told server old reports o puts) said o.last o.ahead p told o.together did)),
+    subst (λ (l : List Said). Goes read [] (begun_at moments deeds) q told server new (reports ++ l) o.world) (sym (reported_is said))
+        (subst (λ (m : Between). Goes read [] (begun_at moments deeds) m told server new (reports ++ option_to_list said) o.world) (sym can)
+        (client_reports read (begun_at moments deeds) server old new reports o.world is.1 (known deeds p told server old reports o puts) said o.last o.ahead p
+        told o.together did)),
     deed_sound (Other (Aside (Reporting said))) tt old new (tt, is.1) did o.sound,
   )
   client_goes (Other (Aside (Starting op))) old new is deeds puts p q can told server reports o plain did = (
-    subst (λ (m : Between). Goes read (Single op (moments (number_in deeds)) ∷ []) m told server new (reports ++ []) o.world) (sym can)
-        (client_begins read server old new reports o.world is.1 o.serves (asks deeds p told server old reports o puts)
-        (fetches new plain (starts_sound op old new is.1 did o.sound)) (known deeds p told server old reports o puts) op (moments (number_in deeds))
+    subst (λ (m : Between). Goes read (Single op (moments (number_in deeds)) ∷ []) (begun_at moments deeds ++ Single op (moments (number_in deeds)) ∷ []) m
+        told server new (reports ++ []) o.world) (sym can)
+        (client_begins read reads (begun_at moments deeds) server old new reports o.world is.1 o.serves (asks deeds p told server old reports o puts)
+        (fetches new plain (starts_sound op old new is.1 did o.sound)) (known deeds p told server old reports o puts) op is.0.0.0 (moments (number_in deeds))
         (timed (number_in deeds)) o.last
         o.ahead p told o.together is.0.1 did),
     starts_sound op old new is.1 did o.sound,
   )
   client_goes (Other (Opened host (Connected endpoint left written ∷ []) at_first so_far rest)) old new is deeds puts p q can told server reports o plain
       did = (
-        client_dials read server old new reports o.world is.1 o.serves (asks deeds p told server old reports o puts)
+        client_dials read (begun_at moments deeds) server old new reports o.world is.1 o.serves (asks deeds p told server old reports o puts)
             (fetches new plain (deed_sound (Other (Opened host (Connected endpoint left written ∷ []) at_first so_far rest)) tt old new (tt, is.1) did o.sound))
             (known deeds p told server old reports o puts) host endpoint left written
             at_first so_far rest o.last p q told did can o.ahead o.together,
         deed_sound (Other (Opened host (Connected endpoint left written ∷ []) at_first so_far rest)) tt old new (tt, is.1) did o.sound,
       )
   client_goes (Other (Gave count octets rest)) old new is deeds puts p q can told server reports o plain did = (
-    subst (λ (m : Between). Goes read [] m told server new (reports ++ []) o.world) (sym can)
-        (client_gave read server old new reports o.world is.1 o.serves (asks deeds p told server old reports o puts)
+    subst (λ (m : Between). Goes read [] (begun_at moments deeds) m told server new (reports ++ []) o.world) (sym can)
+        (client_gave read (begun_at moments deeds) server old new reports o.world is.1 o.serves (asks deeds p told server old reports o puts)
         (known deeds p told server old reports o puts) count octets rest o.last o.ahead p told did o.together),
-    gave_sound read server old new reports o.world is.1 o.serves (asks deeds p told server old reports o puts)
+    gave_sound read (begun_at moments deeds) server old new reports o.world is.1 o.serves (asks deeds p told server old reports o puts)
         (known deeds p told server old reports o puts) count octets rest o.last o.ahead p told did o.together,
   )
   client_goes (Other (Wrote octets)) old new is deeds puts p q can told server reports o plain did = (
-    client_wrote read server old new reports o.world is.1 (known deeds p told server old reports o puts) octets o.last o.ahead p q told
+    client_wrote read (begun_at moments deeds) server old new reports o.world is.1 (known deeds p told server old reports o puts) octets o.last o.ahead p q told
         o.together did can,
     ap (λ c. is_sound c.view.standing) did.0.0 ∙ o.sound,
   )
   client_goes (Other (Got octets)) old new is deeds puts p q can told server reports o plain did = (
-    client_got read server old new reports o.world is.1 (known deeds p told server old reports o puts) octets o.last o.ahead p q told o.together did can,
+    client_got read (begun_at moments deeds) server old new reports o.world is.1 (known deeds p told server old reports o puts) octets o.last o.ahead p q told
+        o.together did can,
     deed_sound (Other (Got octets)) tt old new (tt, is.1) did o.sound,
   )
   client_goes (Other (Received octets count)) old new is deeds puts p q can told server reports o plain did = (
-    subst (λ (m : Between). Goes read [] m told server new (reports ++ []) o.world) (sym can)
-        (client_received read server old new reports o.world is.1 o.serves (asks deeds p told server old reports o puts)
+    subst (λ (m : Between). Goes read [] (begun_at moments deeds) m told server new (reports ++ []) o.world) (sym can)
+        (client_received read (begun_at moments deeds) server old new reports o.world is.1 o.serves (asks deeds p told server old reports o puts)
         (fetches new plain (deed_sound (Other (Received octets count)) tt old new (tt, is.1) did o.sound)) (known deeds p told server old reports o puts) octets
         count o.last o.ahead p told o.together did),
     deed_sound (Other (Received octets count)) tt old new (tt, is.1) did o.sound,
   )
   client_goes (Other End) old new is deeds puts p q can told server reports o plain did =
-      client_told_end read server old new reports o.world is.1 o.serves (asks deeds p told server old reports o puts) plain
-      (known deeds p told server old reports o puts) o.last o.ahead p q told o.together did can reads (state_of b) (begun_at moments deeds) puts
+      client_told_end read (begun_at moments deeds) server old new reports o.world is.1 o.serves (asks deeds p told server old reports o puts) plain
+      (known deeds p told server old reports o puts) o.last o.ahead p q told o.together did can reads (state_of b) puts
       (runs deeds p told server old reports o puts)
   client_goes (Other (Waited lost)) old new is deeds puts p q can told server reports o plain did = (
-    subst (λ (m : Between). Goes read [] m told server new (reports ++ []) o.world) (sym can)
-        (client_waited read server old new reports o.world is.1 (known deeds p told server old reports o puts) lost o.last o.ahead p told o.together did),
+    subst (λ (m : Between). Goes read [] (begun_at moments deeds) m told server new (reports ++ []) o.world) (sym can)
+        (client_waited read (begun_at moments deeds) server old new reports o.world is.1 (known deeds p told server old reports o puts) lost o.last o.ahead p
+        told o.together did),
     deed_sound (Other (Waited lost)) tt old new (tt, is.1) did o.sound,
   )
   client_goes (Other (LetGo octets)) old new is deeds puts p q can told server reports o plain did = (
-    subst (λ (m : Between). Goes read [] m told server new (reports ++ []) o.world) (sym can)
-        (client_lets read server old new reports o.world is.1 (known deeds p told server old reports o puts) octets o.last o.ahead p told o.together did),
+    subst (λ (m : Between). Goes read [] (begun_at moments deeds) m told server new (reports ++ []) o.world) (sym can)
+        (client_lets read (begun_at moments deeds) server old new reports o.world is.1 (known deeds p told server old reports o puts) octets o.last o.ahead p
+        told o.together did),
     deed_sound (Other (LetGo octets)) tt old new (tt, is.1) did o.sound,
   )
   client_goes (Other (Left (EndedBy left written))) old new is deeds puts p q can told server reports o plain did = (
-    client_ends read server old new reports o.world is.1 (known deeds p told server old reports o puts)
+    client_ends read (begun_at moments deeds) server old new reports o.world is.1 (known deeds p told server old reports o puts)
         (asks deeds p told server old reports o puts) left written o.last o.ahead p q told o.together
         did can,
     deed_sound (Other (Left (EndedBy left written))) tt old new (tt, is.1) did o.sound,
   )
   client_goes (Other (Left Shut)) old new is deeds puts p q can told server reports o plain did = (
-    subst (λ (m : Between). Goes read [] m told server new (reports ++ []) o.world) (sym can)
-        (client_shuts read server old new reports o.world is.1 (known deeds p told server old reports o puts) o.last o.ahead p told o.together did),
+    subst (λ (m : Between). Goes read [] (begun_at moments deeds) m told server new (reports ++ []) o.world) (sym can)
+        (client_shuts read (begun_at moments deeds) server old new reports o.world is.1 (known deeds p told server old reports o puts) o.last o.ahead p told
+        o.together did),
     deed_sound (Other (Left Shut)) tt old new (tt, is.1) did o.sound,
   )
   client_goes (Other Closed) old new is deeds puts p q can told server reports o plain did = (
-    subst (λ (m : Between). Goes read [] m told server new (reports ++ []) o.world) (sym can)
-        (client_closed read server old new reports o.world is.1 (known deeds p told server old reports o puts) o.last o.ahead p told o.together did),
+    subst (λ (m : Between). Goes read [] (begun_at moments deeds) m told server new (reports ++ []) o.world) (sym can)
+        (client_closed read (begun_at moments deeds) server old new reports o.world is.1 (known deeds p told server old reports o puts) o.last o.ahead p told
+        o.together did),
     deed_sound (Other Closed) tt old new (tt, is.1) did o.sound,
   )
   client_goes deed old new is deeds puts p q can told server reports o plain did = absurd is.0
@@ -364,7 +391,7 @@ module _ (read : Reading) (reads : IsReading read) (moments : ℕ → ℕ) (time
   client_plain (Other (Opened host (Connected endpoint left written ∷ []) at_first so_far rest)) old new is deeds puts p told server reports o did =
       deed_plain old new (Other (Opened host (Connected endpoint left written ∷ []) at_first so_far rest)) (tt, is.1) did o.plain
   client_plain (Other (Gave count octets rest)) old new is deeds puts p told server reports o did =
-      gave_plain read server old new reports o.world is.1 o.serves (asks deeds p told server old reports o puts)
+      gave_plain read (begun_at moments deeds) server old new reports o.world is.1 o.serves (asks deeds p told server old reports o puts)
       (known deeds p told server old reports o puts) count octets rest o.last o.ahead p told did o.together o.plain
   client_plain (Other (Wrote octets)) old new is deeds puts p told server reports o did = subst (λ c. IsPlainly c.view) (sym did.0.0) o.plain
   client_plain (Other (Got octets)) old new is deeds puts p told server reports o did = deed_plain old new (Other (Got octets)) (tt, is.1) did o.plain
@@ -425,6 +452,7 @@ module _ (read : Reading) (reads : IsReading read) (moments : ℕ → ℕ) (time
         shut = λ e. absurd (both e (ap (λ n. n.closing) begins.client_view));
         over = λ e. refl;
       };
+      twin = λ e. absurd (true≢false (sym e));
     };
     serves = record { running = ap (λ f. f.session.life) begins.server_view; none_waits = ap (λ f. f.waiting) begins.server_view };
     plain = subst IsPlainly (sym begins.client_view) (record { job = tt; port = refl; run = refl });
@@ -485,7 +513,9 @@ module _ (read : Reading) (reads : IsReading read) (moments : ℕ → ℕ) (time
         leads = leads_then read begun (begun_by (moments (number_in (client_deeds before))) deed) (world_of b) o.world went.0.world o.leads went.0.leads;
         last = went.0.moment;
         ahead = went.0.ahead;
-        together = went.0.together;
+        together = subst (λ l. Together read l went.0.moment went.0.ahead between (listened_in (server_deeds before)) server client
+            (reports_in (client_deeds before) ++ reported_by deed) went.0.world) (orders_are (moments (number_in (client_deeds before))) deed begun)
+            went.0.together;
         serves = o.serves;
         plain = plain;
         sound = went.1;
@@ -513,4 +543,5 @@ transfers_are_of_worlds read reads b fair moments timed turns between server cli
         marks = s.marks;
         cutoff = s.cutoff;
       };
+      granted = λ g. is_false (is_parted o.ahead) (λ e. (o.together.twin e).refused g);
     }

@@ -3,18 +3,20 @@
 use Rattle.std.specs.Prelude.{◌≡◌, ℕ, false, List, [], ◌++◌, length, None, Some, option_to_list}
 use Rattle.ftp_control.specs.Deeds.{Led, Stand}
 use Rattle.ftp_client_drive.specs.Side.{client_side}
-use Rattle.ftp_client_model.specs.Calls.{control_end, is_busy, report_of}
+use Rattle.ftp_client_model.specs.Calls.{control_end, data_closed, is_busy, report_of, reports}
+use Rattle.ftp_operation.specs.Answer.{Said}
 use Rattle.ftp_pair_drives.specs.Alone.{reports_in}
 use Rattle.ftp_pair_drives.specs.Between.{Between, Happened, Turn, client_deeds, server_deeds}
 use Rattle.ftp_pair_drives.specs.Claims.{Begins}
-use Rattle.ftp_pair_deeds.specs.Holds.{HoldsBoth}
 use Rattle.ftp_pair_deeds.specs.Deeds.{ArePorts}
-use Rattle.ftp_pair_transfers.specs.Deeds.{AreMoments, AreToldAt, AsksAlong, ServesAlong, begun_at}
+use Rattle.ftp_pair_transfers.specs.Ahead.{Ahead, Fits, far_ahead, is_parted}
+use Rattle.ftp_pair_transfers.specs.Deeds.{AreGranted, AreMoments, AreToldAt, AsksAlong, ServesAlong, begun_at}
 use Rattle.ftp_pair_world.specs.Agreement.{Agrees, Leads}
 use Rattle.ftp_pair_world.specs.Claims.{AreAnswers, AreTimed, AreUnmarked, Beginning, IsFair, state_of, world_of}
 use Rattle.ftp_pair_world.specs.Events.{Event}
-use Rattle.ftp_pair_world.specs.World.{Mark, World}
+use Rattle.ftp_pair_world.specs.World.{Mark, Stands, World}
 use Rattle.ftp_server_drive.specs.Side.{server_side}
+use Rattle.ftp_server_model.specs.Calls.{clock_step}
 use Rattle.ftp_server_model.specs.Machine.{IsReading, Reading}
 
 -- one server's drive and drives of one client did these deeds in this order, each when it could be done, and at these moments; as they began no octet of a
@@ -36,7 +38,22 @@ pub record DidTransfer (b : Beginning) (moments : ℕ → ℕ) (turns : List Tur
   pub ports : ArePorts (server_deeds turns)
   pub told : AreToldAt moments turns server_start server server_led
 
--- events of a world lead from the beginning to one that holds what both ends hold, and began the same operations at these moments
+-- A world holds what both ends hold: a close, a report, a port and an opening that are due are done there, and so is the end of a data connection that the
+-- client left before anything was asked for over it; the moment that the server was told last is any. The control connection stands, and no link was refused or
+-- broke.
+pub record HoldsBoth (server : Stand server_side) (client : Stand client_side) (told : List Said) (w : World) : Type 0 where
+  pub moment : ℕ
+  pub ahead : Ahead
+  pub fits : Fits ahead server.owner.end.server.view.session.connection
+  pub near : w.near ≡ data_closed (reports client.owner.end.view)
+  pub far : w.far ≡ clock_step moment (far_ahead ahead server.owner.end.server.view)
+  pub reported : w.reports ≡ told ++ option_to_list (report_of client.owner.end.view)
+  pub control : w.control ≡ Stands
+  pub marks : AreUnmarked w.marks
+  pub cutoff : w.cutoff ≡ None
+
+-- events of a world lead from the beginning to one that holds what both ends hold, and began the same operations at these moments; it was told of no such end
+-- where REST takes each offset
 pub record TransferIsOfWorld (read : Reading) (b : Beginning) (moments : ℕ → ℕ) (turns : List Turn) (server : Stand server_side)
     (client : Stand client_side) : Type 0 where
   pub events : List Event
@@ -44,6 +61,7 @@ pub record TransferIsOfWorld (read : Reading) (b : Beginning) (moments : ℕ →
   pub world : World
   pub leads : Leads read (world_of b) events (begun_at moments (client_deeds turns)) world
   pub both : HoldsBoth server client (reports_in (client_deeds turns)) world
+  pub granted : AreGranted (begun_at moments (client_deeds turns)) → is_parted both.ahead ≡ false
 
 -- so it is of any such deeds
 abbrev pub TransfersAreOfWorlds : Type 0

@@ -12,7 +12,7 @@ use Rattle.ftp_operation.specs.declared.op.Op.{Op}
 use Rattle.ftp_operation.specs.declared.op.Op.TheVariants as Ops
 use Rattle.ftp_server_drive.specs.Side.{Timed, server_side}
 use Rattle.ftp_tree.specs.Sound.{last_second}
-use Rattle.ftp_pair_world.specs.Agreement.{Order}
+use Rattle.ftp_pair_world.specs.Agreement.{Order, Single, Tries}
 use Rattle.ftp_pair_drives.specs.Alone.{ClientIsCalm, ServerIsCalm, begun_by}
 use Rattle.ftp_pair_drives.specs.Between.{Client as ByClient, Server as ByServer, Turn, client_deeds, server_deeds}
 use Rattle.ftp_pair_deeds.specs.Deeds.{Along, IsPeer, is_dialling}
@@ -51,13 +51,13 @@ ServesAlong deeds start now led = Along ServerTransfers deeds start now led
 -- ---- the client
 
 -- an operation without a transfer, or one that puts a file, in place of another, behind it or from an offset on, or brings a file, whole or from an offset on,
--- or a listing, as entries, names or text; the offset is one that REST takes
+-- or a listing, as entries, names or text
 abbrev pub IsCarried : Op (List ℕ) → Type 0
 IsCarried (Ops.Put path octets how) = ⊤
 IsCarried (Ops.Append path octets how) = ⊤
-IsCarried (Ops.PutFrom path offset octets how) = offset_refusal offset how ≡ None
+IsCarried (Ops.PutFrom path offset octets how) = ⊤
 IsCarried (Ops.Get path how) = ⊤
-IsCarried (Ops.GetFrom path offset how) = offset_refusal offset how ≡ None
+IsCarried (Ops.GetFrom path offset how) = ⊤
 IsCarried (Ops.List path how) = ⊤
 IsCarried (Ops.Names path how) = ⊤
 IsCarried (Ops.Text verb path how) = ⊤
@@ -94,6 +94,20 @@ ClientTransfers deed old new = IsAsking deed old × ClientIsCalm old new
 
 abbrev pub AsksAlong : (deeds : List (Deed client_side)) (start now : Stand client_side) → Led deeds start now → Type 0
 AsksAlong deeds start now led = Along ClientTransfers deeds start now led
+
+-- ---- offsets
+
+-- REST takes the offset of this, if it has one
+abbrev pub IsGranted : Op (List ℕ) → Type 0
+IsGranted (Ops.PutFrom path offset octets how) = offset_refusal offset how ≡ None
+IsGranted (Ops.GetFrom path offset how) = offset_refusal offset how ≡ None
+IsGranted op = ⊤
+
+-- of each
+abbrev pub AreGranted : List Order → Type 0
+AreGranted [] = ⊤
+AreGranted (Single op moment ∷ orders) = IsGranted op × AreGranted orders
+AreGranted (Tries upload moment ∷ orders) = ⊤
 
 -- ---- moments
 

@@ -1,4 +1,5 @@
 pub mod Deeds
+pub mod Ahead
 pub mod Claims
 pub mod Over
 pub mod Quitting

@@ -1,7 +1,7 @@
 -- Drives that are over, of which the client's put and fetched whole files: what the contracts of one server's drive and of a client's drives tell, each after
 -- the operation that it answers, put together.
 use Rattle.std.specs.Prelude.{◌≡◌, ℕ, List, [], ◌∷◌, ◌++◌, length}
-use Rattle.ftp_control.specs.Asking.{Shut}
+use Rattle.ftp_control.specs.Asking.{Asked}
 use Rattle.ftp_control.specs.Deeds.{Deed, Ended, Led, Other, Stand}
 use Rattle.ftp_control.specs.Machine.{Left}
 use Rattle.ftp_client_drive.specs.Side.{Begun, client_side}
@@ -45,8 +45,8 @@ orders_at moments (asked ∷ before) = orders_at moments before ++ Single asked.
 -- ---- both
 
 -- The contracts of the drives, and an order of their deeds in which each can happen, and at these moments; as they began no octet of a data connection was
--- on its way or in hand. The server's drive did the same until it was told that the control connection ended; then it was over, and none stood to be closed:
--- these two deeds touch nothing that lies between the ends.
+-- on its way or in hand. The server's drive did the same until it was told that the control connection ended; then it was over, and left the data connection
+-- that it still had, if it had one.
 pub record AreOver (b : Beginning) (moments : ℕ → ℕ) (asked : List (Op (List ℕ) × Said)) (server : Stand server_side) : Type 0 where
   pub server_start : Stand server_side
   pub client_start : Stand client_side
@@ -61,11 +61,12 @@ pub record AreOver (b : Beginning) (moments : ℕ → ℕ) (asked : List (Op (Li
   pub turns : List Turn
   pub between : Between
   pub happened : Happened turns between
-  pub server_is : deeds_of_server drove ≡ Other (Left Shut) ∷ Ended ∷ server_deeds turns
+  pub closed : Asked
+  pub server_is : deeds_of_server drove ≡ Other (Left closed) ∷ Ended ∷ server_deeds turns
   pub client_is : client_deeds turns ≡ deeds_in asked client_start client put
   pub last : Stand server_side
   pub server_led : Led (server_deeds turns) server_start last
-  pub server_end : Led (Other (Left Shut) ∷ Ended ∷ []) last server
+  pub server_end : Led (Other (Left closed) ∷ Ended ∷ []) last server
   pub takes : ServesAlong (server_deeds turns) server_start last server_led
   pub ports : ArePorts (server_deeds turns)
   pub told : AreToldAt moments turns server_start last server_led
