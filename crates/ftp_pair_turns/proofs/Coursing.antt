@@ -1,0 +1,81 @@
+-- What a drive says of some turns, of a control connection in memory.
+use Rattle.std.proofs.Common.{◌≡◌, ◌⊎◌, inl, inr, ℕ, Bool, true, false, List, [], Some, None, refl, sym, subst}
+use Rattle.std.specs.Prelude.{⊤, not}
+use Rattle.std.specs.declared.result.Result.{Result}
+use Rattle.std.specs.declared.result.Result.TheVariants.{Ok}
+use Rattle.ftp_control.specs.Deeds.{Stand}
+use Rattle.ftp_control.specs.Driving.{Leads}
+use Rattle.ftp_control.specs.declared.cause.Cause.{Cause}
+use Rattle.ftp_control_drive.specs.declared.drive.Turned.{Turned}
+use Rattle.ftp_control_drive.specs.declared.drive.Turned.TheVariants as Turns
+use Rattle.ftp_client_drive.specs.Driving.{DrivesOn, Drove}
+use Rattle.ftp_client_drive.specs.Side.{client_side}
+use Rattle.ftp_client_drive.specs.declared.drive.Driven.{Driven}
+use Rattle.ftp_operation.specs.Answer.{said_of}
+use Rattle.ftp_operation.specs.declared.answer.Answer.{Answer}
+use Rattle.ftp_server_drive.specs.Driving.{MakesTurns}
+use Rattle.ftp_server_drive.specs.Side.{server_side}
+use Rattle.ftp_pair_turns.specs.Turning.{FarTurned, IsFarCourse, IsNearCourse, NearTurned}
+use Rattle.ftp_pair_turns.specs.declared.course.Course.{Course}
+use Rattle.ftp_pair_turns.specs.declared.course.Course.TheVariants as Courses
+use Rattle.ftp_pair_turns.proofs.Quieting.{Tells, speaks_by}
+
+-- what was found not to be unheard
+heard_all : (found : Bool) → not found ≡ true → found ≡ false
+heard_all false e = refl
+heard_all true e = sym e
+
+-- ---- the client
+
+module _ {A : Type 0} where
+  near_on : (most : ℕ) (failed : Bool) (old new : Stand client_side) (turned : Turned (Driven A)) → DrivesOn most failed old new turned
+      → (turned ≡ Turns.Later) ⊎ (turned ≡ Turns.More) → Leads old new
+  near_on most failed old new turned drives (inl is) = subst (λ t. DrivesOn most failed old new t) is drives
+  near_on most failed old new turned drives (inr is) =
+      let far = subst (λ t. DrivesOn most failed old new t) is drives in far.leads
+
+  near_over : (most : ℕ) (failed : Bool) (old new : Stand client_side) (turned : Turned (Driven A)) (answer : Answer A) → DrivesOn most failed old new turned
+      → turned ≡ Turns.Over (record { report = Some answer; off = None }) → old.owner.lane.unwritten ≡ [] → old.owner.lane.untold ≡ []
+      → Drove old new (Some (said_of answer))
+  near_over most failed old new turned answer drives is unwritten untold =
+      let from = subst (λ t. DrivesOn most failed old new t) is drives in
+      from old unwritten untold (record { deeds = []; led = refl })
+
+  pub near_turned : (most : ℕ) (failed : Bool) (old new : Stand client_side) (turned : Turned (Driven A)) (course : Course (Answer A)) (found : Bool)
+      (came left before after : List ℕ) → DrivesOn most failed old new turned → IsNearCourse course turned (not found) → old.owner.lane.untold ≡ []
+      → Tells old new came left before after → (found ≡ false → new.unheard ≡ []) → NearTurned course old.owner new.owner came left before after
+  near_turned most failed old new turned (Courses.Over answer) found came left before after drives is untold tells heard = λ unwritten.
+      let drove = near_over most failed old new turned answer drives is.0 unwritten untold in
+      record {
+        asked = drove.asked;
+        midst = drove.did.deeds;
+        speaks = speaks_by _ old new came left before after drove.did.sums.led tells (heard (heard_all found is.1));
+      }
+  near_turned most failed old new turned Courses.On found came left before after drives is untold tells heard =
+      let leads = near_on most failed old new turned drives is.0 in
+      record { deeds = leads.deeds; speaks = speaks_by leads.deeds old new came left before after leads.led tells (heard (heard_all found is.1)) }
+  near_turned most failed old new turned Courses.Off found came left before after drives is untold tells heard = tt
+
+-- ---- the server
+
+far_on : (most : ℕ) (failed : Bool) (old new : Stand server_side) (turned : Result (Turned ⊤) Cause) → MakesTurns most failed old new turned
+    → (turned ≡ Ok Turns.Later) ⊎ (turned ≡ Ok Turns.More) → Leads old new
+far_on most failed old new turned makes (inl is) = subst (λ t. MakesTurns most failed old new t) is makes
+far_on most failed old new turned makes (inr is) =
+    let far = subst (λ t. MakesTurns most failed old new t) is makes in far.leads
+
+pub far_turned : (most : ℕ) (failed : Bool) (old new : Stand server_side) (turned : Result (Turned ⊤) Cause) (course : Course ⊤) (found : Bool)
+    (came left before after : List ℕ) → MakesTurns most failed old new turned → IsFarCourse course turned (not found)
+    → Tells old new came left before after → (found ≡ false → new.unheard ≡ []) → FarTurned course old.owner new.owner came left before after
+far_turned most failed old new turned (Courses.Over over) found came left before after makes is tells heard =
+    let finishes = subst (λ t. MakesTurns most failed old new t) is.0 makes in
+    record {
+      asked = finishes.asked;
+      midst = finishes.deeds;
+      speaks = speaks_by _ old new came left before after finishes.led tells (heard (heard_all found is.1));
+      over = finishes.over;
+    }
+far_turned most failed old new turned Courses.On found came left before after makes is tells heard =
+    let leads = far_on most failed old new turned makes is.0 in
+    record { deeds = leads.deeds; speaks = speaks_by leads.deeds old new came left before after leads.led tells (heard (heard_all found is.1)) }
+far_turned most failed old new turned Courses.Off found came left before after makes is tells heard = tt

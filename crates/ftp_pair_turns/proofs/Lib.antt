@@ -1,0 +1,5 @@
+pub mod Ways
+pub mod Quieting
+pub mod Coursing
+pub mod Gathering
+pub mod Concluding

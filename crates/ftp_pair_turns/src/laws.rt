@@ -1,0 +1,13 @@
+//! Laws of turns: functions that do nothing, whose contracts are the claims of `specs/`.
+ghost use Rattle.ftp_pair_turns.specs.Laws.{OrdersHappen, SessionsAreTheDirectRun};
+
+/// Where no deed touches a data connection, an order in which each can be done on the control connection is one in which each can happen.
+pub fn orders_happen()
+    ensures { OrdersHappen }
+{}
+
+/// The answers that `ask` gave, one operation behind the other, and the map that is left, are those of the operations run directly, where all was over control
+/// alone.
+pub fn sessions_are_the_direct_run()
+    ensures { SessionsAreTheDirectRun }
+{}

@@ -1,0 +1,81 @@
+// Both ends of a session in their seats, and a control connection in memory.
+ghost use Rattle.std.specs.Prelude.{◌≡◌, [], List, ℕ};
+
+use crate::apart::{Apart, Nowhere};
+use ftp_control_drive::Data;
+use std::alloc::Global;
+
+/// A control connection in memory: the octets that were written to either end and are still to be read there, in order.
+#[derive(Drop)]
+pub struct Line {
+    pub(crate) to_server: Vec<u8>,
+    pub(crate) to_client: Vec<u8>,
+}
+
+impl Line {
+    /// One over which nothing was written.
+    pub fn new(alloc: Global) -> Line
+        ensures server { result.to_server.items ≡ [] }
+        ensures client { result.to_client.items ≡ [] }
+    {
+        Line {
+            to_server: Vec::new(alloc),
+            to_client: Vec::new(alloc),
+        }
+    }
+
+    /// Whether all that was written was read.
+    pub(crate) fn is_empty(&self) -> bool {
+        self.to_server.is_empty() && self.to_client.is_empty()
+    }
+}
+
+/// An end beside a control connection in memory. It has no data connections.
+pub struct Seat<E> {
+    pub(crate) end: E,
+    pub(crate) ports: Apart,
+    pub(crate) data: Data<Nowhere>,
+}
+
+/// The end is let go.
+impl<E: Drop> Drop for Seat<E> {
+    fn drop(self) {
+        let Self {
+            end: _,
+            ports,
+            data,
+        } = self;
+        let mut ports = ports;
+        data.finish(&mut ports);
+    }
+}
+
+impl<E> Seat<E> {
+    /// An end, as a session begins.
+    pub fn new(end: E) -> Seat<E>
+        ensures { result.end ≡ end }
+    {
+        Seat {
+            end,
+            ports: Apart::new(),
+            data: Data::new(),
+        }
+    }
+
+    /// The end.
+    pub fn end(&self) -> &E
+        ensures { result.now ≡ self.now.end }
+    {
+        &self.end
+    }
+
+    /// The end, which leaves its seat.
+    pub fn leave(self) -> E
+        ensures { result ≡ self.end }
+    {
+        let Seat { end, ports, data } = self;
+        let mut ports = ports;
+        data.finish(&mut ports);
+        end
+    }
+}
