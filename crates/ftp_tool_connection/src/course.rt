@@ -2,6 +2,7 @@
 ghost use Rattle.std.specs.Prelude.{◌≡◌};
 ghost use Rattle.ftp_tool_connection.specs.Course.{is_past, is_unended, says_done};
 
+use crate::cargo::Cargo;
 use crate::request::{Request, most_of, span_of};
 use ftp_control::Ready;
 use ftp_operation::Answer;
@@ -39,11 +40,19 @@ pub(crate) struct Course {
     /// Whether a wait for its data connection found no end.
     is_silent: Cell<bool>,
     ending: Cell<Ending>,
+    /// What goes over its data connection, where that is carried, while none has it.
+    pub(crate) cargo: Cell<Option<Cargo>>,
 }
 
 impl Course {
     /// Nothing is asked yet.
     pub(crate) fn new() -> Course {
+        Course::around(Cell::new(None))
+    }
+
+    /// Nothing is asked yet, and this will hold what goes over its data connection. It is handed in, so that who makes a list of these
+    /// names its type, without which the list has no proof.
+    pub(crate) fn around(cargo: Cell<Option<Cargo>>) -> Course {
         Course {
             most: Cell::new(Most {
                 octets: 0,
@@ -55,6 +64,7 @@ impl Course {
             }),
             is_silent: Cell::new(false),
             ending: Cell::new(Ending::Answered),
+            cargo,
         }
     }
 

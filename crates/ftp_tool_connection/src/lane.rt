@@ -1,9 +1,11 @@
 // One of several control connections in one thread: a client between its connections, which takes turns and waits for nothing.
+use crate::cargo::Cargo;
 use crate::course::{Course, Ending};
 use crate::lane_ports::{LaneLink, LanePorts};
 use crate::request::{Request, begin};
 use ftp_client_drive::{Control, Data, Driven, Turned, drive_some};
 use ftp_client_model::Near;
+use ftp_client_stream::{CarriedLink, CarriedPorts};
 use ftp_operation::Answer;
 use ftp_tool_looking::{Awaits, Leaving, Line, LineReader, LineWriter};
 use ftp_tool_sockets::Sockets;
@@ -37,11 +39,14 @@ pub(crate) trait TakesTurns {
     /// What the next turn waits for; nothing where it is due, or nothing is asked.
     fn awaits(&self) -> Awaits;
 
-    /// Begins what is requested. Nothing else is under way.
-    fn begin(&mut self, request: Request);
+    /// Begins what is requested, with what goes over its data connection. Nothing else is under way.
+    fn begin(&mut self, request: Request, cargo: Cargo);
 
     /// A turn; gives the answer where that is there.
     fn turn(&mut self) -> Option<Answer<Global>>;
+
+    /// What went over the data connection of what was answered last.
+    fn unload(&mut self) -> Cargo;
 
     /// How many data connections were opened so far.
     fn opened(&self) -> u32;
@@ -68,7 +73,7 @@ pub(crate) struct Lane<'a, R: Sockets, N: Near<Global>> {
     line: Rc<Line, Global>,
     control: Control<LineReader, LineWriter>,
     ports: LanePorts<'a, R>,
-    data: Data<LaneLink<'a>>,
+    data: Data<CarriedLink<'a, LaneLink<'a>, Cargo>>,
     course: &'a Course,
     stands: Stands,
 }
@@ -82,11 +87,11 @@ impl<'a, R: Sockets, N: Near<Global>> Drop for Lane<'a, R, N> {
             control: _,
             ports,
             data,
-            course: _,
+            course,
             stands: _,
         } = self;
         let mut ports = ports;
-        data.finish(&mut ports);
+        data.finish(&mut CarriedPorts::new(&mut ports, &course.cargo));
     }
 }
 
@@ -111,10 +116,11 @@ impl<'a, R: Sockets, N: Near<Global>> Lane<'a, R, N> {
     }
 
     fn drive(&mut self) -> Turned<Driven<Global>> {
-        drive_some::<Global, N, LineReader, LineWriter, LanePorts<'a, R>>(
+        let mut ports = CarriedPorts::new(&mut self.ports, &self.course.cargo);
+        drive_some(
             &mut self.client,
             &mut self.control,
-            &mut self.ports,
+            &mut ports,
             &mut self.data,
             MOST,
         )
@@ -157,10 +163,11 @@ impl<'a, R: Sockets, N: Near<Global>> TakesTurns for Lane<'a, R, N> {
         }
     }
 
-    fn begin(&mut self, request: Request) {
+    fn begin(&mut self, request: Request, cargo: Cargo) {
         let mut request = request;
         self.line.patience.stir();
         self.course.begin(&request);
+        self.course.cargo.set(Some(cargo));
         begin(&mut self.client, &mut request);
         self.stands = Stands::Due;
     }
@@ -178,6 +185,10 @@ impl<'a, R: Sockets, N: Near<Global>> TakesTurns for Lane<'a, R, N> {
             }
             Turned::Over(driven) => Some(self.answered(driven)),
         }
+    }
+
+    fn unload(&mut self) -> Cargo {
+        self.course.cargo.replace(None).unwrap_or(Cargo::Own)
     }
 
     fn opened(&self) -> u32 {

@@ -1,15 +1,16 @@
 // Several control connections to a server in one thread: what comes next is asked ahead over those that are free, and all of them have turns.
-use crate::ahead::{Done, Key, is_given};
+use crate::ahead::{changes_none, wants_login_of};
+use crate::cargo::{Cargo, Freight};
 use crate::course::Ending;
 use crate::lane::TakesTurns;
 use crate::last_reply::{LastReply, Said};
 use crate::live::ClientSession;
 use crate::request::Request;
+use crate::row::Row;
 use crate::saying::say;
-use ftp_client_stream::Carries;
+use crate::seat::{Came, Doing, Seat};
 use ftp_control::TURNS;
 use ftp_operation::Answer;
-use ftp_reply::code::NOT_LOGGED_IN;
 use ftp_tool_looking::{Awaits, Leaving};
 use ftp_tool_sockets::monotonic_millis;
 use libc::net as c;
@@ -32,167 +33,6 @@ const PIECE_MILLIS: u64 = 1_000;
 /// How long the ends of all control connections are waited for, in milliseconds.
 const LAST_MILLIS: u64 = 1_000;
 
-/// What a lane does now.
-#[derive(Clone, Copy)]
-enum Doing {
-    Nothing,
-    /// What is asked in its turn.
-    Asked,
-    /// What is asked ahead.
-    Ahead,
-}
-
-/// What is asked ahead over a lane, and its answer once that is there.
-struct Ahead {
-    key: Key,
-    done: Option<Done>,
-}
-
-/// By hand: a derived drop is proved again, part by part, wherever one is let go.
-impl Drop for Ahead {
-    fn drop(self) {
-        let Self { key: _, done: _ } = self;
-    }
-}
-
-/// How far a lane is relied on.
-#[derive(Clone, Copy)]
-pub(crate) enum Stand {
-    /// Nothing was answered over it yet that is given: only what is asked ahead goes over it.
-    Untried,
-    Tried,
-    /// Its login was refused.
-    Refused,
-}
-
-/// A lane, and what it does.
-pub(crate) struct Seat<L> {
-    lane: L,
-    stand: Stand,
-    doing: Doing,
-    ahead: Option<Ahead>,
-    answer: Option<Answer<Global>>,
-    /// How many data connections were opened when it began what it does.
-    opened: u32,
-}
-
-/// By hand, as above.
-impl<L: Drop> Drop for Seat<L> {
-    fn drop(self) {
-        let Self {
-            lane: _,
-            stand: _,
-            doing: _,
-            ahead: _,
-            answer: _,
-            opened: _,
-        } = self;
-    }
-}
-
-impl<L: TakesTurns + Drop> Seat<L> {
-    /// A lane of which nothing is asked.
-    pub(crate) fn new(lane: L, stand: Stand) -> Seat<L> {
-        Seat {
-            lane,
-            stand,
-            doing: Doing::Nothing,
-            ahead: None,
-            answer: None,
-            opened: 0,
-        }
-    }
-
-    fn is_busy(&self) -> bool {
-        !matches!(self.doing, Doing::Nothing)
-    }
-
-    /// Whether nothing is asked over it any more.
-    fn is_over(&self) -> bool {
-        self.lane.is_gone() || matches!(self.stand, Stand::Refused)
-    }
-
-    /// Whether something may be asked over it in its turn now.
-    fn is_free(&self) -> bool {
-        !self.is_busy() && !self.lane.is_gone() && matches!(self.stand, Stand::Tried)
-    }
-
-    /// Whether something may be asked over it ahead now.
-    fn is_idle(&self) -> bool {
-        !self.is_busy() && !self.is_over() && self.ahead.is_none()
-    }
-
-    /// Whether this is asked ahead over it.
-    fn has_ahead(&self, request: &Request) -> bool {
-        match &self.ahead {
-            Some(ahead) => ahead.key.is_of(request),
-            None => false,
-        }
-    }
-
-    fn begin(&mut self, doing: Doing, request: Request) {
-        self.opened = self.lane.opened();
-        self.doing = doing;
-        self.lane.begin(request);
-    }
-
-    /// How many data connections were opened for what it did last.
-    fn opened_since(&self) -> u32 {
-        self.lane.opened().saturating_sub(self.opened)
-    }
-
-    /// A turn, where something is under way; says whether nothing is asked over it any more, behind what was asked ahead.
-    fn turn(&mut self) -> bool {
-        if !self.is_busy() {
-            return false;
-        }
-        let Some(answer) = self.lane.turn() else {
-            return false;
-        };
-        match mem::replace(&mut self.doing, Doing::Nothing) {
-            Doing::Ahead => {
-                self.keep(answer);
-                self.is_over()
-            }
-            Doing::Asked | Doing::Nothing => {
-                self.answer = Some(answer);
-                false
-            }
-        }
-    }
-
-    /// What was asked ahead is answered so; where that is not given, it is forgotten.
-    fn keep(&mut self, answer: Answer<Global>) {
-        let done = Done {
-            answer,
-            ending: self.lane.ending(),
-            opened: self.opened_since(),
-        };
-        if !is_given(&done.answer) || self.lane.is_gone() {
-            self.pass(&done.answer);
-            self.ahead = None;
-            return;
-        }
-        self.stand = Stand::Tried;
-        if let Some(ahead) = &mut self.ahead {
-            ahead.done = Some(done);
-        }
-    }
-
-    /// Such an answer is not given: where none was given before, a refused login is that of the lane.
-    fn pass(&mut self, answer: &Answer<Global>) {
-        if let (Stand::Untried, Answer::Refused(NOT_LOGGED_IN)) = (self.stand, answer) {
-            self.stand = Stand::Refused;
-        }
-    }
-
-    /// What was answered ahead, if it was: it is asked ahead no more.
-    fn take_done(&mut self) -> Option<Done> {
-        let mut ahead = self.ahead.take()?;
-        ahead.done.take()
-    }
-}
-
 /// The lanes, and what was asked of them last.
 pub(crate) struct Lanes<'n, 'r, R, L> {
     rt: &'r R,
@@ -201,15 +41,19 @@ pub(crate) struct Lanes<'n, 'r, R, L> {
     noticed: &'n mut LastReply,
     /// How many data connections were opened for what was answered.
     opened: u32,
+    /// How many of them were told.
+    told: u32,
     /// How the data connection ended of what was answered last.
     ending: Ending,
     /// Over which lane that was asked, where it was in its turn.
     last: Option<usize>,
+    /// Over which lane it was asked ahead, where more was asked behind it and is not given yet.
+    row: Option<usize>,
     /// For how many seconds the server may be silent.
     timeout: u32,
 }
 
-/// By hand, as above.
+/// By hand: a derived drop is proved again, part by part, wherever they are let go.
 impl<'n, 'r, R, L: Drop> Drop for Lanes<'n, 'r, R, L> {
     fn drop(self) {
         let Self {
@@ -218,8 +62,10 @@ impl<'n, 'r, R, L: Drop> Drop for Lanes<'n, 'r, R, L> {
             seats: _,
             noticed: _,
             opened: _,
+            told: _,
             ending: _,
             last: _,
+            row: _,
             timeout: _,
         } = self;
     }
@@ -241,15 +87,37 @@ impl<'n, 'r, R: Eprint, L: TakesTurns + Drop> Lanes<'n, 'r, R, L> {
             seats,
             noticed,
             opened: 0,
+            told: 0,
             ending: Ending::Answered,
             last: None,
+            row: None,
             timeout,
         }
     }
 
-    /// Over which lane this is asked ahead.
-    fn place_of(&self, request: &Request) -> Option<usize> {
+    /// Over which lane this is asked ahead: behind what was given last, of which else nothing more is given, or over another one.
+    fn place_of(&mut self, request: &Request) -> Option<usize> {
+        if let Some(place) = self.row.take() {
+            if let Some(seat) = self.seats.get_mut(place) {
+                if seat.has_ahead(request) {
+                    return Some(place);
+                }
+                seat.forget();
+            }
+        }
         self.seats.iter().position(|seat| seat.has_ahead(request))
+    }
+
+    /// Whether something of the same path is asked ahead.
+    fn is_ahead(&self, request: &Request) -> bool {
+        self.seats.iter().any(|seat| seat.is_at(request))
+    }
+
+    /// What is asked in its turn now may change or bring a file: its facts that were asked ahead before are given no more.
+    fn forget_facts(&mut self) {
+        for seat in self.seats.iter_mut() {
+            seat.forget_fact();
+        }
     }
 
     /// A lane over which something may be asked now.
@@ -257,9 +125,30 @@ impl<'n, 'r, R: Eprint, L: TakesTurns + Drop> Lanes<'n, 'r, R, L> {
         self.seats.iter().position(|seat| seat.is_free())
     }
 
-    /// A lane over which something may be asked ahead.
-    fn idle_place(&self) -> Option<usize> {
-        self.seats.iter().position(|seat| seat.is_idle())
+    /// A lane over which this may be asked ahead: one of whose login nothing is known, so that what is asked in its turn has others, or another one.
+    fn idle_place(&self, request: &Request) -> Option<usize> {
+        let wants_login = wants_login_of(request);
+        if !wants_login {
+            let new = self.seats.iter().position(|seat| seat.is_new());
+            if new.is_some() {
+                return new;
+            }
+        }
+        self.seats
+            .iter()
+            .position(|seat| seat.is_idle_for(wants_login))
+    }
+
+    /// Tries each lane of whose login nothing is known, where this is asked ahead only once that is accepted.
+    fn try_out(&mut self, request: &Request) {
+        if !wants_login_of(request) {
+            return;
+        }
+        for seat in self.seats.iter_mut() {
+            if seat.is_new() {
+                seat.try_out();
+            }
+        }
     }
 
     /// Whether the lane at a place has something under way.
@@ -280,6 +169,24 @@ impl<'n, 'r, R: Eprint, L: TakesTurns + Drop> Lanes<'n, 'r, R, L> {
         }
     }
 
+    /// Whether what is given next of the lane at a place is still under way.
+    fn is_awaited(&self, place: usize) -> bool {
+        match self.seats.get(place) {
+            Some(seat) => seat.is_awaited(),
+            None => false,
+        }
+    }
+
+    /// Rounds until what is given next of the lane at a place is answered.
+    fn await_row(&mut self, place: usize) {
+        for _ in 0..TURNS {
+            if !self.is_awaited(place) {
+                return;
+            }
+            self.round();
+        }
+    }
+
     /// A lane over which something may be asked, which is waited for while others are busy; none where all control connections ended.
     fn await_free(&mut self) -> Option<usize> {
         for _ in 0..TURNS {
@@ -294,43 +201,92 @@ impl<'n, 'r, R: Eprint, L: TakesTurns + Drop> Lanes<'n, 'r, R, L> {
         None
     }
 
-    /// What is answered over a lane ahead, once it is.
-    fn given(&mut self, place: usize) -> Option<Answer<Global>> {
-        self.await_lane(place);
+    /// What this was answered ahead, once it is; none where it was not asked ahead, or its answer is not given.
+    fn given(&mut self, request: &Request) -> Option<Came> {
+        let place = self.place_of(request)?;
+        self.await_row(place);
         let seat = self.seats.get_mut(place)?;
         let mut done = seat.take_done()?;
+        if seat.has_more() {
+            self.row = Some(place);
+        }
         self.opened = self.opened.saturating_add(done.opened);
         self.ending = done.ending;
         self.last = None;
-        Some(mem::replace(&mut done.answer, Answer::Done))
+        self.note_end(place, matches!(&done.answer, Answer::Lost));
+        Some(Came {
+            answer: mem::replace(&mut done.answer, Answer::Done),
+            cargo: mem::replace(&mut done.cargo, Cargo::Own),
+        })
     }
 
     /// Asks in its turn, over a lane that is free.
-    fn asked(&mut self, request: Request) -> Answer<Global> {
+    fn asked(&mut self, request: Request, cargo: Cargo) -> Came {
+        if !changes_none(&request) {
+            self.forget_facts();
+        }
         let Some(place) = self.await_free() else {
-            return Answer::Lost;
+            return Came {
+                answer: Answer::Lost,
+                cargo,
+            };
         };
         if let Some(seat) = self.seats.get_mut(place) {
-            seat.begin(Doing::Asked, request);
+            seat.begin(Doing::Asked, request, cargo);
         }
         self.await_lane(place);
         match self.answered(place) {
-            Some(answer) => answer,
-            None => Answer::Lost,
+            Some(came) => came,
+            None => Came {
+                answer: Answer::Lost,
+                cargo: Cargo::Own,
+            },
         }
     }
 
     /// The answer of a lane, and what was said with it.
-    fn answered(&mut self, place: usize) -> Option<Answer<Global>> {
+    fn answered(&mut self, place: usize) -> Option<Came> {
         let seat = self.seats.get_mut(place)?;
         self.opened = self.opened.saturating_add(seat.opened_since());
         self.ending = seat.lane.ending();
         self.last = Some(place);
+        let answer = seat.answer.take();
+        self.note_end(place, true);
+        answer
+    }
+
+    /// Keeps what was said last over a lane, and that it fell silent, where it did; nothing where that is not told.
+    fn note_end(&mut self, place: usize, is_told: bool) {
+        let Some(seat) = self.seats.get(place) else {
+            return;
+        };
+        if !is_told {
+            return;
+        }
         self.noticed.keep(seat.lane.last_reply());
         if seat.lane.is_gone() && seat.lane.is_late() {
             self.noticed.fell_silent(self.timeout);
         }
-        seat.answer.take()
+    }
+
+    /// Asks these ahead, one directly behind another, over a lane that is idle, with what goes over the data connection of the first transfer.
+    fn begin_row(&mut self, requests: Vec<Request, Global>, cargo: Cargo) {
+        if requests.iter().any(|request| self.is_ahead(request)) {
+            return;
+        }
+        let Some(first) = requests.first() else {
+            return;
+        };
+        self.try_out(first);
+        let Some(place) = self.idle_place(first) else {
+            return;
+        };
+        let Some(row) = Row::of(self.alloc, requests, cargo) else {
+            return;
+        };
+        if let Some(seat) = self.seats.get_mut(place) {
+            seat.begin_row(row);
+        }
     }
 
     /// A round: a wait where no turn is due, and a turn of each lane that is ready.
@@ -467,24 +423,36 @@ fn await_leaving(leaving: &[Leaving], millis: u64) {
 
 impl<'n, 'r, R: Eprint, L: TakesTurns + Drop> ClientSession for Lanes<'n, 'r, R, L> {
     fn answer(&mut self, request: Request) -> Answer<Global> {
-        if let Some(place) = self.place_of(&request) {
-            if let Some(answer) = self.given(place) {
-                return answer;
+        if let Some(came) = self.given(&request) {
+            if came.cargo.is_own() {
+                return came.into_answer();
             }
         }
-        self.asked(request)
+        self.asked(request, Cargo::Own).into_answer()
     }
 
-    /// What goes over lanes is held: an upload that is read as it goes is none that can be asked, and what comes of a download is answered whole.
-    fn answer_carried<T: Carries + Drop>(
+    fn answer_carried<T: Freight>(
         &mut self,
         request: Request,
-        _home: &Cell<Option<T>>,
+        home: &Cell<Option<T>>,
     ) -> Answer<Global> {
-        if let Request::Drawn(_, _) = &request {
-            return Answer::BadOperation;
+        if let Some(answer) = self.answer_ahead(&request, home) {
+            return answer;
         }
-        self.answer(request)
+        let cargo = match home.replace(None) {
+            Some(carried) => carried.load(),
+            None => Cargo::Own,
+        };
+        let came = self.asked(request, cargo);
+        landed(came, home).unwrap_or(Answer::Lost)
+    }
+
+    fn answer_ahead<T: Freight>(
+        &mut self,
+        request: &Request,
+        home: &Cell<Option<T>>,
+    ) -> Option<Answer<Global>> {
+        landed(self.given(request)?, home)
     }
 
     fn came(&self) -> &[u8] {
@@ -510,22 +478,42 @@ impl<'n, 'r, R: Eprint, L: TakesTurns + Drop> ClientSession for Lanes<'n, 'r, R,
     }
 
     fn takes(&self, request: &Request) -> bool {
-        self.place_of(request).is_none() && self.idle_place().is_some()
+        !self.is_ahead(request) && self.idle_place(request).is_some()
     }
 
     fn foresee(&mut self, request: Request) {
-        if self.place_of(&request).is_some() {
-            return;
-        }
-        let Some(place) = self.idle_place() else {
-            return;
-        };
-        let Some(key) = Key::of(self.alloc, &request) else {
-            return;
-        };
-        if let Some(seat) = self.seats.get_mut(place) {
-            seat.ahead = Some(Ahead { key, done: None });
-            seat.begin(Doing::Ahead, request);
+        let mut requests = Vec::new(self.alloc);
+        if requests.push(request).is_ok() {
+            self.foresee_row(requests);
         }
     }
+
+    fn foresee_row(&mut self, requests: Vec<Request, Global>) {
+        self.begin_row(requests, Cargo::Own);
+    }
+
+    fn foresee_carried<T: Freight>(&mut self, requests: Vec<Request, Global>, carried: T) {
+        self.begin_row(requests, carried.load());
+    }
+
+    fn take_noticed(&mut self) -> LastReply {
+        let opened = self.opened.saturating_sub(self.told);
+        self.told = self.opened;
+        let noticed = self.noticed.with_opened(opened);
+        self.noticed.begin();
+        noticed
+    }
+}
+
+/// An answer, once what went over its data connection is in the cell; none where that is another thing than is wanted there.
+fn landed<T: Freight>(came: Came, home: &Cell<Option<T>>) -> Option<Answer<Global>> {
+    let mut came = came;
+    if !came.cargo.is_own() {
+        let carried = T::unload(mem::replace(&mut came.cargo, Cargo::Own));
+        if carried.is_none() {
+            return None;
+        }
+        home.set(carried);
+    }
+    Some(came.into_answer())
 }

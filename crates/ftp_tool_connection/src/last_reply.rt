@@ -36,6 +36,18 @@ impl LastReply {
         }
     }
 
+    /// The same, with so many data connections opened.
+    pub(crate) fn with_opened(&self, opened: u32) -> LastReply {
+        LastReply {
+            line: self.line,
+            len: self.len,
+            is_heard: self.is_heard,
+            opened,
+            silence: self.silence,
+            spent: self.spent,
+        }
+    }
+
     /// The control connection ended since the server was silent for so many seconds.
     pub(crate) fn fell_silent(&mut self, seconds: u32) {
         self.silence = Some(seconds);

@@ -3,6 +3,7 @@
 
 mod again;
 mod ahead;
+mod cargo;
 mod conversing;
 mod course;
 mod fault;
@@ -16,13 +17,16 @@ mod opening;
 mod progress;
 mod rate;
 mod request;
+mod row;
 mod saying;
+mod seat;
 mod server;
 mod several;
 mod subject;
 mod talking;
 
 pub use again::ask;
+pub use cargo::{Cargo, Drawn, Freight, Poured, SharedFile};
 pub use conversing::{Converses, Logins, converse_as};
 pub use course::{Ending, Most};
 pub use fault::{Phase, SessionFault, at};

@@ -10,11 +10,13 @@ ghost use Rattle.ftp_operation.specs.declared.answer.Answer.{Answer};
 ghost use Rattle.ftp_tool_connection.specs.Answering.{Answers};
 ghost use Rattle.ftp_tool_connection.specs.declared.request.Request.{Request};
 
+use crate::cargo::Freight;
 use crate::course::{Course, Ending};
+use crate::last_reply::LastReply;
 use crate::request::{Request, begin};
 use ftp_client_drive::{Control, Driven, drive_client};
 use ftp_client_model::Near;
-use ftp_client_stream::{CarriedPorts, Carries};
+use ftp_client_stream::CarriedPorts;
 use ftp_control::Ports;
 use ftp_operation::Answer;
 use std::alloc::Global;
@@ -37,12 +39,22 @@ pub trait ClientSession {
         ensures { answers request result self.old self.new };
 
     /// The same, where something else goes over the data connection than the client gives and hears: what is at home in the cell, and is back there then.
-    fn answer_carried<T: Carries + Drop>(
+    fn answer_carried<T: Freight>(
         &mut self,
         request: Request,
         home: &Cell<Option<T>>,
     ) -> Answer<Global>
         ensures { carried request result self.old self.new };
+
+    /// The answer to this, where it was asked ahead with something else over its data connection, which is in the cell then; none where it is still to be
+    /// asked.
+    fn answer_ahead<T: Freight>(
+        &mut self,
+        _request: &Request,
+        _home: &Cell<Option<T>>,
+    ) -> Option<Answer<Global>> {
+        None
+    }
 
     /// What came of the download that was asked for last, where its control connection ended in its middle; else nothing.
     fn came(&self) -> &[u8]
@@ -67,6 +79,18 @@ pub trait ClientSession {
     /// Tells that this will be requested. It may be asked at once, over a control connection of which nothing else is asked; its answer is given in its turn,
     /// where that is as good as one that is asked for then.
     fn foresee(&mut self, _request: Request) {}
+
+    /// The same of several, which will be requested one directly behind another: they are asked in this order over one control connection. What is requested
+    /// otherwise lets the rest of them be forgotten, so the answer to each is of a moment between those of its neighbours.
+    fn foresee_row(&mut self, _requests: Vec<Request, Global>) {}
+
+    /// The same, where something else goes over the data connection of the first transfer than the client gives and hears.
+    fn foresee_carried<T: Freight>(&mut self, _requests: Vec<Request, Global>, _carried: T) {}
+
+    /// What is told of the server beside its answers, since this was asked for before; nothing where that is known only once the control connection ends.
+    fn take_noticed(&mut self) -> LastReply {
+        LastReply::new()
+    }
 }
 
 /// What is done over one control connection.
@@ -122,7 +146,7 @@ where
         }
     }
 
-    fn answer_carried<T: Carries + Drop>(
+    fn answer_carried<T: Freight>(
         &mut self,
         request: Request,
         home: &Cell<Option<T>>,

@@ -6,10 +6,11 @@ use crate::course::Course;
 use crate::fault::{Phase, SessionFault, at};
 use crate::lane::{Lane, TakesTurns};
 use crate::lane_ports::LanePorts;
-use crate::lanes::{Lanes, MOST_LANES, Seat, Stand};
+use crate::lanes::{Lanes, MOST_LANES};
 use crate::last_reply::LastReply;
 use crate::live::SessionTask;
 use crate::saying::say;
+use crate::seat::{Seat, Stand};
 use crate::server::{ServerAddress, connected, connected_to};
 use ftp_client::Client;
 use ftp_client_drive::Control;
@@ -21,6 +22,7 @@ use ftp_operation::Login;
 use ftp_tool_looking::{Limits, Line, LinePorts, LineReader, LineWriter, PassivePorts};
 use ftp_tool_sockets::{Sockets, host_of};
 use std::alloc::Global;
+use std::cell::Cell;
 use std::io;
 use std::io::{Eprint, Error, ErrorKind};
 use std::net::{Net, TcpListener, TcpStream};
@@ -105,7 +107,7 @@ fn lanes_of(at_once: u32) -> u32
 fn courses_of(alloc: Global) -> io::Result<Vec<Course, Global>> {
     let mut courses = Vec::new(alloc);
     for _ in 0..MOST_LANES {
-        courses.push(Course::new())?;
+        courses.push(Course::around(Cell::new(None)))?;
     }
     Ok(courses)
 }

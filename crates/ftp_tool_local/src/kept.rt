@@ -88,7 +88,7 @@ fn kept_as<D: Disk>(
     };
     match opened_again(disk, part.as_str())? {
         Some((opened, count)) if is_part_of(note, count) => Ok(Some(Kept {
-            part: OpenPart::new(number, opened, mode),
+            part: OpenPart::new(alloc, number, opened, mode)?,
             count,
             note,
         })),

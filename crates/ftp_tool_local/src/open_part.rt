@@ -1,6 +1,8 @@
 // A part of a file that is open.
+use std::alloc::{AllocError, Global};
 use std::fs::File;
 use std::io;
+use std::rc::Rc;
 
 /// A part of a file, beside its name, that is open: what comes goes behind what it has. It stands until it is moved over the file, kept or discarded by
 /// `LocalFiles`.
@@ -8,24 +10,34 @@ use std::io;
 pub struct OpenPart {
     /// The number of its name, as `beside` takes it.
     pub(crate) number: u32,
-    opened: File,
+    opened: Rc<File, Global>,
     /// The permissions of the file that it is to replace.
     pub(crate) kept: Option<u32>,
 }
 
 impl OpenPart {
     /// A part of this number that was opened.
-    pub(crate) fn new(number: u32, opened: File, kept: Option<u32>) -> OpenPart {
-        OpenPart {
+    pub(crate) fn new(
+        alloc: Global,
+        number: u32,
+        opened: File,
+        kept: Option<u32>,
+    ) -> Result<OpenPart, AllocError> {
+        Ok(OpenPart {
             number,
-            opened,
+            opened: Rc::new(alloc, opened)?,
             kept,
-        }
+        })
     }
 
     /// What writes behind what it has.
     pub fn writer(&self) -> &File {
         &self.opened
+    }
+
+    /// The same, for somebody else who writes behind what it has too.
+    pub fn shared(&self) -> Result<Rc<File, Global>, AllocError> {
+        self.opened.clone()
     }
 
     /// Leaves its first octets, so many.

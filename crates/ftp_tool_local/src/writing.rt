@@ -69,7 +69,7 @@ pub(crate) fn create_beside<R: Files<File = File>>(
             continue;
         }
         if let Some(opened) = open_new(files, name.as_str(), kept)? {
-            return Ok(OpenPart::new(number, opened, kept));
+            return Ok(OpenPart::new(alloc, number, opened, kept)?);
         }
     }
     Err(Error::new(

@@ -5,4 +5,4 @@
 mod folder;
 mod places;
 
-pub use places::{Places, Sighting, Sightings};
+pub use places::{OpenBelow, OpenDir, Places, Sighting, Sightings};

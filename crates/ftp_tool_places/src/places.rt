@@ -1,7 +1,7 @@
 // What is asked of the places below a folder, as one trait without types of its own: what stands on it is proved for less than on the system's files.
 use crate::folder::Folder;
 use ftp_facts::{Moment, Text};
-use ftp_tool_local::{Change, Flush, LocalFiles, OpenPart, Reading};
+use ftp_tool_local::{Change, Flush, LocalFiles, OpenPart, OpenSource, Reading};
 use std::alloc::Global;
 use std::fs::{File, Files, Metadata};
 use std::io::{Error, ErrorKind};
@@ -24,6 +24,21 @@ pub enum Sightings {
     TooMany,
 }
 
+/// A file below a root that is open, to be read as it goes.
+#[derive(Drop)]
+pub struct OpenBelow {
+    pub source: OpenSource,
+    /// A path by which it may be opened anew, as long as its directory is open.
+    pub path: String<Global>,
+    pub dir: OpenDir,
+}
+
+/// A directory that is open.
+#[derive(Drop)]
+pub struct OpenDir {
+    _folder: Folder,
+}
+
 /// Who has folders. A path `below` a root has slashes between its parts, and is empty for the root itself; no link below the root is followed.
 pub trait Places {
     /// What stands in the directory there, `most` entries at most, without `.` and `..`.
@@ -34,6 +49,9 @@ pub trait Places {
 
     /// The octets of the file there, where it has `limit` octets at most.
     fn read_below(&self, root: &str, below: &str, limit: u64) -> io::Result<Reading>;
+
+    /// Opens the file there, to be read as it goes; none where its size is not known.
+    fn open_below(&self, root: &str, below: &str) -> io::Result<Option<OpenBelow>>;
 
     /// Writes the octets of the file there, beside its name, and moves it over what has the name.
     fn write_below(
@@ -80,12 +98,20 @@ impl<R: Files<File = File> + AllocGlobal> Places for R {
     }
 
     fn read_below(&self, root: &str, below: &str, limit: u64) -> io::Result<Reading> {
-        let (folder, name) = parent(self.alloc(), root, below)?;
-        let path = folder.path_of(self.alloc(), name)?;
-        if !fs::symlink_metadata(self, path.as_str())?.is_file() {
-            return Err(Error::new(ErrorKind::InvalidInput, "it is no file any more"));
-        }
+        let (_folder, path) = file_at(self, self.alloc(), root, below)?;
         self.read_from(path.as_str(), 0, limit)
+    }
+
+    fn open_below(&self, root: &str, below: &str) -> io::Result<Option<OpenBelow>> {
+        let (folder, path) = file_at(self, self.alloc(), root, below)?;
+        match self.open_source(path.as_str(), 0)? {
+            Some(source) => Ok(Some(OpenBelow {
+                source,
+                path,
+                dir: OpenDir { _folder: folder },
+            })),
+            None => Ok(None),
+        }
     }
 
     fn write_below(
@@ -147,6 +173,21 @@ impl<R: Files<File = File> + AllocGlobal> Places for R {
         }
         fs::rename(self, from.as_str(), to.as_str())
     }
+}
+
+/// The directory in which a file stands below a root, and a path of it there.
+fn file_at<R: Files>(
+    files: &R,
+    alloc: Global,
+    root: &str,
+    below: &str,
+) -> io::Result<(Folder, String<Global>)> {
+    let (folder, name) = parent(alloc, root, below)?;
+    let path = folder.path_of(alloc, name)?;
+    if !fs::symlink_metadata(files, path.as_str())?.is_file() {
+        return Err(Error::new(ErrorKind::InvalidInput, "it is no file any more"));
+    }
+    Ok((folder, path))
 }
 
 /// The directory in which something stands below a root, and its name there.

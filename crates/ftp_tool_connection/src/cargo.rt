@@ -1,0 +1,129 @@
+// What goes over a data connection in the place of what a client gives and hears, in the kinds that any control connection can carry.
+use ftp_client_stream::{Carries, Drawing, Inlet, Outlet, Pouring};
+use std::alloc::Global;
+use std::fs::File;
+use std::io;
+use std::io::{Read, Write};
+use std::rc::Rc;
+
+/// A file to which octets go as they come, behind what it has, and which somebody else holds too.
+pub struct SharedFile {
+    file: Rc<File, Global>,
+}
+
+/// By hand: a derived drop is proved again wherever one is let go.
+impl Drop for SharedFile {
+    fn drop(self) {
+        let Self { file: _ } = self;
+    }
+}
+
+impl SharedFile {
+    /// A file that was opened so that what is written goes behind what it has.
+    pub fn new(file: Rc<File, Global>) -> SharedFile {
+        SharedFile { file }
+    }
+}
+
+impl Write for SharedFile {
+    fn write(&mut self, octets: &[u8]) -> io::Result<usize> {
+        let mut file: &File = &self.file;
+        file.write(octets)
+    }
+
+    fn flush(&mut self) -> io::Result<()> {
+        Ok(())
+    }
+}
+
+/// A download whose octets go to a file.
+pub type Poured = Pouring<Outlet<SharedFile>>;
+
+/// An upload whose octets are read of a file.
+pub type Drawn = Drawing<Inlet<File>, Global>;
+
+/// What goes over a data connection.
+pub enum Cargo {
+    /// What a client gives and hears.
+    Own,
+    Poured(Poured),
+    Drawn(Drawn),
+}
+
+/// By hand, as above.
+impl Drop for Cargo {
+    fn drop(self) {
+        match self {
+            Cargo::Own => {}
+            Cargo::Poured(_) | Cargo::Drawn(_) => {}
+        }
+    }
+}
+
+impl Cargo {
+    fn into_poured(self) -> Option<Poured> {
+        match self {
+            Cargo::Poured(poured) => Some(poured),
+            _ => None,
+        }
+    }
+
+    fn into_drawn(self) -> Option<Drawn> {
+        match self {
+            Cargo::Drawn(drawn) => Some(drawn),
+            _ => None,
+        }
+    }
+
+    /// Whether nothing is carried.
+    pub(crate) fn is_own(&self) -> bool {
+        matches!(self, Cargo::Own)
+    }
+}
+
+impl Carries for Cargo {
+    fn hear<L: Read>(&mut self, link: &mut L, room: &mut [u8]) -> io::Result<usize> {
+        match self {
+            Cargo::Own => link.read(room),
+            Cargo::Poured(poured) => Carries::hear(poured, link, room),
+            Cargo::Drawn(drawn) => Carries::hear(drawn, link, room),
+        }
+    }
+
+    fn give<L: Write>(&mut self, link: &mut L, octets: &[u8]) -> io::Result<usize> {
+        match self {
+            Cargo::Own => link.write(octets),
+            Cargo::Poured(poured) => poured.give(link, octets),
+            Cargo::Drawn(drawn) => drawn.give(link, octets),
+        }
+    }
+}
+
+/// What can be carried over any control connection.
+pub trait Freight: Carries + Drop {
+    /// As cargo.
+    fn load(self) -> Cargo;
+
+    /// What was loaded; none where the cargo is another.
+    fn unload(cargo: Cargo) -> Option<Self>;
+}
+
+impl Freight for Poured {
+    fn load(self) -> Cargo {
+        Cargo::Poured(self)
+    }
+
+    fn unload(cargo: Cargo) -> Option<Poured> {
+        cargo.into_poured()
+    }
+}
+
+impl Freight for Drawn {
+    fn load(self) -> Cargo {
+        Cargo::Drawn(self)
+    }
+
+    fn unload(cargo: Cargo) -> Option<Drawn> {
+        cargo.into_drawn()
+    }
+}
