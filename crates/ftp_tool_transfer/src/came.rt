@@ -3,10 +3,10 @@ use ftp_client_stream::{Outlet, Pouring};
 use ftp_facts::Text;
 use ftp_operation::Answer;
 use ftp_settings::Representation;
+use ftp_tool_connection::{Poured, SharedFile};
 use ftp_tool_local::OpenPart;
 use ftp_wire::Sink;
 use std::alloc::{AllocError, Global};
-use std::fs::File;
 use std::io::{Error, ErrorKind};
 
 /// The octets that came: in a part of a file, to which they go as they come, or in memory, in pieces, none of which is copied.
@@ -17,9 +17,6 @@ pub struct Came {
     /// Why the part could not be written, where it could not.
     fault: Option<Error>,
 }
-
-/// What a data connection of a download carries: its octets, to the part of a file.
-pub(crate) type Poured<'f> = Pouring<Outlet<&'f File>>;
 
 /// By hand: a derived drop is proved again, part by part, wherever octets are let go.
 impl Drop for Came {
@@ -87,10 +84,13 @@ impl Came {
     }
 
     /// What carries octets of a data connection in these settings to the part, where there is one.
-    pub(crate) fn pouring(&self, settings: Representation) -> Option<Poured<'_>> {
+    pub(crate) fn pouring(&self, settings: Representation) -> Result<Option<Poured>, AllocError> {
         match &self.part {
-            Some(part) => Some(Pouring::new(settings, Outlet::new(part.writer()))),
-            None => None,
+            Some(part) => {
+                let writer = SharedFile::new(part.shared()?);
+                Ok(Some(Pouring::new(settings, Outlet::new(writer))))
+            }
+            None => Ok(None),
         }
     }
 
@@ -146,7 +146,7 @@ impl Came {
 
 /// How many octets a data connection brought to a part that was answered so, and why that failed, if it did. Where the answer says that they are a whole
 /// file, a CR that was held goes there too.
-pub(crate) fn poured(home: Option<Poured<'_>>, answer: &Answer<Global>) -> (u64, Option<Error>) {
+pub(crate) fn poured(home: Option<Poured>, answer: &Answer<Global>) -> (u64, Option<Error>) {
     let Some(mut pouring) = home else {
         return (0, Some(Error::from(ErrorKind::NotConnected)));
     };

@@ -1,5 +1,7 @@
 // A download, which goes on where it was cut: where its data connection broke, where its control connection ended, and where the server says that all
 // is sent and not all came. After each try the server is asked once more which file it has: octets of two files are never joined.
+mod ahead;
+
 use crate::came::{Came, poured};
 use crate::noting::Noting;
 use crate::telling::Part;
@@ -8,7 +10,7 @@ use ftp_client_steps::MOST_TRIES;
 use ftp_facts::{Moment, Text};
 use ftp_operation::{Answer, How, Op};
 use ftp_tool_connection::{
-    ClientSession, Ending, Openings, Request, SessionFault, SessionTask, Terms, say,
+    ClientSession, Ending, Openings, Poured, Request, SessionFault, SessionTask, Terms, say,
 };
 use ftp_tool_local::{LocalFiles, OpenPart};
 use ftp_tool_status::{
@@ -65,6 +67,8 @@ pub struct Downloading<'a, R> {
     size: Size,
     stamp: Stamp,
     sight: Sight,
+    /// Whether all of the file was asked for ahead.
+    is_ahead: bool,
 }
 
 /// By hand: a derived drop is proved again, part by part, wherever a download is let go.
@@ -85,6 +89,7 @@ impl<'a, R> Drop for Downloading<'a, R> {
             size: _,
             stamp: _,
             sight: _,
+            is_ahead: _,
         } = self;
     }
 }
@@ -120,6 +125,7 @@ impl<'a, R: LocalFiles + Eprint> Downloading<'a, R> {
             size,
             stamp: Stamp::Unasked,
             sight: Sight::Asked,
+            is_ahead: false,
         })
     }
 
@@ -374,14 +380,22 @@ impl<'a, R: LocalFiles + Eprint> Downloading<'a, R> {
     /// What the server answers to a try. Where there is a part, octets go there.
     fn asked_once<S: ClientSession>(&mut self, seat: &mut S) -> Result<Answer<Global>, AllocError> {
         let request = self.request()?;
-        let Some(pouring) = self.came.pouring(self.how.representation) else {
+        if let Some(answer) = self.answer_ahead(seat, &request) {
+            return Ok(answer);
+        }
+        let Some(pouring) = self.came.pouring(self.how.representation)? else {
             return Ok(seat.answer(request));
         };
         let home = Cell::new(Some(pouring));
         let answer = seat.answer_carried(request, &home);
-        let (count, fault) = poured(home.into_inner(), &answer);
-        self.came.took(count, fault);
+        self.take_poured(home, &answer);
         Ok(answer)
+    }
+
+    /// What went to the part before this was answered.
+    fn take_poured(&mut self, home: Cell<Option<Poured>>, answer: &Answer<Global>) {
+        let (count, fault) = poured(home.into_inner(), answer);
+        self.came.took(count, fault);
     }
 
     /// What is asked for a try.

@@ -4,8 +4,10 @@
 
 mod came;
 mod downloading;
+mod foreseeing;
 mod held;
 mod noting;
+mod sending;
 mod source;
 mod telling;
 mod trying;
@@ -13,8 +15,10 @@ mod uploading;
 
 pub use came::Came;
 pub use downloading::{Downloading, Stamp};
+pub use foreseeing::download_row;
 pub use held::limit_held;
+pub use sending::Sending;
 pub use source::Source;
 pub use telling::{Part, tell, tell_too_large};
 pub use trying::is_counted;
-pub use uploading::Uploading;
+pub use uploading::{Uploading, Wrong};

@@ -132,3 +132,15 @@ impl<'a> Display for Part<'a> {
         write!(formatter, "{}{}{}", self.count, self.between, self.total)
     }
 }
+
+/// How much of a file a server has, as it is told.
+#[derive(Clone, Copy)]
+pub(crate) struct Had<'a> {
+    pub(crate) part: Part<'a>,
+}
+
+impl<'a> Display for Had<'a> {
+    fn fmt<W: fmt::Write>(&self, formatter: &mut Formatter<W>) -> fmt::Result {
+        write!(formatter, "the server has {}", self.part)
+    }
+}

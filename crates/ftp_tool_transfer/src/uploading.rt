@@ -1,6 +1,6 @@
 // An upload, which goes on where the server has it: over breaks, and where a 226 came and not all is there.
 use crate::source::{Source, unread};
-use crate::telling::{Part, tell};
+use crate::telling::{Had, Part, tell};
 use crate::trying::{ended_of, is_counted, size_request, there_of};
 use ftp_client_steps::MOST_TRIES;
 use ftp_facts::Text;
@@ -23,6 +23,8 @@ const STAND_IN: &[u8] = b"-";
 pub struct Uploading<'a, R> {
     rt: &'a R,
     alloc: Global,
+    /// What its notes begin with.
+    head: &'a str,
     source: Source<'a>,
     path: &'a str,
     how: How,
@@ -40,6 +42,7 @@ impl<'a, R> Drop for Uploading<'a, R> {
         let Self {
             rt: _,
             alloc: _,
+            head: _,
             source: _,
             path: _,
             how: _,
@@ -64,6 +67,7 @@ impl<'a, R: LocalFiles + Eprint> Uploading<'a, R> {
         Uploading {
             rt,
             alloc,
+            head: "note: ",
             upload: Transfer {
                 total: source.total(),
                 left: MOST_TRIES,
@@ -76,6 +80,41 @@ impl<'a, R: LocalFiles + Eprint> Uploading<'a, R> {
             is_blind: false,
             wrong: None,
         }
+    }
+
+    /// Its notes begin so, where there are several.
+    pub fn begin_notes(&mut self, head: &'a str) {
+        self.head = head;
+    }
+
+    /// Whether a control connection ended behind the question for the size of what stands there, so that it is not asked before a first try any more.
+    pub fn is_blind(&self) -> bool {
+        self.is_blind
+    }
+
+    /// That is so, of an upload before this one.
+    pub fn blind(&mut self) {
+        self.is_blind = true;
+    }
+
+    /// What the server has of an upload that it says is done, where that is not the file.
+    pub fn wrong(&self) -> Option<Wrong> {
+        self.wrong
+    }
+
+    /// Tries until the server answers, over this control connection. Fails where the file can't be read.
+    pub fn answer<S: ClientSession>(&mut self, seat: &mut S) -> io::Result<Answer<Global>> {
+        if !self.look(seat) {
+            return Ok(Answer::Lost);
+        }
+        let mut from = 0;
+        for _ in 0..self.upload.left {
+            match self.turn(seat, from)? {
+                Turn::From(next) => from = next,
+                Turn::Over(answer) => return Ok(answer),
+            }
+        }
+        Ok(Answer::Lost)
     }
 
     /// Asks for the size of what stands there before the first try; says whether tries may follow over this control connection.
@@ -106,10 +145,10 @@ impl<'a, R: LocalFiles + Eprint> Uploading<'a, R> {
     }
 
     /// One try, from an octet of the file on: where the next one begins, or the answer where there is none.
-    fn turn<S: ClientSession>(&mut self, seat: &mut S, from: u64) -> Result<Turn, SessionFault> {
+    fn turn<S: ClientSession>(&mut self, seat: &mut S, from: u64) -> io::Result<Turn> {
         let opened = seat.opened();
         self.upload.left = self.upload.left.saturating_sub(1);
-        let answer = at(Phase::Reading, self.asked(seat, from))?;
+        let answer = self.asked(seat, from)?;
         let step = self.step_behind(seat, &answer, seat.opened() > opened);
         Ok(self.follow(answer, step, from))
     }
@@ -219,7 +258,7 @@ impl<'a, R: LocalFiles + Eprint> Uploading<'a, R> {
     /// Tells from where the upload goes on. What the server has then is known to be of this upload, unless it begins anew.
     fn go_on(&mut self, from: u64) {
         if from == 0 {
-            let _told = self.rt.eprintln("note: the upload begins anew");
+            let _told = say(self.rt, self.head, &"the upload begins anew", "");
             return;
         }
         self.upload.older = There::Nothing;
@@ -228,7 +267,7 @@ impl<'a, R: LocalFiles + Eprint> Uploading<'a, R> {
             between: " of ",
             total: self.upload.total,
         };
-        let _told = say(self.rt, "note: the server has ", &part, " octets; going on");
+        let _told = say(self.rt, self.head, &Had { part }, " octets; going on");
     }
 
     /// Tells how many tries the upload took, or why it is not done, and gives the exit status.
@@ -290,17 +329,7 @@ impl<'a, R: LocalFiles + Eprint> Uploading<'a, R> {
 impl<'a, R: LocalFiles + Eprint> SessionTask<Result<Answer<Global>, SessionFault>>
     for Uploading<'a, R> {
     fn play<S: ClientSession>(&mut self, seat: &mut S) -> Result<Answer<Global>, SessionFault> {
-        if !self.look(seat) {
-            return Ok(Answer::Lost);
-        }
-        let mut from = 0;
-        for _ in 0..self.upload.left {
-            match self.turn(seat, from)? {
-                Turn::From(next) => from = next,
-                Turn::Over(answer) => return Ok(answer),
-            }
-        }
-        Ok(Answer::Lost)
+        at(Phase::Reading, self.answer(seat))
     }
 }
 
@@ -314,7 +343,7 @@ enum Turn {
 
 /// What a server has that says that all is done.
 #[derive(Clone, Copy)]
-enum Wrong {
+pub enum Wrong {
     /// So many octets.
     Octets(u64),
     /// No such file.
