@@ -4,12 +4,12 @@
 _ftp_tool_options() {
     local place='--user --password-file --active --extended --no-extended --progress --quiet --timeout --limit --type --stru --mode --help'
     case $1 in
-        get) echo "--keep --continue --moment --no-glob --limit-rate $place" ;;
-        put) echo "--limit-rate $place" ;;
+        get) echo "--keep --continue --moment --no-glob --limit-rate --parallel $place" ;;
+        put) echo "--limit-rate --parallel $place" ;;
         ls) echo "--long --json $place" ;;
         cat) echo "$place" ;;
         size) echo "$place" ;;
-        rm) echo "$place" ;;
+        rm) echo "--parallel $place" ;;
         mkdir) echo "--parents $place" ;;
         rmdir) echo "$place" ;;
         mv) echo "$place" ;;

@@ -48,7 +48,7 @@ complete -c ftp_tool -n '__fish_seen_subcommand_from mirror' -l dry-run -d 'writ
 complete -c ftp_tool -n '__fish_seen_subcommand_from mirror' -l checksum -d 'compares octets'
 complete -c ftp_tool -n '__fish_seen_subcommand_from mirror' -l exclude -x -d 'leaves alone what meets a pattern'
 complete -c ftp_tool -n '__fish_seen_subcommand_from mirror' -l no-flush -d 'leaves flushing to the system'
-complete -c ftp_tool -n '__fish_seen_subcommand_from mirror' -l parallel -x -d 'control connections at once, 1 to 8'
+complete -c ftp_tool -n '__fish_seen_subcommand_from get put rm mirror' -l parallel -x -d 'control connections at once, 1 to 8'
 complete -c ftp_tool -n '__fish_seen_subcommand_from run' -l host -x -d 'the server\'s address'
 complete -c ftp_tool -n '__fish_seen_subcommand_from run' -l port -x -d 'the server\'s port'
 complete -c ftp_tool -n '__fish_seen_subcommand_from serve' -l port -x -d 'the port to listen at'

@@ -1,17 +1,19 @@
 //! The programs: FTP over standard input and output, a server and a client over real connections, and both in one.
 #![tactic(auto)]
 
+mod at_once;
 mod perform;
 mod programs;
 mod several;
 
+use at_once::Batch;
 use clap::{ArgMatches, Error};
 use ftp_tool_command::{
-    BadValue, PLACE_OPTION, Program, Refusal, asked_of, command, fetch_task_of, get_task_of,
-    is_matched, mirror_of, openings_of, program_of, rounds_of, script_server_of, script_user_of,
-    serving_of, settings_of, task_of, told_of, url_in, urls_in,
+    BadValue, PLACE_OPTION, Program, Refusal, asked_of, command, each_got, fetch_task_of,
+    get_task_of, is_matched, mirror_of, openings_of, program_of, rounds_of, script_server_of,
+    script_user_of, serving_of, settings_of, task_of, told_of, url_in, urls_in,
 };
-use ftp_tool_fetch::{Openings, Target, Task};
+use ftp_tool_fetch::{Each, Openings, Pair, Simple, Target, Task};
 use ftp_tool_quiet::{Hushed, Told};
 use ftp_tool_shown::Shown;
 use ftp_tool_status::Status;
@@ -265,16 +267,54 @@ fn get_all<'a, R: Programs + Eprint>(
     goal: Goal<'a>,
 ) -> io::Result<Status> {
     let mut worst = Status::Done;
+    let mut batch = Batch::new(alloc, each_got(words));
     for (place, url) in places.iter().zip(urls.iter()) {
         let Ok(asked) = asked_of(words, *place, url.as_ref(), goal.openings, goal.is_terminal)
         else {
             return Ok(Status::BadWords);
         };
-        let status = get_one(rt, alloc, words, &asked, goal)?;
-        tell_undone(rt, status, places.len(), "copied", asked.place.path)?;
+        let status = if asked.at_once > 1 && places.len() > 1 {
+            get_at_once(rt, alloc, words, asked, goal, &mut batch)?
+        } else {
+            get_told(rt, alloc, words, &asked, goal, places.len())?
+        };
         worst = worst.worse(status);
     }
-    Ok(worst)
+    Ok(worst.worse(batch.done(rt)?))
+}
+
+/// Downloads one of so many, and tells which one it is that was not done.
+fn get_told<R: Programs + Eprint>(
+    rt: &R,
+    alloc: Global,
+    words: &ArgMatches<'_>,
+    asked: &Target<'_>,
+    goal: Goal<'_>,
+    count: usize,
+) -> io::Result<Status> {
+    let status = get_one(rt, alloc, words, asked, goal)?;
+    tell_undone(rt, status, count, "copied", asked.place.path)?;
+    Ok(status)
+}
+
+/// Downloads a file with those before and behind it, over several control connections; the files of a pattern behind those before.
+fn get_at_once<'a, R: Programs + Eprint>(
+    rt: &R,
+    alloc: Global,
+    words: &ArgMatches<'_>,
+    asked: Target<'a>,
+    goal: Goal<'_>,
+    batch: &mut Batch<'a>,
+) -> io::Result<Status> {
+    if is_matched(words, asked.place) {
+        let before = batch.done(rt)?;
+        return Ok(before.worse(get_told(rt, alloc, words, &asked, goal, 2)?));
+    }
+    let pair = Pair {
+        path: String::from_str(alloc, asked.place.path)?,
+        file: place_for(alloc, goal.into, goal.target, asked.place.path)?,
+    };
+    batch.put(rt, asked, pair)
 }
 
 /// Downloads a file, into the target or to it; or the files of a pattern into the target.
@@ -330,6 +370,9 @@ fn put_all<R: Programs + Eprint>(
     into: bool,
     files: &[&str],
 ) -> io::Result<Status> {
+    if asked.at_once > 1 && files.len() > 1 {
+        return put_at_once(rt, alloc, asked, into, files);
+    }
     let mut worst = Status::Done;
     for file in files {
         let status = put_one(rt, alloc, asked, into, *file)?;
@@ -337,6 +380,26 @@ fn put_all<R: Programs + Eprint>(
         worst = worst.worse(status);
     }
     Ok(worst)
+}
+
+/// The same over several control connections.
+fn put_at_once<R: Programs>(
+    rt: &R,
+    alloc: Global,
+    asked: &Target<'_>,
+    into: bool,
+    files: &[&str],
+) -> io::Result<Status> {
+    let mut batch = Batch::new(alloc, Each::Put);
+    let mut worst = Status::Done;
+    for file in files {
+        let pair = Pair {
+            path: place_for(alloc, into, asked.place.path, *file)?,
+            file: String::from_str(alloc, *file)?,
+        };
+        worst = worst.worse(batch.put(rt, *asked, pair)?);
+    }
+    Ok(worst.worse(batch.done(rt)?))
 }
 
 /// Uploads a file, into the directory of a place or to the place.
@@ -415,7 +478,7 @@ where
 {
     let openings = openings_of(words);
     match urls_in(alloc, PLACE_OPTION, places_of(words)) {
-        Ok(urls) => ask_where(rt, name, words, urls.as_slice(), &openings),
+        Ok(urls) => ask_where(rt, alloc, name, words, urls.as_slice(), &openings),
         Err(refusal) => refuse(rt, refusal),
     }
 }
@@ -428,6 +491,7 @@ fn places_of<'a>(words: &'a ArgMatches<'_>) -> &'a [&'a str] {
 /// The same at places of which these are URLs, where all of them can be asked at.
 fn ask_where<'a, R: Programs + Eprint>(
     rt: &R,
+    alloc: Global,
     name: &str,
     words: &'a ArgMatches<'_>,
     urls: &'a [Option<UrlPlace>],
@@ -437,6 +501,9 @@ fn ask_where<'a, R: Programs + Eprint>(
         return refuse(rt, refusal);
     }
     match fetch_task_of(name, words) {
+        Some(Task::Simple(Simple::Remove)) => {
+            number_of(remove_all(rt, alloc, words, urls, openings))
+        }
         Some(task) => number_of(ask_all(rt, words, urls, openings, task)),
         None => refuse(rt, Refusal::Number),
     }
@@ -461,6 +528,33 @@ fn ask_all<'a, R: Programs + Eprint>(
         worst = worst.worse(status);
     }
     Ok(worst)
+}
+
+/// Removes files, over several control connections where these are asked for.
+fn remove_all<'a, R: Programs + Eprint>(
+    rt: &R,
+    alloc: Global,
+    words: &'a ArgMatches<'_>,
+    urls: &'a [Option<UrlPlace>],
+    openings: &'a Openings,
+) -> io::Result<Status> {
+    let places = places_of(words);
+    let mut batch = Batch::new(alloc, Each::Remove);
+    let mut worst = Status::Done;
+    for (place, url) in places.iter().zip(urls.iter()) {
+        let Ok(asked) = asked_of(words, *place, url.as_ref(), openings, false) else {
+            return Ok(Status::BadWords);
+        };
+        if asked.at_once < 2 || places.len() < 2 {
+            return ask_all(rt, words, urls, openings, Task::Simple(Simple::Remove));
+        }
+        let pair = Pair {
+            path: String::from_str(alloc, asked.place.path)?,
+            file: String::new(alloc),
+        };
+        worst = worst.worse(batch.put(rt, asked, pair)?);
+    }
+    Ok(worst.worse(batch.done(rt)?))
 }
 
 /// Tells why the words of a command line ask for nothing.

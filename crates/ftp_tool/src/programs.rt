@@ -2,7 +2,7 @@
 // streams.
 use crate::perform::perform;
 use ftp_tool_command::Task;
-use ftp_tool_fetch::{ServerAddress, Target};
+use ftp_tool_fetch::{Each, Pair, ServerAddress, Target};
 use ftp_tool_mirror::Mirror;
 use ftp_tool_pair::PairSettings;
 use ftp_tool_quiet::Hushed;
@@ -34,6 +34,9 @@ pub(crate) trait Programs {
     fn mirror(&self, asked: Mirror<'_>) -> io::Result<Status>;
 
     fn fetch(&self, asked: &Target<'_>, task: ftp_tool_fetch::Task<'_>) -> io::Result<Status>;
+
+    /// Of several files of one server.
+    fn fetch_each(&self, asked: &Target<'_>, each: Each, pairs: &[Pair]) -> io::Result<Status>;
 
     /// Between the standard streams.
     fn perform<F: Write>(&self, task: Task, faults: &mut F) -> u8;
@@ -93,6 +96,10 @@ where
 
     fn fetch(&self, asked: &Target<'_>, task: ftp_tool_fetch::Task<'_>) -> io::Result<Status> {
         ftp_tool_fetch::fetch(self, asked, task)
+    }
+
+    fn fetch_each(&self, asked: &Target<'_>, each: Each, pairs: &[Pair]) -> io::Result<Status> {
+        ftp_tool_fetch::fetch_each(self, asked, each, pairs)
     }
 
     fn perform<F: Write>(&self, task: Task, faults: &mut F) -> u8 {

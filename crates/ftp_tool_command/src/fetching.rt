@@ -3,14 +3,14 @@ use crate::help;
 use crate::place::{location_in, user_in, wanted_of};
 use crate::refusal::Refusal;
 use crate::words::{
-    ACTIVE, EXTENDED, Form, LIMIT, LIMIT_RATE, MODE, NO_EXTENDED, PASSWORD_FILE, QUIET, STRU,
-    Subcommand, TIMEOUT, TYPE, USER, Value, Word, chosen, how_of, limit_in, rate_in,
-    representation_in, text_in, timeout_in,
+    ACTIVE, EXTENDED, Form, LIMIT, LIMIT_RATE, MODE, NO_EXTENDED, PARALLEL, PASSWORD_FILE, QUIET,
+    STRU, Subcommand, TIMEOUT, TYPE, USER, Value, Word, at_once_in, chosen, how_of, limit_in,
+    rate_in, representation_in, text_in, timeout_in,
 };
 use clap::ArgMatches;
 use ftp_operation::How;
 use ftp_tool_connection::Openings;
-use ftp_tool_fetch::{Download, Lines, Parts, Simple, Target, Task};
+use ftp_tool_fetch::{Download, Each, Lines, Parts, Simple, Target, Task};
 use ftp_tool_listing::is_pattern;
 use ftp_tool_words::{Location, UrlPlace};
 
@@ -41,6 +41,7 @@ pub const GET: Subcommand<'static> = Subcommand {
             help: "the last change of FILE is at the server's moment of it",
         },
         LIMIT_RATE,
+        PARALLEL,
         Word {
             name: "no-glob",
             form: Form::Letter('g'),
@@ -61,6 +62,7 @@ pub const PUT: Subcommand<'static> = Subcommand {
             help: "what is read, - is standard input; the last word is HOST:PORT/PATH or a URL, where it goes",
         },
         LIMIT_RATE,
+        PARALLEL,
     ],
 };
 
@@ -105,7 +107,7 @@ pub const RM: Subcommand<'static> = Subcommand {
     about: "removes files of a server",
     usage: None,
     help: help::RM,
-    words: &[PLACES],
+    words: &[PLACES, PARALLEL],
 };
 
 pub const MKDIR: Subcommand<'static> = Subcommand {
@@ -210,6 +212,7 @@ pub fn asked_of<'a>(
     let how = how_in(words)?;
     let limit = limit_in(words)?;
     let rate = rate_in(words)?;
+    let at_once = at_once_in(words)?;
     Ok(Target {
         place: location,
         user: user_in(words, url),
@@ -219,6 +222,7 @@ pub fn asked_of<'a>(
         progress: is_terminal || words.get_flag("progress"),
         rate,
         limit,
+        at_once,
     })
 }
 
@@ -282,6 +286,14 @@ pub fn get_task_of<'a>(words: &ArgMatches<'_>, place: Location<'_>, file: &'a st
         Task::GetMatching(download)
     } else {
         Task::Get(download)
+    }
+}
+
+/// What `get` does with each of several files.
+pub fn each_got(words: &ArgMatches<'_>) -> Each {
+    Each::Get {
+        parts: parts_of(words),
+        moment: words.get_flag("moment"),
     }
 }
 

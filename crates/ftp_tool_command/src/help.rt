@@ -114,7 +114,10 @@ several words, if it is no URL, says where the file goes: to FILE or, by the nam
 there; without it, it goes here by that name. Several files go into a folder, each over a control connection of its own; one that fails does
 not stop the others, and the status is the worst. Where the last name of PATH has * or ?, it is a pattern, as with --exclude of mirror: the
 directory is listed, by MLSD, LIST or NLST, and each file there whose name is of the pattern is fetched into a folder, in the order of their
-names, over one control connection; none is status 1. With --no-glob such a PATH is the name of a file. The file is written beside its name,
+names, over one control connection; none is status 1. With --no-glob such a PATH is the name of a file. With --parallel N the files of one
+server, and those of a pattern, are fetched over N control connections at once, 8 at most: what comes next over those that are free. What is
+told and left is the same, in the same order, but for progress, of which nothing is; where the server gives fewer, it goes on over those. The
+file is written beside its name,
 as FILE.ftp-part, and moved over it once it is whole; it keeps the permissions of the file that it replaces. A file of that name stays, and
 FILE.ftp-part-1 is written in its place, and so on to 99. Where FILE is a link, that is done where it leads; what is no file, as a pipe, is
 written as it stands and never replaced; - is standard output.
@@ -148,11 +151,12 @@ was refused. All but 0 are told on standard error, a refusal with the server's t
 Example:
   ftp_tool get 127.0.0.1:2121/pub/a.txt a.txt
   ftp_tool get 127.0.0.1:2121/pub/a.txt 127.0.0.1:2121/pub/b.txt incoming/
-  ftp_tool get '127.0.0.1:2121/pub/*.csv' incoming/";
+  ftp_tool get '127.0.0.1:2121/pub/*.csv' incoming/ --parallel 4";
 
 pub const PUT: &str = "\
 FILE is - for standard input. A PATH that is empty or ends in / is a directory: each file goes into it by its own name, over a control
-connection of its own; one that fails does not stop the others, and the status is the worst. HOST, PATH, passwords, status, progress,
+connection of its own, or with --parallel N over N of them at once, as with get; one that fails does not stop the others, and the status is
+the worst. HOST, PATH, passwords, status, progress,
 --limit-rate, data connections and what is done where the control connection ends are as with get; an upload begins anew then. A file of
 more octets than --limit is refused, with status 1. Behind an upload in type I and file structure the server is asked for the size of what
 it has, where it tells that; where that is a part, or the data connection alone broke, it goes on there, by at most 16 tries in all, and is
@@ -192,7 +196,8 @@ Example:
 
 pub const RM: &str = "\
 By DELE, each file asked once, over a control connection of its own: where that ends before the reply, the file may be gone, and the status
-is 3. One that fails does not stop the others, and the status is the worst. HOST, PATH, passwords and status are as with get.
+is 3. One that fails does not stop the others, and the status is the worst. With --parallel N the files of one server are removed over N
+control connections at once, 8 at most; what is told is the same, in the same order. HOST, PATH, passwords and status are as with get.
 
 Example:
   ftp_tool rm 127.0.0.1:2121/a.txt 127.0.0.1:2121/b.txt";

@@ -18,7 +18,7 @@ mod task;
 mod words;
 
 pub use command_line::{Program, command, program_of};
-pub use fetching::{PLACE_OPTION, asked_of, fetch_task_of, get_task_of, is_matched};
+pub use fetching::{PLACE_OPTION, asked_of, each_got, fetch_task_of, get_task_of, is_matched};
 pub use laws::one_most;
 pub use mirroring::mirror_of;
 pub use pairing::settings_of;

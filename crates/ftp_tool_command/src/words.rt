@@ -285,8 +285,11 @@ pub fn timeout_in<'a>(matches: &'a ArgMatches<'_>) -> Result<u32, Refusal<'a>> {
     }
 }
 
-/// How many control connections there are at once.
+/// How many control connections there are at once, as `--parallel` says, and one where it is none of the options.
 pub fn at_once_in<'a>(matches: &'a ArgMatches<'_>) -> Result<u32, Refusal<'a>> {
+    if text_in(matches, "parallel").is_empty() {
+        return Ok(1);
+    }
     match number_in(matches, "parallel") {
         Some(count) => Ok(count),
         None => Err(Refusal::Number),

@@ -15,7 +15,7 @@ use std::io;
 use std::io::{Eprint, Error, Print, Write};
 
 /// The file that stands for standard output.
-const OUTPUT: &str = "-";
+pub(crate) const OUTPUT: &str = "-";
 
 /// What becomes of the octets of a download that is not whole.
 #[derive(Clone, Copy)]
@@ -369,7 +369,7 @@ fn tell_broken<R: Eprint>(rt: &R, came: &Came) -> io::Result<Status> {
 }
 
 /// Keeps the part with the octets that came where they are to be kept, tells where it is, and gives the status; else it is discarded.
-fn keep_part<R: LocalFiles + Eprint>(
+pub(crate) fn keep_part<R: LocalFiles + Eprint>(
     rt: &R,
     job: &Job<'_>,
     downloading: &Downloading<'_, R>,
@@ -412,7 +412,11 @@ fn kept<R: LocalFiles + Eprint>(
 }
 
 /// Removes the part, with its note.
-fn discard<R: LocalFiles + Eprint>(rt: &R, job: &Job<'_>, downloading: &Downloading<'_, R>) {
+pub(crate) fn discard<R: LocalFiles + Eprint>(
+    rt: &R,
+    job: &Job<'_>,
+    downloading: &Downloading<'_, R>,
+) {
     if let Some(part) = downloading.came().part() {
         let _gone = rt.discard_part(job.download.file, part);
     }

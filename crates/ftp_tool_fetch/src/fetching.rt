@@ -60,17 +60,29 @@ where
     R: Converses + Logins + LocalFiles + Input + Print + Eprint,
 {
     let mut noticed = LastReply::new();
+    let on = &lanes_for(asked, task);
     let done = match task {
-        Task::Get(download) => get(rt, alloc, asked, download, &mut noticed),
-        Task::GetMatching(download) => get_matching(rt, alloc, asked, download, &mut noticed),
-        Task::Put(file) => put(rt, alloc, asked, file, &mut noticed),
-        Task::List(lines) => list(rt, alloc, asked, lines, &mut noticed),
-        Task::Simple(simple) => do_simple(rt, alloc, asked, simple, &mut noticed),
-        Task::MakeDirectories => make_all(rt, alloc, asked, &mut noticed),
+        Task::Get(download) => get(rt, alloc, on, download, &mut noticed),
+        Task::GetMatching(download) => get_matching(rt, alloc, on, download, &mut noticed),
+        Task::Put(file) => put(rt, alloc, on, file, &mut noticed),
+        Task::List(lines) => list(rt, alloc, on, lines, &mut noticed),
+        Task::Simple(simple) => do_simple(rt, alloc, on, simple, &mut noticed),
+        Task::MakeDirectories => make_all(rt, alloc, on, &mut noticed),
     };
     match done {
         Ok(status) => Ok(status),
         Err(stop) => stop.tell(rt, asked.subject(file_of(task))),
+    }
+}
+
+/// What is asked of one file is asked over one control connection.
+fn lanes_for<'a>(asked: &Target<'a>, task: Task<'_>) -> Target<'a> {
+    match task {
+        Task::GetMatching(_) => *asked,
+        _ => Target {
+            at_once: 1,
+            ..*asked
+        },
     }
 }
 

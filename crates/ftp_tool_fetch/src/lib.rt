@@ -3,11 +3,16 @@
 #![tactic(auto)]
 
 mod download;
+mod each;
+mod errands;
 mod fetching;
+mod getting;
 mod listing;
 mod looking;
 mod matching;
 mod parents;
+mod putting;
+mod removing;
 mod running;
 mod simple;
 mod single;
@@ -15,6 +20,7 @@ mod target;
 mod upload;
 
 pub use download::{Download, Parts};
+pub use each::{Each, Pair, fetch_each};
 pub use fetching::{Task, fetch};
 pub use ftp_tool_connection::{Opening, Openings, ServerAddress};
 pub use listing::Lines;

@@ -1,8 +1,10 @@
 // The files of a directory whose names are of a pattern, one after another over one control connection.
 ghost use Rattle.std.specs.Prelude.{◌≡◌, ◌++◌};
 
-use crate::download::{Download, Job, Parts, leave, place_text, prepare, stamp_of, tell_unwritten};
+use crate::download::Download;
+use crate::errands::{Errands, Often, Waiting};
 use crate::fetching::says_unknown;
+use crate::getting::{Fetched, Getting};
 use crate::single::{Single, Wish};
 use crate::target::Target;
 use ftp_facts::Text;
@@ -15,8 +17,8 @@ use ftp_tool_listing::{Item, chosen_items, chosen_names, items_of_columns, items
 use ftp_tool_local::LocalFiles;
 use ftp_tool_shown::Shown;
 use ftp_tool_status::Status;
-use ftp_tool_transfer::{Downloading, tell};
-use ftp_tool_words::{Location, joined, last_part};
+use ftp_tool_transfer::tell;
+use ftp_tool_words::{joined, last_part};
 use std::alloc::{AllocError, Global};
 use std::io::{Eprint, Error, ErrorKind, Print};
 use std::vec::IntoIter;
@@ -44,7 +46,10 @@ where
             drop(answer);
             at(Phase::Report, finished)
         }
-        Err(stop) => Err(stop),
+        Err(stop) => {
+            matching.abandon();
+            Err(stop)
+        }
     }
 }
 
@@ -81,22 +86,50 @@ where
     Ok(Answer::Lost)
 }
 
-/// A file that is under way.
-struct Under<'a, R> {
-    name: String<Global>,
-    downloading: Downloading<'a, R>,
-    /// Whether nothing was asked of it yet.
-    is_new: bool,
+/// The names that a pattern chose of a directory, which are still to come.
+struct Names<'a, R> {
+    rt: &'a R,
+    getting: Getting<'a>,
+    dir: &'a str,
+    /// Where the files go.
+    folder: String<Global>,
+    names: IntoIter<Text<Global>, Global>,
 }
 
 /// By hand: a derived drop is proved again, part by part, wherever one is let go.
-impl<'a, R> Drop for Under<'a, R> {
+impl<'a, R> Drop for Names<'a, R> {
     fn drop(self) {
         let Self {
-            name: _,
-            downloading: _,
-            is_new: _,
+            rt: _,
+            getting: _,
+            dir: _,
+            folder: _,
+            names: _,
         } = self;
+    }
+}
+
+impl<'a, R: LocalFiles + Print + Eprint> Waiting<Fetched<'a, R>> for Names<'a, R> {
+    fn next(&mut self) -> io::Result<Option<Fetched<'a, R>>> {
+        match self.names.next() {
+            Some(name) => Ok(Some(self.fetched(name.as_slice())?)),
+            None => Ok(None),
+        }
+    }
+}
+
+impl<'a, R: LocalFiles + Print + Eprint> Names<'a, R> {
+    /// The file of a name.
+    fn fetched(&self, name: &[u8]) -> io::Result<Fetched<'a, R>> {
+        let Ok(text) = str::from_utf8(name) else {
+            return Err(Error::new(ErrorKind::InvalidData, "a name is no text (UTF-8)"));
+        };
+        let alloc = self.getting.alloc;
+        let mut path = String::from_str(alloc, self.dir)?;
+        path.push_str(text)?;
+        let file = joined(alloc, self.folder.as_str(), text)?;
+        let shown = format!(in alloc; "{}", Shown(name))?;
+        Fetched::new(self.rt, self.getting, path, file, Some(shown.as_str()))
     }
 }
 
@@ -107,18 +140,11 @@ struct Matching<'a, R> {
     asked: Target<'a>,
     /// Where the files go.
     folder: String<Global>,
-    parts: Parts,
-    /// Whether the last change of a file is to be at the server's moment of it.
-    moment: bool,
+    getting: Getting<'a>,
     dir: &'a str,
     pattern: &'a str,
-    /// The names that are still to come, once the directory is listed.
-    names: Option<IntoIter<Text<Global>, Global>>,
-    /// What was under way when a control connection ended.
-    cut: Option<Under<'a, R>>,
-    /// How many files were taken up.
-    taken: u64,
-    worst: Status,
+    /// The files, once the directory is listed.
+    files: Option<Errands<'a, R, Fetched<'a, R>, Names<'a, R>>>,
 }
 
 /// By hand: a derived drop is proved again, part by part, wherever one is let go.
@@ -129,14 +155,10 @@ impl<'a, R> Drop for Matching<'a, R> {
             alloc: _,
             asked: _,
             folder: _,
-            parts: _,
-            moment: _,
+            getting: _,
             dir: _,
             pattern: _,
-            names: _,
-            cut: _,
-            taken: _,
-            worst: _,
+            files: _,
         } = self;
     }
 }
@@ -156,24 +178,24 @@ impl<'a, R: LocalFiles + Print + Eprint> Matching<'a, R> {
             alloc,
             asked: *asked,
             folder,
-            parts: download.parts,
-            moment: download.moment,
+            getting: Getting {
+                alloc,
+                asked: *asked,
+                parts: download.parts,
+                moment: download.moment,
+            },
             dir,
             pattern,
-            names: None,
-            cut: None,
-            taken: 0,
-            worst: Status::Done,
+            files: None,
         })
     }
 
-    /// How far it got: how many files were taken up, and how many octets came of the one under way.
+    /// How far it got: how many files had their turn, and how many octets came of the one that has it.
     fn reach(&self) -> (u64, u64) {
-        let came = match &self.cut {
-            Some(under) => under.downloading.came().count(),
-            None => 0,
-        };
-        (self.taken, came)
+        match &self.files {
+            Some(files) => files.reach(),
+            None => (0, 0),
+        }
     }
 
     /// Lists the directory, once; gives the answer of the server where that is no listing.
@@ -181,17 +203,30 @@ impl<'a, R: LocalFiles + Print + Eprint> Matching<'a, R> {
         &mut self,
         seat: &mut S,
     ) -> Result<Option<Answer<Global>>, AllocError> {
-        if self.names.is_some() {
+        if self.files.is_some() {
             return Ok(None);
         }
         let answer = self.listed(seat)?;
         match self.chosen(&answer)? {
             Some(names) => {
-                self.names = Some(names.into_iter());
+                self.take_up(names)?;
                 Ok(None)
             }
             None => Ok(Some(answer)),
         }
+    }
+
+    /// These are fetched.
+    fn take_up(&mut self, names: Vec<Text<Global>, Global>) -> Result<(), AllocError> {
+        let waiting = Names {
+            rt: self.rt,
+            getting: self.getting,
+            dir: self.dir,
+            folder: self.folder.clone()?,
+            names: names.into_iter(),
+        };
+        self.files = Some(Errands::new(self.rt, self.alloc, waiting, "copied", Often::On));
+        Ok(())
     }
 
     /// The entries of the directory, or its names where the server has no machine listing.
@@ -241,168 +276,30 @@ impl<'a, R: LocalFiles + Print + Eprint> Matching<'a, R> {
         }
     }
 
-    /// What is fetched next: what was cut off, or the next file, of which nothing was asked yet.
-    fn next(&mut self) -> io::Result<Option<Under<'a, R>>> {
-        if let Some(under) = self.cut.take() {
-            return Ok(Some(under));
+    /// What was taken up ahead leaves nothing at this end.
+    fn abandon(&mut self) {
+        if let Some(files) = &mut self.files {
+            files.abandon();
         }
-        match self.next_name() {
-            Some(name) => Ok(Some(self.begin(name.as_slice())?)),
-            None => Ok(None),
-        }
-    }
-
-    fn next_name(&mut self) -> Option<Text<Global>> {
-        match &mut self.names {
-            Some(names) => names.next(),
-            None => None,
-        }
-    }
-
-    /// Takes up a file.
-    fn begin(&mut self, name: &[u8]) -> io::Result<Under<'a, R>> {
-        self.taken = self.taken.saturating_add(1);
-        let Ok(text) = str::from_utf8(name) else {
-            return Err(Error::new(ErrorKind::InvalidData, "a name is no text (UTF-8)"));
-        };
-        let name = String::from_str(self.alloc, text)?;
-        let there = self.there(text)?;
-        let how = self.asked.how;
-        let mut downloading = Downloading::new(
-            self.rt,
-            self.alloc,
-            there.as_str(),
-            how,
-            self.asked.openings,
-        )?;
-        downloading.put_terms(self.asked.limit, stamp_of(how, self.moment));
-        let shown = format!(in self.alloc; "{}", Shown(name.as_bytes()))?;
-        downloading.name_as(shown.as_str())?;
-        Ok(Under {
-            name,
-            downloading,
-            is_new: true,
-        })
-    }
-
-    /// The path of a file at the server.
-    fn there(&self, name: &str) -> io::Result<String<Global>> {
-        let mut path = String::from_str(self.alloc, self.dir)?;
-        path.push_str(name)?;
-        Ok(path)
-    }
-
-    /// Fetches a file; gives what the server answered last.
-    fn fetch<S: ClientSession>(
-        &mut self,
-        seat: &mut S,
-        under: Under<'a, R>,
-    ) -> io::Result<Answer<Global>> {
-        let mut under = under;
-        if let Err(error) = self.take_up(&mut under) {
-            self.refuse(&under, error)?;
-            return Ok(Answer::Done);
-        }
-        let answer = under.downloading.answer(seat);
-        if matches!(&answer, Answer::Lost) && !under.downloading.is_spent() {
-            self.cut = Some(under);
-            return Ok(answer);
-        }
-        self.leave(&under, &answer, &LastReply::new())?;
-        Ok(answer)
-    }
-
-    /// Makes the part of a file of which nothing was asked yet, or takes up one that is kept.
-    fn take_up(&self, under: &mut Under<'a, R>) -> io::Result<()> {
-        if !under.is_new {
-            return Ok(());
-        }
-        under.is_new = false;
-        let file = joined(self.alloc, self.folder.as_str(), under.name.as_str())?;
-        let there = self.there(under.name.as_str())?;
-        let job = Job {
-            alloc: self.alloc,
-            download: self.download_into(file.as_str()),
-            place: place_text(self.alloc, &self.asked_at(there.as_str()))?,
-        };
-        prepare(self.rt, &job, &mut under.downloading)
-    }
-
-    /// Tells why a file can't be written here.
-    fn refuse(&mut self, under: &Under<'a, R>, error: Error) -> io::Result<()> {
-        let file = joined(self.alloc, self.folder.as_str(), under.name.as_str())?;
-        let there = self.there(under.name.as_str())?;
-        let status = tell_unwritten(
-            self.rt,
-            &self.asked_at(there.as_str()),
-            file.as_str(),
-            error,
-        )?;
-        self.worst = self.worst.worse(status);
-        self.tell_undone(status, there.as_str())
-    }
-
-    /// Leaves at this end what came of a file, as the server answered.
-    fn leave(
-        &mut self,
-        under: &Under<'a, R>,
-        answer: &Answer<Global>,
-        noticed: &LastReply,
-    ) -> io::Result<()> {
-        let file = joined(self.alloc, self.folder.as_str(), under.name.as_str())?;
-        let there = self.there(under.name.as_str())?;
-        let asked = self.asked_at(there.as_str());
-        let job = Job {
-            alloc: self.alloc,
-            download: self.download_into(file.as_str()),
-            place: place_text(self.alloc, &asked)?,
-        };
-        let status = leave(self.rt, &asked, &job, answer, &under.downloading, noticed)?;
-        self.worst = self.worst.worse(status);
-        self.tell_undone(status, there.as_str())
-    }
-
-    /// The download into this file.
-    fn download_into<'b>(&self, file: &'b str) -> Download<'b> {
-        Download {
-            file,
-            parts: self.parts,
-            moment: self.moment,
-        }
-    }
-
-    /// What is asked of a file at this path.
-    fn asked_at<'b>(&self, path: &'b str) -> Target<'b>
-    where
-        'a: 'b,
-    {
-        Target {
-            place: Location {
-                path,
-                ..self.asked.place
-            },
-            ..self.asked
-        }
-    }
-
-    /// Tells which file was not fetched, as its sentence does not say.
-    fn tell_undone(&self, status: Status, path: &str) -> io::Result<()> {
-        if status != Status::Done {
-            let path = Shown(path.as_bytes());
-            eprintln!(self.rt; "note: not copied: {path}")?;
-        }
-        Ok(())
     }
 
     /// Tells why not all was done, and gives the exit status.
     fn finish(&mut self, answer: &Answer<Global>, noticed: &LastReply) -> io::Result<Status> {
-        if let Some(under) = self.cut.take() {
-            self.leave(&under, answer, noticed)?;
-            return Ok(self.worst);
-        }
+        let (taken, worst) = match &mut self.files {
+            Some(files) => {
+                if files.is_cut() {
+                    files.give_up(answer, noticed)?;
+                    files.abandon();
+                    return Ok(files.worst());
+                }
+                files.abandon();
+                (files.reach().0, files.worst())
+            }
+            None => (0, Status::Done),
+        };
         let path = self.asked.place.path;
         match answer {
-            Answer::Done if self.taken > 0 => Ok(self.worst),
+            Answer::Done if taken > 0 => Ok(worst),
             Answer::Done => told(
                 self.rt,
                 "error: ",
@@ -412,26 +309,9 @@ impl<'a, R: LocalFiles + Print + Eprint> Matching<'a, R> {
             ),
             _ => {
                 let stranger = self.asked.stranger();
-                Ok(tell(self.rt, path, stranger, answer, noticed)?.worse(self.worst))
+                Ok(tell(self.rt, path, stranger, answer, noticed)?.worse(worst))
             }
         }
-    }
-
-    /// Fetches file after file.
-    fn fetch_all<S: ClientSession>(
-        &mut self,
-        seat: &mut S,
-    ) -> Result<Answer<Global>, SessionFault> {
-        for _ in 0..u64::MAX {
-            let Some(under) = at(Phase::Asking, self.next())? else {
-                return Ok(Answer::Done);
-            };
-            let answer = at(Phase::Report, self.fetch(seat, under))?;
-            if matches!(&answer, Answer::Lost) {
-                return Ok(answer);
-            }
-        }
-        Ok(Answer::Lost)
     }
 }
 
@@ -441,7 +321,10 @@ where
 {
     fn play<S: ClientSession>(&mut self, seat: &mut S) -> Result<Answer<Global>, SessionFault> {
         match self.list(seat) {
-            Ok(None) => self.fetch_all(seat),
+            Ok(None) => match &mut self.files {
+                Some(files) => files.play(seat),
+                None => Ok(Answer::Done),
+            },
             Ok(Some(answer)) if seat.ending() == Ending::PastLimit => {
                 drop(answer);
                 at(

@@ -19,6 +19,8 @@ pub struct Target<'a> {
     pub rate: u64,
     /// The most octets of a file; of one that is held in memory 1 GiB, where this is the most that a number can be.
     pub limit: u64,
+    /// How many control connections there are at once, where several files are asked for.
+    pub at_once: u32,
 }
 
 impl<'a> Target<'a> {
@@ -30,7 +32,18 @@ impl<'a> Target<'a> {
             timeout: self.timeout,
             progress: self.progress,
             rate: self.rate,
-            at_once: 1,
+            at_once: self.at_once,
+        }
+    }
+
+    /// The same at another path of the server.
+    pub(crate) fn at<'b>(&self, path: &'b str) -> Target<'b>
+    where
+        'a: 'b,
+    {
+        Target {
+            place: Location { path, ..self.place },
+            ..*self
         }
     }
 

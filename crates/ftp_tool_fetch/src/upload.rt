@@ -8,6 +8,7 @@ use ftp_tool_transfer::{Source, Uploading, limit_held, tell_too_large};
 use std::alloc::Global;
 use std::io;
 use std::io::Eprint;
+use std::time::SystemTime;
 
 /// The file that stands for standard input.
 const INPUT: &str = "-";
@@ -23,12 +24,15 @@ pub(crate) fn put<R>(
 where
     R: Converses + Logins + LocalFiles + Input + Eprint,
 {
-    let source = match at(Phase::Reading, source_of(rt, alloc, file, asked.limit))? {
-        Ok(source) => source,
+    let mut loaded = match at(Phase::Reading, load(rt, alloc, file, asked.limit))? {
+        Ok(loaded) => loaded,
         Err(TooLarge { size, limit }) => return at(
             Phase::Report,
             tell_too_large(rt, file, size, limit),
         ),
+    };
+    let Some(source) = loaded.take_source() else {
+        return Ok(Status::Failed);
     };
     let path = asked.place.path;
     let mut uploading = Uploading::new(rt, alloc, source, path, asked.how, asked.openings);
@@ -37,31 +41,58 @@ where
 
 /// What is not uploaded: it has more octets than may be.
 #[derive(Clone, Copy)]
-struct TooLarge {
-    size: u64,
-    limit: u64,
+pub(crate) struct TooLarge {
+    pub(crate) size: u64,
+    pub(crate) limit: u64,
+}
+
+/// What is uploaded.
+pub(crate) struct Loaded<'a> {
+    source: Option<Source<'a>>,
+    /// How many octets a file has, and when it was changed last, where that is known; nothing of what is held in memory.
+    pub(crate) seen: Option<(u64, Option<SystemTime>)>,
+}
+
+/// By hand: a derived drop is proved again, part by part, wherever octets are let go.
+impl<'a> Drop for Loaded<'a> {
+    fn drop(self) {
+        let Self { source: _, seen: _ } = self;
+    }
+}
+
+impl<'a> Loaded<'a> {
+    /// Its octets, once.
+    pub(crate) fn take_source(&mut self) -> Option<Source<'a>> {
+        self.source.take()
+    }
 }
 
 /// What is to be uploaded: a file is read as it goes; what comes of standard input, or is no file of a known size, is held in memory.
-fn source_of<'a, R: LocalFiles + Input>(
+pub(crate) fn load<'a, R: LocalFiles + Input>(
     rt: &R,
     alloc: Global,
     file: &'a str,
     limit: u64,
-) -> io::Result<Result<Source<'a>, TooLarge>> {
+) -> io::Result<Result<Loaded<'a>, TooLarge>> {
     if file != INPUT {
         if let Some(opened) = rt.open_source(file, 0)? {
             let size = opened.total;
             return Ok(if size > limit {
                 Err(TooLarge { size, limit })
             } else {
-                Ok(Source::file(file, opened))
+                Ok(Loaded {
+                    seen: Some((size, opened.changed)),
+                    source: Some(Source::file(file, opened)),
+                })
             });
         }
     }
     let limit = limit_held(limit);
     match read(rt, alloc, file, limit)? {
-        Reading::Content(content) => Ok(Ok(Source::Kept(content.octets))),
+        Reading::Content(content) => Ok(Ok(Loaded {
+            source: Some(Source::Kept(content.octets)),
+            seen: None,
+        })),
         Reading::TooLarge(size) => Ok(Err(TooLarge { size, limit })),
     }
 }

@@ -1,0 +1,204 @@
+// A file that is one of several which are sent.
+use crate::errands::Errand;
+use crate::target::Target;
+use crate::upload::{Loaded, TooLarge, load};
+use ftp_operation::Answer;
+use ftp_tool_connection::{ClientSession, LastReply, Phase, SessionFault, SessionTask, at};
+use ftp_tool_local::LocalFiles;
+use ftp_tool_status::Status;
+use ftp_tool_transfer::{Sending, Uploading, tell_too_large};
+use std::alloc::Global;
+use std::io;
+use std::io::Eprint;
+
+/// How files are sent.
+#[derive(Clone, Copy)]
+pub(crate) struct Putting<'a> {
+    pub(crate) alloc: Global,
+    /// What is asked, but for the path of a file.
+    pub(crate) asked: Target<'a>,
+}
+
+/// What is at hand of a file that is sent.
+enum Hand<'a, R> {
+    /// It was not opened yet.
+    Nothing,
+    Upload(Uploading<'a, R>),
+    /// It has more octets than may be.
+    TooLarge(TooLarge),
+    /// It can't be read.
+    Unread(SessionFault),
+}
+
+/// By hand: a derived drop is proved again, part by part, wherever one is let go.
+impl<'a, R> Drop for Hand<'a, R> {
+    fn drop(self) {
+        match self {
+            Hand::Nothing | Hand::TooLarge(_) | Hand::Unread(_) => {}
+            Hand::Upload(_) => {}
+        }
+    }
+}
+
+/// A file that is one of several which are sent.
+pub(crate) struct Sent<'a, R> {
+    rt: &'a R,
+    putting: Putting<'a>,
+    file: &'a str,
+    path: &'a str,
+    hand: Hand<'a, R>,
+    /// The file as it was opened, where it is asked ahead.
+    sending: Option<Sending<'a>>,
+    is_ahead: bool,
+}
+
+/// By hand, as above.
+impl<'a, R> Drop for Sent<'a, R> {
+    fn drop(self) {
+        let Self {
+            rt: _,
+            putting: _,
+            file: _,
+            path: _,
+            hand: _,
+            sending: _,
+            is_ahead: _,
+        } = self;
+    }
+}
+
+impl<'a, R: LocalFiles + Input + Eprint> Sent<'a, R> {
+    /// The file of this end, which goes to a path of the server; nothing was asked of it yet.
+    pub(crate) fn new(
+        rt: &'a R,
+        putting: Putting<'a>,
+        file: &'a str,
+        path: &'a str,
+    ) -> Sent<'a, R> {
+        Sent {
+            rt,
+            putting,
+            file,
+            path,
+            hand: Hand::Nothing,
+            sending: None,
+            is_ahead: false,
+        }
+    }
+
+    /// Opens a file of which nothing was asked yet.
+    fn take_up(&mut self) {
+        if !matches!(&self.hand, Hand::Nothing) {
+            return;
+        }
+        let Putting { alloc, asked } = self.putting;
+        self.hand = match at(Phase::Reading, load(self.rt, alloc, self.file, asked.limit)) {
+            Ok(Ok(loaded)) => self.uploading(loaded),
+            Ok(Err(large)) => Hand::TooLarge(large),
+            Err(stop) => Hand::Unread(stop),
+        };
+    }
+
+    /// The upload of a file that is at hand.
+    fn uploading(&mut self, loaded: Loaded<'a>) -> Hand<'a, R> {
+        let Putting { alloc, asked } = self.putting;
+        let mut loaded = loaded;
+        self.sending = match loaded.seen {
+            Some((total, changed)) => Some(Sending {
+                file: self.file,
+                total,
+                changed,
+                path: self.path,
+                how: asked.how,
+                openings: asked.openings,
+            }),
+            None => None,
+        };
+        match loaded.take_source() {
+            Some(source) => Hand::Upload(Uploading::new(
+                self.rt,
+                alloc,
+                source,
+                self.path,
+                asked.how,
+                asked.openings,
+            )),
+            None => Hand::Nothing,
+        }
+    }
+
+    fn asked(&self) -> Target<'a> {
+        self.putting.asked
+    }
+}
+
+impl<'a, R: LocalFiles + Input + Eprint> Errand for Sent<'a, R> {
+    fn foresee<S: ClientSession>(&mut self, seat: &mut S) {
+        if self.is_ahead {
+            return;
+        }
+        self.take_up();
+        if let Some(sending) = self.sending {
+            let foreseen = sending.foresee(self.rt, self.putting.alloc, seat);
+            self.is_ahead = foreseen.unwrap_or(false);
+        }
+    }
+
+    fn is_ahead(&self) -> bool {
+        self.is_ahead
+    }
+
+    fn forget(&mut self) {
+        self.is_ahead = false;
+    }
+
+    fn ask<S: ClientSession>(&mut self, seat: &mut S) -> Result<Answer<Global>, SessionFault> {
+        self.take_up();
+        self.is_ahead = false;
+        self.sending = None;
+        match &mut self.hand {
+            Hand::Upload(uploading) => uploading.play(seat),
+            Hand::Unread(stop) => Err(*stop),
+            Hand::Nothing | Hand::TooLarge(_) => Ok(Answer::Done),
+        }
+    }
+
+    fn reach(&self) -> u64 {
+        0
+    }
+
+    fn goes_on(&self) -> bool {
+        matches!(&self.hand, Hand::Upload(_))
+    }
+
+    fn leave(&mut self, answer: &Answer<Global>, noticed: &LastReply) -> io::Result<Status> {
+        self.take_up();
+        let (rt, file) = (self.rt, self.file);
+        let asked = self.asked();
+        let subject = asked.subject(file);
+        match &self.hand {
+            Hand::Upload(uploading) => uploading.finish(answer, noticed),
+            Hand::TooLarge(large) => tell_too_large(rt, file, large.size, large.limit),
+            Hand::Unread(stop) => stop.tell(rt, subject),
+            Hand::Nothing => Ok(Status::Failed),
+        }
+    }
+
+    fn stop(&mut self, stop: SessionFault) -> io::Result<Status> {
+        self.take_up();
+        let (rt, file) = (self.rt, self.file);
+        let asked = self.asked();
+        let subject = asked.subject(file);
+        match &self.hand {
+            Hand::TooLarge(large) => tell_too_large(rt, file, large.size, large.limit),
+            Hand::Unread(stop) => stop.tell(rt, subject),
+            Hand::Nothing | Hand::Upload(_) => stop.tell(rt, subject),
+        }
+    }
+
+    fn abandon(&mut self) {}
+
+    fn name(&self) -> &str {
+        self.file
+    }
+}
