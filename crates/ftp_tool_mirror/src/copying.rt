@@ -1,16 +1,16 @@
-// One file that is copied, one way or the other.
+// One file that is copied to this machine.
 use crate::asked::Mirror;
 use crate::folder::facts_here;
 use crate::telling::shown;
 use crate::trouble::Trouble;
-use ftp_facts::{Moment, Text};
-use ftp_operation::{Answer, How, Op};
+use ftp_facts::Moment;
+use ftp_operation::{Answer, Op};
 use ftp_tool_connection::{ClientSession, Request};
 use ftp_tool_listing::Facts;
-use ftp_tool_local::{Content, LocalFiles, Reading};
+use ftp_tool_local::{LocalFiles, Reading};
 use ftp_tool_places::Places;
 use ftp_tool_status::Arrival;
-use ftp_tool_transfer::{Came, Downloading, Stamp, limit_held};
+use ftp_tool_transfer::{Came, Downloading, Stamp};
 use std::alloc::{AllocError, Global};
 use std::io::Eprint;
 
@@ -46,7 +46,7 @@ pub(crate) fn discard<R: Places + LocalFiles + Eprint>(
 }
 
 /// The moment of a file, where it is known.
-fn moment_of(facts: Facts) -> Option<Moment> {
+pub(crate) fn moment_of(facts: Facts) -> Option<Moment> {
     Moment::new(facts.moment?)
 }
 
@@ -162,105 +162,5 @@ pub(crate) fn is_same<R: Places>(
     match rt.read_below(mirror.folder, below, came.count())? {
         Reading::Content(content) => Ok(came.is(content.octets.as_slice())),
         Reading::TooLarge(_) => Ok(false),
-    }
-}
-
-/// Uploads a file to a place below the directory of the server, over breaks; the server has to have its size then. Gives how many octets it has.
-pub(crate) fn copy_up<R, S>(
-    rt: &R,
-    alloc: Global,
-    seat: &mut S,
-    mirror: &Mirror<'_>,
-    below: &str,
-    to: &str,
-) -> Result<u64, Trouble>
-where
-    R: Places,
-    S: ClientSession,
-{
-    let count = uploaded(rt, alloc, seat, mirror, below, to)?;
-    check_size(seat, mirror.path(alloc, to)?, mirror.how, count)?;
-    Ok(count)
-}
-
-/// The octets of a file here.
-pub(crate) fn octets_of<R: Places>(
-    rt: &R,
-    mirror: &Mirror<'_>,
-    below: &str,
-) -> Result<Text<Global>, Trouble> {
-    let limit = limit_held(mirror.limit);
-    match rt.read_below(mirror.folder, below, limit)? {
-        Reading::Content(Content { octets, changed: _ }) => Ok(Text::from_vec(octets)),
-        Reading::TooLarge(size) => Err(Trouble::TooLarge(size, limit)),
-    }
-}
-
-/// Uploads a file, and gives how many octets it has. Where the server does not know how the data connection is asked for, the file is read once more, and the
-/// same is asked for otherwise.
-fn uploaded<R, S>(
-    rt: &R,
-    alloc: Global,
-    seat: &mut S,
-    mirror: &Mirror<'_>,
-    below: &str,
-    to: &str,
-) -> Result<u64, Trouble>
-where
-    R: Places,
-    S: ClientSession,
-{
-    let opened = seat.opened();
-    let (answer, count) = upload(rt, alloc, seat, mirror, below, to)?;
-    if !mirror.openings.hear(&answer, seat.opened() > opened) {
-        return done(&answer, count);
-    }
-    drop(answer);
-    let (answer, count) = upload(rt, alloc, seat, mirror, below, to)?;
-    done(&answer, count)
-}
-
-/// What the server answers to an upload of a file, and how many octets that has.
-fn upload<R, S>(
-    rt: &R,
-    alloc: Global,
-    seat: &mut S,
-    mirror: &Mirror<'_>,
-    below: &str,
-    to: &str,
-) -> Result<(Answer<Global>, u64), Trouble>
-where
-    R: Places,
-    S: ClientSession,
-{
-    let octets = octets_of(rt, mirror, below)?;
-    let count = octets.as_slice().len() as u64;
-    let path = mirror.path(alloc, to)?;
-    let how = mirror.openings.how(mirror.how);
-    Ok((
-        seat.answer(Request::Upload(Some((path, octets)), how)),
-        count,
-    ))
-}
-
-/// So many octets, where the answer is that they are done.
-fn done(answer: &Answer<Global>, count: u64) -> Result<u64, Trouble> {
-    match answer {
-        Answer::Done => Ok(count),
-        _ => Err(Trouble::of(answer)),
-    }
-}
-
-/// Fails where the server tells another size of a file than so many octets (RFC 3659, section 4).
-fn check_size<S: ClientSession>(
-    seat: &mut S,
-    path: Text<Global>,
-    how: How,
-    count: u64,
-) -> Result<(), Trouble> {
-    match &seat.answer(Request::One(Some(Op::Size(path, how)))) {
-        Answer::Number(total) if *total != count => Err(Trouble::Size(count, *total)),
-        Answer::Lost => Err(Trouble::Lost),
-        _ => Ok(()),
     }
 }

@@ -59,7 +59,7 @@ impl<'a, R: Machine> Walk<'a, R> {
         let mut downloading = match self.cut.take() {
             Some(cut) => cut.into_downloading(),
             None => {
-                let limit = self.limit_over(seat, to);
+                let limit = self.limit_to(to);
                 begun(self.rt, self.alloc, self.mirror, below, facts, limit, to)?
             }
         };
@@ -76,12 +76,11 @@ impl<'a, R: Machine> Walk<'a, R> {
         }
     }
 
-    /// The most octets of a download: what goes to no part is held in memory, and so is what comes over several control connections.
-    fn limit_over<S: ClientSession>(&self, seat: &S, to: Option<&str>) -> u64 {
-        if to.is_none() || seat.ahead() > 0 {
-            limit_held(self.mirror.limit)
-        } else {
-            self.mirror.limit
+    /// The most octets of a download: what goes to no part is held in memory.
+    fn limit_to(&self, to: Option<&str>) -> u64 {
+        match to {
+            Some(_) => self.mirror.limit,
+            None => limit_held(self.mirror.limit),
         }
     }
 

@@ -1,7 +1,8 @@
 // What will be asked of a server for what waits to be done.
 use crate::asked::{Doing, Mirror};
-use crate::copying::octets_of;
+use crate::copying::moment_of;
 use crate::folder::facts_here;
+use crate::sending::{octets_of, size_request};
 use crate::server::listing_request;
 use crate::todo::{Chore, Work};
 use crate::trouble::Trouble;
@@ -10,14 +11,14 @@ use ftp_operation::Op;
 use ftp_tool_connection::{ClientSession, Request, Terms};
 use ftp_tool_listing::{Deed, Facts, Way};
 use ftp_tool_places::Places;
-use ftp_tool_transfer::limit_held;
+use ftp_tool_transfer::{download_row, limit_held};
 use std::alloc::{AllocError, Global};
 
 /// The most octets of a file that is asked ahead, since it is held in memory until its turn.
 const AHEAD: u64 = 67_108_864;
 
-/// Tells what will surely be asked of the server for this, where it can be asked ahead: the octets of a file that is fetched, those of one that is sent, or
-/// the entries of a directory that is gone into; nothing of what depends on more than is known now.
+/// Tells what will surely be asked of the server for this, where it can be asked ahead: the octets of a file that is fetched, those of one that is sent, with
+/// the questions for size and moment beside them, or the entries of a directory that is gone into; nothing of what depends on more than is known now.
 pub(crate) fn foresee<R, S>(rt: &R, alloc: Global, seat: &mut S, mirror: &Mirror<'_>, work: &Work)
 where
     R: Places,
@@ -29,12 +30,55 @@ where
     if !seat.takes(&asked) {
         return;
     }
-    let whole = match &asked {
-        Request::Upload(_, _) => upload_request(rt, alloc, mirror, work.below.as_str()),
-        _ => Ok(asked),
-    };
-    if let Ok(request) = whole {
-        seat.foresee(request);
+    if let Ok(requests) = row_of(rt, alloc, mirror, work, asked) {
+        seat.foresee_row(requests);
+    }
+}
+
+/// What is asked one directly behind another where this is asked first, beside which of a download the server may be asked for facts.
+fn row_of<R: Places>(
+    rt: &R,
+    alloc: Global,
+    mirror: &Mirror<'_>,
+    work: &Work,
+    asked: Request,
+) -> Result<Vec<Request, Global>, Trouble> {
+    let below = work.below.as_str();
+    match &asked {
+        Request::Download(_, _) => {
+            let there = mirror.there(alloc, below)?;
+            let is_listed = is_listed(work.chore);
+            Ok(download_row(alloc, there.as_str(), mirror.how, asked, is_listed)?)
+        }
+        Request::Upload(_, _) => {
+            drop(asked);
+            upload_row(rt, alloc, mirror, below)
+        }
+        _ => Ok(row_from(alloc, asked, None)?),
+    }
+}
+
+/// One thing, and perhaps another behind it.
+fn row_from(
+    alloc: Global,
+    first: Request,
+    next: Option<Request>,
+) -> Result<Vec<Request, Global>, AllocError> {
+    let mut row = Vec::new(alloc);
+    row.push(first)?;
+    if let Some(next) = next {
+        row.push(next)?;
+    }
+    Ok(row)
+}
+
+/// Whether a file is listed with its size and its moment, which are not asked for then before its first try.
+fn is_listed(chore: Chore) -> bool {
+    match chore {
+        Chore::Deed(Deed::Copy(facts) | Deed::Compare(facts)) => {
+            facts.size.is_some() && moment_of(facts).is_some()
+        }
+        _ => false,
     }
 }
 
@@ -135,13 +179,15 @@ fn sending(
     Ok(Request::Upload(Some((path, octets)), how))
 }
 
-/// What sends the octets of the file here.
-fn upload_request<R: Places>(
+/// What sends the octets of the file here, and then asks how many the server has.
+fn upload_row<R: Places>(
     rt: &R,
     alloc: Global,
     mirror: &Mirror<'_>,
     below: &str,
-) -> Result<Request, Trouble> {
+) -> Result<Vec<Request, Global>, Trouble> {
     let octets = octets_of(rt, mirror, below)?;
-    Ok(sending(alloc, mirror, below, octets)?)
+    let sent = sending(alloc, mirror, below, octets)?;
+    let size = size_request(alloc, mirror, below)?;
+    Ok(row_from(alloc, sent, Some(size))?)
 }

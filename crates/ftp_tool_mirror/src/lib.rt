@@ -12,6 +12,7 @@ mod machine;
 mod mirroring;
 mod removals;
 mod replacing;
+mod sending;
 mod sentence;
 mod server;
 mod tally;
@@ -19,6 +20,7 @@ mod telling;
 mod todo;
 mod told;
 mod trouble;
+mod unlisted;
 mod walk;
 
 pub use asked::{Deeds, Doing, Mirror};

@@ -49,6 +49,9 @@ pub(crate) fn sentence_of(trouble: Trouble) -> Sentence {
         Trouble::Size(came, total) => {
             Sentence::Between(came, " octets went, and the server tells a size of ", total)
         }
+        Trouble::Vanished => {
+            Sentence::Plain("the server says that it is done, and then that there is no such file")
+        }
         Trouble::TooLarge(size, limit) => Sentence::Between(
             size,
             " octets are past the limit of ",

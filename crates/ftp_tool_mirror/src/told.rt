@@ -1,15 +1,21 @@
 // What stands in a directory of a server, by its listing as text.
+ghost use Rattle.std.specs.Prelude.{◌≡◌};
+ghost use Rattle.ftp_tool_mirror.specs.Copying.{asks_moment};
+
 use crate::asked::Mirror;
 use crate::folder::put_item;
 use crate::trouble::Trouble;
 use ftp_facts::Text;
 use ftp_operation::{Answer, ListVerb, Op};
 use ftp_tool_connection::{ClientSession, MOST_ENTRIES, Request};
-use ftp_tool_listing::{Facts, Item, Kind, Listing, is_name, items_of_columns, items_of_facts};
+use ftp_tool_listing::{
+    Facts, Item, Kind, Listing, Way, is_name, items_of_columns, items_of_facts,
+};
 use ftp_tool_words::joined;
 use std::alloc::{AllocError, Global};
 
-/// What stands in a directory, which is called `below` in the tree, by this text. Of a file whose size or moment LIST does not tell these are asked for.
+/// What stands in a directory, which is called `below` in the tree, by this text. Of a file that LIST tells its size and its moment are asked for, where LIST
+/// does not tell them well enough.
 pub(crate) fn told_there<S: ClientSession>(
     alloc: Global,
     seat: &mut S,
@@ -54,7 +60,7 @@ fn kept(
     Ok(items)
 }
 
-/// Asks for what is not told of files.
+/// Asks for what is not told of files; with several control connections of the next ones ahead.
 fn ask_facts<S: ClientSession>(
     alloc: Global,
     seat: &mut S,
@@ -62,12 +68,62 @@ fn ask_facts<S: ClientSession>(
     below: &str,
     items: &mut Vec<Item<Global>, Global>,
 ) -> Result<(), Trouble> {
-    for item in items.iter_mut() {
+    for place in 0..items.len() {
+        let (_, coming) = items.as_slice().split_at(place.min(items.len()));
+        foresee_moments(alloc, seat, mirror, below, coming)?;
+        let Some(item) = items.get_mut(place) else {
+            return Ok(());
+        };
         if let Kind::File(facts) = item.kind {
             item.kind = Kind::File(facts_asked(alloc, seat, mirror, below, item, facts)?);
         }
     }
     Ok(())
+}
+
+/// Tells of which of the next files the moment will be asked for.
+fn foresee_moments<S: ClientSession>(
+    alloc: Global,
+    seat: &mut S,
+    mirror: &Mirror<'_>,
+    below: &str,
+    coming: &[Item<Global>],
+) -> Result<(), AllocError> {
+    for item in coming.iter().take(seat.ahead()) {
+        let Kind::File(facts) = item.kind else {
+            continue;
+        };
+        let (Some(name), true) = (
+            asked_name(item),
+            asks_moment(mirror.rules.way, facts.moment),
+        ) else {
+            continue;
+        };
+        let below = joined(alloc, below, name)?;
+        let asked = moment_request(mirror.path(alloc, below.as_str())?);
+        if seat.takes(&asked) {
+            seat.foresee(asked);
+        }
+    }
+    Ok(())
+}
+
+/// The name of a file of which more may be asked.
+fn asked_name(item: &Item<Global>) -> Option<&str> {
+    match std::str::from_utf8(item.name.as_slice()) {
+        Ok(name) if is_name(name.as_bytes()) => Some(name),
+        _ => None,
+    }
+}
+
+/// Whether a file's moment is asked for: where LIST does not tell it, and where the file may be fetched, since of a moment LIST tells the day at most.
+fn asks_moment(way: Way, moment: Option<u64>) -> bool
+    ensures { result ≡ asks_moment way moment }
+{
+    match way {
+        Way::Down => true,
+        Way::Up => moment.is_none(),
+    }
 }
 
 /// What is known of a file, and what the server tells of it beyond that (SIZE and MDTM, RFC 3659, sections 3 and 4).
@@ -79,23 +135,22 @@ fn facts_asked<S: ClientSession>(
     item: &Item<Global>,
     facts: Facts,
 ) -> Result<Facts, Trouble> {
-    let Ok(name) = std::str::from_utf8(item.name.as_slice()) else {
+    let Some(name) = asked_name(item) else {
         return Ok(facts);
     };
-    if !is_name(name.as_bytes()) {
-        return Ok(facts);
-    }
     let below = joined(alloc, below, name)?;
-    Ok(Facts {
-        size: match facts.size {
-            Some(size) => Some(size),
-            None => size_asked(seat, mirror, mirror.path(alloc, below.as_str())?)?,
-        },
-        moment: match facts.moment {
-            Some(moment) => Some(moment),
-            None => moment_asked(seat, mirror.path(alloc, below.as_str())?)?,
-        },
-    })
+    let size = match facts.size {
+        Some(size) => Some(size),
+        None => size_asked(seat, mirror, mirror.path(alloc, below.as_str())?)?,
+    };
+    if !asks_moment(mirror.rules.way, facts.moment) {
+        return Ok(Facts { size, ..facts });
+    }
+    let moment = match moment_asked(seat, mirror.path(alloc, below.as_str())?)? {
+        Some(moment) => Some(moment),
+        None => facts.moment,
+    };
+    Ok(Facts { size, moment })
 }
 
 /// The size of a file, where the server tells it.
@@ -110,12 +165,17 @@ fn size_asked<S: ClientSession>(
     }
 }
 
+/// A question for the moment of a file's last change.
+fn moment_request(path: Text<Global>) -> Request {
+    Request::One(Some(Op::Modified(path)))
+}
+
 /// When a file was changed last, where the server tells it.
 fn moment_asked<S: ClientSession>(
     seat: &mut S,
     path: Text<Global>,
 ) -> Result<Option<u64>, Trouble> {
-    match &seat.answer(Request::One(Some(Op::Modified(path)))) {
+    match &seat.answer(moment_request(path)) {
         Answer::Stamp(moment) => Ok(Some(moment.seconds)),
         answer => untold(answer),
     }

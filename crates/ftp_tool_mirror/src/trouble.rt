@@ -20,6 +20,8 @@ pub(crate) enum Trouble {
     Answered(&'static str),
     /// So many octets went one way or the other of a file that has so many, as the server says.
     Size(u64, u64),
+    /// The server says that it is done, and then that there is no such file.
+    Vanished,
     /// The file has so many octets, which are more than these, the most.
     TooLarge(u64, u64),
     /// The file has more octets than these, the most.

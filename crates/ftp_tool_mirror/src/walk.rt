@@ -1,12 +1,13 @@
 // The way through a tree, one thing after another.
 use crate::asked::{Deeds, Doing, Mirror};
 use crate::changing::{change_there, word_of};
-use crate::copying::{copy_up, discard, is_current, is_same, leave};
+use crate::copying::{discard, is_current, is_same, leave};
 use crate::cut::Cut;
 use crate::folder::entries_here;
 use crate::foreseeing::foresee;
 use crate::machine::Machine;
 use crate::removals::Settled;
+use crate::sending::{Upward, copy_up};
 use crate::sentence::reason_told;
 use crate::server::{entries_there, stands_there};
 use crate::tally::{Progress, Tally};
@@ -31,6 +32,8 @@ pub(crate) struct Walk<'a, R> {
     pub(crate) cut: Option<Cut<'a, R>>,
     /// What was done so far.
     pub(crate) tally: Tally,
+    /// Whether the server is not asked for the size of what stands there before an upload: a control connection ended behind that question.
+    is_blind: bool,
 }
 
 /// By hand: a derived drop is proved again, part by part, wherever a walk is let go.
@@ -43,6 +46,7 @@ impl<'a, R> Drop for Walk<'a, R> {
             todo: _,
             cut: _,
             tally: _,
+            is_blind: _,
         } = self;
     }
 }
@@ -63,6 +67,7 @@ impl<'a, R: Machine> Walk<'a, R> {
             todo,
             cut: None,
             tally: Tally::new(),
+            is_blind: false,
         })
     }
 
@@ -319,7 +324,18 @@ impl<'a, R: Machine> Walk<'a, R> {
     ) -> Result<u64, Trouble> {
         match self.mirror.rules.way {
             Way::Down => self.copy_down(seat, below, facts, to),
-            Way::Up => copy_up(self.rt, self.alloc, seat, self.mirror, below, to),
+            Way::Up => {
+                let size = facts.size;
+                let file = Upward { below, to, size };
+                copy_up(
+                    self.rt,
+                    self.alloc,
+                    seat,
+                    self.mirror,
+                    file,
+                    &mut self.is_blind,
+                )
+            }
         }
     }
 
@@ -381,6 +397,9 @@ impl<'a, R: Machine> Walk<'a, R> {
     /// Goes into a directory that the target has. The target itself is made, where it does not stand.
     fn enter<S: ClientSession>(&mut self, seat: &mut S, below: &str) -> Result<(), Trouble> {
         match self.target(seat, below) {
+            Ok(target) if below.is_empty() && self.may_lack(&target) => {
+                self.make_unlisted(seat, &target)
+            }
             Ok(target) => self.descend(seat, below, &target),
             Err(trouble) if below.is_empty() && is_missing(trouble) => self.make_target(seat),
             Err(trouble) => Err(trouble),

@@ -1,0 +1,212 @@
+// One file that is copied to the server.
+ghost use Rattle.std.specs.Prelude.{◌≡◌};
+ghost use Rattle.ftp_tool_mirror.specs.Copying.{is_drawn};
+
+use crate::asked::Mirror;
+use crate::telling::shown;
+use crate::trouble::Trouble;
+use ftp_facts::Text;
+use ftp_operation::{Answer, Op};
+use ftp_tool_connection::{ClientSession, Request};
+use ftp_tool_local::{Content, LocalFiles, Reading};
+use ftp_tool_places::{OpenBelow, Places};
+use ftp_tool_transfer::{Source, Uploading, Wrong, limit_held};
+use std::alloc::{AllocError, Global};
+use std::io;
+use std::io::Eprint;
+
+/// The most octets of a file that is held in memory although it could be read as it goes: no more than are held of such a one anyway.
+const SMALL: u64 = 65_536;
+
+/// A file below the folder, and where it goes below the directory of the server.
+#[derive(Clone, Copy)]
+pub(crate) struct Upward<'a> {
+    pub(crate) below: &'a str,
+    pub(crate) to: &'a str,
+    /// How many octets it was listed with.
+    pub(crate) size: Option<u64>,
+}
+
+/// Uploads a file, over breaks; the server has to have its size then. Gives how many octets it has. Over one control connection a file that is not small is read
+/// as it goes. `is_blind` as of an upload before, and of this one then.
+pub(crate) fn copy_up<R, S>(
+    rt: &R,
+    alloc: Global,
+    seat: &mut S,
+    mirror: &Mirror<'_>,
+    file: Upward<'_>,
+    is_blind: &mut bool,
+) -> Result<u64, Trouble>
+where
+    R: Places + LocalFiles + Eprint,
+    S: ClientSession,
+{
+    if seat.ahead() == 0 && is_drawn(file.size) {
+        if let Some(opened) = rt.open_below(mirror.folder, file.below)? {
+            return copy_drawn(rt, alloc, seat, mirror, (opened, file.to), is_blind);
+        }
+    }
+    let count = uploaded(rt, alloc, seat, mirror, file.below, file.to)?;
+    check_size(seat, size_request(alloc, mirror, file.to)?, count)?;
+    Ok(count)
+}
+
+/// Whether a file that was listed with so many octets is read as it goes, over one control connection: one that is not small.
+fn is_drawn(size: Option<u64>) -> bool
+    ensures { result ≡ is_drawn size }
+{
+    match size {
+        Some(octets) => octets > SMALL,
+        None => true,
+    }
+}
+
+/// Uploads a file that is read as it goes.
+fn copy_drawn<R, S>(
+    rt: &R,
+    alloc: Global,
+    seat: &mut S,
+    mirror: &Mirror<'_>,
+    (opened, to): (OpenBelow, &str),
+    is_blind: &mut bool,
+) -> Result<u64, Trouble>
+where
+    R: Places + LocalFiles + Eprint,
+    S: ClientSession,
+{
+    let OpenBelow { source, path, dir } = opened;
+    let total = source.total;
+    if total > mirror.limit {
+        return Err(Trouble::TooLarge(total, mirror.limit));
+    }
+    let there = mirror.there(alloc, to)?;
+    let head = note_head(alloc, to)?;
+    let source = Source::file(path.as_str(), source);
+    let mut uploading = Uploading::new(
+        rt,
+        alloc,
+        source,
+        there.as_str(),
+        mirror.how,
+        mirror.openings,
+    );
+    uploading.begin_notes(head.as_str());
+    if *is_blind {
+        uploading.blind();
+    }
+    let answered = uploading.answer(seat);
+    *is_blind = uploading.is_blind();
+    let sent = sent(answered, uploading.wrong(), total);
+    drop(uploading);
+    drop(dir);
+    sent
+}
+
+/// What a note of an upload begins with.
+fn note_head(alloc: Global, below: &str) -> Result<String<Global>, AllocError> {
+    let mut head = String::from_str(alloc, "note: ")?;
+    head.push_str(shown(alloc, below)?.as_str())?;
+    head.push_str(": ")?;
+    Ok(head)
+}
+
+/// So many octets, where an upload that was answered so is done, and the server has that file.
+fn sent(
+    answered: io::Result<Answer<Global>>,
+    wrong: Option<Wrong>,
+    total: u64,
+) -> Result<u64, Trouble> {
+    let answer = answered?;
+    match (&answer, wrong) {
+        (Answer::Done, Some(Wrong::Octets(count))) => Err(Trouble::Size(total, count)),
+        (Answer::Done, Some(Wrong::Nothing)) => Err(Trouble::Vanished),
+        _ => done(&answer, total),
+    }
+}
+
+/// The octets of a file here.
+pub(crate) fn octets_of<R: Places>(
+    rt: &R,
+    mirror: &Mirror<'_>,
+    below: &str,
+) -> Result<Text<Global>, Trouble> {
+    let limit = limit_held(mirror.limit);
+    match rt.read_below(mirror.folder, below, limit)? {
+        Reading::Content(Content { octets, changed: _ }) => Ok(Text::from_vec(octets)),
+        Reading::TooLarge(size) => Err(Trouble::TooLarge(size, limit)),
+    }
+}
+
+/// Uploads a file, and gives how many octets it has. Where the server does not know how the data connection is asked for, the file is read once more, and the
+/// same is asked for otherwise.
+fn uploaded<R, S>(
+    rt: &R,
+    alloc: Global,
+    seat: &mut S,
+    mirror: &Mirror<'_>,
+    below: &str,
+    to: &str,
+) -> Result<u64, Trouble>
+where
+    R: Places,
+    S: ClientSession,
+{
+    let opened = seat.opened();
+    let (answer, count) = upload(rt, alloc, seat, mirror, below, to)?;
+    if !mirror.openings.hear(&answer, seat.opened() > opened) {
+        return done(&answer, count);
+    }
+    drop(answer);
+    let (answer, count) = upload(rt, alloc, seat, mirror, below, to)?;
+    done(&answer, count)
+}
+
+/// What the server answers to an upload of a file, and how many octets that has.
+fn upload<R, S>(
+    rt: &R,
+    alloc: Global,
+    seat: &mut S,
+    mirror: &Mirror<'_>,
+    below: &str,
+    to: &str,
+) -> Result<(Answer<Global>, u64), Trouble>
+where
+    R: Places,
+    S: ClientSession,
+{
+    let octets = octets_of(rt, mirror, below)?;
+    let count = octets.as_slice().len() as u64;
+    let path = mirror.path(alloc, to)?;
+    let how = mirror.openings.how(mirror.how);
+    Ok((
+        seat.answer(Request::Upload(Some((path, octets)), how)),
+        count,
+    ))
+}
+
+/// So many octets, where the answer is that they are done.
+fn done(answer: &Answer<Global>, count: u64) -> Result<u64, Trouble> {
+    match answer {
+        Answer::Done => Ok(count),
+        _ => Err(Trouble::of(answer)),
+    }
+}
+
+/// A question for the size of a file of the server (RFC 3659, section 4).
+pub(crate) fn size_request(
+    alloc: Global,
+    mirror: &Mirror<'_>,
+    below: &str,
+) -> Result<Request, AllocError> {
+    let path = mirror.path(alloc, below)?;
+    Ok(Request::One(Some(Op::Size(path, mirror.how))))
+}
+
+/// Fails where the server tells another size of a file than so many octets.
+fn check_size<S: ClientSession>(seat: &mut S, asked: Request, count: u64) -> Result<(), Trouble> {
+    match &seat.answer(asked) {
+        Answer::Number(total) if *total != count => Err(Trouble::Size(count, *total)),
+        Answer::Lost => Err(Trouble::Lost),
+        _ => Ok(()),
+    }
+}
