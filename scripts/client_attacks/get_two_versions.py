@@ -1,6 +1,7 @@
 #!/usr/bin/env python3
 """A file that is replaced at the server while it is downloaded: octets of two versions of it are never joined, and none is taken for whole that is
-another one by then. `get` and `mirror` ask size and moment again after each break and after the last octet.
+another one by then. `get` and `mirror` ask size and moment again after each break and after the last octet, also over several control connections, where
+that is asked ahead.
 """
 import socket
 import struct
@@ -8,6 +9,7 @@ import time
 
 from hostile import FakeServer, Rows
 
+PROGRAMS = ("get", "mirror", "mirror --parallel 4")
 OLD, CUT = b"1" * 1000, 400
 FIRST, SECOND = "20200101000000", "20200101000001"
 
@@ -63,8 +65,8 @@ def fetched(rows, program, server):
     file = rows.folder / "into" / "s"
     file.parent.mkdir(exist_ok=True)
     file.unlink(missing_ok=True)
-    if program == "mirror":
-        status, _, told = rows.tool("mirror", f"127.0.0.1:{server.port}/", "into")
+    if program.startswith("mirror"):
+        status, _, told = rows.tool(*program.split(), f"127.0.0.1:{server.port}/", "into")
     else:
         status, _, told = rows.tool("get", f"127.0.0.1:{server.port}/s", "into/s")
     return status, file.read_bytes() if file.exists() else b"", told
@@ -72,7 +74,7 @@ def fetched(rows, program, server):
 
 def replaced(rows):
     """Another file stands there after the first try: the first, the second, or none, and never both."""
-    for program in ("get", "mirror"):
+    for program in PROGRAMS:
         for how in ("RST", "FIN", "control"):
             for size in (1000, 2000, 500, 401) if how == "RST" else (1000,):
                 server = Replaced(b"2" * size, how).server()
@@ -89,7 +91,7 @@ def replaced(rows):
 
 def after_the_last(rows):
     """What came whole is another one by then: it comes once more. Where it is another one each time, it is told, and nothing is written."""
-    for program in ("get", "mirror"):
+    for program in PROGRAMS:
         server = Replaced(b"2" * 1000, "FIN", cut=1000).server()
         status, octets, told = fetched(rows, program, server)
         rows.row(f"{program}, replaced after the last octet: anew", (status, octets) == (0, b"2" * 1000), (status, octets[:1], told))

@@ -1,9 +1,10 @@
 #!/usr/bin/env python3
-"""A `get` and a `put` hold no file in memory: what comes goes to the disk as it comes, what goes is read as it goes. A device that is full, a file that is
+"""A `get`, a `put` and a `mirror` either way hold no file in memory: what comes goes to the disk as it comes, what goes is read as it goes. A device that is full, a file that is
 cut or grows while it is read, and a program that is killed in the middle: each is told, and nothing takes the place of FILE that is not whole.
 """
 import os
 import resource
+import shutil
 import signal
 import socket
 import subprocess
@@ -73,7 +74,7 @@ class Taker:
 
     def __init__(self, behind=None, amid=None):
         self.behind, self.amid, self.took, self.was_reset = behind, amid, 0, False
-        self.server = FakeServer({"SIZE": self.size, "STOR": self.stor, "MDTM": "502 no"})
+        self.server = FakeServer({"SIZE": self.size, "STOR": self.stor, "MDTM": "502 no", "MLSD": lambda session, _: session.send(b"")})
         self.port = self.server.port
 
     def size(self, session, _):
@@ -103,6 +104,23 @@ def in_little_memory(rows):
     taker = Taker()
     status, told, used = ended(started(rows, "put", "out", f"127.0.0.1:{taker.port}/f"))
     rows.row("a put of 128 MiB", (status, taker.took, used < MOST) == (0, LARGE, True), (status, taker.took, used, told))
+    folder = rows.folder / "tree"
+    folder.mkdir()
+    (rows.folder / "out").rename(folder / "f")
+    for limit in ((), ("--limit", "1000000000")):
+        taker = Taker()
+        status, told, used = ended(started(rows, "mirror", "./tree", f"127.0.0.1:{taker.port}/", *limit))
+        rows.row(f"a mirror of 128 MiB up {limit}", (status, taker.took, used < MOST) == (0, LARGE, True), (status, taker.took, used, told))
+    taker = Taker()
+    status, told, _ = ended(started(rows, "mirror", "./tree", f"127.0.0.1:{taker.port}/", "--limit", "100000"))
+    rows.row("a mirror up past a limit", (status, taker.took) == (1, 0) and "134217728" in told, (status, taker.took, told))
+    shutil.rmtree(folder)
+    listing = b"Type=file;Size=%d;Modify=20260101000000; f\r\n" % LARGE
+    says = {"SIZE": f"213 {LARGE}", "MDTM": "213 20260101000000", "RETR": sent(LARGE), "MLSD": lambda session, _: session.send(listing)}
+    status, told, used = ended(started(rows, "mirror", f"127.0.0.1:{FakeServer(says).port}/", "./tree"))
+    count = (folder / "f").stat().st_size
+    rows.row("a mirror of 128 MiB down", (status, count, used < MOST) == (0, LARGE, True), (status, count, used, told))
+    shutil.rmtree(folder)
     clear(rows)
 
 
@@ -130,6 +148,17 @@ def of_a_file_that_changes(rows):
         holds = status == 3 and taker.was_reset and "has changed" in told
         rows.row(f"a put of a file that {what} while it is read", holds, (status, told, taker.took, taker.was_reset))
     file.unlink()
+    folder = rows.folder / "changing"
+    folder.mkdir()
+    file = folder / "f"
+    for what, change in (("is cut", lambda: os.truncate(file, 4_000_000)), ("grows", lambda: open(file, "ab").write(b"more"))):
+        file.write_bytes(PIECE * 300)
+        taker = Taker(1_000_000, change)
+        status, told, _ = ended(started(rows, "mirror", "./changing", f"127.0.0.1:{taker.port}/"))
+        time.sleep(0.3)
+        holds = status == 1 and taker.was_reset and "f: " in told and "has changed" in told and "1 failed" in told
+        rows.row(f"a mirror of a file that {what} while it is read", holds, (status, told, taker.took, taker.was_reset))
+    shutil.rmtree(folder)
 
 
 def stalled(count):

@@ -6,9 +6,11 @@ import random
 import shutil
 import socket
 import threading
+import time
 
 from hostile import OwnServer, Rows
 from mirror import fill, tree_at
+from shelf import Shelf
 
 RANDOM = random.Random(17)
 FILES = {f"{name}{number:02}": RANDOM.randbytes(number * 911) for name in ("a", "d/b", "d/e/c", "z/y") for number in range(12)}
@@ -131,8 +133,62 @@ def try_back(rows, lanes):
     server.close()
 
 
+class Slow(Shelf):
+    """A shelf whose server thinks before it tells a size or a moment. `told` has what each control connection asked of files."""
+
+    SECONDS = 0.2
+
+    def __init__(self, tree, **more):
+        self.told = {}
+        super().__init__(tree, {verb: self.slow(verb) for verb in ("SIZE", "MDTM", "RETR", "STOR")}, **more)
+
+    def slow(self, verb):
+        def reply(session, argument):
+            self.told.setdefault(session, []).append((verb, argument.strip("/")))
+            if verb in ("SIZE", "MDTM"):
+                time.sleep(self.SECONDS)
+            getattr(self, verb.lower())(session, argument)
+
+        return reply
+
+    def is_asked_beside(self, verb, *behind):
+        """Whether behind each transfer of a file the same control connection asks so of it, directly."""
+        for asked in self.told.values():
+            for place, (said, name) in enumerate(asked):
+                if said == verb and asked[place + 1 : place + 1 + len(behind)] != [(it, name) for it in behind]:
+                    return False
+        return True
+
+
+def try_facts(rows, way, tree):
+    """Size and moment of what is asked ahead are asked ahead too, over the control connection of the transfer: four at once take less than half the time."""
+    verb, behind = ("RETR", ("SIZE", "MDTM")) if way == "down" else ("STOR", ("SIZE",))
+    took = {}
+    for lanes in (1, 4):
+        local = rows.folder / f"facts{lanes}"
+        shutil.rmtree(local, ignore_errors=True)
+        local.mkdir()
+        shelf = Slow(tree if way == "down" else {})
+        if way == "up":
+            fill(local, tree)
+        words = (shelf.place, f"./{local.name}") if way == "down" else (f"./{local.name}", shelf.place)
+        begun = time.monotonic()
+        status, _, told = rows.tool("mirror", *words, "--no-flush", "--parallel", str(lanes))
+        took[lanes] = time.monotonic() - begun
+        same = dict(sorted(shelf.tree.items())) == tree_at(local) == dict(sorted(tree.items()))
+        rows.row(f"facts {way} by {lanes}: the tree", status == 0 and same, (status, told))
+        count = sum(its.count((verb, name)) for its in shelf.told.values() for name in tree)
+        rows.row(f"facts {way} by {lanes}: each file goes once", count == len(tree), (count, told))
+        rows.row(f"facts {way} by {lanes}: asked directly behind the transfer", shelf.is_asked_beside(verb, *behind), shelf.told)
+        shelf.server.close()
+    rows.row(f"facts {way}: four take less than half of the time of one", took[4] < took[1] / 2, took)
+
+
 def main():
     rows = Rows()
+    flat = {f"f{number:02}": b"%d" % number for number in range(12)}
+    for way in ("down", "up"):
+        try_facts(rows, way, flat)
     for lanes in (2, 4, 8):
         try_one(rows, f"by {lanes}", lambda number, place, line: None, lanes=lanes)
         try_back(rows, lanes)

@@ -165,6 +165,17 @@ def down_columns(rows):
         holds = status == 0 and summary(told).startswith("0 files copied, 0 directories made, 0 removed, 0 failed; 0 octets")
         rows.row(f"down by LIST ({when}) again: no file is copied", holds and shelf.asked("RETR") == [0], (told, shelf.server.commands))
         shelf.server.close()
+    for lanes in (1, 4):
+        files = [name for name, octets in TREE.items() if octets is not None]
+        shelf = Columns(TREE, "2020", says={"MDTM": "213 20200101123456"})
+        for run, fetched in (("first", len(files)), ("second", 0)):
+            shelf.server.commands.clear()
+            status, _, told = rows.tool("mirror", shelf.place, f"./day{lanes}", "--parallel", str(lanes))
+            moments = {(rows.folder / f"day{lanes}" / name).stat().st_mtime for name in files}
+            holds = status == 0 and moments == {1_577_882_096} and b"anew" not in told
+            name = f"down by LIST (2020) by {lanes}, {run} run: the moment of MDTM, and no download begins anew"
+            rows.row(name, holds and shelf.asked("RETR") == [fetched], (status, told, moments, shelf.server.commands))
+        shelf.server.close()
     for reply in UNKNOWN:
         shelf = Columns(TREE, says={"LIST": reply})
         status, _, told = rows.tool("mirror", shelf.place, "./neither")
@@ -211,6 +222,11 @@ def up_columns(rows):
     shelf.server.commands.clear()
     status, _, told = rows.tool("mirror", "./local", shelf.place, "--delete")
     rows.row("up by LIST again: no file is sent", (status, shelf.asked("STOR", "DELE")) == (0, [0, 0]), (status, told, shelf.server.commands))
+    shelf.server.close()
+    shelf = Columns({})
+    status, _, told = rows.tool("mirror", "./local", shelf.place + "to")
+    wanted = {"to": None, **{f"to/{path}": octets for path, octets in TREE.items()}}
+    rows.row("up by LIST to what does not stand, and is listed as empty: it is made", (status, shelf.tree) == (0, wanted), (status, told, sorted(shelf.tree)))
     shelf.server.close()
 
 

@@ -3,7 +3,7 @@ use crate::tries::Row;
 use ftp_client_stream::Carries;
 use ftp_facts::{Moment, Text};
 use ftp_operation::{Answer, How, Op};
-use ftp_tool_connection::{ClientSession, Ending, Request, SessionFault, SessionTask};
+use ftp_tool_connection::{ClientSession, Ending, Freight, Request, SessionFault, SessionTask};
 use rows_base::{Paper, cut, found, number, split};
 use std::alloc::Global;
 use std::cell::Cell;
@@ -59,7 +59,7 @@ impl<'a> ClientSession for Seat<'a> {
         self.answered(&request)
     }
 
-    fn answer_carried<T: Carries + Drop>(
+    fn answer_carried<T: Freight>(
         &mut self,
         request: Request,
         home: &Cell<Option<T>>,

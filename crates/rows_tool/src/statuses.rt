@@ -58,6 +58,7 @@ fn asked(has_password: bool, openings: &Openings) -> Target<'_> {
         progress: false,
         rate: 0,
         limit: 1_000,
+        at_once: 1,
     }
 }
 
