@@ -227,9 +227,9 @@ def pump(source, sink, cut=None):
 class OwnServer:
     """`serve` of the tool over a folder, in which anonymous may change all."""
 
-    def __init__(self, folder):
+    def __init__(self, folder, *more):
         folder.mkdir(exist_ok=True)
-        words = [TOOL, "serve", "--port", "0", "--dir", str(folder), "--sessions", "forever"]
+        words = [TOOL, "serve", "--port", "0", "--dir", str(folder), "--sessions", "forever", *more]
         self.process = subprocess.Popen(words, stdout=subprocess.PIPE, stderr=subprocess.DEVNULL)
         self.port = int(self.process.stdout.readline().split()[-1].rsplit(b":")[-1])
 

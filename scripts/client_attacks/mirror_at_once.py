@@ -2,19 +2,26 @@
 """A mirror over several control connections leaves the tree, the lines and the status of one over one, whatever becomes of those behind the first: where the
 server takes fewer, refuses a login, ends or cuts one, or says no more over one. Where all end, what is left is done over others.
 """
+import filecmp
+import os
 import random
 import shutil
 import socket
+import subprocess
 import threading
 import time
 
-from hostile import OwnServer, Rows
+from hostile import TOOL, OwnServer, Rows
 from mirror import fill, tree_at
 from shelf import Shelf
 
 RANDOM = random.Random(17)
 FILES = {f"{name}{number:02}": RANDOM.randbytes(number * 911) for name in ("a", "d/b", "d/e/c", "z/y") for number in range(12)}
+# (up, what has at most 65,536 octets is held in memory)
+FILES |= {f"d/m/{count}": RANDOM.randbytes(count) for count in (65_535, 65_536, 65_537, 300_000)}
 SILENT = b""
+LARGE = 48 * 1_048_576
+MOST = 32 * 1024
 
 
 class Instead(bytes):
@@ -123,7 +130,7 @@ def try_back(rows, lanes):
     there = f"127.0.0.1:{server.port}/"
     for name, words in (("up", ("./local", there)), ("again", ("./local", there)), ("by octets", (there, "./local", "--checksum"))):
         status, _, told = rows.tool("mirror", *words, "--parallel", str(lanes))
-        copied = b"48 files copied" if name == "up" else b"0 files copied"
+        copied = b"%d files copied" % (len(FILES) if name == "up" else 0)
         rows.row(f"{name} by {lanes}", status == 0 and copied in told and tree_at(served) == tree_at(local), (status, told))
     shutil.rmtree(served / "d")
     status, _, told = rows.tool("mirror", there, "./local", "--delete", "--parallel", str(lanes))
@@ -184,8 +191,99 @@ def try_facts(rows, way, tree):
     rows.row(f"facts {way}: four take less than half of the time of one", took[4] < took[1] / 2, took)
 
 
+def most_memory(rows, *words):
+    """The status, standard error, and the most memory in KiB."""
+    process = subprocess.Popen([TOOL, *words], cwd=rows.folder, stderr=subprocess.PIPE)
+    told = process.stderr.read()
+    _, status, used = os.wait4(process.pid, 0)
+    process.returncode = os.waitstatus_to_exitcode(status)
+    return process.returncode, told, used.ru_maxrss
+
+
+def same_octets(folder, other):
+    """Whether two folders have the same files, of which not one is read as a whole."""
+    names = sorted(it.name for it in folder.iterdir())
+    return names == sorted(it.name for it in other.iterdir()) and filecmp.cmpfiles(folder, other, names, shallow=False)[0] == names
+
+
+def try_memory(rows):
+    """Files of 48 MiB, four at once, are held neither on their way down nor up."""
+    served, local = rows.folder / "served", rows.folder / "local"
+    for folder in (served, local):
+        shutil.rmtree(folder, ignore_errors=True)
+        folder.mkdir()
+    for number, name in enumerate("abcdef"):
+        with open(served / name, "wb") as file:
+            for _ in range(LARGE // 1_048_576):
+                file.write(bytes([number]) * 1_048_576)
+    server = OwnServer(served, "--any")
+    there = f"127.0.0.1:{server.port}/"
+    status, told, used = most_memory(rows, "mirror", there, "./local", "--parallel", "4")
+    rows.row("six large ones down, four at once: none is held", status == 0 and same_octets(served, local) and used < MOST, (status, told, used))
+    server.close()
+    shutil.rmtree(served)
+    server = OwnServer(served, "--any")
+    there = f"127.0.0.1:{server.port}/"
+    status, told, used = most_memory(rows, "mirror", "./local", there, "--parallel", "4")
+    rows.row("and up", status == 0 and same_octets(served, local) and used < MOST, (status, told, used))
+    server.close()
+
+
+class Stopped(Shelf):
+    """A shelf that sends half of each file, and then nothing, until it is let go."""
+
+    def __init__(self, tree):
+        self.goes = False
+        self.begun = 0
+        super().__init__(tree, {"RETR": self.half})
+
+    def half(self, session, argument):
+        if self.goes:
+            self.retr(session, argument)
+            return
+        octets = self.tree[argument.strip("/")]
+        session.reply("150 here")
+        link = session.data.accept()[0]
+        link.sendall(octets[: len(octets) // 2])
+        self.begun += 1
+        while not self.goes:
+            time.sleep(0.05)
+        link.close()
+
+
+def parts_of(folder):
+    return sorted(it.name for it in folder.iterdir() if ".ftp-part" in it.name)
+
+
+def try_killed(rows):
+    """Killed amid four files it leaves those that it had as they were, and parts, which the next run with `--delete` removes."""
+    local = rows.folder / "local"
+    shutil.rmtree(local, ignore_errors=True)
+    local.mkdir()
+    tree = {f"f{number}": RANDOM.randbytes(200_000) for number in range(6)}
+    older = {name: b"older" for name in tree}
+    fill(local, older)
+    shelf = Stopped(tree)
+    process = subprocess.Popen([TOOL, "mirror", shelf.place, "./local", "--parallel", "4"], cwd=rows.folder, stderr=subprocess.PIPE)
+    until = time.monotonic() + 10
+    while shelf.begun < 4 and time.monotonic() < until:
+        time.sleep(0.05)
+    process.kill()
+    process.communicate()
+    rows.row("killed: four were under way", shelf.begun >= 4, shelf.begun)
+    rows.row("killed: what stood stands", tree_at(local) == older, tree_at(local).keys())
+    rows.row("killed: parts are left", len(parts_of(local)) >= 4, parts_of(local))
+    shelf.goes = True
+    status, _, told = rows.tool("mirror", shelf.place, "./local", "--parallel", "4", "--delete")
+    rows.row("another run leaves the tree", status == 0 and tree_at(local) == dict(sorted(tree.items())), (status, told))
+    rows.row("and with --delete no parts", not parts_of(local), parts_of(local))
+    shelf.server.close()
+
+
 def main():
     rows = Rows()
+    try_memory(rows)
+    try_killed(rows)
     flat = {f"f{number:02}": b"%d" % number for number in range(12)}
     for way in ("down", "up"):
         try_facts(rows, way, flat)

@@ -9,7 +9,7 @@ asks_moment Ways.Down moment = true
 asks_moment Ways.Up None = true
 asks_moment Ways.Up (Some moment) = false
 
--- over one control connection a file that was listed here with so many octets is read as it goes: one that has more than are held of such a one anyway
+-- a file that was listed here with so many octets is read as it goes: one that has more than are held of such a one anyway
 abbrev pub is_drawn : Option ℕ → Bool
 is_drawn None = true
 is_drawn (Some octets) = nat_lt 65536 octets

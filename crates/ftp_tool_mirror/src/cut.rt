@@ -58,10 +58,7 @@ impl<'a, R: Machine> Walk<'a, R> {
     ) -> Result<Downloading<'a, R>, Trouble> {
         let mut downloading = match self.cut.take() {
             Some(cut) => cut.into_downloading(),
-            None => {
-                let limit = self.limit_to(to);
-                begun(self.rt, self.alloc, self.mirror, below, facts, limit, to)?
-            }
+            None => self.begun(below, facts, to)?,
         };
         match download(&mut downloading, seat) {
             Ok(()) => Ok(downloading),
@@ -74,6 +71,24 @@ impl<'a, R: Machine> Walk<'a, R> {
                 })
             }
         }
+    }
+
+    /// A download that has its turn: the one that was asked ahead, where it goes to the file of its own name, or another one, of which nothing came yet.
+    fn begun(
+        &mut self,
+        below: &str,
+        facts: Facts,
+        to: Option<&str>,
+    ) -> Result<Downloading<'a, R>, Trouble> {
+        let prepared = match to {
+            Some(to) if to == below => self.prepared.take(below),
+            _ => None,
+        };
+        if let Some(downloading) = prepared {
+            return Ok(downloading);
+        }
+        let limit = self.limit_to(to);
+        begun(self.rt, self.alloc, self.mirror, below, facts, limit, to)
     }
 
     /// The most octets of a download: what goes to no part is held in memory.
@@ -105,8 +120,9 @@ impl<'a, R: Machine> Walk<'a, R> {
         }
     }
 
-    /// Removes the part of what was cut off, where nothing goes on any more.
+    /// Removes the parts of what was cut off, or asked ahead, where nothing goes on any more.
     pub(crate) fn give_up(&mut self) {
+        self.prepared.discard(self.rt, self.mirror);
         if let Some(cut) = self.cut.take() {
             if let Some(to) = &cut.to {
                 discard(self.rt, self.mirror, to.as_str(), &cut.downloading);

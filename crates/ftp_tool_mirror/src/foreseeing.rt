@@ -2,7 +2,9 @@
 use crate::asked::{Doing, Mirror};
 use crate::copying::moment_of;
 use crate::folder::facts_here;
-use crate::sending::{octets_of, size_request};
+use crate::machine::Machine;
+use crate::prepared::AllPrepared;
+use crate::sending::{foresee_drawn, is_drawn, octets_of, size_request};
 use crate::server::listing_request;
 use crate::todo::{Chore, Work};
 use crate::trouble::Trouble;
@@ -14,14 +16,20 @@ use ftp_tool_places::Places;
 use ftp_tool_transfer::{download_row, limit_held};
 use std::alloc::{AllocError, Global};
 
-/// The most octets of a file that is asked ahead, since it is held in memory until its turn.
-const AHEAD: u64 = 67_108_864;
+/// The most octets of a file that is asked ahead where it is held in memory until its turn, or where an upload that breaks begins anew.
+pub(crate) const AHEAD: u64 = 67_108_864;
 
 /// Tells what will surely be asked of the server for this, where it can be asked ahead: the octets of a file that is fetched, those of one that is sent, with
 /// the questions for size and moment beside them, or the entries of a directory that is gone into; nothing of what depends on more than is known now.
-pub(crate) fn foresee<R, S>(rt: &R, alloc: Global, seat: &mut S, mirror: &Mirror<'_>, work: &Work)
+pub(crate) fn foresee<'a, R, S>(
+    (rt, alloc): (&'a R, Global),
+    seat: &mut S,
+    mirror: &Mirror<'a>,
+    prepared: &mut AllPrepared<'a, R>,
+    work: &Work,
+)
 where
-    R: Places,
+    R: Machine,
     S: ClientSession,
 {
     let Some(asked) = foreseen(rt, alloc, mirror, work) else {
@@ -29,6 +37,17 @@ where
     };
     if !seat.takes(&asked) {
         return;
+    }
+    let below = work.below.as_str();
+    if let (Request::Download(_, _), Chore::Deed(Deed::Copy(facts))) = (&asked, work.chore) {
+        let _asked = prepared.foresee((rt, alloc), seat, mirror, (below, facts), &asked);
+        return;
+    }
+    if let (Request::Upload(_, _), Chore::Deed(Deed::Copy(facts))) = (&asked, work.chore) {
+        if is_drawn(facts.size) {
+            let _asked = foresee_drawn(rt, alloc, seat, mirror, below);
+            return;
+        }
     }
     if let Ok(requests) = row_of(rt, alloc, mirror, work, asked) {
         seat.foresee_row(requests);
@@ -108,7 +127,7 @@ fn copied<R: Places>(
     below: &str,
     facts: Facts,
 ) -> Option<Request> {
-    if mirror.doing == Doing::Nothing || is_large(facts) {
+    if mirror.doing == Doing::Nothing {
         return None;
     }
     match mirror.rules.way {
@@ -116,8 +135,9 @@ fn copied<R: Places>(
             if is_here(rt, mirror, below, facts) {
                 return None;
             }
-            fetched(alloc, mirror, below, facts)
+            download_request(alloc, mirror, below, facts).ok()
         }
+        Way::Up if is_large(facts) => None,
         Way::Up => sending(alloc, mirror, below, Text::from_vec(Vec::new(alloc))).ok(),
     }
 }

@@ -10,6 +10,7 @@ mod folder;
 mod foreseeing;
 mod machine;
 mod mirroring;
+mod prepared;
 mod removals;
 mod replacing;
 mod sending;

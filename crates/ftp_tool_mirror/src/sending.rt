@@ -3,6 +3,7 @@ ghost use Rattle.std.specs.Prelude.{◌≡◌};
 ghost use Rattle.ftp_tool_mirror.specs.Copying.{is_drawn};
 
 use crate::asked::Mirror;
+use crate::foreseeing::AHEAD;
 use crate::telling::shown;
 use crate::trouble::Trouble;
 use ftp_facts::Text;
@@ -10,7 +11,7 @@ use ftp_operation::{Answer, Op};
 use ftp_tool_connection::{ClientSession, Request};
 use ftp_tool_local::{Content, LocalFiles, Reading};
 use ftp_tool_places::{OpenBelow, Places};
-use ftp_tool_transfer::{Source, Uploading, Wrong, limit_held};
+use ftp_tool_transfer::{Sending, Source, Uploading, Wrong, limit_held};
 use std::alloc::{AllocError, Global};
 use std::io;
 use std::io::Eprint;
@@ -27,8 +28,9 @@ pub(crate) struct Upward<'a> {
     pub(crate) size: Option<u64>,
 }
 
-/// Uploads a file, over breaks; the server has to have its size then. Gives how many octets it has. Over one control connection a file that is not small is read
-/// as it goes. `is_blind` as of an upload before, and of this one then.
+/// Uploads a file, over breaks; the server has to have its size then. Gives how many octets it has. A file that is not small is read as it goes. `is_blind` as of
+/// an upload before, and of this one then. Over several control connections the size of what stands there is not asked for before: it may be of the upload that
+/// was asked ahead.
 pub(crate) fn copy_up<R, S>(
     rt: &R,
     alloc: Global,
@@ -41,7 +43,7 @@ where
     R: Places + LocalFiles + Eprint,
     S: ClientSession,
 {
-    if seat.ahead() == 0 && is_drawn(file.size) {
+    if is_drawn(file.size) {
         if let Some(opened) = rt.open_below(mirror.folder, file.below)? {
             return copy_drawn(rt, alloc, seat, mirror, (opened, file.to), is_blind);
         }
@@ -51,8 +53,8 @@ where
     Ok(count)
 }
 
-/// Whether a file that was listed with so many octets is read as it goes, over one control connection: one that is not small.
-fn is_drawn(size: Option<u64>) -> bool
+/// Whether a file that was listed with so many octets is read as it goes: one that is not small.
+pub(crate) fn is_drawn(size: Option<u64>) -> bool
     ensures { result ≡ is_drawn size }
 {
     match size {
@@ -91,15 +93,49 @@ where
         mirror.openings,
     );
     uploading.begin_notes(head.as_str());
-    if *is_blind {
+    let may_be_ahead = seat.ahead() > 0 && total <= AHEAD;
+    if *is_blind || may_be_ahead {
         uploading.blind();
     }
     let answered = uploading.answer(seat);
-    *is_blind = uploading.is_blind();
+    if !may_be_ahead {
+        *is_blind = uploading.is_blind();
+    }
     let sent = sent(answered, uploading.wrong(), total);
     drop(uploading);
     drop(dir);
     sent
+}
+
+/// Asks ahead that a file goes, which is read as it goes, and then how many octets of it the server has.
+pub(crate) fn foresee_drawn<R, S>(
+    rt: &R,
+    alloc: Global,
+    seat: &mut S,
+    mirror: &Mirror<'_>,
+    below: &str,
+) -> Result<(), Trouble>
+where
+    R: Places + LocalFiles,
+    S: ClientSession,
+{
+    let Some(opened) = rt.open_below(mirror.folder, below)? else {
+        return Ok(());
+    };
+    if opened.source.total > mirror.limit {
+        return Ok(());
+    }
+    let there = mirror.there(alloc, below)?;
+    let sending = Sending {
+        file: opened.path.as_str(),
+        total: opened.source.total,
+        changed: opened.source.changed,
+        path: there.as_str(),
+        how: mirror.how,
+        openings: mirror.openings,
+    };
+    let _asked = sending.foresee(rt, alloc, seat)?;
+    Ok(())
 }
 
 /// What a note of an upload begins with.

@@ -1,7 +1,9 @@
 // Why something was not done.
 use ftp_operation::Answer;
+use ftp_reply::code::{BAD_ARGUMENT, UNAVAILABLE};
 use std::alloc::{AllocError, Global};
 use std::io;
+use std::io::ErrorKind;
 
 /// Why something was not done.
 #[derive(Clone, Copy)]
@@ -60,6 +62,15 @@ impl Trouble {
             Trouble::Lost => Answer::Lost,
             Trouble::NoListing(code) => Answer::Refused(code),
             _ => Answer::Memory,
+        }
+    }
+
+    /// Whether a directory is not there: of a server 550 says so (RFC 959, section 4.2.2), or 501 (RFC 3659, section 7.2.1).
+    pub(crate) fn is_missing(self) -> bool {
+        match self {
+            Trouble::Refused(UNAVAILABLE | BAD_ARGUMENT) => true,
+            Trouble::Here(error) => error.kind() == ErrorKind::NotFound,
+            _ => false,
         }
     }
 }

@@ -6,6 +6,7 @@ use crate::cut::Cut;
 use crate::folder::entries_here;
 use crate::foreseeing::foresee;
 use crate::machine::Machine;
+use crate::prepared::AllPrepared;
 use crate::removals::Settled;
 use crate::sending::{Upward, copy_up};
 use crate::sentence::reason_told;
@@ -15,7 +16,6 @@ use crate::telling::{deed_line, shown, tell, tell_no_text, tell_too_many, tell_t
 use crate::todo::{Chore, Todo, Work};
 use crate::trouble::Trouble;
 use ftp_operation::Answer;
-use ftp_reply::code::{BAD_ARGUMENT, UNAVAILABLE};
 use ftp_tool_connection::{ClientSession, SessionFault, SessionTask};
 use ftp_tool_listing::{Deed, Extra, Facts, Listing, Rules, Way};
 use ftp_tool_local::Change;
@@ -30,6 +30,8 @@ pub(crate) struct Walk<'a, R> {
     pub(crate) todo: Todo,
     /// The download of what comes next, where a control connection ended in its middle.
     pub(crate) cut: Option<Cut<'a, R>>,
+    /// The downloads that are asked ahead.
+    pub(crate) prepared: AllPrepared<'a, R>,
     /// What was done so far.
     pub(crate) tally: Tally,
     /// Whether the server is not asked for the size of what stands there before an upload: a control connection ended behind that question.
@@ -45,6 +47,7 @@ impl<'a, R> Drop for Walk<'a, R> {
             mirror: _,
             todo: _,
             cut: _,
+            prepared: _,
             tally: _,
             is_blind: _,
         } = self;
@@ -66,6 +69,7 @@ impl<'a, R: Machine> Walk<'a, R> {
             mirror,
             todo,
             cut: None,
+            prepared: AllPrepared::new(alloc),
             tally: Tally::new(),
             is_blind: false,
         })
@@ -81,12 +85,13 @@ impl<'a, R: Machine> Walk<'a, R> {
     }
 
     /// Tells what will be asked of the server next, so that it may be asked over other control connections meanwhile.
-    fn foresee<S: ClientSession>(&self, seat: &mut S) {
+    fn foresee<S: ClientSession>(&mut self, seat: &mut S) {
         for behind in 0..seat.ahead() {
             let Some(work) = self.todo.coming(behind) else {
                 return;
             };
-            foresee(self.rt, self.alloc, seat, self.mirror, work);
+            let at = (self.rt, self.alloc);
+            foresee(at, seat, self.mirror, &mut self.prepared, work);
         }
     }
 
@@ -401,7 +406,7 @@ impl<'a, R: Machine> Walk<'a, R> {
                 self.make_unlisted(seat, &target)
             }
             Ok(target) => self.descend(seat, below, &target),
-            Err(trouble) if below.is_empty() && is_missing(trouble) => self.make_target(seat),
+            Err(trouble) if below.is_empty() && trouble.is_missing() => self.make_target(seat),
             Err(trouble) => Err(trouble),
         }
     }
@@ -550,17 +555,9 @@ impl<'a, R: Machine> Walk<'a, R> {
     }
 }
 
-/// Whether a directory is not there: of a server 550 says so (RFC 959, section 4.2.2), or 501 (RFC 3659, section 7.2.1).
-fn is_missing(trouble: Trouble) -> bool {
-    match trouble {
-        Trouble::Refused(UNAVAILABLE | BAD_ARGUMENT) => true,
-        Trouble::Here(error) => error.kind() == ErrorKind::NotFound,
-        _ => false,
-    }
-}
-
 impl<'a, R: Machine> SessionTask<Result<Answer<Global>, SessionFault>> for Walk<'a, R> {
     fn play<S: ClientSession>(&mut self, seat: &mut S) -> Result<Answer<Global>, SessionFault> {
+        self.prepared.forget();
         for _ in 0..u64::MAX {
             self.foresee(seat);
             let Some(work) = self.todo.next() else {
