@@ -2,6 +2,7 @@
 ghost use Rattle.std.specs.Option.{option_map};
 ghost use Rattle.ftp_control.specs.Lane.{no_lane};
 ghost use Rattle.ftp_control.specs.Machine.{held};
+ghost use Rattle.ftp_control_drive.specs.Standing.{HasNone};
 ghost use Rattle.ftp_operation.specs.Answer.{said_of};
 ghost use Rattle.ftp_client_drive.specs.Driving.{Drives};
 ghost use Rattle.ftp_client_drive.specs.Side.{beside};
@@ -9,7 +10,7 @@ ghost use Rattle.ftp_client_drive.specs.Side.{beside};
 use crate::asks::Asks;
 use ftp_client_model::Near;
 use ftp_control::{Cause, Control, Ports};
-use ftp_control_drive::drive_end;
+use ftp_control_drive::{Data, drive_end};
 use ftp_operation::Answer;
 use std::alloc::Allocator;
 use std::io::{Read, Write};
@@ -24,13 +25,14 @@ pub struct Driven<A: Allocator + Copy> {
 
 /// Does what a client wants until the operation that it has begun is answered, and gives that report.
 ///
-/// A read or a write of a data connection that would wait is to fail as `WouldBlock` where the control connection has octets or ended: so
-/// replies are heard while a transfer is under way. Where the drive breaks off, which it does only for a `Cause` that is so, the client is told
-/// that the control connection ended. The data connection and the port are closed at the end.
+/// `data` is room for its data connections: none stands there before, and none does then. A read or a write of one that would wait is to fail as
+/// `WouldBlock` where the control connection has octets or ended: so replies are heard while a transfer is under way. Where the drive breaks off, which it
+/// does only for a `Cause` that is so, the client is told that the control connection ended. The data connection and the port are closed at the end.
 pub fn drive_client<A, N, R, W, P>(
     client: &mut N,
     control: &mut Control<R, W>,
     ports: &mut P,
+    data: &mut Data<P::Stream>,
 ) -> Driven<A>
 where
     A: Allocator + Copy,
@@ -38,12 +40,13 @@ where
     R: Read + Drop,
     W: Write + Drop,
     P: Ports,
-    ensures { Drives control.new.failed (beside R.remaining W.contents (held (N.client client.old) (no_lane (P.history ports.old))) control.old) (beside R.remaining W.contents (held (N.client client.new) (no_lane (P.history ports.new))) control.new) result.off (option_map said_of result.report) }
+    ensures drives { HasNone P.Stream.remaining P.Stream.contents data.old → Drives control.new.failed (beside R.remaining W.contents (held (N.client client.old) (no_lane (P.history ports.old))) control.old) (beside R.remaining W.contents (held (N.client client.new) (no_lane (P.history ports.new))) control.new) result.off (option_map said_of result.report) }
+    ensures none { HasNone P.Stream.remaining P.Stream.contents data.new }
 {
-    let (data, ended) = drive_end::<Asks<A>, N, R, W, P>(client, control, ports);
+    let ended = drive_end::<Asks<A>, N, R, W, P>(client, control, ports, data);
     match ended {
         Ok(answer) => {
-            data.finish(ports);
+            data.leave(ports);
             client.data_closed();
             Driven {
                 report: Some(answer),
@@ -51,10 +54,9 @@ where
             }
         }
         Err(cause) => {
-            let mut data = data;
             data.cut::<Asks<A>, N>(client);
             data.reset(ports);
-            data.finish(ports);
+            data.leave(ports);
             client.data_closed();
             Driven {
                 report: client.report(),

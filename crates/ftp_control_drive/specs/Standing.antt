@@ -8,7 +8,7 @@ use Rattle.ftp_control.specs.Carrying.{left_of}
 use Rattle.ftp_control.specs.Cause.{IsCause}
 use Rattle.ftp_control.specs.Deeds.{Stand, with_owner}
 use Rattle.ftp_control.specs.Driving.{Goes, Leads}
-use Rattle.ftp_control.specs.Lane.{IsLeft, Lane, lane_of, with_asked}
+use Rattle.ftp_control.specs.Lane.{IsLeft, Lane, lane_of, no_lane, with_asked}
 use Rattle.ftp_control.specs.Machine.{GetsOn, IsFairEnd, Machine, Stirs, held, side_of, stand_of}
 use Rattle.ftp_control.specs.Unheard.{unheard_of}
 use Rattle.ftp_control.specs.declared.cause.Cause.{Cause}
@@ -22,6 +22,10 @@ use Rattle.ftp_control_drive.specs.declared.drive.Drive.{Drive}
 -- a data connection of which these octets were read and not told
 abbrev pub lane_at : {S : Type 0} → (remaining contents : S → Option (List ℕ)) → Option (List Asked) → Data S → (untold : List ℕ) → Lane
 lane_at remaining contents asked data_connection untold = lane_of remaining contents asked data_connection.connection data_connection.room untold
+
+-- none stands
+abbrev pub HasNone : {S : Type 0} → (remaining contents : S → Option (List ℕ)) → Data S → Type 0
+HasNone remaining contents data_connection = (asked : Option (List Asked)) → lane_at remaining contents asked data_connection [] ≡ no_lane asked
 
 -- one stands, and octets may come and go
 abbrev pub IsOpenAt : {S : Type 0} → Data S → Type 0

@@ -6,7 +6,7 @@ ghost use Rattle.ftp_control.specs.Halting.{fate_by};
 ghost use Rattle.ftp_control.specs.Lane.{IsRead, IsWaited, no_lane, with_fate};
 ghost use Rattle.ftp_control.specs.Machine.{IsCut, Stirring, held, seen, side_of};
 ghost use Rattle.ftp_control.specs.Outcome.{IsReset, IsSent, IsWrote, in_hand};
-ghost use Rattle.ftp_control_drive.specs.Standing.{HasEnded, IsOpenAt, IsParting, Leaving, lane_at};
+ghost use Rattle.ftp_control_drive.specs.Standing.{HasEnded, HasNone, IsOpenAt, IsParting, Leaving, lane_at};
 
 use crate::calls::EndCalls;
 use crate::hand::fill_front;
@@ -23,10 +23,7 @@ pub struct Data<S> {
 impl<S: Read + Write> Data<S> {
     /// No data connection.
     pub fn new() -> Data<S>
-        ensures none { result.connection.stream ≡ None }
-        ensures all { result.connection.at ≡ result.connection.end }
-        ensures sound { result.connection.fate ≡ Fate.Sound }
-        ensures rest { result.connection.rest ≡ Rest.Nothing }
+        ensures { HasNone S.remaining S.contents result }
     {
         Data {
             connection: DataConnection::new(),
@@ -155,9 +152,10 @@ impl<S: Read + Write> Data<S> {
     }
 
     /// Closes it, if it is open, and the port that is listened at.
-    #[tactic(auto, using(ftp_control::proofs::Lanes::leaves))]
+    #[tactic(auto, using(ftp_control::proofs::Lanes::leaves, ftp_control::proofs::Lanes::none_had))]
     pub fn leave<P: Ports<Stream = S>>(&mut self, ports: &mut P)
-        ensures { Leaving (lane_at S.remaining S.contents (P.history ports.old) self.old []) (lane_at S.remaining S.contents (P.history ports.new) self.new []) }
+        ensures none { HasNone S.remaining S.contents self.new }
+        ensures left { Leaving (lane_at S.remaining S.contents (P.history ports.old) self.old []) (lane_at S.remaining S.contents (P.history ports.new) self.new []) }
     {
         self.connection.close(ports);
     }

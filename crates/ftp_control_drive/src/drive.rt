@@ -1,7 +1,6 @@
 // The drive: what an end wants is done, turn by turn, until that is over.
 ghost use Rattle.std.specs.Prelude.{◌≡◌, ◌≢◌, ◌<◌, IsTrue, [], false, length, true};
 ghost use Rattle.ftp_control.specs.Cause.{is_still};
-ghost use Rattle.ftp_control.specs.Lane.{no_lane};
 ghost use Rattle.ftp_control.specs.Machine.{IsFlushed, IsListening, held, stand_of, waits};
 ghost use Rattle.ftp_control.specs.Unheard.{unheard_of};
 ghost use Rattle.ftp_control_drive.specs.Calling.{Ends, IsLater, TurnsTo};
@@ -34,27 +33,26 @@ pub enum Turned<T> {
     More,
 }
 
-/// Drives an end until its drive is over, from where no data connection stands; gives the data connection that is left, and what the end gave.
-/// It breaks off only for a `Cause` that is so then.
+/// Drives an end until its drive is over, and gives what the end gave. It breaks off only for a `Cause` that is so then.
 pub fn drive_end<K, E, R, W, P>(
     end: &mut E,
     control: &mut Control<R, W>,
     ports: &mut P,
-) -> (Data<P::Stream>, Result<K::Over, Cause>)
+    data: &mut Data<P::Stream>,
+) -> Result<K::Over, Cause>
 where
     K: EndCalls<E>,
     R: Read + Drop,
     W: Write + Drop,
     P: Ports,
-    ensures ends { Ends K.machine K.last (stand_of K.machine R.remaining W.contents (held (K.here end.old) (no_lane (P.history ports.old))) control.old) (stand_of K.machine R.remaining W.contents (held (K.here end.new) (lane_at P.Stream.remaining P.Stream.contents (P.history ports.new) result.0 [])) control.new) result.1 }
-    ensures why { Why K.machine K.machine.serves (K.here end.new) (P.history ports.new) control.new result.1 }
+    ensures ends { Ends K.machine K.last (stand_of K.machine R.remaining W.contents (held (K.here end.old) (lane_at P.Stream.remaining P.Stream.contents (P.history ports.old) data.old [])) control.old) (stand_of K.machine R.remaining W.contents (held (K.here end.new) (lane_at P.Stream.remaining P.Stream.contents (P.history ports.new) data.new [])) control.new) result }
+    ensures why { Why K.machine K.machine.serves (K.here end.new) (P.history ports.new) control.new result }
 {
-    let mut data = Data::new();
     let mut drive = Drive {
         end,
         control,
         ports,
-        data: &mut data,
+        data,
         calls: PhantomData::<K>,
     };
     let over = drive.turns();
@@ -62,12 +60,12 @@ where
         end,
         control,
         ports,
-        data: lent,
+        data,
         calls: _,
     } = drive;
     // A move ends what is lent here: these are as the drive left them.
-    let (_end, _control, _ports, _lent) = (end, control, ports, lent);
-    (data, over)
+    let (_end, _control, _ports, _data) = (end, control, ports, data);
+    over
 }
 
 /// Drives an end beside others: turns until its drive is over, until the next one would wait, or so many. What was led on so far goes on with the next

@@ -7,7 +7,7 @@ ghost use Rattle.ftp_server_drive.specs.Side.{beside, timed};
 use crate::clocked::{Clocked, Watches};
 use crate::serves::Serves;
 use ftp_control::{Cause, Control, Ports, Watch};
-use ftp_control_drive::drive_end;
+use ftp_control_drive::{Data, drive_end};
 use ftp_server_model::Far;
 use ftp_tree::Tree;
 use std::alloc::Allocator;
@@ -34,8 +34,9 @@ where
     O: Watches<F>,
     ensures { Drives control.new.failed (beside R.remaining W.contents (held (timed F.server C.told clocked.old) (no_lane (P.history ports.old))) control.old) (beside R.remaining W.contents (held (timed F.server C.told clocked.new) (no_lane (P.history ports.new))) control.new) result }
 {
-    let (data, ended) = drive_end::<Serves<A, T>, Clocked<F, C, O>, R, W, P>(
-        clocked, control, ports,
+    let mut data = Data::new();
+    let ended = drive_end::<Serves<A, T>, Clocked<F, C, O>, R, W, P>(
+        clocked, control, ports, &mut data,
     );
     match ended {
         Ok(()) => {
@@ -43,7 +44,6 @@ where
             Ok(())
         }
         Err(cause) => {
-            let mut data = data;
             data.cut::<Serves<A, T>, Clocked<F, C, O>>(clocked);
             data.finish(ports);
             Err(cause)

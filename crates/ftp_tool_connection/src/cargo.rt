@@ -42,12 +42,12 @@ pub type Poured = Pouring<Outlet<SharedFile>>;
 /// An upload whose octets are read of a file.
 pub type Drawn = Drawing<Inlet<File>, Global>;
 
-/// What goes over a data connection.
+/// What goes over a data connection; in boxes, since it is handed on often, and has thousands of octets.
 pub enum Cargo {
     /// What a client gives and hears.
     Own,
-    Poured(Poured),
-    Drawn(Drawn),
+    Poured(Box<Poured, Global>),
+    Drawn(Box<Drawn, Global>),
 }
 
 /// By hand, as above.
@@ -63,14 +63,14 @@ impl Drop for Cargo {
 impl Cargo {
     fn into_poured(self) -> Option<Poured> {
         match self {
-            Cargo::Poured(poured) => Some(poured),
+            Cargo::Poured(poured) => Some(Box::into_inner(poured)),
             _ => None,
         }
     }
 
     fn into_drawn(self) -> Option<Drawn> {
         match self {
-            Cargo::Drawn(drawn) => Some(drawn),
+            Cargo::Drawn(drawn) => Some(Box::into_inner(drawn)),
             _ => None,
         }
     }
@@ -85,8 +85,8 @@ impl Carries for Cargo {
     fn hear<L: Read>(&mut self, link: &mut L, room: &mut [u8]) -> io::Result<usize> {
         match self {
             Cargo::Own => link.read(room),
-            Cargo::Poured(poured) => Carries::hear(poured, link, room),
-            Cargo::Drawn(drawn) => Carries::hear(drawn, link, room),
+            Cargo::Poured(poured) => Carries::hear(&mut **poured, link, room),
+            Cargo::Drawn(drawn) => Carries::hear(&mut **drawn, link, room),
         }
     }
 
@@ -101,16 +101,19 @@ impl Carries for Cargo {
 
 /// What can be carried over any control connection.
 pub trait Freight: Carries + Drop {
-    /// As cargo.
-    fn load(self) -> Cargo;
+    /// As cargo; itself where memory is refused.
+    fn load(self, alloc: Global) -> Result<Cargo, Self>;
 
     /// What was loaded; none where the cargo is another.
     fn unload(cargo: Cargo) -> Option<Self>;
 }
 
 impl Freight for Poured {
-    fn load(self) -> Cargo {
-        Cargo::Poured(self)
+    fn load(self, alloc: Global) -> Result<Cargo, Poured> {
+        match Box::new(alloc, self) {
+            Ok(poured) => Ok(Cargo::Poured(poured)),
+            Err(failed) => Err(failed.value),
+        }
     }
 
     fn unload(cargo: Cargo) -> Option<Poured> {
@@ -119,8 +122,11 @@ impl Freight for Poured {
 }
 
 impl Freight for Drawn {
-    fn load(self) -> Cargo {
-        Cargo::Drawn(self)
+    fn load(self, alloc: Global) -> Result<Cargo, Drawn> {
+        match Box::new(alloc, self) {
+            Ok(drawn) => Ok(Cargo::Drawn(drawn)),
+            Err(failed) => Err(failed.value),
+        }
     }
 
     fn unload(cargo: Cargo) -> Option<Drawn> {

@@ -42,8 +42,8 @@ pub(crate) trait TakesTurns {
     /// Begins what is requested, with what goes over its data connection. Nothing else is under way.
     fn begin(&mut self, request: Request, cargo: Cargo);
 
-    /// A turn; gives the answer where that is there.
-    fn turn(&mut self) -> Option<Answer<Global>>;
+    /// A turn; gives the answer where that is there. `told` is what the round's poll found of what the last turn waited for.
+    fn turn(&mut self, told: Awaits) -> Option<Answer<Global>>;
 
     /// What went over the data connection of what was answered last.
     fn unload(&mut self) -> Cargo;
@@ -172,8 +172,8 @@ impl<'a, R: Sockets, N: Near<Global>> TakesTurns for Lane<'a, R, N> {
         self.stands = Stands::Due;
     }
 
-    fn turn(&mut self) -> Option<Answer<Global>> {
-        self.line.begin_turn(Awaits::nothing());
+    fn turn(&mut self, told: Awaits) -> Option<Answer<Global>> {
+        self.line.begin_turn(told);
         match self.drive() {
             Turned::Later => {
                 self.stands = Stands::Waits;

@@ -297,7 +297,8 @@ impl<'n, 'r, R: Eprint, L: TakesTurns + Drop> Lanes<'n, 'r, R, L> {
         let now = monotonic_millis();
         let mut over: Option<usize> = None;
         for (place, seat) in self.seats.iter_mut().enumerate() {
-            if is_ready(seat, told_at(&rows, place), now) && seat.turn() {
+            let told = told_at(&rows, place);
+            if is_ready(seat, &told, now) && seat.turn(told) {
                 over = Some(place);
             }
         }
@@ -398,16 +399,21 @@ fn put_rows(rows: &mut [pollfd; ROWS], place: usize, awaits: Awaits) {
     }
 }
 
-/// Whether something is there that the lane at a place waited for.
-fn told_at(rows: &[pollfd; ROWS], place: usize) -> bool {
-    rows.iter()
-        .skip(place.saturating_mul(2))
-        .take(2)
-        .any(|row| row.revents != 0)
+/// What the poll told of what the lane at a place waited for.
+fn told_at(rows: &[pollfd; ROWS], place: usize) -> Awaits {
+    let mut told = Awaits::nothing();
+    let first = place.saturating_mul(2);
+    for (at, row) in told.rows.iter_mut().enumerate() {
+        if let Some(found) = rows.get(first.saturating_add(at)) {
+            *row = *found;
+        }
+    }
+    told
 }
 
-/// Whether a lane has a turn now.
-fn is_ready<L: TakesTurns + Drop>(seat: &Seat<L>, is_told: bool, now: u64) -> bool {
+/// Whether a lane has a turn now, of which the poll told this.
+fn is_ready<L: TakesTurns + Drop>(seat: &Seat<L>, told: &Awaits, now: u64) -> bool {
+    let is_told = told.rows.iter().any(|row| row.revents != 0);
     seat.is_busy() && (is_told || seat.lane.is_due() || seat.lane.awaits().until <= now)
 }
 
@@ -440,7 +446,13 @@ impl<'n, 'r, R: Eprint, L: TakesTurns + Drop> ClientSession for Lanes<'n, 'r, R,
             return answer;
         }
         let cargo = match home.replace(None) {
-            Some(carried) => carried.load(),
+            Some(carried) => match carried.load(self.alloc) {
+                Ok(cargo) => cargo,
+                Err(carried) => {
+                    home.set(Some(carried));
+                    return Answer::Memory;
+                }
+            },
             None => Cargo::Own,
         };
         let came = self.asked(request, cargo);
@@ -493,7 +505,9 @@ impl<'n, 'r, R: Eprint, L: TakesTurns + Drop> ClientSession for Lanes<'n, 'r, R,
     }
 
     fn foresee_carried<T: Freight>(&mut self, requests: Vec<Request, Global>, carried: T) {
-        self.begin_row(requests, carried.load());
+        if let Ok(cargo) = carried.load(self.alloc) {
+            self.begin_row(requests, cargo);
+        }
     }
 
     fn take_noticed(&mut self) -> LastReply {

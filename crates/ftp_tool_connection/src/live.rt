@@ -5,6 +5,7 @@ ghost use Rattle.std.specs.Prelude.{◌≡◌, ℕ, List, None, ⊤};
 ghost use Rattle.ftp_control.specs.Lane.{no_lane};
 ghost use Rattle.ftp_control.specs.Machine.{held};
 ghost use Rattle.ftp_client_drive.specs.Side.{beside};
+ghost use Rattle.ftp_control_drive.specs.Standing.{HasNone};
 ghost use Rattle.ftp_operation.specs.Answer.{said_of};
 ghost use Rattle.ftp_operation.specs.declared.answer.Answer.{Answer};
 ghost use Rattle.ftp_tool_connection.specs.Answering.{Answers};
@@ -14,7 +15,7 @@ use crate::cargo::Freight;
 use crate::course::{Course, Ending};
 use crate::last_reply::LastReply;
 use crate::request::{Request, begin};
-use ftp_client_drive::{Control, Driven, drive_client};
+use ftp_client_drive::{Control, Data, Driven, drive_client};
 use ftp_client_model::Near;
 use ftp_client_stream::CarriedPorts;
 use ftp_control::Ports;
@@ -110,23 +111,28 @@ pub(crate) trait Opens: Ports {
 
 /// A client, its control connection, and its data connections.
 #[derive(Drop)]
-pub(crate) struct LiveSession<'a, 'b, N, C, W, P> {
+pub(crate) struct LiveSession<'a, 'b, 'c, N, C, W, P, S> {
     pub(crate) client: N,
     pub(crate) control: &'a mut Control<C, W>,
     pub(crate) ports: &'b mut P,
+    /// Room for its data connections.
+    pub(crate) data: &'c mut Data<S>,
     pub(crate) course: &'b Course,
 }
 
-impl<'a, 'b, N, C, W, P> ClientSession for LiveSession<'a, 'b, N, C, W, P>
+impl<'a, 'b, 'c, N, C, W, P, S> ClientSession for LiveSession<'a, 'b, 'c, N, C, W, P, S>
 where
     N: Near<Global>,
     C: Read + Drop,
     W: Write + Drop,
-    P: Opens,
+    P: Opens<Stream = S>,
+    S: Read + Write,
 {
-    ghost answers = { λ request answer old new. Answers request (said_of answer) new.control.now.failed
+    // (where no data connection stands, and then none does)
+    ghost answers = { λ request answer old new. (HasNone S.remaining S.contents old.data.now → Answers request (said_of answer) new.control.now.failed
         (beside C.remaining W.contents (held (N.client old.client) (no_lane (P.history old.ports.now))) old.control.now)
-        (beside C.remaining W.contents (held (N.client new.client) (no_lane (P.history new.ports.now))) new.control.now) };
+        (beside C.remaining W.contents (held (N.client new.client) (no_lane (P.history new.ports.now))) new.control.now))
+        × HasNone S.remaining S.contents new.data.now };
 
     ghost carried = { λ request answer old new. Answers request (said_of answer) new.control.now.failed
         (beside C.remaining W.contents (held (N.client old.client) (no_lane None)) old.control.now)
@@ -138,7 +144,12 @@ where
         let mut request = request;
         self.course.begin(&request);
         begin(&mut self.client, &mut request);
-        let Driven { report, off: _ } = drive_client(&mut self.client, self.control, self.ports);
+        let Driven { report, off: _ } = drive_client(
+            &mut self.client,
+            self.control,
+            self.ports,
+            self.data,
+        );
         self.course.reported(&report, self.client.last_reply());
         match report {
             Some(answer) => answer,
@@ -155,7 +166,14 @@ where
         self.course.begin(&request);
         begin(&mut self.client, &mut request);
         let mut ports = CarriedPorts::new(self.ports, home);
-        let Driven { report, off: _ } = drive_client(&mut self.client, self.control, &mut ports);
+        let mut data = Data::new();
+        let Driven { report, off: _ } = drive_client(
+            &mut self.client,
+            self.control,
+            &mut ports,
+            &mut data,
+        );
+        data.finish(&mut ports);
         self.course.reported(&report, self.client.last_reply());
         match report {
             Some(answer) => answer,

@@ -6,6 +6,7 @@ use crate::request::Request;
 use crate::row::Row;
 use ftp_operation::{Answer, Op};
 use ftp_reply::code::NOT_LOGGED_IN;
+use ftp_tool_looking::Awaits;
 use std::alloc::Global;
 use std::mem;
 
@@ -196,12 +197,12 @@ impl<L: TakesTurns + Drop> Seat<L> {
         self.lane.opened().saturating_sub(self.opened)
     }
 
-    /// A turn, where something is under way; says whether nothing is asked over it any more, behind what was asked ahead.
-    pub(crate) fn turn(&mut self) -> bool {
+    /// A turn, where something is under way; says whether nothing is asked over it any more, behind what was asked ahead. `told` is what the round's poll found.
+    pub(crate) fn turn(&mut self, told: Awaits) -> bool {
         if !self.is_busy() {
             return false;
         }
-        let Some(answer) = self.lane.turn() else {
+        let Some(answer) = self.lane.turn(told) else {
             return false;
         };
         match mem::replace(&mut self.doing, Doing::Nothing) {

@@ -8,7 +8,7 @@ use crate::progress::MeteredPorts;
 use crate::server::{ServerAddress, connected, leave};
 use crate::several::converse_by_several;
 use ftp_client::Client;
-use ftp_client_drive::Control;
+use ftp_client_drive::{Control, Data};
 use ftp_client_model::Near;
 use ftp_client_steps::ClientTransfer;
 use ftp_client_transfer::OperationTransfer;
@@ -201,10 +201,33 @@ where
     T: Drop,
     P: SessionTask<Result<T, SessionFault>>,
 {
+    let mut data = Data::new();
+    let done = play_seated(client, control, (ports, &mut data), course, play);
+    data.finish(ports);
+    done
+}
+
+/// Plays by a client that has room for its data connections.
+fn play_seated<N, C, W, O, T, P>(
+    client: N,
+    control: &mut Control<C, W>,
+    (ports, data): (&mut O, &mut Data<O::Stream>),
+    course: &Course,
+    play: &mut P,
+) -> Result<T, SessionFault>
+where
+    N: Near<Global>,
+    C: Read + Drop,
+    W: Write + Drop,
+    O: Opens,
+    T: Drop,
+    P: SessionTask<Result<T, SessionFault>>,
+{
     let mut seat = LiveSession {
         client,
         control,
         ports,
+        data,
         course,
     };
     play.play(&mut seat)

@@ -32,10 +32,10 @@ where
     R: Machine,
     S: ClientSession,
 {
-    let Some(asked) = foreseen(rt, alloc, mirror, work) else {
+    let Some(asked) = foreseen(alloc, mirror, work) else {
         return;
     };
-    if !seat.takes(&asked) {
+    if !seat.takes(&asked) || is_current(rt, mirror, work) {
         return;
     }
     let below = work.below.as_str();
@@ -102,13 +102,13 @@ fn is_listed(chore: Chore) -> bool {
 }
 
 /// What will be asked, of what is sent without its octets; none also where memory is refused.
-fn foreseen<R: Places>(rt: &R, alloc: Global, mirror: &Mirror<'_>, work: &Work) -> Option<Request> {
+fn foreseen(alloc: Global, mirror: &Mirror<'_>, work: &Work) -> Option<Request> {
     let Chore::Deed(deed) = work.chore else {
         return None;
     };
     let below = work.below.as_str();
     match deed {
-        Deed::Copy(facts) => copied(rt, alloc, mirror, below, facts),
+        Deed::Copy(facts) => copied(alloc, mirror, below, facts),
         Deed::Compare(facts) => fetched(alloc, mirror, below, facts),
         Deed::MakeDir => match mirror.rules.way {
             Way::Down => listed(alloc, mirror, below),
@@ -119,26 +119,25 @@ fn foreseen<R: Places>(rt: &R, alloc: Global, mirror: &Mirror<'_>, work: &Work) 
     }
 }
 
-/// What copies a file that is asked ahead: down, one that does not stand here with the size that is listed, which is fetched whatever else the server says of it.
-fn copied<R: Places>(
-    rt: &R,
-    alloc: Global,
-    mirror: &Mirror<'_>,
-    below: &str,
-    facts: Facts,
-) -> Option<Request> {
+/// What copies a file.
+fn copied(alloc: Global, mirror: &Mirror<'_>, below: &str, facts: Facts) -> Option<Request> {
     if mirror.doing == Doing::Nothing {
         return None;
     }
     match mirror.rules.way {
-        Way::Down => {
-            if is_here(rt, mirror, below, facts) {
-                return None;
-            }
-            download_request(alloc, mirror, below, facts).ok()
-        }
+        Way::Down => download_request(alloc, mirror, below, facts).ok(),
         Way::Up if is_large(facts) => None,
         Way::Up => sending(alloc, mirror, below, Text::from_vec(Vec::new(alloc))).ok(),
+    }
+}
+
+/// Whether a file that would be fetched stands here with the size that is listed: it is asked for only where the server says more of it.
+fn is_current<R: Places>(rt: &R, mirror: &Mirror<'_>, work: &Work) -> bool {
+    match (work.chore, mirror.rules.way) {
+        (Chore::Deed(Deed::Copy(facts)), Way::Down) => {
+            is_here(rt, mirror, work.below.as_str(), facts)
+        }
+        _ => false,
     }
 }
 

@@ -5,7 +5,7 @@ use crate::embedded::client::perform;
 use crate::event::{Event, Told};
 use crate::peer::Peer;
 use crate::plays::{Holds, Plays};
-use ftp_client_drive::{Control, Driven, drive_client};
+use ftp_client_drive::{Control, Data, Driven, drive_client};
 use ftp_client_model::{Busy, Near};
 use ftp_ends::Wants;
 use ftp_facts::Text;
@@ -166,7 +166,14 @@ impl<A: Allocator + Copy, C: Near<A> + Holds> Plays for Played<A, C> {
         let answer = match owner {
             Owner::Drive => {
                 let mut control = Control::new(reader, &mut writer);
-                let Driven { report, off: _ } = drive_client(&mut self.client, &mut control, peer);
+                let mut data = Data::new();
+                let Driven { report, off: _ } = drive_client(
+                    &mut self.client,
+                    &mut control,
+                    peer,
+                    &mut data,
+                );
+                data.finish(peer);
                 report
             }
             Owner::Page(line) => match performed(alloc, self.heap, line) {

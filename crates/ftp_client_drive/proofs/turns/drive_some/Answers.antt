@@ -22,8 +22,8 @@ returns-in-Over-clause-drives g c start unwritten untold first =
     let ends : Ends client_machine Reports old off (Ok c.in-Over.answer) =
     subst (λ t. TurnsTo client_machine Reports c.args.most old off (Ok t)) c.in-Over.is
     (subst (λ r. TurnsTo client_machine Reports c.args.most old off r) c.in-Ok.is turned.ensures.turns) in
-    drove start off _ _ (Ok c.in-Over.answer) c.in-Over.answer c.leave.ensures.0 unwritten untold refl (ends_from start old off (Ok c.in-Over.answer) first ends)
-    c.leave.ensures.1 c.leave.ensures.2 c.data_closed.ensures.now
+    drove start off _ _ (Ok c.in-Over.answer) c.in-Over.answer c.leave.ensures.left.0 unwritten untold refl (ends_from start old off (Ok c.in-Over.answer) first ends)
+    c.leave.ensures.left.1 c.leave.ensures.left.2 c.data_closed.ensures.now
 
 pub returns-in-Later-clause-drives : goal.returns-in-Later-clause-drives
 returns-in-Later-clause-drives g c = rw c.in-Later.is at (rw c.in-Ok.is at c.drive_on-turned.ensures.turns)
@@ -49,7 +49,7 @@ returns-in-Err-clause-drives g c start unwritten untold first =
           (ends_from start old off failed first ends) (rw c.in-Err.is at turned.ensures.why);
       gave_up = gave_up end (g.N.Near.client c.cut.new.end) (g.N.Near.client c.data_closed-in-Err.new.self) (g.N.Near.client c.report.new.self)
           (lane (history turned.new.ports) c.cut.new.self []) (lane (history c.reset.new.ports) c.reset.new.self [])
-          (lane (history c.leave-in-Err.new.ports) c.leave-in-Err.new.self []) _ c.reset.ensures.0 c.leave-in-Err.ensures.0
-          (c.cut.ensures (history turned.new.ports)) c.reset.ensures.1 c.leave-in-Err.ensures.1 c.data_closed-in-Err.ensures.now
+          (lane (history c.leave-in-Err.new.ports) c.leave-in-Err.new.self []) _ c.reset.ensures.0 c.leave-in-Err.ensures.left.0
+          (c.cut.ensures (history turned.new.ports)) c.reset.ensures.1 c.leave-in-Err.ensures.left.1 c.data_closed-in-Err.ensures.now
           (c.report.ensures.answer, c.report.ensures.taken);
     }

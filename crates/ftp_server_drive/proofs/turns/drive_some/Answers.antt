@@ -22,8 +22,8 @@ returns-in-Over-clause-drives g c start unwritten untold first =
     let ends : Ends server_machine (λ (over : ⊤) old new. IsDone old new) old off (Ok c.in-Over.over) =
     subst (λ t. TurnsTo server_machine (λ over old new. IsDone old new) c.args.most old off (Ok t)) c.in-Over.is
     (subst (λ r. TurnsTo server_machine (λ over old new. IsDone old new) c.args.most old off r) c.in-Ok.is turned.ensures.turns) in
-    drove start off _ (Ok c.in-Over.over) c.in-Over.over c.leave.ensures.0 unwritten untold refl (ends_from start old off (Ok c.in-Over.over) first ends)
-    c.leave.ensures.1 c.leave.ensures.2
+    drove start off _ (Ok c.in-Over.over) c.in-Over.over c.leave.ensures.left.0 unwritten untold refl (ends_from start old off (Ok c.in-Over.over) first ends)
+    c.leave.ensures.left.1 c.leave.ensures.left.2
 
 pub returns-in-Later-clause-drives : goal.returns-in-Later-clause-drives
 returns-in-Later-clause-drives g c = rw c.in-Later.is at (rw c.in-Ok.is at c.drive_on-turned.ensures.turns)
@@ -51,9 +51,9 @@ returns-in-Err-clause-drives g c start unwritten untold first =
       cut = held (here c.cut.new.end) (lane history c.cut.new.self []);
       is_cut = c.cut.ensures history;
       end = refl;
-      asked = c.leave-in-Err.ensures.0;
-      left = c.leave-in-Err.ensures.1;
-      fair = c.leave-in-Err.ensures.2;
+      asked = c.leave-in-Err.ensures.left.0;
+      left = c.leave-in-Err.ensures.left.1;
+      fair = c.leave-in-Err.ensures.left.2;
     }
 
 pub returns-in-Over-clause-made : goal.returns-in-Over-clause-made
@@ -67,7 +67,7 @@ returns-in-Over-clause-made g c =
     let ends : Ends server_machine (λ (over : ⊤) old new. IsDone old new) old off (Ok c.in-Over.over) =
     subst (λ t. TurnsTo server_machine (λ over old new. IsDone old new) c.args.most old off (Ok t)) c.in-Over.is
     (subst (λ r. TurnsTo server_machine (λ over old new. IsDone old new) c.args.most old off r) c.in-Ok.is turned.ensures.turns) in
-    finishes old off _ c.in-Over.over c.leave.ensures.0 ends c.leave.ensures.1 c.leave.ensures.2
+    finishes old off _ c.in-Over.over c.leave.ensures.left.0 ends c.leave.ensures.left.1 c.leave.ensures.left.2
 
 pub returns-in-Later-clause-made : goal.returns-in-Later-clause-made
 returns-in-Later-clause-made g c = rw c.in-Later.is at (rw c.in-Ok.is at c.drive_on-turned.ensures.turns)
@@ -90,7 +90,7 @@ returns-in-Err-clause-made g c =
       cut = held (here c.cut.new.end) (lane history c.cut.new.self []);
       is_cut = c.cut.ensures history;
       end = refl;
-      asked = c.leave-in-Err.ensures.0;
-      left = c.leave-in-Err.ensures.1;
-      fair = c.leave-in-Err.ensures.2;
+      asked = c.leave-in-Err.ensures.left.0;
+      left = c.leave-in-Err.ensures.left.1;
+      fair = c.leave-in-Err.ensures.left.2;
     }
