@@ -1,0 +1,162 @@
+//! For tests alone: a script of operations without a transfer, each asked by `ask` of `ftp_pair_turns`, at most so many octets a turn.
+#![tactic(auto)]
+
+use ftp_client::Client;
+use ftp_client_model::Near;
+use ftp_client_steps::ClientTransfer;
+use ftp_client_transfer::OperationTransfer;
+use ftp_control::Watch;
+use ftp_endpoint::Host;
+use ftp_facts::{Moment, Text};
+use ftp_operation::{Accounts, Login, Op};
+use ftp_pair_turns::{Line, Seat, ask};
+use ftp_server::Server;
+use ftp_server_drive::Clocked;
+use ftp_server_model::Far;
+use ftp_server_parts::ServerTransfer;
+use ftp_server_transfer::TreeTransfer;
+use ftp_tool_accounts::two_accounts;
+use ftp_tool_script::{Order, Script, read_script, write_report};
+use ftp_tree_memory::MemTree;
+use std::alloc::Global;
+use std::io;
+use std::io::Print;
+
+const HERE: Host = Host::V4([127, 0, 0, 1]);
+
+/// The first second of the year 2000, since 1970.
+const MOMENT: u64 = 946_684_800;
+
+/// The most octets of a turn grow by one from order to order up to this, and then all may go at once.
+const FEW: usize = 9;
+
+const MANY: usize = 1024;
+
+/// A clock that stands.
+#[derive(Drop)]
+struct Still {
+    moment: Moment,
+}
+
+impl Watch for Still {
+    fn moment(&mut self) -> Moment {
+        self.moment
+    }
+}
+
+/// Has an operation answered, and writes its report.
+fn report<R, N, F>(
+    (rt, alloc): (&R, Global),
+    op: Op<Text<Global>>,
+    client: &mut Seat<N>,
+    server: &mut Seat<Clocked<F, Still, ()>>,
+    line: &mut Line,
+    most: usize,
+) -> io::Result<()>
+where
+    R: Print,
+    N: Near<Global>,
+    F: Far<Global, MemTree<Global>>,
+{
+    match ask::<Global, MemTree<Global>, N, F, Still, ()>(op, client, server, line, most) {
+        Some(answer) => {
+            let _status = write_report(alloc, &answer, &mut io::writer(rt))?;
+            Ok(())
+        }
+        None => println!(rt; "none"),
+    }
+}
+
+/// Asks for all of them, one after another.
+fn play<R, N, F>(
+    (rt, alloc): (&R, Global),
+    client: N,
+    server: F,
+    orders: Vec<Order<Text<Global>>, Global>,
+) -> io::Result<()>
+where
+    R: Print,
+    N: Near<Global> + Drop,
+    F: Far<Global, MemTree<Global>> + Drop,
+{
+    let mut client = Seat::new(client);
+    let mut server = Seat::new(Clocked {
+        server,
+        watch: Still {
+            moment: Moment { seconds: MOMENT },
+        },
+        watcher: (),
+    });
+    let mut line = Line::new(alloc);
+    let mut most = 1usize;
+    for order in orders {
+        match order.into_parts() {
+            Ok(op) => report((rt, alloc), op, &mut client, &mut server, &mut line, most)?,
+            Err(_) => println!(rt; "an upload over breaks")?,
+        }
+        most = if most >= FEW { MANY } else { most + 1 };
+    }
+    Ok(())
+}
+
+/// A server over an empty tree in memory; none where memory is refused.
+fn server_of<J: ServerTransfer<Global, MemTree<Global>>>(
+    alloc: Global,
+    accounts: Accounts<Global>,
+) -> Option<Server<Global, MemTree<Global>, J>> {
+    Server::new(alloc, MemTree::new(alloc), accounts, HERE, HERE).ok()
+}
+
+/// A client that logs in so; none where memory is refused.
+fn client_of<C: ClientTransfer<Global>>(
+    alloc: Global,
+    login: Login<Global>,
+) -> Option<Client<Global, C>> {
+    Client::new(alloc, login, HERE, HERE).ok()
+}
+
+/// Plays a script at this server, by a client with such transfers.
+fn play_at<R, C, F>((rt, alloc): (&R, Global), script: Script<Global>, server: F) -> io::Result<()>
+where
+    R: Print,
+    C: ClientTransfer<Global>,
+    F: Far<Global, MemTree<Global>> + Drop,
+{
+    let Script { login, orders } = script;
+    match client_of::<C>(alloc, login) {
+        Some(client) => play((rt, alloc), client, server, orders),
+        None => Ok(()),
+    }
+}
+
+/// Plays a script by ends with such transfers; these are parameters, since named ones cost the proof more.
+fn play_by<R, C, J>(
+    (rt, alloc): (&R, Global),
+    script: Script<Global>,
+    accounts: Accounts<Global>,
+) -> io::Result<()>
+where
+    R: Print,
+    C: ClientTransfer<Global>,
+    J: ServerTransfer<Global, MemTree<Global>>,
+{
+    match server_of::<J>(alloc, accounts) {
+        Some(server) => play_at::<R, C, _>((rt, alloc), script, server),
+        None => Ok(()),
+    }
+}
+
+fn main(rt: HostRuntime) -> io::Result<()> {
+    let alloc = rt.alloc();
+    let Ok(script) = read_script(alloc, &mut rt.reader()) else {
+        return println!(rt; "no script");
+    };
+    let Ok(accounts) = two_accounts(alloc) else {
+        return Ok(());
+    };
+    play_by::<HostRuntime, OperationTransfer<Global>, TreeTransfer<Global, MemTree<Global>>>(
+        (&rt, alloc),
+        script,
+        accounts,
+    )
+}
