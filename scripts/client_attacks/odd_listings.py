@@ -230,9 +230,21 @@ def up_columns(rows):
     shelf.server.close()
 
 
+def down_missing(rows):
+    """A source that LIST lists as empty is gone into, and left again: where that is refused nothing is made."""
+    for says, wanted in (("550 none", (1, False, ["PWD", "CWD none"])), ("250 in", (0, True, ["PWD", "CWD none", "CWD /home"]))):
+        shelf = Columns({}, says={"PWD": '257 "/home" here', "CWD": says})
+        folder = rows.folder / "missing"
+        status, _, told = rows.tool("mirror", shelf.place + "none", f"./{folder.name}")
+        asked = [command for command in shelf.server.commands if command.split()[0] in ("PWD", "CWD")]
+        rows.row(f"down by LIST of a source without an entry, CWD {says}", (status, folder.exists(), asked) == wanted, (status, told, asked))
+        shelf.server.close()
+
+
 def main():
     rows = Rows()
     ls_odd(rows)
+    down_missing(rows)
     ls_columns(rows)
     patterns(rows)
     down_odd(rows)

@@ -38,6 +38,21 @@ pub(crate) fn stands_there<S: ClientSession>(
     }
 }
 
+/// Fails where the directory of a server does not stand: it is gone into (CWD, RFC 959, section 4.1.1), and left for where the client was before.
+pub(crate) fn check_dir<S: ClientSession>(
+    alloc: Global,
+    seat: &mut S,
+    mirror: &Mirror<'_>,
+) -> Result<(), Trouble> {
+    let here = match &seat.answer(Request::One(Some(Op::Where))) {
+        Answer::Path(here) => Text::copy_of(alloc, here.as_slice())?,
+        Answer::Lost => return Err(Trouble::Lost),
+        _ => return Ok(()),
+    };
+    done_by(seat, Op::ChangeDir(mirror.path(alloc, "")?))?;
+    done_by(seat, Op::ChangeDir(here))
+}
+
 /// Whether a server does not know what was asked.
 fn says_unknown(answer: &Answer<Global>) -> bool {
     matches!(answer, Answer::Refused(UNKNOWN | NOT_IMPLEMENTED))

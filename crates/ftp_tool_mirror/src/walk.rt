@@ -414,7 +414,7 @@ impl<'a, R: Machine> Walk<'a, R> {
     /// Makes the target itself, once the source is listed, and goes into it.
     fn make_target<S: ClientSession>(&mut self, seat: &mut S) -> Result<(), Trouble> {
         let rules = self.mirror.rules;
-        let source = self.listed_from(seat, "", rules.way)?;
+        let source = self.source(seat, "")?;
         self.change(seat, Change::MakeDir, "")?;
         let nothing = Listing::Whole(Vec::new(self.alloc));
         self.todo.plan(rules, "", &source, &nothing)
@@ -446,7 +446,7 @@ impl<'a, R: Machine> Walk<'a, R> {
         target: &Listing<Global>,
     ) -> Result<(), Trouble> {
         let rules = self.mirror.rules;
-        let source = self.listed_from(seat, below, rules.way)?;
+        let source = self.source(seat, below)?;
         self.todo.plan(rules, below, &source, target)
     }
 
