@@ -11,7 +11,7 @@ import subprocess
 import threading
 import time
 
-from hostile import TOOL, OwnServer, Rows
+from hostile import TOOL, OwnServer, Relay, Rows
 from mirror import fill, tree_at
 from shelf import Shelf
 
@@ -191,6 +191,30 @@ def try_facts(rows, way, tree):
     rows.row(f"facts {way}: four take less than half of the time of one", took[4] < took[1] / 2, took)
 
 
+def try_cuts(rows):
+    """Data connections of files are cut cleanly amid a mirror by four, either way: the tree comes whole, or the next run finishes it."""
+    tree = {f"f{number:02}": RANDOM.randbytes(60_000 + number * 7_000) for number in range(14)}
+    for way in ("down", "up"):
+        served, local = rows.folder / "served", rows.folder / "local"
+        for folder in (served, local):
+            shutil.rmtree(folder, ignore_errors=True)
+            folder.mkdir()
+        fill(served if way == "down" else local, tree)
+        server = OwnServer(served)
+        # (number 0 is the listing)
+        relay = Relay(server.port, {2: 1_000, 5: 30_000, 6: 1, 9: 0})
+        there = f"127.0.0.1:{relay.port}/"
+        words = (there, "./local") if way == "down" else ("./local", there)
+        status, _, told = rows.tool("mirror", *words, "--parallel", "4", "--timeout", "4")
+        same = tree_at(served) == tree_at(local) == tree
+        rows.row(f"cut {way}: whole, or told", (status == 0 and same) or (way == "up" and status == 1 and b" failed" in told), (status, told))
+        status, _, told = rows.tool("mirror", *words, "--parallel", "4", "--timeout", "4")
+        same = tree_at(served) == tree_at(local) == tree
+        rows.row(f"cut {way}: then whole, and no part is left", status == 0 and same and not parts_of(local), (status, told, parts_of(local)))
+        relay.close()
+        server.close()
+
+
 def most_memory(rows, *words):
     """The status, standard error, and the most memory in KiB."""
     process = subprocess.Popen([TOOL, *words], cwd=rows.folder, stderr=subprocess.PIPE)
@@ -284,6 +308,7 @@ def main():
     rows = Rows()
     try_memory(rows)
     try_killed(rows)
+    try_cuts(rows)
     flat = {f"f{number:02}": b"%d" % number for number in range(12)}
     for way in ("down", "up"):
         try_facts(rows, way, flat)
