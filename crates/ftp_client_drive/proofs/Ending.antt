@@ -16,7 +16,7 @@ use Rattle.ftp_operation.specs.Answer.{Said, Lost, said_of}
 use Rattle.ftp_client_model.specs.Calls.{control_end, data_closed, is_sound, report_of, reports, wants}
 use Rattle.ftp_client_model.specs.Failing.{Client}
 use Rattle.ftp_client_model.specs.View.{View}
-use Rattle.ftp_client_drive.specs.Driving.{Drove, GivesUp, Reports}
+use Rattle.ftp_client_drive.specs.Driving.{Drove, Finishes, GivesUp, Reports}
 use Rattle.ftp_client_drive.specs.Side.{IsOwn, Report, Reporting, client_machine, client_side, is_under_way}
 
 -- where the connection is cut, an operation under way is lost
@@ -37,12 +37,11 @@ told_is_idle answer v is = grind arith
 is_shut : (asked : Asked) (old new : Lane) → old.stands ≡ false → IsLeft asked old new → IsLeft Shut old new
 is_shut asked old new none left = subst (λ a. IsLeft a old new) (subst (λ stands. IsEnded stands old.left old.written old.unwritten asked) none left.ended) left
 
--- one that came to its end: it gave its report, its data connection was left, and it was told that it is closed
-pub drove : {A : Type 0} (start off : Stand client_side) (lane : Lane) (new : Client) (r : Result (Answer A) Cause) (answer : Answer A) (asked : Asked)
-    → start.owner.lane.unwritten ≡ [] → start.owner.lane.untold ≡ [] → r ≡ Ok answer → Ends client_machine Reports start off r → IsLeft asked off.owner.lane lane
-    → IsFairEnd off.owner.lane asked → Does client_machine Closed off.owner.end new → Drove start (with_owner (held new lane) off) (Some (said_of answer))
-drove start off lane new r answer asked unwritten untold gave ends left fair closed =
-    let over : Ends client_machine Reports start off (Ok answer) = subst (λ r. Ends client_machine Reports start off r) gave ends in
+-- one that is over: it gave its report, its data connection was left, and it was told that it is closed
+pub finishes : {A : Type 0} (old off : Stand client_side) (lane : Lane) (new : Client) (answer : Answer A) (asked : Asked)
+    → Ends client_machine Reports old off (Ok answer) → IsLeft asked off.owner.lane lane
+    → IsFairEnd off.owner.lane asked → Does client_machine Closed off.owner.end new → Finishes (Some (said_of answer)) old (with_owner (held new lane) off)
+finishes old off lane new answer asked over left fair closed =
     let mid = over.0 in
     let told = over.2 in
     let is = ap (λ s. s.owner) over.3 in
@@ -50,12 +49,28 @@ drove start off lane new r answer asked unwritten untold gave ends left fair clo
     record {
       answer = said_of answer;
       answered = refl;
+      deeds = over.1.deeds;
       asked = asked;
-      did = did client_machine start unwritten untold (Other Closed ∷ Other (Left asked) ∷ Other (Report (Some (said_of answer))) ∷ []) over.1.deeds _ (
+      led = (
         with_owner (held off.owner.end lane) off,
         (off, (mid, over.1.led, ((told, ap (λ o. o.lane) is, tt), subst (λ s. off ≡ with_owner s mid) (sym is) over.3)), ((refl, left, (may_when_done (is_under_way off.owner.end.view.job ≡ false) (wants off.owner.end.view) off.owner.lane.fate idle, fair, leaves_done client_machine off.owner.end asked idle)), refl)),
         ((closed, (refl, left.stands), λ sound under. absurd (let t : is_under_way off.owner.end.view.job ≡ true = under in cc)), refl),
       );
+    }
+
+-- so a drive that began where no octets of a data connection were on their way or in hand
+pub drove : {A : Type 0} (start off : Stand client_side) (lane : Lane) (new : Client) (r : Result (Answer A) Cause) (answer : Answer A) (asked : Asked)
+    → start.owner.lane.unwritten ≡ [] → start.owner.lane.untold ≡ [] → r ≡ Ok answer → Ends client_machine Reports start off r → IsLeft asked off.owner.lane lane
+    → IsFairEnd off.owner.lane asked → Does client_machine Closed off.owner.end new → Drove start (with_owner (held new lane) off) (Some (said_of answer))
+unfolding finishes
+drove start off lane new r answer asked unwritten untold gave ends left fair closed =
+    let over : Ends client_machine Reports start off (Ok answer) = subst (λ r. Ends client_machine Reports start off r) gave ends in
+    let finished = finishes start off lane new answer asked over left fair closed in
+    record {
+      answer = said_of answer;
+      answered = refl;
+      asked = asked;
+      did = did client_machine start unwritten untold (Other Closed ∷ Other (Left asked) ∷ Other (Report (Some (said_of answer))) ∷ []) finished.deeds _ finished.led;
     }
 
 -- one that began before, and led to where these turns began, ends as they do

@@ -1,9 +1,10 @@
 -- What a drive of a client beside its control connection did, whole or until it broke off.
 use Rattle.std.specs.Option.{option_map}
-use Rattle.std.specs.Prelude.{◌≡◌, ℕ, Bool, false, [], ◌∷◌, Option, Some, None, IsTrue}
+use Rattle.std.specs.Prelude.{◌≡◌, ℕ, Bool, false, List, [], ◌∷◌, Option, Some, None, IsTrue}
 use Rattle.ftp_control.specs.Asking.{Asked, Shut}
-use Rattle.ftp_control.specs.Deeds.{Other, Stand, with_owner}
-use Rattle.ftp_control.specs.Driving.{Leads, LeadsFar}
+use Rattle.ftp_control.specs.Cause.{IsCause}
+use Rattle.ftp_control.specs.Deeds.{Deed, Led, Other, Stand, with_owner}
+use Rattle.ftp_control.specs.Driving.{Fails, Leads, LeadsFar}
 use Rattle.ftp_control.specs.Lane.{IsLeft}
 use Rattle.ftp_control.specs.Machine.{Called, Closed, Held, IsCut, Left}
 use Rattle.ftp_control.specs.Outcome.{IsDropped}
@@ -13,7 +14,7 @@ use Rattle.ftp_control_drive.specs.declared.drive.Turned.{Turned}
 use Rattle.ftp_control_drive.specs.declared.drive.Turned.TheVariants as Turns
 use Rattle.ftp_operation.specs.Answer.{Said, Lost, said_of}
 use Rattle.ftp_operation.specs.declared.answer.Answer.{Answer}
-use Rattle.ftp_client_model.specs.Calls.{is_sound}
+use Rattle.ftp_client_model.specs.Calls.{is_sound, may_hear, wants}
 use Rattle.ftp_client_model.specs.Failing.{Client}
 use Rattle.ftp_client_drive.specs.declared.drive.Driven.{Driven}
 use Rattle.ftp_client_drive.specs.Side.{Report, Reporting, client_machine, client_side, is_under_way}
@@ -69,3 +70,29 @@ abbrev pub DrivesOn : {A : Type 0} → (most : ℕ) → (failed : Bool) → (old
 DrivesOn most failed old now (Turns.Over driven) = FromAny old (λ start. Drives failed start now driven.off (option_map said_of driven.report))
 DrivesOn most failed old now Turns.Later = Leads old now
 DrivesOn most failed old now Turns.More = LeadsFar most old now
+
+-- some turns led from here to where the client gave this answer; its data connection was left, and it was told that it is closed
+pub record Finishes (said : Option Said) (old now : Stand client_side) : Type 0 where
+  pub answer : Said
+  pub answered : said ≡ Some answer
+  pub deeds : List (Deed client_side)
+  pub asked : Asked
+  pub led : Led (Other Closed ∷ Other (Left asked) ∷ Other (Report said) ∷ deeds) old now
+
+-- they led from here to where the drive broke off, for this cause, and then the client gave up
+pub record Ceases (cause : Cause) (failed : Bool) (old now : Stand client_side) (said : Option Said) : Type 0 where
+  pub off : Stand client_side
+  pub fails : Fails cause old off
+  pub why : IsCause cause failed off.owner.lane.asked off.unheard (wants off.owner.end.view) (may_hear off.owner.end.view) false
+  pub stays : now ≡ with_owner now.owner off
+  pub gave_up : GivesUp said off.owner now.owner
+
+-- so many turns at most, whatever was done before: the drive goes on, it is over with a report, or it breaks off
+abbrev pub EndsBy : (failed : Bool) → (old now : Stand client_side) → Option Cause → Option Said → Type 0
+EndsBy failed old now None said = Finishes said old now
+EndsBy failed old now (Some cause) said = Ceases cause failed old now said
+
+abbrev pub MakesTurns : {A : Type 0} → (most : ℕ) → (failed : Bool) → (old now : Stand client_side) → Turned (Driven A) → Type 0
+MakesTurns most failed old now (Turns.Over driven) = EndsBy failed old now driven.off (option_map said_of driven.report)
+MakesTurns most failed old now Turns.Later = Leads old now
+MakesTurns most failed old now Turns.More = LeadsFar most old now

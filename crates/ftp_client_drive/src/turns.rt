@@ -3,7 +3,7 @@ ghost use Rattle.std.specs.Prelude.{[]};
 ghost use Rattle.ftp_control.specs.Machine.{held};
 ghost use Rattle.ftp_control_drive.specs.Calling.{IsLater};
 ghost use Rattle.ftp_control_drive.specs.Standing.{lane_at};
-ghost use Rattle.ftp_client_drive.specs.Driving.{DrivesOn};
+ghost use Rattle.ftp_client_drive.specs.Driving.{DrivesOn, MakesTurns};
 ghost use Rattle.ftp_client_drive.specs.Side.{beside};
 
 use crate::asks::Asks;
@@ -34,6 +34,7 @@ where
     W: Write + Drop,
     P: Ports,
     ensures drives { DrivesOn most control.new.failed (beside R.remaining W.contents (held (N.client client.old) (lane_at P.Stream.remaining P.Stream.contents (P.history ports.old) data.old [])) control.old) (beside R.remaining W.contents (held (N.client client.new) (lane_at P.Stream.remaining P.Stream.contents (P.history ports.new) data.new [])) control.new) result }
+    ensures made { MakesTurns most control.new.failed (beside R.remaining W.contents (held (N.client client.old) (lane_at P.Stream.remaining P.Stream.contents (P.history ports.old) data.old [])) control.old) (beside R.remaining W.contents (held (N.client client.new) (lane_at P.Stream.remaining P.Stream.contents (P.history ports.new) data.new [])) control.new) result }
     ensures later { IsLater (P.waits ports.new) (Ok result) }
 {
     let turned = drive_on::<Asks<A>, N, R, W, P>(client, control, ports, data, most);
