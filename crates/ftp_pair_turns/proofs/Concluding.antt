@@ -100,7 +100,7 @@ record Gathered (moment : ℕ) (asked : List (Op (List ℕ) × Said)) (start now
 module _ (moment : ℕ) (op : Op (List ℕ)) (answer : Said) (asked : List (Op (List ℕ) × Said)) (start mid now : Ends) (a : Answered op answer mid now)
     (alone : AskedAlone a) (g : Gathered moment asked start mid) where
   last : List (Deed client_side)
-  last = deeds_of (a.settled.answers alone.unwritten)
+  last = deeds_of a.settled.answers
 
   earlier : List (Deed client_side)
   earlier = Other (Begun op) ∷ client_deeds g.turns
@@ -131,7 +131,7 @@ module _ (moment : ℕ) (op : Op (List ℕ)) (answer : Said) (asked : List (Op (
       let first : Goes IsAsking ClientIsCalm ClientAttends earlier (quiet start.client) (quiet a.begun) =
       ((quiet mid.client, g.asks.0, a.begins), (g.asks.1, tt, alone.calm, attends)) in
       goes_then IsAsking ClientIsCalm ClientAttends last (client_deeds took.turns ++ earlier) (quiet start.client) (quiet a.settled.mid.client) (quiet now.client)
-      ((a.settled.answers alone.unwritten).speaks.led, alone.last_asks)
+      (a.settled.answers.speaks.led, alone.last_asks)
       (goes_then IsAsking ClientIsCalm ClientAttends (client_deeds took.turns) earlier (quiet start.client) (quiet a.begun) (quiet a.settled.mid.client) middle first)
 
   server_goes : Goes IsServing ServerIsCalm ServerAttends (server_deeds a.settled.took.turns ++ server_deeds g.turns) (quiet start.server) (quiet now.server)
@@ -145,7 +145,7 @@ module _ (moment : ℕ) (op : Op (List ℕ)) (answer : Said) (asked : List (Op (
   unfolding all_turns last
   all_went =
       let took = a.settled.took in
-      let speaks = (a.settled.answers alone.unwritten).speaks in
+      let speaks = a.settled.answers.speaks in
       went_then (by_client last) (took.turns ++ (Client (Other (Begun op)) ∷ g.turns)) start.ways a.settled.mid.ways now.ways
       (near_moves a.settled.mid.ways now.ways last speaks.read speaks.wrote)
       (went_then took.turns (Client (Other (Begun op)) ∷ g.turns) start.ways mid.ways a.settled.mid.ways took.went (mid.ways, g.went, refl))
@@ -154,19 +154,19 @@ module _ (moment : ℕ) (op : Op (List ℕ)) (answer : Said) (asked : List (Op (
   unfolding last earlier
   orders_are =
       append-nil _ ∙ append-nil _ ∙ append-nil _
-      ∙ midst_begins moment (a.settled.answers alone.unwritten).midst (client_deeds a.settled.took.turns ++ earlier) alone.last_midst
+      ∙ midst_begins moment a.settled.answers.midst (client_deeds a.settled.took.turns ++ earlier) alone.last_midst
       ∙ midst_begins moment (client_deeds a.settled.took.turns) earlier alone.midst ∙ ap (λ l. l ++ Single op moment ∷ []) g.orders
 
   answers_are : reports_in (last ++ (client_deeds a.settled.took.turns ++ earlier)) ≡ answers_of ((op, answer) ∷ asked)
   unfolding last earlier
   answers_are =
       append-nil _ ∙ append-nil _
-      ∙ ap (λ l. l ++ answer ∷ []) (midst_reports (a.settled.answers alone.unwritten).midst (client_deeds a.settled.took.turns ++ earlier) alone.last_midst
+      ∙ ap (λ l. l ++ answer ∷ []) (midst_reports a.settled.answers.midst (client_deeds a.settled.took.turns ++ earlier) alone.last_midst
       ∙ midst_reports (client_deeds a.settled.took.turns) earlier alone.midst ∙ append-nil _ ∙ g.answers)
 
   is_free : is_busy now.client.end.view ≡ false
   is_free =
-      let led = (a.settled.answers alone.unwritten).speaks.led in
+      let led = a.settled.answers.speaks.led in
       let report = led.1.1.2 in
       ap is_busy led.2.0.0.0 ∙ ap (λ c. is_busy c.view) led.1.2.0.0 ∙ ap is_busy report.0.0.1.0 ∙ reported_free led.1.1.0.owner.end.view answer report.0.0.0
 

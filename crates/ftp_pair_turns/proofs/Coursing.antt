@@ -8,7 +8,7 @@ use Rattle.ftp_control.specs.Driving.{Leads}
 use Rattle.ftp_control.specs.declared.cause.Cause.{Cause}
 use Rattle.ftp_control_drive.specs.declared.drive.Turned.{Turned}
 use Rattle.ftp_control_drive.specs.declared.drive.Turned.TheVariants as Turns
-use Rattle.ftp_client_drive.specs.Driving.{DrivesOn, Drove}
+use Rattle.ftp_client_drive.specs.Driving.{Finishes, MakesTurns as NearMakes}
 use Rattle.ftp_client_drive.specs.Side.{client_side}
 use Rattle.ftp_client_drive.specs.declared.drive.Driven.{Driven}
 use Rattle.ftp_operation.specs.Answer.{said_of}
@@ -28,33 +28,31 @@ heard_all true e = sym e
 -- ---- the client
 
 module _ {A : Type 0} where
-  near_on : (most : ℕ) (failed : Bool) (old new : Stand client_side) (turned : Turned (Driven A)) → DrivesOn most failed old new turned
+  near_on : (most : ℕ) (failed : Bool) (old new : Stand client_side) (turned : Turned (Driven A)) → NearMakes most failed old new turned
       → (turned ≡ Turns.Later) ⊎ (turned ≡ Turns.More) → Leads old new
-  near_on most failed old new turned drives (inl is) = subst (λ t. DrivesOn most failed old new t) is drives
-  near_on most failed old new turned drives (inr is) =
-      let far = subst (λ t. DrivesOn most failed old new t) is drives in far.leads
+  near_on most failed old new turned makes (inl is) = subst (λ t. NearMakes most failed old new t) is makes
+  near_on most failed old new turned makes (inr is) =
+      let far = subst (λ t. NearMakes most failed old new t) is makes in far.leads
 
-  near_over : (most : ℕ) (failed : Bool) (old new : Stand client_side) (turned : Turned (Driven A)) (answer : Answer A) → DrivesOn most failed old new turned
-      → turned ≡ Turns.Over (record { report = Some answer; off = None }) → old.owner.lane.unwritten ≡ [] → old.owner.lane.untold ≡ []
-      → Drove old new (Some (said_of answer))
-  near_over most failed old new turned answer drives is unwritten untold =
-      let from = subst (λ t. DrivesOn most failed old new t) is drives in
-      from old unwritten untold (record { deeds = []; led = refl })
+  -- its last deeds, of which a report is the answer
+  near_over : (most : ℕ) (failed : Bool) (old new : Stand client_side) (turned : Turned (Driven A)) (answer : Answer A) → NearMakes most failed old new turned
+      → turned ≡ Turns.Over (record { report = Some answer; off = None }) → Finishes (Some (said_of answer)) old new
+  near_over most failed old new turned answer makes is = subst (λ t. NearMakes most failed old new t) is makes
 
   pub near_turned : (most : ℕ) (failed : Bool) (old new : Stand client_side) (turned : Turned (Driven A)) (course : Course (Answer A)) (found : Bool)
-      (came left before after : List ℕ) → DrivesOn most failed old new turned → IsNearCourse course turned (not found) → old.owner.lane.untold ≡ []
+      (came left before after : List ℕ) → NearMakes most failed old new turned → IsNearCourse course turned (not found)
       → Tells old new came left before after → (found ≡ false → new.unheard ≡ []) → NearTurned course old.owner new.owner came left before after
-  near_turned most failed old new turned (Courses.Over answer) found came left before after drives is untold tells heard = λ unwritten.
-      let drove = near_over most failed old new turned answer drives is.0 unwritten untold in
+  near_turned most failed old new turned (Courses.Over answer) found came left before after makes is tells heard =
+      let finishes = near_over most failed old new turned answer makes is.0 in
       record {
-        asked = drove.asked;
-        midst = drove.did.deeds;
-        speaks = speaks_by _ old new came left before after drove.did.sums.led tells (heard (heard_all found is.1));
+        asked = finishes.asked;
+        midst = finishes.deeds;
+        speaks = speaks_by _ old new came left before after finishes.led tells (heard (heard_all found is.1));
       }
-  near_turned most failed old new turned Courses.On found came left before after drives is untold tells heard =
-      let leads = near_on most failed old new turned drives is.0 in
+  near_turned most failed old new turned Courses.On found came left before after makes is tells heard =
+      let leads = near_on most failed old new turned makes is.0 in
       record { deeds = leads.deeds; speaks = speaks_by leads.deeds old new came left before after leads.led tells (heard (heard_all found is.1)) }
-  near_turned most failed old new turned Courses.Off found came left before after drives is untold tells heard = tt
+  near_turned most failed old new turned Courses.Off found came left before after makes is tells heard = tt
 
 -- ---- the server
 

@@ -58,9 +58,8 @@ pub record AskedAlone {op : Op (List ℕ)} {answer : Said} {old new : Ends} (a :
   pub serves : ServesAlone (server_deeds a.settled.took.turns) (quiet old.server) (quiet a.settled.mid.server) a.settled.took.server_led
   pub asks : AsksAlone (client_deeds a.settled.took.turns) (quiet a.begun) (quiet a.settled.mid.client) a.settled.took.client_led
   pub midst : AreMidst (client_deeds a.settled.took.turns)
-  pub unwritten : a.settled.mid.client.lane.unwritten ≡ []
-  pub last_asks : AsksAlone (deeds_of (a.settled.answers unwritten)) (quiet a.settled.mid.client) (quiet new.client) (a.settled.answers unwritten).speaks.led
-  pub last_midst : AreMidst (a.settled.answers unwritten).midst
+  pub last_asks : AsksAlone (deeds_of a.settled.answers) (quiet a.settled.mid.client) (quiet new.client) a.settled.answers.speaks.led
+  pub last_midst : AreMidst a.settled.answers.midst
 
 abbrev pub AreAskedAlone : (asked : List (Op (List ℕ) × Said)) (start now : Ends) → AreAsked asked start now → Type 0
 AreAskedAlone [] start now are = ⊤

@@ -36,8 +36,7 @@ pub record Settled (answer : Said) (old new : Ends) : Type 0 where
   pub mid : Ends
   pub took : Took old mid
   pub server : new.server ≡ mid.server
-  pub answers : mid.client.lane.unwritten ≡ []
-      → NearAnswers answer mid.client new.client mid.ways.to_client new.ways.to_client mid.ways.to_server new.ways.to_server
+  pub answers : NearAnswers answer mid.client new.client mid.ways.to_client new.ways.to_client mid.ways.to_server new.ways.to_server
 
 -- turns of both
 abbrev pub Rounds : {A : Type 0} → Course (Answer A) → (old new : Ends) → Type 0

@@ -39,9 +39,9 @@ pub record NearAnswers (answer : Said) (old new : Held Client) (came left before
   pub midst : List (Deed client_side)
   pub speaks : Speaks {side = client_side} (Other Closed ∷ Other (Left asked) ∷ Other (Report (Some answer)) ∷ midst) old new came left before after
 
--- so it is of some turns; where they were its last ones, if none of the octets that the client had given before was unwritten
+-- so it is of some turns
 abbrev pub NearTurned : {A : Type 0} → Course (Answer A) → (old new : Held Client) → (came left before after : List ℕ) → Type 0
-NearTurned (Courses.Over answer) old new came left before after = old.lane.unwritten ≡ [] → NearAnswers (said_of answer) old new came left before after
+NearTurned (Courses.Over answer) old new came left before after = NearAnswers (said_of answer) old new came left before after
 NearTurned Courses.On old new came left before after = NearGoesOn old new came left before after
 NearTurned Courses.Off old new came left before after = ⊤
 

@@ -5,7 +5,7 @@ use Rattle.ftp_pair_turns.proofs.turns.near_turn.Goals as goal
 pub returns : goal.returns
 returns g c =
     let now = c.drive_some-turned.new.control in
-    near_turned _ _ _ _ c.drive_some-turned.result c.near_course.result c.has_unheard-is_heard.result _ _ _ _ c.drive_some-turned.ensures.drives c.near_course.ensures refl
+    near_turned _ _ _ _ c.drive_some-turned.result c.near_course.result c.has_unheard-is_heard.result _ _ _ _ c.drive_some-turned.ensures.made c.near_course.ensures
     (record {
       left_there = now.reader.way.now.items;
       after_there = now.writer.way.now.items;
