@@ -5,7 +5,9 @@ server takes fewer, refuses a login, ends or cuts one, or says no more over one.
 import filecmp
 import os
 import random
+import resource
 import shutil
+import signal
 import socket
 import subprocess
 import threading
@@ -215,6 +217,31 @@ def try_cuts(rows):
         server.close()
 
 
+def try_full(rows):
+    """Onto a device that has no room for some of the files: told and left as by one, and what stood stands."""
+    served = rows.folder / "served"
+    shutil.rmtree(served, ignore_errors=True)
+    tree = {f"f{number}": RANDOM.randbytes(1_000_000 if number % 2 else 1_000) for number in range(8)}
+    fill(served, tree)
+    server = OwnServer(served)
+
+    def limit():
+        signal.signal(signal.SIGXFSZ, signal.SIG_IGN)
+        resource.setrlimit(resource.RLIMIT_FSIZE, (300_000, 300_000))
+
+    seen = {}
+    for lanes in ("1", "4"):
+        local = rows.folder / f"full{lanes}"
+        fill(local, {name: b"older" for name in tree})
+        words = [TOOL, "mirror", f"127.0.0.1:{server.port}/", f"./{local.name}", "--parallel", lanes]
+        done = subprocess.run(words, cwd=rows.folder, stderr=subprocess.PIPE, preexec_fn=limit)
+        seen[lanes] = (done.returncode, lines_of(done.stderr), tree_at(local), parts_of(local))
+    left = {name: octets if len(octets) < 300_000 else b"older" for name, octets in tree.items()}
+    rows.row("no room for some files: those are told, and stay", seen["1"][0] == 1 and seen["1"][2:] == (left, []), seen["1"][:2])
+    rows.row("by four as by one", seen["4"] == seen["1"], (seen["4"][:2], seen["4"][3]))
+    server.close()
+
+
 def most_memory(rows, *words):
     """The status, standard error, and the most memory in KiB."""
     process = subprocess.Popen([TOOL, *words], cwd=rows.folder, stderr=subprocess.PIPE)
@@ -309,6 +336,7 @@ def main():
     try_memory(rows)
     try_killed(rows)
     try_cuts(rows)
+    try_full(rows)
     flat = {f"f{number:02}": b"%d" % number for number in range(12)}
     for way in ("down", "up"):
         try_facts(rows, way, flat)
