@@ -35,7 +35,7 @@ use Rattle.ftp_pair_drives.specs.Example.{ExampleHasQuit, ExampleIsOver, Example
 use Rattle.ftp_pair_drives.specs.Over.{AreOver}
 use Rattle.ftp_pair_drives.specs.Quitting.{HaveQuit, quit_octets}
 use Rattle.ftp_pair_drives.proofs.Ending.{Goes, answers_are, answers_go, orders_are}
-use Rattle.ftp_pair_drives.proofs.Finishing.{Answered, Quitted, far_leaves, far_quits, near_answers, quit_first, quit_turn}
+use Rattle.ftp_pair_drives.proofs.Finishing.{Answered, Answering, Quitted, far_leaves, far_quits, near_answering, near_answers, quit_first, quit_turn}
 use Rattle.ftp_pair_drives.proofs.Playing.{Attends, Plays, can_hear, ear_after, far_at, far_ending, far_hears, far_obeys, far_reading, far_reads, far_saying, far_says, is_nothing, is_silent, near_at, near_hears, near_reads, near_says, no_events}
 
 module _ (table : Table) where
@@ -87,8 +87,11 @@ module _ (table : Table) where
     turns = Client (Other (Begun Ops.Where)) ∷ [];
     happened = (nothing_yet, refl, refl);
     far_goes = (refl, record { wants = refl; running = refl; none_waits = refl });
+    later = [];
+    turns_are = refl;
     midst = [];
     are = tt;
+    later_midst = refl;
     client_is = refl;
     near_goes = (refl, refl);
   }
@@ -171,6 +174,14 @@ module _ (table : Table) where
   answers root = near_answers (far_at far_first []) Ops.Where (Path (47 ∷ [])) (near_at client_first []) near_first (record far_told { owed = [] }) near_told
       refl refl (((refl, (((λ calm. refl), (λ moved. absurd (moved refl))), inl refl)), refl, tt), refl) refl refl refl refl (ends root)
 
+  -- step by step
+  answering : node_at table [] ≡ Some Dir
+      → Answering (far_at far_first []) Ops.Where (Path (47 ∷ [])) (near_at client_first []) (record far_told { owed = [] }) near_told
+  unfolding Leads near.starts near.wants answered line_heard can_hear is_nothing path_value quoted_value path_on_literals text_of obeyed
+      client_first far_first near_first near_greeted far_logged near_logged far_told near_told
+  answering root = near_answering (far_at far_first []) Ops.Where (Path (47 ∷ [])) (near_at client_first []) near_first (record far_told { owed = [] }) near_told
+      refl (((refl, (((λ calm. refl), (λ moved. absurd (moved refl))), inl refl)), refl, tt), refl) refl refl refl refl refl (ends root)
+
   -- both began as a session does
   starts_so : Begins (example table) (far_at far_first []) (near_at client_first [])
   unfolding client_first far_first
@@ -244,3 +255,22 @@ example_is_over table root = is_over table root
 -- or by QUIT
 pub example_has_quit : ExampleHasQuit
 example_has_quit table root = has_quit table root
+
+-- its operation, step by step
+pub record IsAnswered (table : Table) : Type 0 where
+  pub server : Far
+  pub client : Near
+  pub begins : Begins (example table) (far_at server []) (near_at client [])
+  pub server_now : Far
+  pub heard : Near
+  pub answering : Answering (far_at server []) Ops.Where (Path (47 ∷ [])) (near_at client []) server_now heard
+
+pub example_is_answered : (table : Table) → node_at table [] ≡ Some Dir → IsAnswered table
+example_is_answered table root = record {
+  server = far_first table;
+  client = client_first table;
+  begins = starts_so table;
+  server_now = record (far_told table) { owed = [] };
+  heard = near_told table;
+  answering = answering table root;
+}

@@ -39,28 +39,56 @@ pub record Answered (start : Stand server_side) (op : Op (List ℕ)) (said : Sai
   pub answered : AreAnswered ((op, said) ∷ []) client_start (near_at n [])
   pub client_is : client_deeds turns ≡ deeds_in ((op, said) ∷ []) client_start (near_at n []) answered
 
--- it reports, and its port is shut
+-- it reports, and its port is shut: the last deeds of a drive, after others
+near_ends : (before : List (Deed client_side)) (begun : Stand client_side) (said : Said) (n : Near) → near.report_of n ≡ Some said
+    → near.wants (near.reports n) ≡ Want.Nothing → is_under_way (near.reports n).job ≡ false → near.wants (near.data_closed (near.reports n)) ≡ Want.Nothing
+    → Goes IsAsking ClientIsCalm ClientAttends before begun (near_at n [])
+    → Goes IsAsking ClientIsCalm ClientAttends (Other Closed ∷ Other (Left Shut) ∷ Other (Report (Some said)) ∷ before) begun (near_at (near.data_closed (near.reports n)) [])
+near_ends before begun said n some wants done closed goes =
+    let m : Near = near.reports n in
+    let report : Deed client_side = Other (Report (Some said)) in
+    let shut : Deed client_side = Other (Left Shut) in
+    let one = goes_on IsAsking ClientIsCalm ClientAttends report before begun (near_at n []) (near_at m []) tt refl wants
+    (((sym some, (refl, refl)), refl, tt), refl) goes in
+    let two = goes_on IsAsking ClientIsCalm ClientAttends shut (report ∷ before) begun (near_at m []) (near_at m []) tt refl wants (
+      (refl, record { ended = refl; adds = tt; stands = refl; fate = refl; rest = refl; unwritten = refl; untold = refl }, (inr done, tt, tt)),
+      refl,
+    ) one in
+    goes_on IsAsking ClientIsCalm ClientAttends (Other Closed) (shut ∷ report ∷ before) begun (near_at m []) (near_at (near.data_closed m) []) tt refl closed
+    (((refl, refl), (refl, refl), λ sound under. absurd (true≢false (sym under ∙ done))), refl) two
+
+-- an operation that is answered, step by step: it is begun, all is heard, and then come its drive's last deeds
+pub record Answering (start : Stand server_side) (op : Op (List ℕ)) (said : Said) (client_start : Stand client_side) (v : Far) (n : Near) : Type 0 where
+  pub first : Near
+  pub begins : Done (Other (Begun op)) client_start (near_at first [])
+  pub calm : ClientIsCalm client_start.owner (near_at first []).owner
+  pub plays : Plays start (near_at first []) op [] v [] [] n []
+  pub last : Goes IsAsking ClientIsCalm ClientAttends (Other Closed ∷ Other (Left Shut) ∷ Other (Report (Some said)) ∷ []) (near_at n []) (near_at (near.data_closed (near.reports n)) [])
+
+pub near_answering : (start : Stand server_side) (op : Op (List ℕ)) (said : Said) (client_start : Stand client_side) (first : Near) (v : Far) (n : Near)
+    → ClientIsCalm client_start.owner (near_at first []).owner → Done (Other (Begun op)) client_start (near_at first [])
+    → near.report_of n ≡ Some said → near.wants n ≡ Want.Nothing → near.wants (near.reports n) ≡ Want.Nothing → is_under_way (near.reports n).job ≡ false
+    → near.wants (near.data_closed (near.reports n)) ≡ Want.Nothing → Plays start (near_at first []) op [] v [] [] n [] → Answering start op said client_start v n
+near_answering start op said client_start first v n calm begins some waits wants done closed p = record {
+  first = first;
+  begins = begins;
+  calm = calm;
+  plays = p;
+  last = near_ends [] (near_at n []) said n some wants done closed (refl, waits);
+}
+
 pub near_answers : (start : Stand server_side) (op : Op (List ℕ)) (said : Said) (client_start : Stand client_side) (first : Near) (v : Far) (n : Near)
     → ClientAttends client_start.owner → ClientIsCalm client_start.owner (near_at first []).owner → Done (Other (Begun op)) client_start (near_at first [])
     → near.report_of n ≡ Some said → near.wants (near.reports n) ≡ Want.Nothing → is_under_way (near.reports n).job ≡ false
     → near.wants (near.data_closed (near.reports n)) ≡ Want.Nothing → Plays start (near_at first []) op [] v [] [] n []
     → Answered start op said client_start v (near.data_closed (near.reports n))
 near_answers start op said client_start first v n attends calm begins some wants done closed p =
-    let m : Near = near.reports n in
     let begun = near_at first [] in
     let report : Deed client_side = Other (Report (Some said)) in
     let shut : Deed client_side = Other (Left Shut) in
-    let one = goes_on IsAsking ClientIsCalm ClientAttends report p.midst begun (near_at n []) (near_at m []) tt refl wants
-    (((sym some, (refl, refl)), refl, tt), refl) p.near_goes in
-    let two = goes_on IsAsking ClientIsCalm ClientAttends shut (report ∷ p.midst) begun (near_at m []) (near_at m []) tt refl wants (
-      (refl, record { ended = refl; adds = tt; stands = refl; fate = refl; rest = refl; unwritten = refl; untold = refl }, (inr done, tt, tt)),
-      refl,
-    ) one in
     let all : List (Deed client_side) = Other Closed ∷ shut ∷ report ∷ p.midst in
-    let last = near_at (near.data_closed m) [] in
-    let three : Goes IsAsking ClientIsCalm ClientAttends all begun last =
-    goes_on IsAsking ClientIsCalm ClientAttends (Other Closed) (shut ∷ report ∷ p.midst) begun (near_at m []) last tt refl closed
-    (((refl, refl), (refl, refl), λ sound under. absurd (true≢false (sym under ∙ done))), refl) two in
+    let last = near_at (near.data_closed (near.reports n)) [] in
+    let three : Goes IsAsking ClientIsCalm ClientAttends all begun last = near_ends p.midst begun said n some wants done closed p.near_goes in
     let totals = sums all begun last three.0 in
     let drove : ClientDrove begun last (Some said) = record {
       answer = said;

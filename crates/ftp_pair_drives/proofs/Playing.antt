@@ -273,8 +273,11 @@ pub record Plays (start : Stand server_side) (begun : Stand client_side) (op : O
   pub turns : List Turn
   pub happened : Happened turns (between up down)
   pub far_goes : Goes IsServing ServerIsCalm ServerAttends (server_deeds turns) start (far_at v unheard)
+  pub later : List Turn
+  pub turns_are : turns ≡ later ++ Client (Other (Begun op)) ∷ []
   pub midst : List (Deed client_side)
   pub are : AreMidst midst
+  pub later_midst : client_deeds later ≡ midst
   pub client_is : client_deeds turns ≡ midst ++ Other (Begun op) ∷ []
   pub near_goes : Goes IsAsking ClientIsCalm ClientAttends midst begun (near_at n unheard_near)
 
@@ -289,8 +292,11 @@ module _ (start : Stand server_side) (begun : Stand client_side) (op : Op (List 
         turns = Server deed ∷ p.turns;
         happened = (between up down, p.happened, can);
         far_goes = goes_on IsServing ServerIsCalm ServerAttends deed (server_deeds p.turns) start (far_at v u) (far_at new next) is refl attends done p.far_goes;
+        later = Server deed ∷ p.later;
+        turns_are = ap (λ l. Server deed ∷ l) p.turns_are;
         midst = p.midst;
         are = p.are;
+        later_midst = p.later_midst;
         client_is = p.client_is;
         near_goes = p.near_goes;
       }
@@ -304,8 +310,11 @@ module _ (start : Stand server_side) (begun : Stand client_side) (op : Op (List 
     turns = Client deed ∷ p.turns;
     happened = (between up down, p.happened, can);
     far_goes = p.far_goes;
+    later = Client deed ∷ p.later;
+    turns_are = ap (λ l. Client deed ∷ l) p.turns_are;
     midst = deed ∷ p.midst;
     are = (p.are, amid);
+    later_midst = ap (λ l. deed ∷ l) p.later_midst;
     client_is = ap (λ l. deed ∷ l) p.client_is;
     near_goes = goes_on IsAsking ClientIsCalm ClientAttends deed p.midst begun (near_at n w) (near_at new next) is refl wants done p.near_goes;
   }

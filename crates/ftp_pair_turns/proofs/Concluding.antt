@@ -44,7 +44,7 @@ can_turn (Client (Heard octets)) old new can beside = ap between can
 can_turn (Client Ended) old new can beside = ap between can
 can_turn (Client (Other call)) old new can beside = rw beside.1 (ap between can)
 
-first_beside : (turn : Turn) (before : List Turn) → AreBeside (turn ∷ before) → AreBeside (turn ∷ []) × AreBeside before
+pub first_beside : (turn : Turn) (before : List Turn) → AreBeside (turn ∷ before) → AreBeside (turn ∷ []) × AreBeside before
 first_beside (Server deed) before beside = ((tt, beside.1), beside.0)
 first_beside (Client deed) before beside = ((tt, beside.1), beside.0)
 
@@ -76,7 +76,7 @@ asking_beside (Other (Left Shut)) is = refl
 asking_beside (Other Closed) is = refl
 asking_beside deed is = absurd is
 
-all_beside : (turns : List Turn) (server server_now : Stand server_side) (client client_now : Stand client_side)
+pub all_beside : (turns : List Turn) (server server_now : Stand server_side) (client client_now : Stand client_side)
     → Goes IsServing ServerIsCalm ServerAttends (server_deeds turns) server server_now → Goes IsAsking ClientIsCalm ClientAttends (client_deeds turns) client client_now
     → AreBeside turns
 all_beside [] server server_now client client_now serves asks = tt

@@ -3,3 +3,4 @@ pub mod Quieting
 pub mod Coursing
 pub mod Gathering
 pub mod Concluding
+pub mod Example

@@ -9,10 +9,13 @@ use Rattle.ftp_operation.specs.declared.op.Op.{Op}
 use Rattle.ftp_pair_drives.specs.Alone.{AsksAlone, ClientIsCalm, ServesAlone}
 use Rattle.ftp_pair_drives.specs.Between.{Client, Happened, Server, Turn, Ways, client_deeds, nothing_yet, server_deeds}
 use Rattle.ftp_pair_drives.specs.Claims.{Begins}
+use Rattle.ftp_pair_drives.specs.Example.{example, example_asked}
 use Rattle.ftp_pair_drives.specs.Over.{AreMidst, answers_of, orders_of}
 use Rattle.ftp_pair_drives.specs.Touches.{None_of_it, touch_of}
 use Rattle.ftp_pair_world.specs.Claims.{AreAnswers, Beginning, IsFair, state_of}
+use Rattle.ftp_tree.specs.Map.{Dir}
 use Rattle.ftp_tree.specs.Sound.{last_second}
+use Rattle.ftp_tree.specs.Tree.{Table, node_at}
 use Rattle.ftp_pair_turns.specs.Order.{Went}
 use Rattle.ftp_pair_turns.specs.Speaking.{quiet}
 use Rattle.ftp_pair_turns.specs.Taking.{Answered, Ends}
@@ -71,3 +74,11 @@ SessionsAreTheDirectRun =
     (b : Beginning) → IsFair b → (moment : ℕ) → moment ≤ last_second → (asked : List (Op (List ℕ) × Said)) (start now : Ends)
     → Begins b (quiet start.server) (quiet start.client) → start.ways ≡ no_ways → (are : AreAsked asked start now) → AreAskedAlone asked start now are
     → AreAnswers (state_of b) (orders_of moment asked) (answers_of asked) now.server.end.server.view.session.table
+
+-- ---- an example
+
+-- such a session exists: somebody logs in to a map that has a root, and asks where he is
+abbrev pub ExampleIsAsked : Type 0
+ExampleIsAsked =
+    (table : Table) → node_at table [] ≡ Some Dir → (start : Ends) × (now : Ends) × Begins (example table) (quiet start.server) (quiet start.client)
+    × (start.ways ≡ no_ways) × (are : AreAsked example_asked start now) × AreAskedAlone example_asked start now are

@@ -1,5 +1,5 @@
 //! Laws of turns: functions that do nothing, whose contracts are the claims of `specs/`.
-ghost use Rattle.ftp_pair_turns.specs.Laws.{OrdersHappen, SessionsAreTheDirectRun};
+ghost use Rattle.ftp_pair_turns.specs.Laws.{ExampleIsAsked, OrdersHappen, SessionsAreTheDirectRun};
 
 /// Where no deed touches a data connection, an order in which each can be done on the control connection is one in which each can happen.
 pub fn orders_happen()
@@ -10,4 +10,9 @@ pub fn orders_happen()
 /// alone.
 pub fn sessions_are_the_direct_run()
     ensures { SessionsAreTheDirectRun }
+{}
+
+/// A session meets what is asked of one: its operation is answered over control alone.
+pub fn an_example_is_asked()
+    ensures { ExampleIsAsked }
 {}
