@@ -6,7 +6,7 @@ use Rattle.ftp_server_model.specs.Failing.{Counts}
 use Rattle.ftp_tree.proofs.CountLemmas.{stray-first}
 
 -- one that moved twice moved by both together
-twice : (more first count : ℕ) → moved_on more (moved_on first count) ≡ moved_on (first + more) count
+pub twice : (more first count : ℕ) → moved_on more (moved_on first count) ≡ moved_on (first + more) count
 twice zero first count =
     let sum : first ≡ first + 0 = omega arith in
     ap (λ n. moved_on n count) sum
@@ -27,7 +27,7 @@ moved_less more count = by_rest (moved_on more count)
     by_rest n = omega arith
 
 -- one that is what it was has moved by none
-stays_put : (more count : ℕ) → more < 2 ^ 64 → moved_on more count ≡ count → more ≡ 0
+pub stays_put : (more count : ℕ) → more < 2 ^ 64 → moved_on more count ≡ count → more ≡ 0
 stays_put zero count few same = refl
 stays_put (suc more) count few same =
     let fits : count < 2 ^ 64 = subst (λ n. n < 2 ^ 64) same (moved_less more count) in

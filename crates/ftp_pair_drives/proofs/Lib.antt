@@ -23,3 +23,4 @@ pub mod Moving
 pub mod Ordering
 pub mod Breaking
 pub mod BothBroken
+pub mod Counting

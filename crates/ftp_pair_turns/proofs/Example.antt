@@ -15,7 +15,7 @@ use Rattle.ftp_pair_drives.specs.Over.{AreMidst}
 use Rattle.ftp_pair_drives.proofs.Ending.{Goes}
 use Rattle.ftp_pair_drives.proofs.Example.{example_is_answered}
 use Rattle.ftp_pair_drives.proofs.Playing.{far_at, near_at}
-use Rattle.ftp_pair_turns.specs.Laws.{AreBeside, AskedAlone, ExampleIsAsked, no_ways}
+use Rattle.ftp_pair_turns.specs.Laws.{AreBeside, AskedBy, ExampleIsAsked, no_ways}
 use Rattle.ftp_pair_turns.specs.Order.{CanGo, Went}
 use Rattle.ftp_pair_turns.specs.Speaking.{quiet}
 use Rattle.ftp_pair_turns.specs.Taking.{Answered, Settled, Took, ends}
@@ -62,7 +62,7 @@ example_is_asked table root =
     (ap server_deeds p.turns_are ∙ servers_then p.later (first ∷ []) ∙ append-nil (server_deeds p.later)) p.far_goes in
     let asks : Goes IsAsking ClientIsCalm ClientAttends (client_deeds p.later) (quiet begun) (quiet heard) =
     subst (λ d. Goes IsAsking ClientIsCalm ClientAttends d (quiet begun) (quiet heard)) (sym p.later_midst) p.near_goes in
-    let beside = all_beside p.later (quiet server) (quiet served) (quiet begun) (quiet heard) serves asks in
+    let beside = all_beside ServerIsCalm ClientIsCalm p.later (quiet server) (quiet served) (quiet begun) (quiet heard) serves asks in
     let happened : Happened (p.later ++ first ∷ []) nothing_yet = subst (λ t. Happened t nothing_yet) p.turns_are p.happened in
     let took : Took (ends server begun no_ways) (ends served heard no_ways) = record {
       turns = p.later;
@@ -73,8 +73,8 @@ example_is_asked table root =
     let last : NearAnswers said heard done [] [] [] [] = record { asked = Shut; midst = []; speaks = record { led = a.last.0; read = refl; wrote = refl } } in
     let settled : Settled said (ends server begun no_ways) (ends served done no_ways) = record { mid = ends served heard no_ways; took = took; server = refl; answers = last } in
     let answered : Answered Ops.Where said (ends server client no_ways) (ends served done no_ways) = record { begun = begun; begins = a.begins; settled = settled } in
-    let alone : AskedAlone answered = record {
-      calm = a.calm;
+    let alone : AskedBy ServerIsCalm ClientIsCalm answered = record {
+      kept = a.calm;
       serves = serves.1;
       asks = asks.1;
       midst = subst AreMidst (sym p.later_midst) p.are;

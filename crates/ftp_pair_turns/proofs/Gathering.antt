@@ -1,5 +1,5 @@
 -- Turns of both, put together.
-use Rattle.std.proofs.Common.{◌≡◌, ℕ, true, false, List, [], ◌∷◌, ◌++◌, Option, Some, is_some, true≢false, refl, sym, ap, subst, ◌∙◌, append_assoc, append-nil, None}
+use Rattle.std.proofs.Common.{◌≡◌, ℕ, suc, length, true, false, List, [], ◌∷◌, ◌++◌, Option, Some, is_some, true≢false, refl, sym, ap, subst, ◌∙◌, append_assoc, append-nil, None}
 use Rattle.std.specs.Prelude.{Bool, not}
 use Rattle.ftp_control.specs.Deeds.{Deed, Ended, Heard, Led, Other, Read, Said as Says, Stand, read_by, read_in, said_by, said_in}
 use Rattle.ftp_control.specs.Lane.{Lane}
@@ -67,6 +67,11 @@ pub its_own : (deeds : List (Deed client_side)) → client_deeds (by_client deed
 unfolding by_client
 its_own [] = refl
 its_own (deed ∷ before) = ap (λ l. deed ∷ l) (its_own before)
+
+pub as_many_own : (deeds : List (Deed client_side)) → length (by_client deeds) ≡ length deeds
+unfolding by_client
+as_many_own [] = refl
+as_many_own (deed ∷ before) = ap suc (as_many_own before)
 
 pub no_others : (deeds : List (Deed client_side)) → server_deeds (by_client deeds) ≡ []
 unfolding by_client

@@ -1,18 +1,19 @@
 -- What is claimed of turns of both over a control connection in memory.
-use Rattle.std.specs.Prelude.{◌≡◌, ⊤, ℕ, ◌≤◌, List, [], ◌∷◌, Some}
+use Rattle.std.specs.Prelude.{◌≡◌, ⊤, ℕ, ◌+◌, ◌^◌, ◌<◌, ◌≤◌, List, [], ◌∷◌, length, Some}
 use Rattle.ftp_control.specs.Deeds.{Deed, Other}
 use Rattle.ftp_control.specs.Machine.{Closed, Held, Left, Machine, side_of}
 use Rattle.ftp_client_drive.specs.Side.{Report, client_side}
 use Rattle.ftp_client_model.specs.Failing.{Client as NearEnd}
 use Rattle.ftp_operation.specs.Answer.{Said}
 use Rattle.ftp_operation.specs.declared.op.Op.{Op}
-use Rattle.ftp_pair_drives.specs.Alone.{AsksAlone, ClientIsCalm, ServesAlone}
+use Rattle.ftp_pair_drives.specs.Alone.{ClientAttends, ClientIsCalm, IsAsking, IsServing, ServerAttends, ServerIsCalm, Throughout}
 use Rattle.ftp_pair_drives.specs.Between.{Client, Happened, Server, Turn, Ways, client_deeds, nothing_yet, server_deeds}
 use Rattle.ftp_pair_drives.specs.Claims.{Begins}
 use Rattle.ftp_pair_drives.specs.Example.{example, example_asked}
 use Rattle.ftp_pair_drives.specs.Over.{AreMidst, answers_of, orders_of}
 use Rattle.ftp_pair_drives.specs.Touches.{None_of_it, touch_of}
 use Rattle.ftp_pair_world.specs.Claims.{AreAnswers, Beginning, IsFair, state_of}
+use Rattle.ftp_server_drive.specs.Side.{Timed}
 use Rattle.ftp_tree.specs.Map.{Dir}
 use Rattle.ftp_tree.specs.Sound.{last_second}
 use Rattle.ftp_tree.specs.Tree.{Table, node_at}
@@ -54,25 +55,49 @@ abbrev pub deeds_of : {answer : Said} {old new : Held NearEnd} {came left before
     → List (Deed client_side)
 deeds_of {answer = answer} answers = Other Closed ∷ Other (Left answers.asked) ∷ Other (Report (Some answer)) ∷ answers.midst
 
--- one was answered over control alone: neither end wanted a data connection, was refused memory, or had a device that failed or strayed, and before the client
--- reported nothing was reported, and no other operation begun
-pub record AskedAlone {op : Op (List ℕ)} {answer : Said} {old new : Ends} (a : Answered op answer old new) : Type 0 where
-  pub calm : ClientIsCalm old.client a.begun
-  pub serves : ServesAlone (server_deeds a.settled.took.turns) (quiet old.server) (quiet a.settled.mid.server) a.settled.took.server_led
-  pub asks : AsksAlone (client_deeds a.settled.took.turns) (quiet a.begun) (quiet a.settled.mid.client) a.settled.took.client_led
-  pub midst : AreMidst (client_deeds a.settled.took.turns)
-  pub last_asks : AsksAlone (deeds_of a.settled.answers) (quiet a.settled.mid.client) (quiet new.client) a.settled.answers.speaks.led
-  pub last_midst : AreMidst a.settled.answers.midst
+-- one was answered over control alone: neither end wanted a data connection, and before the client reported nothing was reported, and no other operation
+-- begun; and the ends before and after each deed keep this
+module _ (KeepsServer : (old new : Held Timed) → Type 0) (KeepsClient : (old new : Held NearEnd) → Type 0) where
+  pub record AskedBy {op : Op (List ℕ)} {answer : Said} {old new : Ends} (a : Answered op answer old new) : Type 0 where
+    pub kept : KeepsClient old.client a.begun
+    pub serves : Throughout IsServing KeepsServer ServerAttends (server_deeds a.settled.took.turns) (quiet old.server) (quiet a.settled.mid.server) a.settled.took.server_led
+    pub asks : Throughout IsAsking KeepsClient ClientAttends (client_deeds a.settled.took.turns) (quiet a.begun) (quiet a.settled.mid.client) a.settled.took.client_led
+    pub midst : AreMidst (client_deeds a.settled.took.turns)
+    pub last_asks : Throughout IsAsking KeepsClient ClientAttends (deeds_of a.settled.answers) (quiet a.settled.mid.client) (quiet new.client) a.settled.answers.speaks.led
+    pub last_midst : AreMidst a.settled.answers.midst
 
+  abbrev pub AreAskedBy : (asked : List (Op (List ℕ) × Said)) (start now : Ends) → AreAsked asked start now → Type 0
+  AreAskedBy [] start now are = ⊤
+  AreAskedBy (asked ∷ before) start now are = AreAskedBy before start are.0 are.1 × AskedBy are.2
+
+-- neither was refused memory, and no device failed or strayed
 abbrev pub AreAskedAlone : (asked : List (Op (List ℕ) × Said)) (start now : Ends) → AreAsked asked start now → Type 0
-AreAskedAlone [] start now are = ⊤
-AreAskedAlone (asked ∷ before) start now are = AreAskedAlone before start are.0 are.1 × AskedAlone are.2
+AreAskedAlone asked start now are = AreAskedBy ServerIsCalm ClientIsCalm asked start now are
+
+-- the same, of which nothing is known of that
+abbrev pub AreAskedBeside : (asked : List (Op (List ℕ) × Said)) (start now : Ends) → AreAsked asked start now → Type 0
+AreAskedBeside asked start now are = AreAskedBy (λ old new. ⊤) (λ old new. ⊤) asked start now are
+
+-- how many deeds both did
+abbrev pub deeds_in : (asked : List (Op (List ℕ) × Said)) (start now : Ends) → AreAsked asked start now → ℕ
+deeds_in [] start now are = 0
+deeds_in (asked ∷ before) start now are =
+    length (deeds_of are.2.settled.answers) + (length are.2.settled.took.turns + (1 + deeds_in before start are.0 are.1))
 
 -- then the answers, and the map that the server holds, are those of the operations run directly; the order is none of the premises
 abbrev pub SessionsAreTheDirectRun : Type 0
 SessionsAreTheDirectRun =
     (b : Beginning) → IsFair b → (moment : ℕ) → moment ≤ last_second → (asked : List (Op (List ℕ) × Said)) (start now : Ends)
     → Begins b (quiet start.server) (quiet start.client) → start.ways ≡ no_ways → (are : AreAsked asked start now) → AreAskedAlone asked start now are
+    → AreAnswers (state_of b) (orders_of moment asked) (answers_of asked) now.server.end.server.view.session.table
+
+-- so it is where the counts of both ends are in the end what they were, and fewer than 2^60 deeds were done: the counts wrap
+abbrev pub SessionsByCounts : Type 0
+SessionsByCounts =
+    (b : Beginning) → IsFair b → (moment : ℕ) → moment ≤ last_second → (asked : List (Op (List ℕ) × Said)) (start now : Ends)
+    → Begins b (quiet start.server) (quiet start.client) → start.ways ≡ no_ways → (are : AreAsked asked start now) → AreAskedBeside asked start now are
+    → now.server.end.server.counts ≡ start.server.end.server.counts → now.client.end.refusals ≡ start.client.end.refusals
+    → deeds_in asked start now are < 2 ^ 60
     → AreAnswers (state_of b) (orders_of moment asked) (answers_of asked) now.server.end.server.view.session.table
 
 -- ---- an example
