@@ -96,7 +96,12 @@ where
         }
         most = if most >= FEW { MANY } else { most + 1 };
     }
-    Ok(())
+    let counts = server.end().server.counts();
+    let refused = client.end().refusals();
+    println!(rt;
+        "refused {refused}, {}; failed {}",
+        counts.refusals, counts.failures
+    )
 }
 
 /// A server over an empty tree in memory; none where memory is refused.
