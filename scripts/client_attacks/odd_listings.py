@@ -241,8 +241,20 @@ def down_missing(rows):
         shelf.server.close()
 
 
+def ls_missing(rows):
+    """`ls` of a directory of which LIST lists nothing: who refuses to go into it has none."""
+    for path in ("none", "none/"):
+        for says, wanted in (("550 no such directory", 1), ("250 in", 0), ("500 what", 0)):
+            shelf = Columns({}, says={"LIST": sender(b""), "CWD": says})
+            status, out, told = rows.tool("ls", shelf.place + path)
+            holds = (status, out) == (wanted, b"") and (b"no such directory" in told) == (wanted == 1)
+            rows.row(f"ls {path} of which LIST lists nothing, CWD {says}", holds, (status, out, told))
+            shelf.server.close()
+
+
 def main():
     rows = Rows()
+    ls_missing(rows)
     ls_odd(rows)
     down_missing(rows)
     ls_columns(rows)

@@ -3,7 +3,8 @@ use crate::looking::{listing_of_file, may_be_file, settles};
 use crate::simple::{Simple, op_of};
 use crate::target::Target;
 use ftp_facts::Text;
-use ftp_operation::{Answer, How, Op};
+use ftp_operation::{Answer, How, ListVerb, Op};
+use ftp_reply::code::UNAVAILABLE;
 use ftp_tool_connection::{
     ClientSession, Converses, Ending, LastReply, Logins, Openings, Phase, Request, SessionFault,
     SessionTask, ask, at, converse_as,
@@ -102,7 +103,7 @@ impl<'a> Single<'a> {
     fn looked<S: ClientSession>(&self, seat: &mut S) -> Result<Answer<Global>, AllocError> {
         let listed = self.asked(seat)?;
         if !self.looks_on() || !self.may_be_file(&listed)? {
-            return Ok(listed);
+            return self.stands(seat, listed);
         }
         let is_refused = matches!(&listed, Answer::Refused(_));
         let path = Text::copy_of(self.alloc, self.path.as_bytes())?;
@@ -114,7 +115,36 @@ impl<'a> Single<'a> {
         if is_refused {
             self.asked(seat)
         } else {
-            Ok(listed)
+            self.stands(seat, listed)
+        }
+    }
+
+    /// A listing. LIST may list nothing of a directory that does not stand: then it is gone into (CWD, RFC 959, section 4.1.1), and who says 550 to that has none.
+    fn stands<S: ClientSession>(
+        &self,
+        seat: &mut S,
+        listed: Answer<Global>,
+    ) -> Result<Answer<Global>, AllocError> {
+        if !self.is_doubtful(&listed)? {
+            return Ok(listed);
+        }
+        let path = Text::copy_of(self.alloc, self.path.as_bytes())?;
+        let gone = seat.answer(Request::One(Some(Op::ChangeDir(path))));
+        if matches!(&gone, Answer::Refused(UNAVAILABLE) | Answer::Lost) {
+            return Ok(gone);
+        }
+        Ok(listed)
+    }
+
+    /// Whether a directory that is named was listed so by LIST that it may not stand.
+    fn is_doubtful(&self, listed: &Answer<Global>) -> Result<bool, AllocError> {
+        let is_list = matches!(self.openings.list_verb(), ListVerb::List);
+        if self.path.is_empty() || !self.is_listing() || !is_list {
+            return Ok(false);
+        }
+        match listed {
+            Answer::Octets(text) => lists_nothing(self.alloc, text.as_slice()),
+            _ => Ok(false),
         }
     }
 
