@@ -66,6 +66,10 @@ IsOpen lane = (lane.stands ≡ true) × (lane.fate ≡ Sound)
 abbrev pub with_asked : Option (List Asked) → Lane → Lane
 with_asked asked lane = record lane { asked = asked }
 
+-- so much is left to be read of it, and so much was written
+abbrev pub with_ends : (left written : Option (List ℕ)) → Lane → Lane
+with_ends left written lane = record lane { left = left; written = written }
+
 -- how it moves
 pub data Move : Type 0 where
   -- not at all

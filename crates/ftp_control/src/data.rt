@@ -1,5 +1,5 @@
 // A data connection: what stands of its stream, and which octets of a room are on their way over it.
-ghost use Rattle.std.specs.Prelude.{◌≡◌, ◌≢◌, ◌≤◌, ◌<◌, IsTrue, IfOk, OnOk, OnErr, false, true, length, take, Some, None};
+ghost use Rattle.std.specs.Prelude.{◌≡◌, ◌≢◌, ◌≤◌, ◌<◌, IsTrue, IfErr, IfOk, OnOk, OnErr, false, true, length, take, Some, None};
 ghost use Rattle.std.specs.Option.{is_some};
 ghost use Rattle.std.specs.Io.KnownBytes.{Appends, Consumes, IsAtEnd, Keeps};
 ghost use Rattle.ftp_control.specs.Asking.{Leaves};
@@ -252,6 +252,22 @@ impl<S: Read + Write> DataConnection<S> {
         match &mut self.stream {
             Some(stream) => ports.looks_at(stream, what, beside),
             None => true,
+        }
+    }
+
+    /// Puts another stream in the place of the one that stands, and gives that; where none stands, it gives the other one back. So one who has a stream
+    /// in memory brings it what came.
+    pub fn exchange(&mut self, stream: S) -> Result<S, S>
+        ensures ok { IfOk result (λ before. (self.old.stream ≡ Some before) × (self.new.stream ≡ Some stream)) }
+        ensures err { IfErr result (λ kept. (kept ≡ stream) × (self.old.stream ≡ None) × (self.new.stream ≡ None)) }
+        ensures at { self.new.at ≡ self.old.at }
+        ensures end { self.new.end ≡ self.old.end }
+        ensures rest { self.new.rest ≡ self.old.rest }
+        ensures fate { self.new.fate ≡ self.old.fate }
+    {
+        match &mut self.stream {
+            Some(place) => Ok(std::mem::replace(place, stream)),
+            None => Err(stream),
         }
     }
 

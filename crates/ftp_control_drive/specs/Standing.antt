@@ -1,5 +1,5 @@
 -- Where a drive of the program stands.
-use Rattle.std.specs.Prelude.{◌≡◌, ◌⊎◌, ◌<◌, ℕ, Bool, true, List, [], Option, IfErr}
+use Rattle.std.specs.Prelude.{◌≡◌, ◌⊎◌, ◌<◌, ℕ, Bool, true, List, [], Option, Some, IfErr}
 use Rattle.std.specs.Option.{is_some}
 use Rattle.std.specs.Io.KnownBytes.{IsAtEnd}
 use Rattle.std.specs.declared.result.Result.{Result}
@@ -8,7 +8,7 @@ use Rattle.ftp_control.specs.Carrying.{left_of}
 use Rattle.ftp_control.specs.Cause.{IsCause}
 use Rattle.ftp_control.specs.Deeds.{Stand, with_owner}
 use Rattle.ftp_control.specs.Driving.{Goes, Leads}
-use Rattle.ftp_control.specs.Lane.{IsLeft, Lane, lane_of, no_lane, with_asked}
+use Rattle.ftp_control.specs.Lane.{IsLeft, Lane, lane_of, no_lane, with_asked, with_ends}
 use Rattle.ftp_control.specs.Machine.{GetsOn, IsFairEnd, Machine, Stirs, held, side_of, stand_of}
 use Rattle.ftp_control.specs.Unheard.{unheard_of}
 use Rattle.ftp_control.specs.declared.cause.Cause.{Cause}
@@ -43,6 +43,20 @@ Leaving old new = (asked : Asked) × IsLeft asked old new × IsFairEnd old asked
 -- one stands, and its stream is at its end
 abbrev pub HasEnded : {S : Type 0} → (remaining : S → Option (List ℕ)) → Data S → Type 0
 HasEnded remaining data_connection = (is_some data_connection.connection.stream ≡ true) × IsAtEnd (left_of remaining data_connection.connection)
+
+module _ {S : Type 0} where
+  -- whatever its stream tells, its end sees the same
+  abbrev pub IsSameLane : (old new : Data S) → Type 0
+  IsSameLane old new =
+      (remaining contents : S → Option (List ℕ)) (asked : Option (List Asked)) → lane_at remaining contents asked new [] ≡ lane_at remaining contents asked old []
+
+  -- one stands still, and another stream is in the place of the one before
+  abbrev pub IsExchanged : (before after : S) → (old new : Data S) → Type 0
+  IsExchanged before after old new =
+      (remaining contents : S → Option (List ℕ)) (asked : Option (List Asked)) →
+      (lane_at remaining contents asked old [] ≡ with_ends (remaining before) (contents before) (lane_at remaining contents asked old []))
+      × (lane_at remaining contents asked new [] ≡ with_ends (remaining after) (contents after) (lane_at remaining contents asked old []))
+      × (old.connection.stream ≡ Some before)
 
 -- it is a drive of the same end, control connection, ports and data connection
 abbrev pub IsKept : {K E R W P S : Type 0} → (old new : Drive K E R W P S) → Type 0

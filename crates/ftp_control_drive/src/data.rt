@@ -1,12 +1,12 @@
 // A data connection, and room for its octets.
-ghost use Rattle.std.specs.Prelude.{◌≡◌, ◌≤◌, ◌<◌, ℕ, List, [], IfOk, IsTrue, OnOk, Option, false, length, None, take, true};
+ghost use Rattle.std.specs.Prelude.{◌≡◌, ◌≤◌, ◌<◌, ℕ, List, [], IfErr, IfOk, IsTrue, OnOk, Option, false, length, None, take, true};
 ghost use Rattle.ftp_control.specs.Asking.{Asked, is_lost};
 ghost use Rattle.ftp_control.specs.Driving.{Quietly};
 ghost use Rattle.ftp_control.specs.Halting.{fate_by};
 ghost use Rattle.ftp_control.specs.Lane.{IsRead, IsWaited, no_lane, with_fate};
 ghost use Rattle.ftp_control.specs.Machine.{IsCut, Stirring, held, seen, side_of};
 ghost use Rattle.ftp_control.specs.Outcome.{IsReset, IsSent, IsWrote, in_hand};
-ghost use Rattle.ftp_control_drive.specs.Standing.{HasEnded, HasNone, IsOpenAt, IsParting, Leaving, lane_at};
+ghost use Rattle.ftp_control_drive.specs.Standing.{HasEnded, HasNone, IsExchanged, IsOpenAt, IsParting, IsSameLane, Leaving, lane_at};
 
 use crate::calls::EndCalls;
 use crate::hand::fill_front;
@@ -149,6 +149,15 @@ impl<S: Read + Write> Data<S> {
     {
         let (front, _) = self.room.split_at(count.min(self.room.len()));
         front
+    }
+
+    /// Puts another stream in the place of the one that stands, and gives that; where none stands, it gives the other one back. So one who has a stream
+    /// in memory brings it what came, between two turns.
+    pub fn exchange(&mut self, stream: S) -> Result<S, S>
+        ensures ok { IfOk result (λ before. IsExchanged before stream self.old self.new) }
+        ensures err { IfErr result (λ kept. (kept ≡ stream) × (self.old.connection.stream ≡ None) × IsSameLane self.old self.new) }
+    {
+        self.connection.exchange(stream)
     }
 
     /// Closes it, if it is open, and the port that is listened at.
