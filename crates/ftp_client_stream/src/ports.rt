@@ -3,7 +3,7 @@ ghost use Rattle.std.specs.Prelude.{◌≡◌, ⊤, None};
 ghost use Rattle.ftp_control.specs.Asking.{Closes};
 
 use crate::carrying::Carries;
-use ftp_control::{Accepted, Awaited, Beside, For, Ports, Ready, Spoken, Whole};
+use ftp_control::{Accepted, Awaited, Beside, Duplex, For, Ports, Ready, Spoken, Whole};
 use ftp_endpoint::Endpoint;
 use std::cell::Cell;
 use std::io;
@@ -73,6 +73,16 @@ impl<'c, L: Write, T: Carries> Write for CarriedLink<'c, L, T> {
 
     fn flush(&mut self) -> io::Result<()> {
         self.link.flush()
+    }
+}
+
+impl<'c, L: Read + Write, T: Carries> Duplex for CarriedLink<'c, L, T> {
+    fn receive(&mut self, room: &mut [u8]) -> io::Result<usize> {
+        self.read(room)
+    }
+
+    fn send(&mut self, octets: &[u8]) -> io::Result<usize> {
+        self.write(octets)
     }
 }
 

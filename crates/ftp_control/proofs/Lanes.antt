@@ -192,14 +192,16 @@ module _ {S : Type 0} (remaining contents : S → Option (List ℕ)) where
   -- it is read, where none of the room's octets are on their way; whether that failed is a move of its own
   pub reads : (old new : DataConnection S) (asked : Option (List Asked)) (room later octets : List ℕ) → is_some old.stream ≡ true → old.fate ≡ Sound → old.at ≡ old.end
       → new.at ≡ old.at → new.end ≡ old.end → new.rest ≡ old.rest → is_some new.stream ≡ is_some old.stream → Consumes (told_by remaining old.stream) (told_by remaining new.stream) octets
+      → Keeps (told_by contents old.stream) (told_by contents new.stream)
       → IsRead octets (lane_of remaining contents asked old room []) (with_fate Sound (lane_of remaining contents asked new later octets))
-  reads old new asked room later octets is_open sound all at end rest stands read = record {
+  reads old new asked room later octets is_open sound all at end rest stands read apart = record {
     is_open = (is_open, sound);
     stands = stands;
     fate = sym (sound);
     rest = rest;
     told = refl;
     read = read;
+    written = apart;
     untold = refl;
     unwritten = way_none new.at new.end later (at ∙ all ∙ sym end) ∙ sym (way_none old.at old.end room all);
     asked = refl;
@@ -209,8 +211,9 @@ module _ {S : Type 0} (remaining contents : S → Option (List ℕ)) where
   pub writes : (old new : DataConnection S) (asked : Option (List Asked)) (room untold : List ℕ) → is_some old.stream ≡ true → old.fate ≡ Sound → old.at < old.end
       → old.end ≤ length room → new.rest ≡ old.rest → is_some new.stream ≡ is_some old.stream
       → (sends : Sends (told_by contents old.stream) (told_by contents new.stream) (on_their_way old room) (on_their_way new room))
+      → Keeps (told_by remaining old.stream) (told_by remaining new.stream)
       → IsWritten sends.0 (lane_of remaining contents asked old room untold) (with_fate Sound (lane_of remaining contents asked new room untold))
-  writes old new asked room untold is_open sound less fits rest stands sends = record {
+  writes old new asked room untold is_open sound less fits rest stands sends apart = record {
     is_open = (is_open, sound);
     some = way_some old.at old.end room fits less;
     stands = stands;
@@ -218,6 +221,7 @@ module _ {S : Type 0} (remaining contents : S → Option (List ℕ)) where
     rest = rest;
     first = sends.1;
     wrote = sends.2;
+    left = apart;
     untold = refl;
     asked = refl;
   }

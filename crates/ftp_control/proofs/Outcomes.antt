@@ -5,7 +5,7 @@ use Rattle.std.specs.Option.{is_some}
 use Rattle.std.proofs.Math.Seq.{take-append-add}
 use Rattle.std.specs.Io.KnownBytes.{Consumes, Keeps}
 use Rattle.ftp_control.specs.Asking.{Adds, Asked, Drops, Reset, Shut}
-use Rattle.ftp_control.specs.Carrying.{left_of, told_by}
+use Rattle.ftp_control.specs.Carrying.{carried_of, left_of, told_by}
 use Rattle.ftp_control.specs.Deeds.{Other}
 use Rattle.ftp_control.specs.Lane.{IsEnded, IsOpen, IsRead, Lane, lane_of, with_fate, with_given}
 use Rattle.ftp_control.specs.Machine.{Gave, Gives, Machine, Stirring, held, side_of}
@@ -30,11 +30,13 @@ module _ {S : Type 0} (remaining contents : S → Option (List ℕ)) where
   pub is_read : (old new : DataConnection S) (asked : Option (List Asked)) (room later : List ℕ) (r : Result ℕ Halt) → is_some old.stream ≡ true → old.fate ≡ Sound
       → old.at ≡ old.end → new.at ≡ old.at → new.end ≡ old.end → new.rest ≡ old.rest → is_some new.stream ≡ is_some old.stream
       → IfOk r (λ count. Consumes (left_of remaining old) (left_of remaining new) (take count later)) → OnErr r (Keeps (left_of remaining old) (left_of remaining new))
+      → Keeps (carried_of contents old) (carried_of contents new)
       → IsRead (in_hand r later) (lane_of remaining contents asked old room []) (with_fate Sound (lane_of remaining contents asked new later (in_hand r later)))
-  is_read old new asked room later (Ok count) is_open sound all at end rest stands read err =
-      reads remaining contents old new asked room later (take count later) is_open sound all at end rest stands read
-  is_read old new asked room later (Err halt) is_open sound all at end rest stands read err =
+  is_read old new asked room later (Ok count) is_open sound all at end rest stands read err apart =
+      reads remaining contents old new asked room later (take count later) is_open sound all at end rest stands read apart
+  is_read old new asked room later (Err halt) is_open sound all at end rest stands read err apart =
       reads remaining contents old new asked room later [] is_open sound all at end rest stands (keeps_consumes (left_of remaining old) (left_of remaining new) err)
+      apart
 
   drop_by : (before : Option S) (h0 h1 : Option (List Asked)) → Drops remaining contents before h0 h1
       → (asked : Asked) × Adds h0 h1 (asked ∷ []) × IsDropped (is_some before) (told_by remaining before) (told_by contents before) asked

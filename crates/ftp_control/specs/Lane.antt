@@ -122,6 +122,7 @@ pub record IsRead (octets : List ℕ) (old new : Lane) : Type 0 where
   pub rest : new.rest ≡ old.rest
   pub told : old.untold ≡ []
   pub read : Consumes old.left new.left octets
+  pub written : Keeps old.written new.written
   pub untold : new.untold ≡ octets
   pub unwritten : new.unwritten ≡ old.unwritten
   pub asked : new.asked ≡ old.asked
@@ -135,6 +136,7 @@ pub record IsWritten (octets : List ℕ) (old new : Lane) : Type 0 where
   pub rest : new.rest ≡ old.rest
   pub first : old.unwritten ≡ octets ++ new.unwritten
   pub wrote : Appends old.written new.written octets
+  pub left : Keeps old.left new.left
   pub untold : new.untold ≡ old.untold
   pub asked : new.asked ≡ old.asked
 

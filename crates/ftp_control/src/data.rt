@@ -7,9 +7,9 @@ ghost use Rattle.std.specs.IoError.{error_kind};
 ghost use Rattle.ftp_control.specs.Halting.{fate_by, fate_halted};
 ghost use Rattle.ftp_control.specs.Whole.{IsCut, IsWhole};
 
-use crate::ports::{Beside, DATA_PIECE, For, Ports, Ready};
+use crate::ports::{Beside, DATA_PIECE, Duplex, For, Ports, Ready};
 use crate::whole::{Fate, Rest, whole_of};
-use std::io::{Error, ErrorKind, Read, Write};
+use std::io::{Error, ErrorKind};
 
 /// The fewest octets of a download that are taken at once, unless it ends before.
 const LEAST_PIECE: usize = 32_768;
@@ -42,7 +42,7 @@ pub struct DataConnection<S> {
     ghost within: { end ≤ 262144 },
 }
 
-impl<S: Read + Write> DataConnection<S> {
+impl<S: Duplex> DataConnection<S> {
     ghost use Rattle.ftp_control.specs.Asking.{Adds, Drops, Replaces, is_lost, told_lost};
     ghost use Rattle.ftp_control.specs.Carrying.{Sends, carried_of, left_of, on_their_way};
 
@@ -169,6 +169,7 @@ impl<S: Read + Write> DataConnection<S> {
         requires { self.old.end ≤ length room.now }
         ensures sends { Sends (carried_of S.contents self.old) (carried_of S.contents self.new) (on_their_way self.old room.now) (on_their_way self.new room.now) }
         ensures err { OnErr result (Keeps (carried_of S.contents self.old) (carried_of S.contents self.new)) }
+        ensures apart { Keeps (left_of S.remaining self.old) (left_of S.remaining self.new) }
         ensures same { OnErr result (on_their_way self.new room.now ≡ on_their_way self.old room.now) }
         ensures end { self.new.end ≡ self.old.end }
         ensures rest { self.new.rest ≡ self.old.rest }
@@ -199,6 +200,7 @@ impl<S: Read + Write> DataConnection<S> {
         ensures end { IfOk result (λ count. count ≡ 0 → 0 < length room.new → IsAtEnd (left_of S.remaining self.new)) }
         ensures open { IfOk result (λ count. is_some self.old.stream ≡ true) }
         ensures err { OnErr result (Keeps (left_of S.remaining self.old) (left_of S.remaining self.new)) }
+        ensures apart { Keeps (carried_of S.contents self.old) (carried_of S.contents self.new) }
         ensures at { self.new.at ≡ self.old.at }
         ensures length { self.new.end ≡ self.old.end }
         ensures rest { self.new.rest ≡ self.old.rest }
@@ -342,28 +344,30 @@ fn close_by<P: Ports>(
 }
 
 /// One read: how many octets it gave.
-fn read_some<S: Read>(stream: &mut S, room: &mut [u8]) -> Result<usize, Halt>
+fn read_some<S: Duplex>(stream: &mut S, room: &mut [u8]) -> Result<usize, Halt>
     ensures within { IfOk result (λ count. count ≤ length room.new) }
     ensures ok { IfOk result (λ count. Consumes (S.remaining stream.old) (S.remaining stream.new) (take count room.new)) }
     ensures end { IfOk result (λ count. count ≡ 0 → 0 < length room.new → IsAtEnd (S.remaining stream.new)) }
     ensures err { OnErr result (Keeps (S.remaining stream.old) (S.remaining stream.new)) }
+    ensures apart { Keeps (S.contents stream.old) (S.contents stream.new) }
 {
-    match stream.read(room) {
+    match stream.receive(room) {
         Ok(count) => Ok(count),
         Err(error) => Err(halt_of(&error)),
     }
 }
 
 /// One write: how many octets it took, none only of none.
-fn write_some<S: Write>(stream: &mut S, octets: &[u8]) -> Result<usize, Halt>
+fn write_some<S: Duplex>(stream: &mut S, octets: &[u8]) -> Result<usize, Halt>
     ensures within { IfOk result (λ count. count ≤ length octets.now) }
     ensures ok { IfOk result (λ count. Appends (S.contents stream.old) (S.contents stream.new) (take count octets.now)) }
     ensures err { OnErr result (Keeps (S.contents stream.old) (S.contents stream.new)) }
+    ensures apart { Keeps (S.remaining stream.old) (S.remaining stream.new) }
 {
     if octets.is_empty() {
         return Ok(0);
     }
-    match stream.write(octets) {
+    match stream.send(octets) {
         Ok(0) => Err(Halt::Broken),
         Ok(count) => Ok(count),
         Err(error) => Err(halt_of(&error)),

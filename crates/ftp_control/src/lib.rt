@@ -13,5 +13,5 @@ pub use cause::{Cause, Spent, Turns};
 pub use control::Control;
 pub use data::{DataConnection, Halt};
 pub use pieces::{Failed, PIECE_LIMIT, TURNS, get, put};
-pub use ports::{Accepted, Awaited, Beside, DATA_PIECE, For, Ports, Ready, Spoken, Watch};
+pub use ports::{Accepted, Awaited, Beside, DATA_PIECE, Duplex, For, Ports, Ready, Spoken, Watch};
 pub use whole::{Fate, Rest, Whole};

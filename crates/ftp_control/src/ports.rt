@@ -1,11 +1,13 @@
 // What opens and closes data connections, and what tells the time.
 ghost use Rattle.std.specs.Prelude.{◌≡◌, ⊤, ℕ, List, [], ◌∷◌, Option, None, false};
-ghost use Rattle.std.specs.Io.KnownBytes.{Keeps};
+ghost use Rattle.std.specs.Io.{ReadsAtMost, WritesAtMost};
+ghost use Rattle.std.specs.Io.KnownBytes.{Keeps, ReadConsumes, WriteAppends};
 ghost use Rattle.ftp_control.specs.Asking.{Accepts, Adds, Asked, Closes, Connects, Listened, Resets, is_lost, is_over, told_lost};
 
 use crate::whole::Whole;
 use ftp_endpoint::{Endpoint, Host};
 use ftp_facts::Moment;
+use std::io;
 use std::io::{Read, Write};
 
 /// The most octets that an end asks one read or one write of a data connection for.
@@ -74,11 +76,26 @@ pub enum Spoken {
     Ended,
 }
 
+/// A stream whose two ways are apart: a read of it leaves what was written, and a write what is left to be read.
+pub trait Duplex: Read + Write {
+    /// Reads once, as `read` does.
+    fn receive(&mut self, room: &mut [u8]) -> io::Result<usize>
+        ensures bound { ReadsAtMost result room.new }
+        ensures octets { ReadConsumes (Self.remaining self.old) (Self.remaining self.new) result room.new }
+        ensures apart { Keeps (Self.contents self.old) (Self.contents self.new) };
+
+    /// Writes once, as `write` does.
+    fn send(&mut self, octets: &[u8]) -> io::Result<usize>
+        ensures bound { WritesAtMost result octets.now }
+        ensures octets { WriteAppends (Self.contents self.old) (Self.contents self.new) result octets.now }
+        ensures apart { Keeps (Self.remaining self.old) (Self.remaining self.new) };
+}
+
 /// What opens and closes data connections (RFC 959, section 3.2). Each call may fail; none of them may wait past the end of the control connection.
 pub trait Ports {
     /// An open data connection. Its read ends as failed where the control connection ended; its write may go on for a while then. It can't be
     /// let go: each one goes back by `close` or by `reset`.
-    type Stream: Read + Write;
+    type Stream: Duplex;
 
     /// What was asked so far, the last one first, where that is known.
     ghost history: { Self → Option (List Asked) } = { λ ports. None };

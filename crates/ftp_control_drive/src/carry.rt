@@ -12,7 +12,7 @@ use crate::calls::EndCalls;
 use crate::data::Data;
 use crate::drive::Drive;
 use crate::hand::hand;
-use ftp_control::{Cause, Fate, For, Halt, Ports, Ready, Spoken};
+use ftp_control::{Cause, Duplex, Fate, For, Halt, Ports, Ready, Spoken};
 use ftp_ends::Wants;
 use std::io::{Read, Write};
 
@@ -22,7 +22,7 @@ where
     R: Read + Drop,
     W: Write + Drop,
     P: Ports<Stream = S>,
-    S: Read + Write,
+    S: Duplex,
 {
     /// Takes octets from an end that asks, which the turns behind it write; of one that serves sends them where there is room for them.
     #[tactic(auto, using(ftp_control::proofs::Getting::gets_then, ftp_control::proofs::Getting::then_gets, ftp_control::proofs::Getting::stirs_then, ftp_control::proofs::Leading::leads_then, ftp_control::proofs::Getting::gets_goes))]

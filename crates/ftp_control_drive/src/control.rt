@@ -10,7 +10,7 @@ ghost use Rattle.ftp_control_drive.specs.Standing.{Follows, Gets, IsKept, IsPart
 
 use crate::calls::EndCalls;
 use crate::drive::Drive;
-use ftp_control::{Cause, Control, Ports, Turns};
+use ftp_control::{Cause, Control, Duplex, Ports, Turns};
 use std::io::{Read, Write};
 
 /// Writes all control octets that the end owes.
@@ -41,7 +41,7 @@ where
     R: Read + Drop,
     W: Write + Drop,
     P: Ports<Stream = S>,
-    S: Read + Write,
+    S: Duplex,
 {
     /// Writes all control octets that the end owes, which is not before the last octets of its data connection are written, where it serves.
     pub(crate) fn flush(&mut self) -> Result<(), Cause>

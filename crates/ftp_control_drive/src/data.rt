@@ -10,9 +10,10 @@ ghost use Rattle.ftp_control_drive.specs.Standing.{HasEnded, HasNone, IsExchange
 
 use crate::calls::EndCalls;
 use crate::hand::fill_front;
-use ftp_control::{Beside, DATA_PIECE, DataConnection, Fate, For, Halt, Ports, Ready, Rest};
+use ftp_control::{
+    Beside, DATA_PIECE, DataConnection, Duplex, Fate, For, Halt, Ports, Ready, Rest,
+};
 use ftp_ends::Wants;
-use std::io::{Read, Write};
 
 /// A data connection, if there is one, and room for its octets.
 pub struct Data<S> {
@@ -20,7 +21,7 @@ pub struct Data<S> {
     room: [u8; DATA_PIECE],
 }
 
-impl<S: Read + Write> Data<S> {
+impl<S: Duplex> Data<S> {
     /// No data connection.
     pub fn new() -> Data<S>
         ensures { HasNone S.remaining S.contents result }

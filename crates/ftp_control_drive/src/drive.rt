@@ -8,7 +8,7 @@ ghost use Rattle.ftp_control_drive.specs.Standing.{IsKept, IsOpenAt, IsParting, 
 
 use crate::calls::EndCalls;
 use crate::data::Data;
-use ftp_control::{Cause, Control, Fate, Ports, Turns};
+use ftp_control::{Cause, Control, Duplex, Fate, Ports, Turns};
 use ftp_ends::Wants;
 use std::io::{Read, Write};
 use std::marker::PhantomData;
@@ -111,7 +111,7 @@ where
     R: Read + Drop,
     W: Write + Drop,
     P: Ports<Stream = S>,
-    S: Read + Write,
+    S: Duplex,
 {
     /// The turns of a drive.
     #[tactic(auto, using(ftp_control::proofs::Causing::passes, ftp_control::proofs::Causing::is_spent))]

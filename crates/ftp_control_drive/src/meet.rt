@@ -9,7 +9,7 @@ ghost use Rattle.ftp_control_drive.specs.Standing.{Gets, IsKept, StirsOn, Why, a
 use crate::calls::EndCalls;
 use crate::drive::Drive;
 use crate::hand::rest_of;
-use ftp_control::{Accepted, Cause, Fate, Ports};
+use ftp_control::{Accepted, Cause, Duplex, Fate, Ports};
 use ftp_endpoint::{Endpoint, Host};
 use ftp_ends::Wants;
 use std::io::{Read, Write};
@@ -20,7 +20,7 @@ where
     R: Read + Drop,
     W: Write + Drop,
     P: Ports<Stream = S>,
-    S: Read + Write,
+    S: Duplex,
 {
     /// Waits for the data connection that the other end opens; one that stands still is left first. Where all that was read was heard, octets of the
     /// control connection that come first are read; else the drive breaks off where the waiting ends so.

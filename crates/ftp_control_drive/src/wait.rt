@@ -4,7 +4,7 @@ ghost use Rattle.ftp_control_drive.specs.Standing.{Follows, IsKept, LeadsOn, Why
 
 use crate::calls::EndCalls;
 use crate::drive::Drive;
-use ftp_control::{Awaited, Beside, Cause, Fate, For, Ports};
+use ftp_control::{Awaited, Beside, Cause, Duplex, Fate, For, Ports};
 use ftp_ends::Wants;
 use std::io::{Read, Write};
 
@@ -14,7 +14,7 @@ where
     R: Read + Drop,
     W: Write + Drop,
     P: Ports<Stream = S>,
-    S: Read + Write,
+    S: Duplex,
 {
     /// Whether the next turn would wait. What the end owes is written before, where it may be said now and the control connection has room for it.
     pub(crate) fn would_wait(&mut self) -> Result<bool, Cause>

@@ -4,7 +4,7 @@ ghost use Rattle.ftp_control.specs.Asking.{Closes};
 
 use crate::course::Course;
 use crate::rate::{pause_of, piece_of};
-use ftp_control::{Accepted, Awaited, Beside, For, Ports, Ready, Spoken, Whole};
+use ftp_control::{Accepted, Awaited, Beside, Duplex, For, Ports, Ready, Spoken, Whole};
 use ftp_endpoint::Endpoint;
 use ftp_tool_looking::{Awaits, LineLink, LinePorts};
 use ftp_tool_sockets::{Sockets, monotonic_millis};
@@ -221,5 +221,15 @@ impl<'a> Write for LaneLink<'a> {
 
     fn flush(&mut self) -> io::Result<()> {
         self.link.flush()
+    }
+}
+
+impl<'a> Duplex for LaneLink<'a> {
+    fn receive(&mut self, room: &mut [u8]) -> io::Result<usize> {
+        self.read(room)
+    }
+
+    fn send(&mut self, octets: &[u8]) -> io::Result<usize> {
+        self.write(octets)
     }
 }

@@ -18,7 +18,7 @@ use crate::request::{Request, begin};
 use ftp_client_drive::{Control, Data, Driven, drive_client};
 use ftp_client_model::Near;
 use ftp_client_stream::CarriedPorts;
-use ftp_control::Ports;
+use ftp_control::{Duplex, Ports};
 use ftp_operation::Answer;
 use std::alloc::Global;
 use std::cell::Cell;
@@ -126,7 +126,7 @@ where
     C: Read + Drop,
     W: Write + Drop,
     P: Opens<Stream = S>,
-    S: Read + Write,
+    S: Duplex,
 {
     // (where no data connection stands, and then none does)
     ghost answers = { λ request answer old new. (HasNone S.remaining S.contents old.data.now → Answers request (said_of answer) new.control.now.failed

@@ -6,7 +6,7 @@ use crate::course::Course;
 use crate::live::Opens;
 use crate::rate::{pause_of, piece_of};
 use crate::server::ServerAddress;
-use ftp_control::{Accepted, For, Ports, Ready, Spoken, Whole};
+use ftp_control::{Accepted, Duplex, For, Ports, Ready, Spoken, Whole};
 use ftp_endpoint::Endpoint;
 use ftp_tool_sockets::{Link, Patience, SocketPorts, pause};
 use ftp_tool_status::pace_of;
@@ -259,5 +259,15 @@ impl<'a, R: Clock + Eprint> Write for MeteredLink<'a, R> {
 
     fn flush(&mut self) -> io::Result<()> {
         self.link.flush()
+    }
+}
+
+impl<'a, R: Clock + Eprint> Duplex for MeteredLink<'a, R> {
+    fn receive(&mut self, room: &mut [u8]) -> io::Result<usize> {
+        self.read(room)
+    }
+
+    fn send(&mut self, octets: &[u8]) -> io::Result<usize> {
+        self.write(octets)
     }
 }

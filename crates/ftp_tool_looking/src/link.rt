@@ -3,7 +3,7 @@ ghost use Rattle.std.specs.Global.{Global};
 
 use crate::awaits::{Awaits, look};
 use crate::line::Line;
-use ftp_control::{Beside, For, Ready, Spoken};
+use ftp_control::{Beside, Duplex, For, Ready, Spoken};
 use ftp_tool_sockets::{
     Heeds, Other, Woke, asking, drop_connection, limit_untaken, monotonic_millis, spoken_by, woken,
 };
@@ -338,5 +338,15 @@ impl Write for LineLink {
 
     fn flush(&mut self) -> io::Result<()> {
         Ok(())
+    }
+}
+
+impl Duplex for LineLink {
+    fn receive(&mut self, room: &mut [u8]) -> io::Result<usize> {
+        self.read(room)
+    }
+
+    fn send(&mut self, octets: &[u8]) -> io::Result<usize> {
+        self.write(octets)
     }
 }

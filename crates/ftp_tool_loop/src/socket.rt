@@ -3,7 +3,7 @@ ghost use Rattle.std.specs.Prelude.{◌≤◌, IfOk, length};
 ghost use Rattle.std.specs.Global.{Global};
 
 use crate::way::{Flow, Way};
-use ftp_control::{For, Spoken};
+use ftp_control::{Duplex, For, Spoken};
 use std::alloc::Global;
 use std::io;
 use std::io::{Error, ErrorKind, Read, Write};
@@ -155,6 +155,16 @@ impl Write for Socket {
 
     fn flush(&mut self) -> io::Result<()> {
         Ok(())
+    }
+}
+
+impl Duplex for Socket {
+    fn receive(&mut self, room: &mut [u8]) -> io::Result<usize> {
+        self.read(room)
+    }
+
+    fn send(&mut self, octets: &[u8]) -> io::Result<usize> {
+        self.write(octets)
     }
 }
 

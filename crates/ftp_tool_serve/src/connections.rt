@@ -5,7 +5,7 @@ ghost use Rattle.ftp_control.specs.Asking.{Closes};
 
 use crate::journal::Journal;
 use crate::tells::{Fate, Tells};
-use ftp_control::{Accepted, Awaited, Beside, For, Ports, Ready, Spoken, Whole};
+use ftp_control::{Accepted, Awaited, Beside, Duplex, For, Ports, Ready, Spoken, Whole};
 use ftp_endpoint::Endpoint;
 use ftp_tool_looking::{LineLink, LinePorts, LineWriter};
 use ftp_tool_sockets::Sockets;
@@ -86,6 +86,16 @@ impl<'a, R: Tells> Write for CountedLink<'a, R> {
 
     fn flush(&mut self) -> io::Result<()> {
         self.inner.flush()
+    }
+}
+
+impl<'a, R: Tells> Duplex for CountedLink<'a, R> {
+    fn receive(&mut self, room: &mut [u8]) -> io::Result<usize> {
+        self.read(room)
+    }
+
+    fn send(&mut self, octets: &[u8]) -> io::Result<usize> {
+        self.write(octets)
     }
 }
 

@@ -2,7 +2,7 @@
 use crate::options::{drop_connection, limit_untaken};
 use crate::patience::{Patience, monotonic_millis, piece_of};
 use crate::wait::{Heeds, Woke, wait, wait_millis};
-use ftp_control::{For, Ready, TURNS};
+use ftp_control::{Duplex, For, Ready, TURNS};
 use std::io;
 use std::io::{Error, ErrorKind, Read, Write};
 use std::net::{Shutdown, TcpStream};
@@ -182,5 +182,15 @@ impl<'a> Write for Link<'a> {
 
     fn flush(&mut self) -> io::Result<()> {
         Ok(())
+    }
+}
+
+impl<'a> Duplex for Link<'a> {
+    fn receive(&mut self, room: &mut [u8]) -> io::Result<usize> {
+        self.read(room)
+    }
+
+    fn send(&mut self, octets: &[u8]) -> io::Result<usize> {
+        self.write(octets)
     }
 }

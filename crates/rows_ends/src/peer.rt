@@ -9,7 +9,7 @@ use crate::embedded::sockets::Sockets;
 use crate::event::YEAR_2000;
 use crate::history::{Deed, History};
 use ftp_control::{
-    Accepted, Awaited, Beside, Failed, For, Ports, Ready, Spoken, Watch, Whole, get, put,
+    Accepted, Awaited, Beside, Duplex, Failed, For, Ports, Ready, Spoken, Watch, Whole, get, put,
 };
 use ftp_endpoint::{Endpoint, Host};
 use ftp_ends::Wants;
@@ -53,32 +53,21 @@ impl Link {
         self.calls -= 1;
         false
     }
+}
 
-    /// Fills a room with the octets that come next.
-    fn fill(&mut self, room: &mut [u8]) {
-        for octet in room {
-            *octet = if self.drive.is_fixed {
-                fixed(self.given)
-            } else {
-                b'x'
-            };
-            self.given = self.given.wrapping_add(1);
-        }
+/// Fills a room with the octets that come next, of which so many came before, and says how many came then.
+fn fill(drive: Drive, before: u64, room: &mut [u8]) -> u64 {
+    let mut given = before;
+    for octet in room {
+        *octet = if drive.is_fixed { fixed(given) } else { b'x' };
+        given = given.wrapping_add(1);
     }
+    given
 }
 
 impl Read for Link {
     fn read(&mut self, room: &mut [u8]) -> io::Result<usize> {
-        let Some(rest) = self.rest else {
-            return Err(Error::from(ErrorKind::ConnectionReset));
-        };
-        if self.fails() {
-            return Err(Error::from(ErrorKind::ConnectionReset));
-        }
-        let count = room.len().min(rest as usize).min(self.drive.takes);
-        self.fill(&mut room[..count]);
-        self.rest = Some(rest - count as u64);
-        Ok(count)
+        self.receive(room)
     }
 }
 
@@ -86,6 +75,29 @@ impl Write for Link {
     ghost contents = { λ link. Some link.taken.items };
 
     fn write(&mut self, octets: &[u8]) -> io::Result<usize> {
+        self.send(octets)
+    }
+
+    fn flush(&mut self) -> io::Result<()> {
+        Ok(())
+    }
+}
+
+impl Duplex for Link {
+    fn receive(&mut self, room: &mut [u8]) -> io::Result<usize> {
+        let Some(rest) = self.rest else {
+            return Err(Error::from(ErrorKind::ConnectionReset));
+        };
+        if self.fails() {
+            return Err(Error::from(ErrorKind::ConnectionReset));
+        }
+        let count = room.len().min(rest as usize).min(self.drive.takes);
+        self.given = fill(self.drive, self.given, &mut room[..count]);
+        self.rest = Some(rest - count as u64);
+        Ok(count)
+    }
+
+    fn send(&mut self, octets: &[u8]) -> io::Result<usize> {
         if self.full > 0 {
             self.full -= 1;
             return Err(Error::from(ErrorKind::WouldBlock));
@@ -104,10 +116,6 @@ impl Write for Link {
             }
             Err(_) => Err(Error::from(ErrorKind::OutOfMemory)),
         }
-    }
-
-    fn flush(&mut self) -> io::Result<()> {
-        Ok(())
     }
 }
 
