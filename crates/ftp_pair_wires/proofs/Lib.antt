@@ -1,0 +1,9 @@
+mod Berths
+mod Finding
+pub mod Happening
+pub mod Lifting
+mod Lying
+pub mod Noting
+pub mod Plainly
+pub mod Turning
+pub mod Ways

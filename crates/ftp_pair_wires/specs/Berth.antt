@@ -1,0 +1,112 @@
+-- A data connection in memory as one end has it, and how what that end asks of its ports moves it (RFC 959, section 3.2).
+use Rattle.std.specs.Prelude.{◌≡◌, ⊤, ℕ, Bool, true, false, List, [], ◌∷◌, ◌++◌, Option, None, Some}
+use Rattle.ftp_control.specs.Asking.{Asked, Came, Connected, Ended, Listened, Lost, NotCame, NotConnected, Reset, Shut}
+use Rattle.ftp_control.specs.Lane.{Lane}
+use Rattle.ftp_control.specs.declared.whole.Fate.{Fate}
+use Rattle.ftp_control.specs.declared.whole.Fate.TheVariants as Fates
+use Rattle.ftp_pair_drives.specs.Between.{Awaits, Between, Far, Has, Has_ended, Has_lost, Hold, Is_called, IsOver, Near, Ways, Who}
+
+-- How this end stands to its present or last one; the octets that its peer wrote, that were brought here and are still to be read, and those that were written
+-- here and not brought to the peer yet; whether the peer closed it after the former; at which port the peer listens, if it does; and whether this end dialled
+-- there
+pub record Berth : Type 0 where
+  pub hold : Hold
+  pub came : List ℕ
+  pub went : List ℕ
+  pub ended : Bool
+  pub calls : Option ℕ
+  pub dialled : Bool
+
+-- what stands after the octets that are to be read, and is no octet, while the peer may write more
+abbrev pub mark : (ended : Bool) → List ℕ
+mark true = []
+mark false = 256 ∷ []
+
+-- while the end has it, its octets are with the end
+abbrev pub handed : Berth → Berth
+handed berth = record berth { hold = Has; came = []; went = [] }
+
+-- it dialled: nothing came or went over the new one
+abbrev pub dialling : Berth → Berth
+dialling berth = record { hold = Has; came = []; went = []; ended = false; calls = None; dialled = true }
+
+-- it left one so, over which so much is still to be read and to be brought on
+abbrev pub left_so : Hold → (came went : List ℕ) → Berth → Berth
+left_so hold came went berth = record berth { hold = hold; came = came; went = went }
+
+-- What is asked, when it can be: a port is listened at by who has none; one comes that was dialled; one is opened to the port at which the peer listens; one is
+-- left that is had.
+abbrev pub Steps : Asked → (old new : Berth) → Type 0
+Steps (Listened None) old new = new ≡ old
+Steps (Listened (Some port)) old new = IsOver old.hold × (new ≡ record old { hold = Awaits port })
+Steps (Came host left written) old new =
+    (old.hold ≡ Is_called) × (left ≡ Some (old.came ++ mark old.ended)) × (written ≡ Some old.went) × (new ≡ handed old)
+Steps NotCame old new = new ≡ old
+Steps (Connected endpoint left written) old new =
+    IsOver old.hold × (old.calls ≡ Some endpoint.port) × (left ≡ Some (mark false)) × (written ≡ Some []) × (new ≡ dialling old)
+Steps (NotConnected endpoint) old new = new ≡ old
+Steps (Ended left written) old new =
+    (came went : List ℕ) × (old.hold ≡ Has) × (left ≡ Some (came ++ mark old.ended)) × (written ≡ Some went) × (new ≡ left_so Has_ended came went old)
+Steps (Reset left written) old new =
+    (came went : List ℕ) × (old.hold ≡ Has) × (left ≡ Some (came ++ mark old.ended)) × (written ≡ Some went) × (new ≡ left_so Has_lost came went old)
+Steps Shut old new = new ≡ old
+Steps Lost old new = new ≡ old
+
+-- one after another, the last one first
+abbrev pub Ran : (first : Berth) → List Asked → (now : Berth) → Type 0
+Ran first [] now = now ≡ first
+Ran first (asked ∷ before) now = (mid : Berth) × Ran first before mid × Steps asked mid now
+
+-- ---- beside the end
+
+-- it has it, until it is told that it broke
+abbrev pub hold_by : Fate → Hold
+hold_by Fates.Sound = Has
+hold_by Fates.Failed = Has
+hold_by Fates.Broken = Has_lost
+hold_by Fates.Over = Has
+
+-- of a data connection that stands its ports know that the end has it, and the rest is seen of it; of none they know all
+abbrev pub IsSeen : (stands : Bool) → Lane → (known own : Berth) → Type 0
+IsSeen true lane known own =
+    (known.hold ≡ Has) × (lane.left ≡ Some (own.came ++ mark known.ended)) × (lane.written ≡ Some own.went)
+    × (own ≡ record known { hold = hold_by lane.fate; came = own.came; went = own.went })
+IsSeen false lane known own = IsOver known.hold × (own ≡ known)
+
+abbrev pub IsAt : Lane → (known own : Berth) → Type 0
+IsAt lane known own = IsSeen lane.stands lane known own
+
+-- ---- both ends
+
+-- who was dialled: nothing came or went over the new one
+abbrev pub called : Berth → Berth
+called berth = record berth { hold = Is_called; came = []; went = []; ended = false }
+
+-- the peer of one that dialled was called
+abbrev pub called_by : (dialled : Bool) → Berth → Berth
+called_by true peer = called peer
+called_by false peer = peer
+
+-- what lies between an end and its peer
+abbrev pub between_at : Who → (own peer : Berth) → (control : Ways) → Between
+between_at Near own peer control = record {
+  control = control;
+  data_ways = record { to_server = peer.came ++ own.went; to_client = own.came ++ peer.went };
+  near = own.hold;
+  far = peer.hold;
+}
+between_at Far own peer control = record {
+  control = control;
+  data_ways = record { to_server = own.came ++ peer.went; to_client = peer.came ++ own.went };
+  near = peer.hold;
+  far = own.hold;
+}
+
+abbrev pub between_by : Who → (own peer : Berth) → (control : Ways) → Between
+between_by who own peer control = between_at who own (called_by own.dialled peer) control
+
+-- what an end knows of its peer as its turn begins: the peer listens at that port, and where it ended the data connection, all that it wrote was brought
+pub record Knows (own peer : Berth) : Type 0 where
+  pub undialled : own.dialled ≡ false
+  pub calls : (port : ℕ) → own.calls ≡ Some port → peer.hold ≡ Awaits port
+  pub ended : own.ended ≡ true → (peer.hold ≡ Has_ended) × (peer.went ≡ [])

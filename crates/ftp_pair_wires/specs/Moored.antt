@@ -1,0 +1,146 @@
+-- A data connection in memory, wherever it is: with the end, or with its ports; of values of the program.
+use Rattle.std.specs.Prelude.{◌≡◌, ℕ, Bool, true, false, List, [], ◌++◌, Option, None, Some}
+use Rattle.ftp_control.specs.Asking.{Asked}
+use Rattle.ftp_control.specs.Lane.{Lane}
+use Rattle.ftp_control_drive.specs.Standing.{lane_at}
+use Rattle.ftp_control_drive.specs.declared.data.Data.{Data}
+use Rattle.ftp_pair_drives.specs.Between.{Between, Hold, Ways, Who}
+use Rattle.ftp_pair_wires.specs.Berth.{Berth, Knows, between_at, called_by, hold_by, mark}
+use Rattle.ftp_pair_wires.specs.Docked.{asked_of}
+use Rattle.ftp_pair_wires.specs.Docking.{berth_at, header, hold_at, is_ended, is_out, left_in, went_in}
+use Rattle.ftp_pair_wires.specs.declared.dock.Dock.{Dock}
+use Rattle.ftp_pair_wires.specs.declared.mooring.Mooring.{Mooring}
+use Rattle.ftp_pair_wires.specs.declared.wire.Wire.{Wire}
+
+abbrev pub came_in : Wire → Option (List ℕ)
+came_in wire = Some wire.came.items
+
+abbrev pub mark_in : Wire → Option (List ℕ)
+mark_in wire = Some (mark (is_ended wire.closed))
+
+-- what an end sees of it, where its stream tells this, and where it tells nothing
+abbrev pub lane_in : (Wire → Option (List ℕ)) → Data Wire → Lane
+lane_in tells stream_of = lane_at tells tells None stream_of []
+
+abbrev pub plain_in : Data Wire → Lane
+plain_in stream_of = lane_in (λ wire. None) stream_of
+
+-- and where all is told: octets, and what was asked of its ports
+abbrev pub told_lane : Mooring → Lane
+told_lane mooring = lane_at left_in went_in (Some (asked_of mooring.quay.dock)) mooring.stream []
+
+abbrev pub octets_of : Option (List ℕ) → List ℕ
+octets_of None = []
+octets_of (Some octets) = octets
+
+abbrev pub told_in : (Wire → Option (List ℕ)) → Data Wire → List ℕ
+told_in tells stream_of = octets_of (lane_in tells stream_of).left
+
+abbrev pub of_two : {A : Type 0} → Bool → A → A → A
+of_two true here there = here
+of_two false here there = there
+
+-- what is still to be read, and what was written and not brought on yet
+abbrev pub came_at : Mooring → List ℕ
+came_at mooring = of_two (plain_in mooring.stream).stands (told_in came_in mooring.stream) mooring.quay.dock.wire.came.items
+
+abbrev pub went_at : Mooring → List ℕ
+went_at mooring = of_two (plain_in mooring.stream).stands (told_in went_in mooring.stream) mooring.quay.dock.wire.went.items
+
+abbrev pub held_by : Mooring → Hold
+held_by mooring = of_two (plain_in mooring.stream).stands (hold_by (plain_in mooring.stream).fate) (hold_at mooring.quay.dock.stay)
+
+abbrev pub berth_of : Mooring → Berth
+berth_of mooring = record {
+  hold = held_by mooring;
+  came = came_at mooring;
+  went = went_at mooring;
+  ended = is_ended mooring.quay.dock.wire.closed;
+  calls = mooring.quay.dock.calls;
+  dialled = mooring.quay.dock.dialled;
+}
+
+-- ports and end agree on who has it
+abbrev pub Agrees : Mooring → Type 0
+Agrees mooring = (plain_in mooring.stream).stands ≡ is_out mooring.quay.dock.stay
+
+-- the end sees the same but for the octets, and its ports know the same
+pub record IsStill (old new : Mooring) : Type 0 where
+  pub lane : plain_in new.stream ≡ plain_in old.stream
+  pub stay : new.quay.dock.stay ≡ old.quay.dock.stay
+  pub calls : new.quay.dock.calls ≡ old.quay.dock.calls
+  pub dialled : new.quay.dock.dialled ≡ old.quay.dock.dialled
+
+-- this is it, and it is taken; and this one is put there
+pub record Lifts (wire : Wire) (old new : Mooring) : Type 0 where
+  pub agrees : Agrees old
+  pub came : wire.came.items ≡ came_at old
+  pub went : wire.went.items ≡ went_at old
+  pub still : IsStill old new
+
+pub record Lowers (wire : Wire) (old new : Mooring) : Type 0 where
+  pub came : came_at new ≡ wire.came.items
+  pub went : went_at new ≡ wire.went.items
+  pub mark : (plain_in new.stream).stands ≡ true → told_in mark_in new.stream ≡ mark (is_ended wire.closed)
+  pub still : IsStill old new
+
+-- ---- a turn
+
+-- what lies between is the same, though octets were brought on and a dial was answered
+pub record Carries (own peer own_now peer_now : Berth) : Type 0 where
+  pub own_hold : own_now.hold ≡ (called_by peer.dialled own).hold
+  pub peer_hold : peer_now.hold ≡ (called_by own.dialled peer).hold
+  pub to_own : own_now.came ++ peer_now.went ≡ (called_by peer.dialled own).came ++ (called_by own.dialled peer).went
+  pub to_peer : peer_now.came ++ own_now.went ≡ (called_by own.dialled peer).came ++ (called_by peer.dialled own).went
+
+-- where one dialled, the other was called
+pub record Answers (dialler other dialler_now other_now : Mooring) : Type 0 where
+  pub dialler_berth : berth_of dialler_now ≡ record (berth_of dialler) { dialled = false }
+  pub dialler_lane : plain_in dialler_now.stream ≡ plain_in dialler.stream
+  pub other_hold : (berth_of other_now).hold ≡ (called_by (berth_of dialler).dialled (berth_of other)).hold
+  pub other_came : (berth_of other_now).came ≡ (called_by (berth_of dialler).dialled (berth_of other)).came
+  pub other_went : (berth_of other_now).went ≡ (called_by (berth_of dialler).dialled (berth_of other)).went
+  pub other_dialled : (berth_of other_now).dialled ≡ (berth_of other).dialled
+  pub other_lane : plain_in other_now.stream ≡ plain_in other.stream
+
+-- a turn of an end can begin: octets were brought on, and its ports know what they are to know
+pub record Begins (own_now peer_now : Mooring) : Type 0 where
+  pub agrees : Agrees own_now
+  pub mark : (plain_in own_now.stream).stands ≡ true → told_in mark_in own_now.stream ≡ mark (berth_of own_now).ended
+  pub asked : asked_of own_now.quay.dock ≡ header (berth_at own_now.quay.dock.stay own_now.quay.dock.wire own_now.quay.dock.calls false)
+  pub known : own_now.quay.dock.spoiled ≡ false
+  pub knows : Knows (berth_of own_now) (berth_of peer_now)
+
+pub record Prepares (own peer own_now peer_now : Mooring) : Type 0 where
+  pub own_hold : (berth_of own_now).hold ≡ (berth_of own).hold
+  pub peer_hold : (berth_of peer_now).hold ≡ (berth_of peer).hold
+  pub to_own : (berth_of own_now).came ++ (berth_of peer_now).went ≡ (berth_of own).came ++ (berth_of peer).went
+  pub to_peer : (berth_of peer_now).came ++ (berth_of own_now).went ≡ (berth_of peer).came ++ (berth_of own).went
+  pub own_lane : plain_in own_now.stream ≡ plain_in own.stream
+  pub peer_lane : plain_in peer_now.stream ≡ plain_in peer.stream
+  pub peer_dialled : (berth_of peer_now).dialled ≡ (berth_of peer).dialled
+  pub begins : Begins own_now peer_now
+
+-- so it is, and what lies between is the same
+pub record Meets (own peer own_now peer_now : Mooring) : Type 0 where
+  pub carries : Carries (berth_of own) (berth_of peer) (berth_of own_now) (berth_of peer_now)
+  pub own_lane : plain_in own_now.stream ≡ plain_in own.stream
+  pub peer_lane : plain_in peer_now.stream ≡ plain_in peer.stream
+  pub peer_undialled : (berth_of peer_now).dialled ≡ false
+  pub begins : Begins own_now peer_now
+
+-- after a turn ports know where it is, and the end sees what it saw
+pub record IsKnown (old new : Mooring) : Type 0 where
+  pub dock : new.quay.dock ≡ old.quay.dock
+  pub lane : (remaining contents : Wire → Option (List ℕ)) (asked : Option (List Asked))
+      → lane_at remaining contents asked new.stream [] ≡ lane_at remaining contents asked old.stream []
+  pub agrees : Agrees new
+  pub mark : (plain_in new.stream).stands ≡ true → told_in mark_in new.stream ≡ mark (is_ended new.quay.dock.wire.closed)
+  pub known : new.quay.dock.spoiled ≡ false
+
+-- ---- both ends
+
+-- what lies between an end and its peer
+abbrev pub between_both : Who → (own peer : Mooring) → Ways → Between
+between_both who own peer control =
+    between_at who (called_by (berth_of peer).dialled (berth_of own)) (called_by (berth_of own).dialled (berth_of peer)) control

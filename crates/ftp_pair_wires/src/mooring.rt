@@ -1,0 +1,162 @@
+// A data connection in memory, wherever it is: with the end that has it, or with its ports.
+ghost use Rattle.std.specs.Prelude.{◌≡◌, ◌++◌, IfSome, IsTrue};
+ghost use Rattle.ftp_pair_wires.specs.Moored.{Answers, Meets, Prepares};
+
+use crate::quay::Quay;
+use crate::wire::{Closed, Wire};
+use ftp_control_drive::Data;
+use ftp_endpoint::Host;
+use std::alloc::Global;
+
+/// The ports of an end, and the data connection that the end has, if it has one.
+pub struct Mooring {
+    pub quay: Quay,
+    pub stream: Data<Wire>,
+}
+
+/// What the end has is closed.
+impl Drop for Mooring {
+    fn drop(self) {
+        let Self { quay, stream } = self;
+        let mut quay = quay;
+        stream.finish(&mut quay);
+    }
+}
+
+impl Mooring {
+    ghost use Rattle.ftp_pair_wires.specs.Moored.{IsKnown, Lifts, Lowers};
+
+    /// There is none, and this host is at the other end; each read or write moves at most so many octets, of none one.
+    pub fn new(alloc: Global, peer: Host, most: usize) -> Mooring {
+        Mooring {
+            quay: Quay::new(alloc, peer, most),
+            stream: Data::new(),
+        }
+    }
+
+    /// Takes it, unless end and ports don't agree on who has it.
+    fn lift(&mut self) -> Option<Wire>
+        ensures { IfSome result (λ wire. Lifts wire self.old self.new) }
+    {
+        let none = Wire::new(self.quay.dock.alloc, Closed::No, self.quay.dock.wire.most);
+        match self.stream.exchange(none) {
+            Ok(wire) => if self.quay.dock.is_out() {
+                Some(wire)
+            } else {
+                None
+            }
+            Err(none) => if self.quay.dock.is_out() {
+                None
+            } else {
+                Some(self.quay.dock.swap(none))
+            }
+        }
+    }
+
+    /// Puts it back.
+    fn lower(&mut self, wire: Wire)
+        ensures { Lowers wire self.old self.new }
+    {
+        match self.stream.exchange(wire) {
+            Ok(_none) => {}
+            Err(wire) => {
+                let _none = self.quay.dock.swap(wire);
+            }
+        }
+    }
+
+    /// Octets of the control connection may be read, or none.
+    pub fn tell(&mut self, has_come: bool)
+        ensures stream { self.new.stream ≡ self.old.stream }
+        ensures dock { self.new.quay.dock ≡ self.old.quay.dock }
+    {
+        self.quay.tell(has_come);
+    }
+
+    /// Whether a turn left it as its ports know it.
+    pub fn is_known(&mut self) -> bool
+        ensures { IsTrue result → IsKnown self.old self.new }
+    {
+        if self.quay.dock.spoiled {
+            return false;
+        }
+        let none = Wire::new(self.quay.dock.alloc, Closed::No, self.quay.dock.wire.most);
+        match self.stream.exchange(none) {
+            Ok(wire) => {
+                let is_its_own = self.quay.dock.is_its_own(&wire);
+                match self.stream.exchange(wire) {
+                    Ok(_none) => is_its_own,
+                    Err(_wire) => false,
+                }
+            }
+            Err(_none) => !self.quay.dock.is_out(),
+        }
+    }
+}
+
+/// Brings one end of a data connection what was written to the other, as far as memory is had for it.
+fn bring(from: &mut Wire, to: &mut Wire)
+    ensures all { to.new.came.items ++ from.new.went.items ≡ to.old.came.items ++ from.old.went.items }
+    ensures came { from.new.came.items ≡ from.old.came.items }
+    ensures went { to.new.went.items ≡ to.old.went.items }
+    ensures closed { from.new.closed ≡ from.old.closed }
+{
+    if to.came.extend_from_slice(from.went.as_slice()).is_ok() {
+        from.went.clear();
+    }
+}
+
+/// Where an end dialled, the other one was called; not where that one has a data connection.
+fn answers(dialler: &mut Mooring, other: &mut Mooring) -> bool
+    ensures { IsTrue result → Answers dialler.old other.old dialler.new other.new }
+{
+    if !dialler.quay.dock.dialled {
+        return true;
+    }
+    let Some(_before) = other.lift() else {
+        return false;
+    };
+    if other.quay.dock.is_out() {
+        return false;
+    }
+    let none = Wire::new(other.quay.dock.alloc, Closed::No, other.quay.dock.wire.most);
+    other.lower(none);
+    other.quay.dock.answer();
+    dialler.quay.dock.answered();
+    true
+}
+
+/// Brings either end what the other wrote, and tells the first one what it is to know of the other in its turn.
+fn carry(own: &mut Mooring, peer: &mut Mooring) -> bool
+    ensures { IsTrue result → Prepares own.old peer.old own.new peer.new }
+{
+    let Some(mine) = own.lift() else {
+        return false;
+    };
+    let Some(theirs) = peer.lift() else {
+        return false;
+    };
+    let (mut mine, mut theirs) = (mine, theirs);
+    bring(&mut mine, &mut theirs);
+    bring(&mut theirs, &mut mine);
+    let closed = peer.quay.dock.closing(&theirs);
+    mine.closed = closed;
+    own.lower(mine);
+    peer.lower(theirs);
+    own.quay.dock.begin(closed, peer.quay.dock.listens());
+    true
+}
+
+/// Prepares a turn of an end: what was written between was brought on, a dial was answered, and its ports know of the other end what they are to know. Not
+/// where an end broke off before.
+pub fn meet(own: &mut Mooring, peer: &mut Mooring) -> bool
+    ensures { IsTrue result → Meets own.old peer.old own.new peer.new }
+{
+    if !answers(own, peer) {
+        return false;
+    }
+    if !answers(peer, own) {
+        return false;
+    }
+    carry(own, peer)
+}
