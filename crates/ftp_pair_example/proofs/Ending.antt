@@ -93,6 +93,28 @@ quit_drove start deeds w unwritten untold led over =
       over = over;
     }
 
+-- ---- an operation was answered
+
+-- both did its deeds, and the client is still to report, to leave its data connection and to be told so
+pub record IsAnswered (b : Beginning) (moments : ℕ → ℕ) (op : Op (List ℕ)) (said : Said) : Type 0 where
+  pub first : Far
+  pub client_first : Near
+  pub begun : Near
+  pub served : Far
+  pub heard : Near
+  pub lane : Lane
+  pub asked : Asked
+  pub there : Between
+  pub begins : Begins b (far_in none_yet first []) (near_in none_yet client_first [])
+  pub does : Done (Other (Begun op)) (near_in none_yet client_first []) (near_in none_yet begun [])
+  pub is : IsTransferred op
+  pub some : near.report_of heard ≡ Some said
+  pub free : is_under_way (near.reports heard).job ≡ false
+  pub leaves : Done (Other (Left asked)) (near_in lane (near.reports heard) []) (near_in none_yet (near.reports heard) [])
+  pub may : ClientTransfers (Other (Left asked)) (near_in lane (near.reports heard) []).owner (near_in none_yet (near.reports heard) []).owner
+  pub can : CanTurn (Client (Other (Left asked))) there both_ended
+  pub played : Played moments (far_in none_yet first []) (near_in none_yet begun []) op 1 there (far_in none_yet served []) (near_in lane heard [])
+
 -- ---- both are over
 
 module _ (b : Beginning) (first : Far) (op : Op (List ℕ)) (said : Said) (client_first begun : Near) (v : Far) (n : Near) (moments : ℕ → ℕ)

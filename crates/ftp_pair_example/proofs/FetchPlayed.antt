@@ -54,8 +54,8 @@ use Rattle.ftp_pair_drives.specs.Quitting.{quit_octets}
 use Rattle.ftp_pair_drives.proofs.Playing.{Attends, ear_after, far_ending, far_hears, far_reading, far_saying, is_silent, no_events}
 use Rattle.ftp_pair_transfers.specs.Over.{AreOver}
 use Rattle.ftp_pair_transfers.specs.Quitting.{HaveQuit}
-use Rattle.ftp_pair_example.specs.Example.{FetchHasQuit, FetchIsOver, example_how, example_name, example_octets, fetch_asked}
-use Rattle.ftp_pair_example.proofs.Ending.{Quitted, both_over, both_quit, quit_first, quit_turn}
+use Rattle.ftp_pair_example.specs.Example.{FetchHasQuit, FetchIsOver, HasFile, example_how, example_name, example_octets, fetch_asked}
+use Rattle.ftp_pair_example.proofs.Ending.{IsAnswered, Quitted, both_over, both_quit, quit_first, quit_turn}
 use Rattle.ftp_pair_example.proofs.Moves.{accepts, dials, endpoint, ends, far_closes, far_leaves, gets, gives, listens, near_leaves, one_over, port_text, takes_one, writes}
 use Rattle.ftp_pair_example.proofs.Playing.{Played, can_take, far_in, far_obeys, far_says, far_turn, lies, near_in, near_is_told, near_says, near_turn, none_yet, one_stands, takes_only}
 
@@ -176,6 +176,9 @@ module _ (table : Table) (moments : ℕ → ℕ) where
     midst = [];
     are = tt;
     client_is = refl;
+    later = [];
+    turns_are = refl;
+    later_midst = refl;
     near_led = refl;
     takes = tt;
     listened_is = refl;
@@ -242,6 +245,9 @@ module _ (table : Table) (moments : ℕ → ℕ) where
         midst = p.midst;
         are = p.are;
         client_is = p.client_is;
+        later = Server (Other (Listening 49152)) ∷ p.later;
+        turns_are = ap (λ t. Server (Other (Listening 49152)) ∷ t) p.turns_are;
+        later_midst = p.later_midst;
         near_led = p.near_led;
         takes = p.takes;
         listened_is = ap next_listen p.listened_is;
@@ -338,7 +344,30 @@ module _ (table : Table) (moments : ℕ → ℕ) where
     starts_so : Begins (example table) Starts (near_in none_yet client_first [])
     starts_so = record { server_view = refl; server_unheard = refl; client_view = refl; client_unheard = refl }
 
-    -- so both are over
+    -- so it was answered
+    is_answered : IsAnswered (example table) moments fetch (Octets example_octets)
+    unfolding near.starts near.data_opened near.data_end answered line_heard extended_value path_on_literals
+    is_answered = record {
+      first = far_first;
+      client_first = client_first;
+      begun = near_first;
+      served = far_done;
+      heard = near_over;
+      lane = one_over;
+      asked = EndedBy None None;
+      there = lies [] [] [] [] Has Has_ended;
+      begins = starts_so;
+      does = (((refl, (((λ calm. refl), (λ moved. absurd (moved refl))), inl refl)), refl, tt), refl);
+      is = (tt, refl);
+      some = refl;
+      free = refl;
+      leaves = near_leaves (near.reports near_over) refl;
+      may = (tt, refl);
+      can = (refl, refl);
+      played = takes;
+    }
+
+    -- and both are over
     is_over : (server : Stand server_side) × AreOver (example table) moments fetch_asked server
     unfolding near.starts near.data_opened near.data_end far.control_end answered line_heard extended_value path_on_literals
     is_over = both_over (example table) far_first fetch (Octets example_octets) client_first near_first far_done near_over moments one_over
@@ -375,6 +404,10 @@ module _ (table : Table) (moments : ℕ → ℕ) where
         (quiet far_bye) far_bye.owed refl refl quits
 
 -- the file stands where the login sees it
+pub fetch_is_answered : (table : Table) (stamp : ℕ) (moments : ℕ → ℕ) → HasFile table stamp
+    → IsAnswered (example table) moments fetch (Octets example_octets)
+fetch_is_answered table stamp moments has = is_answered table moments has.root stamp (under-stands table [] (example_name ∷ []) ∙ has.file)
+
 pub fetch_is_over : FetchIsOver
 fetch_is_over table stamp moments has = is_over table moments has.root stamp (under-stands table [] (example_name ∷ []) ∙ has.file)
 

@@ -69,7 +69,7 @@ lies up down go come near_hold far_hold = record {
 
 -- ---- deeds of both
 
--- the client began an operation, and both did deeds since; the server was told so many ports
+-- the client began an operation, and then both did deeds; the server was told so many ports
 pub record Played (moments : ℕ → ℕ) (start : Stand server_side) (begun : Stand client_side) (op : Op (List ℕ)) (listened : ℕ) (between : Between)
     (server : Stand server_side) (client : Stand client_side) : Type 0 where
   pub turns : List Turn
@@ -79,6 +79,9 @@ pub record Played (moments : ℕ → ℕ) (start : Stand server_side) (begun : S
   pub midst : List (Deed client_side)
   pub are : AreMidst midst
   pub client_is : client_deeds turns ≡ midst ++ Other (Begun op) ∷ []
+  pub later : List Turn
+  pub turns_are : turns ≡ later ++ Client (Other (Begun op)) ∷ []
+  pub later_midst : client_deeds later ≡ midst
   pub near_led : Led midst begun client
   pub takes : AsksAlong midst begun client near_led
   pub listened_is : listened_in (server_deeds turns) ≡ listened
@@ -118,6 +121,9 @@ module _ (moments : ℕ → ℕ) (start : Stand server_side) (begun : Stand clie
     midst = p.midst;
     are = p.are;
     client_is = p.client_is;
+    later = Server deed ∷ p.later;
+    turns_are = ap (λ t. Server deed ∷ t) p.turns_are;
+    later_midst = p.later_midst;
     near_led = p.near_led;
     takes = p.takes;
     listened_is = (quiet.0 (server_deeds p.turns)).0 ∙ p.listened_is;
@@ -137,6 +143,9 @@ module _ (moments : ℕ → ℕ) (start : Stand server_side) (begun : Stand clie
     midst = p.midst;
     are = p.are;
     client_is = p.client_is;
+    later = Server (Other End) ∷ p.later;
+    turns_are = ap (λ t. Server (Other End) ∷ t) p.turns_are;
+    later_midst = p.later_midst;
     near_led = p.near_led;
     takes = p.takes;
     listened_is = p.listened_is;
@@ -156,6 +165,9 @@ module _ (moments : ℕ → ℕ) (start : Stand server_side) (begun : Stand clie
     midst = deed ∷ p.midst;
     are = (p.are, amid);
     client_is = ap (λ l. deed ∷ l) p.client_is;
+    later = Client deed ∷ p.later;
+    turns_are = ap (λ t. Client deed ∷ t) p.turns_are;
+    later_midst = ap (λ l. deed ∷ l) p.later_midst;
     near_led = (at, p.near_led, done);
     takes = (p.takes, takes);
     listened_is = p.listened_is;

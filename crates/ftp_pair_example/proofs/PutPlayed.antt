@@ -58,8 +58,8 @@ use Rattle.ftp_pair_drives.specs.Claims.{Begins}
 use Rattle.ftp_pair_drives.specs.Example.{example}
 use Rattle.ftp_pair_drives.proofs.Playing.{Attends, ear_after, is_silent, no_events}
 use Rattle.ftp_pair_transfers.specs.Over.{AreOver}
-use Rattle.ftp_pair_example.specs.Example.{PutIsOver, example_how, example_name, example_octets, put_asked, put_octets}
-use Rattle.ftp_pair_example.proofs.Ending.{both_ended, both_over}
+use Rattle.ftp_pair_example.specs.Example.{HasFile, HasRoom, PutIsOver, example_how, example_name, example_octets, put_asked, put_octets}
+use Rattle.ftp_pair_example.proofs.Ending.{IsAnswered, both_ended, both_over}
 use Rattle.ftp_pair_example.proofs.Moves.{accepts, dials, endpoint, ends_then, far_ends, far_gets, far_goes, far_takes, listens, near_ends, near_gives, near_is_closed, near_shuts, near_writes, one_over, port_text}
 use Rattle.ftp_pair_example.proofs.Playing.{Played, can_take, far_in, far_is_told, far_obeys, far_says, far_turn, lies, near_in, near_is_told, near_says, near_turn, none_yet, one_stands, takes_only}
 
@@ -187,6 +187,9 @@ module _ (table : Table) (moments : ℕ → ℕ) where
     midst = [];
     are = tt;
     client_is = refl;
+    later = [];
+    turns_are = refl;
+    later_midst = refl;
     near_led = refl;
     takes = tt;
     listened_is = refl;
@@ -253,6 +256,9 @@ module _ (table : Table) (moments : ℕ → ℕ) where
         midst = p.midst;
         are = p.are;
         client_is = p.client_is;
+        later = Server (Other (Listening 49152)) ∷ p.later;
+        turns_are = ap (λ t. Server (Other (Listening 49152)) ∷ t) p.turns_are;
+        later_midst = p.later_midst;
         near_led = p.near_led;
         takes = p.takes;
         listened_is = ap next_listen p.listened_is;
@@ -379,7 +385,30 @@ module _ (table : Table) (moments : ℕ → ℕ) where
     starts_so : Begins (example table) Starts (near_in none_yet client_first [])
     starts_so = record { server_view = refl; server_unheard = refl; client_view = refl; client_unheard = refl }
 
-    -- so both are over
+    -- so it was answered
+    is_answered : IsAnswered (example table) moments put Done
+    unfolding near.starts near.data_opened answered line_heard extended_value path_on_literals
+    is_answered = record {
+      first = far_first;
+      client_first = client_first;
+      begun = near_first;
+      served = quiet (far_put (moments 0));
+      heard = near_over;
+      lane = none_yet;
+      asked = Shut;
+      there = both_ended;
+      begins = starts_so;
+      does = (((refl, (((λ calm. refl), (λ moved. absurd (moved refl))), inl refl)), refl, tt), refl);
+      is = (tt, refl);
+      some = refl;
+      free = refl;
+      leaves = near_shuts (near.reports near_over) refl;
+      may = (tt, refl);
+      can = refl;
+      played = hears;
+    }
+
+    -- and both are over
     is_over_so : (server : Stand server_side) × AreOver (example table) moments put_asked server
     unfolding near.starts near.data_opened far.control_end answered line_heard extended_value path_on_literals
     is_over_so = both_over (example table) far_first put Done client_first near_first (quiet (far_put (moments 0))) near_over moments none_yet Shut both_ended
@@ -387,6 +416,11 @@ module _ (table : Table) (moments : ℕ → ℕ) where
         (near_shuts (near.reports near_over) refl) (tt, refl) refl hears refl (record { wants = refl; running = refl; none_waits = refl }) refl
 
 -- the file stands where the login sees it
+pub put_is_answered : (table : Table) (stamp : ℕ) (moments : ℕ → ℕ) → HasFile table stamp → HasRoom table → IsAnswered (example table) moments put Done
+put_is_answered table stamp moments has room =
+    is_answered table moments has.root stamp (under-stands table [] (example_name ∷ []) ∙ has.file)
+    (ap (λ t. nat_le 1 (room_at t (example_name ∷ []))) (under_all table) ∙ room)
+
 pub put_is_over : PutIsOver
 put_is_over table stamp moments has room =
     is_over_so table moments has.root stamp (under-stands table [] (example_name ∷ []) ∙ has.file)

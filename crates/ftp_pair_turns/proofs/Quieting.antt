@@ -5,7 +5,8 @@ use Rattle.ftp_control.specs.Deeds.{Deed, Done, Ended, Heard, Led, Other, Read, 
 use Rattle.ftp_control.specs.Side.{Side}
 use Rattle.ftp_control.specs.Unheard.{Source}
 use Rattle.ftp_control.proofs.Totals.{sums}
-use Rattle.ftp_pair_turns.specs.Speaking.{Speaks, quiet}
+use Rattle.ftp_pair_turns.specs.Speaking.{Speaks}
+use Rattle.ftp_pair_wires.specs.Plain.{quiet}
 
 -- ---- lists
 

@@ -1,6 +1,4 @@
-pub mod Speaking
-pub mod Turning
-pub mod Order
 pub mod Seating
+pub mod Speaking
 pub mod Taking
-pub mod Laws
+pub mod Turning

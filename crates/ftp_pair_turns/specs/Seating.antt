@@ -1,15 +1,18 @@
--- Ends in their seats, and a control connection in memory, of values of the program.
-use Rattle.std.specs.Prelude.{[], None}
+-- Ends in their seats, and connections in memory, of values of the program.
 use Rattle.ftp_control.specs.Machine.{Held, held}
-use Rattle.ftp_control_drive.specs.Standing.{lane_at}
-use Rattle.ftp_pair_drives.specs.Between.{Ways}
+use Rattle.ftp_pair_drives.specs.Between.{Between, Near, Ways}
+use Rattle.ftp_pair_wires.specs.Moored.{between_both, plain_in}
 use Rattle.ftp_pair_turns.specs.declared.seats.Line.{Line}
 use Rattle.ftp_pair_turns.specs.declared.seats.Seat.{Seat}
 
--- what either end is still to read
+-- what either end is still to read of the control connection
 abbrev pub ways_of : Line → Ways
 ways_of line = record { to_server = line.to_server.items; to_client = line.to_client.items }
 
--- what an end holds, beside its data connection, of which nothing is told
+-- what an end holds, and what it sees of its data connection, of whose octets and ports nothing is told
 abbrev pub held_at : {Here E : Type 0} → (here : E → Here) → Seat E → Held Here
-held_at here seat = held (here seat.end) (lane_at (λ stream. None) (λ stream. None) None seat.data [])
+held_at here seat = held (here seat.end) (plain_in seat.mooring.stream)
+
+-- what lies between both
+abbrev pub between_of : {N F : Type 0} → (client : Seat N) → (server : Seat F) → Line → Between
+between_of client server line = between_both Near client.mooring server.mooring (ways_of line)

@@ -1,42 +1,69 @@
--- What both ends did in turns over a control connection in memory.
-use Rattle.std.specs.Prelude.{◌≡◌, ⊤, ℕ, List, [], None, Option, Some}
-use Rattle.ftp_control.specs.Deeds.{Done, Led, Other}
-use Rattle.ftp_control.specs.Machine.{Held}
-use Rattle.ftp_client_drive.specs.Side.{Begun, client_side}
-use Rattle.ftp_client_model.specs.Failing.{Client}
+-- What both ends did in turns over connections in memory.
+use Rattle.std.specs.Prelude.{◌≡◌, ⊤, ℕ, List, [], ◌∷◌, None, Option, Some}
+use Rattle.ftp_control.specs.Asking.{Asked}
+use Rattle.ftp_control.specs.Deeds.{Deed, Done, Led, Other}
+use Rattle.ftp_control.specs.Machine.{Closed, Held, Left}
+use Rattle.ftp_client_drive.specs.Side.{Begun, Report, client_side}
+use Rattle.ftp_client_model.specs.Failing.{Client as NearEnd}
 use Rattle.ftp_operation.specs.Answer.{Said, said_of}
 use Rattle.ftp_operation.specs.declared.answer.Answer.{Answer}
 use Rattle.ftp_operation.specs.declared.op.Op.{Op}
-use Rattle.ftp_pair_drives.specs.Between.{Turn, Ways, client_deeds, server_deeds}
+use Rattle.ftp_pair_drives.specs.Between.{Between, Client, Turn, client_deeds, server_deeds}
+use Rattle.ftp_pair_wires.specs.Order.{Went}
+use Rattle.ftp_pair_wires.specs.Plain.{quiet}
 use Rattle.ftp_server_drive.specs.Side.{Timed, server_side}
-use Rattle.ftp_pair_turns.specs.Order.{Went}
-use Rattle.ftp_pair_turns.specs.Speaking.{quiet}
-use Rattle.ftp_pair_turns.specs.Turning.{NearAnswers}
 use Rattle.ftp_pair_turns.specs.declared.course.Course.{Course}
 use Rattle.ftp_pair_turns.specs.declared.course.Course.TheVariants as Courses
 
--- two ends, and what either is still to read
+-- two ends, and what lies between them
 pub record Ends : Type 0 where
   pub server : Held Timed
-  pub client : Held Client
-  pub ways : Ways
+  pub client : Held NearEnd
+  pub between : Between
 
-abbrev pub ends : Held Timed → Held Client → Ways → Ends
-ends server client ways = record { server = server; client = client; ways = ways }
+abbrev pub ends : Held Timed → Held NearEnd → Between → Ends
+ends server client between = record { server = server; client = client; between = between }
 
--- deeds of both, in an order in which each could be done, led from here to there
+-- deeds of both, in an order in which each could happen, led from here to there
 pub record Took (old new : Ends) : Type 0 where
   pub turns : List Turn
   pub server_led : Led (server_deeds turns) (quiet {side = server_side} old.server) (quiet new.server)
   pub client_led : Led (client_deeds turns) (quiet {side = client_side} old.client) (quiet new.client)
-  pub went : Went turns old.ways new.ways
+  pub went : Went turns old.between new.between
 
--- so they did to where the client had its last turns alone, and its drive was over with this answer
+-- the client's alone
+abbrev pub by_client : List (Deed client_side) → List Turn
+by_client [] = []
+by_client (deed ∷ before) = Client deed ∷ by_client before
+
+-- a client's last deeds, the last one first: it reported, its data connection was left, and it was told so
+abbrev pub last_deeds : Asked → Said → (midst : List (Deed client_side)) → List (Deed client_side)
+last_deeds asked answer midst = Other Closed ∷ Other (Left asked) ∷ Other (Report (Some answer)) ∷ midst
+
+-- the client's drive was over with this answer, after deeds of the client alone
+pub record Answers (answer : Said) (old new : Ends) : Type 0 where
+  pub asked : Asked
+  pub midst : List (Deed client_side)
+  pub led : Led (last_deeds asked answer midst) (quiet {side = client_side} old.client) (quiet new.client)
+  pub went : Went (by_client (last_deeds asked answer midst)) old.between new.between
+  pub server : new.server ≡ old.server
+
+-- both took turns to where the client had its last ones alone
 pub record Settled (answer : Said) (old new : Ends) : Type 0 where
   pub mid : Ends
   pub took : Took old mid
-  pub server : new.server ≡ mid.server
-  pub answers : NearAnswers answer mid.client new.client mid.ways.to_client new.ways.to_client mid.ways.to_server new.ways.to_server
+  pub answers : Answers answer mid new
+
+-- some turns of the client, or of the server
+abbrev pub NearTurns : {A : Type 0} → Course (Answer A) → (old new : Ends) → Type 0
+NearTurns (Courses.Over answer) old new = Answers (said_of answer) old new
+NearTurns Courses.On old new = Took old new
+NearTurns Courses.Off old new = ⊤
+
+abbrev pub FarTurns : Course ⊤ → (old new : Ends) → Type 0
+FarTurns (Courses.Over over) old new = ⊤
+FarTurns Courses.On old new = Took old new
+FarTurns Courses.Off old new = ⊤
 
 -- turns of both
 abbrev pub Rounds : {A : Type 0} → Course (Answer A) → (old new : Ends) → Type 0
@@ -45,14 +72,14 @@ Rounds Courses.On old new = Took old new
 Rounds Courses.Off old new = ⊤
 
 -- the client began an operation
-abbrev pub Begins : Op (List ℕ) → (old new : Held Client) → Type 0
+abbrev pub Begins : Op (List ℕ) → (old new : Held NearEnd) → Type 0
 Begins op old new = Done {side = client_side} (Other (Begun op)) (quiet old) (quiet new)
 
 -- and then they did so
 pub record Answered (op : Op (List ℕ)) (answer : Said) (old new : Ends) : Type 0 where
-  pub begun : Held Client
+  pub begun : Held NearEnd
   pub begins : Begins op old.client begun
-  pub settled : Settled answer (ends old.server begun old.ways) new
+  pub settled : Settled answer (ends old.server begun old.between) new
 
 -- so it is where an answer is given; else nothing is said
 abbrev pub Settles : {A : Type 0} → Option (Answer A) → (old new : Ends) → Type 0

@@ -1,8 +1,8 @@
 // Both ends of a session in their seats, and a control connection in memory.
 ghost use Rattle.std.specs.Prelude.{◌≡◌, [], List, ℕ};
 
-use crate::apart::{Apart, Nowhere};
-use ftp_control_drive::Data;
+use ftp_endpoint::Host;
+use ftp_pair_wires::Mooring;
 use std::alloc::Global;
 
 /// A control connection in memory: the octets that were written to either end and are still to be read there, in order.
@@ -30,35 +30,21 @@ impl Line {
     }
 }
 
-/// An end beside a control connection in memory. It has no data connections.
+/// An end beside connections in memory.
+#[derive(Drop)]
 pub struct Seat<E> {
     pub(crate) end: E,
-    pub(crate) ports: Apart,
-    pub(crate) data: Data<Nowhere>,
-}
-
-/// The end is let go.
-impl<E: Drop> Drop for Seat<E> {
-    fn drop(self) {
-        let Self {
-            end: _,
-            ports,
-            data,
-        } = self;
-        let mut ports = ports;
-        data.finish(&mut ports);
-    }
+    pub(crate) mooring: Mooring,
 }
 
 impl<E> Seat<E> {
-    /// An end, as a session begins.
-    pub fn new(end: E) -> Seat<E>
+    /// An end, as a session begins with this host at the other end: each read or write of a data connection moves at most so many octets, of none one.
+    pub fn new(end: E, alloc: Global, peer: Host, most: usize) -> Seat<E>
         ensures { result.end ≡ end }
     {
         Seat {
             end,
-            ports: Apart::new(),
-            data: Data::new(),
+            mooring: Mooring::new(alloc, peer, most),
         }
     }
 
@@ -73,9 +59,7 @@ impl<E> Seat<E> {
     pub fn leave(self) -> E
         ensures { result ≡ self.end }
     {
-        let Seat { end, ports, data } = self;
-        let mut ports = ports;
-        data.finish(&mut ports);
+        let Seat { end, mooring: _ } = self;
         end
     }
 }

@@ -1,11 +1,9 @@
 // Both ends take turns.
-ghost use Rattle.std.specs.Prelude.{IsTrue};
-ghost use Rattle.ftp_pair_turns.specs.Seating.{held_at, ways_of};
-ghost use Rattle.ftp_pair_turns.specs.Taking.{Asks, Begins, Rounds, Settles, ends};
-ghost use Rattle.ftp_pair_turns.specs.Turning.{FarTurned, NearTurned};
+ghost use Rattle.std.specs.Prelude.{◌≡◌, IsTrue};
+ghost use Rattle.ftp_pair_turns.specs.Seating.{between_of, held_at};
+ghost use Rattle.ftp_pair_turns.specs.Taking.{Asks, Begins, FarTurns, NearTurns, Rounds, Settles, ends};
 ghost use Rattle.ftp_server_drive.specs.Side.{timed};
 
-use crate::apart::{Apart, Nowhere};
 use crate::course::Course;
 use crate::seats::{Line, Seat};
 use crate::turns::{far_turn, near_turn};
@@ -13,35 +11,53 @@ use ftp_client_model::Near;
 use ftp_control::{TURNS, Watch};
 use ftp_facts::Text;
 use ftp_operation::{Answer, Op};
+use ftp_pair_wires::{Quay, Wire, meet};
 use ftp_server_drive::{Clocked, Watches};
 use ftp_server_model::Far;
 use ftp_tree::Tree;
 use std::alloc::Allocator;
 
+/// After so many rounds in which nothing was said over the control connection none is awaited any more: data connections move all that they can in one.
+const SILENT_ROUNDS: u64 = 8;
+
 /// The client's turn.
-pub(crate) fn client_turn<A, N>(
+fn client_turn<A, T, N, F, C, O>(
     client: &mut Seat<N>,
+    server: &mut Seat<Clocked<F, C, O>>,
     line: &mut Line,
     most: usize,
 ) -> Course<Answer<A>>
 where
     A: Allocator + Copy,
+    T: Tree<A>,
     N: Near<A>,
-    ensures { NearTurned result (held_at N.client client.old) (held_at N.client client.new) (ways_of line.old).to_client (ways_of line.new).to_client (ways_of line.old).to_server (ways_of line.new).to_server }
+    F: Far<A, T>,
+    C: Watch,
+    O: Watches<F>,
+    ensures { NearTurns result (ends (held_at (timed F.server C.told) server.old) (held_at N.client client.old) (between_of client.old server.old line.old)) (ends (held_at (timed F.server C.told) server.new) (held_at N.client client.new) (between_of client.new server.new line.new)) }
 {
-    client.ports.tell(most > 0 && !line.to_client.is_empty());
-    near_turn::<A, N, Apart, Nowhere>(
+    if !meet(&mut client.mooring, &mut server.mooring) {
+        return Course::Off;
+    }
+    client.mooring.tell(most > 0 && !line.to_client.is_empty());
+    let course = near_turn::<A, N, Quay, Wire>(
         &mut client.end,
-        &mut client.ports,
-        &mut client.data,
+        &mut client.mooring.quay,
+        &mut client.mooring.stream,
         &mut line.to_client,
         &mut line.to_server,
         most,
-    )
+    );
+    if client.mooring.is_known() {
+        course
+    } else {
+        Course::Off
+    }
 }
 
 /// The server's turn.
-pub(crate) fn server_turn<A, T, F, C, O>(
+fn server_turn<A, T, N, F, C, O>(
+    client: &mut Seat<N>,
     server: &mut Seat<Clocked<F, C, O>>,
     line: &mut Line,
     most: usize,
@@ -49,20 +65,29 @@ pub(crate) fn server_turn<A, T, F, C, O>(
 where
     A: Allocator + Copy,
     T: Tree<A>,
+    N: Near<A>,
     F: Far<A, T>,
     C: Watch,
     O: Watches<F>,
-    ensures { FarTurned result (held_at (timed F.server C.told) server.old) (held_at (timed F.server C.told) server.new) (ways_of line.old).to_server (ways_of line.new).to_server (ways_of line.old).to_client (ways_of line.new).to_client }
+    ensures { FarTurns result (ends (held_at (timed F.server C.told) server.old) (held_at N.client client.old) (between_of client.old server.old line.old)) (ends (held_at (timed F.server C.told) server.new) (held_at N.client client.new) (between_of client.new server.new line.new)) }
 {
-    server.ports.tell(most > 0 && !line.to_server.is_empty());
-    far_turn::<A, T, F, C, O, Apart, Nowhere>(
+    if !meet(&mut server.mooring, &mut client.mooring) {
+        return Course::Off;
+    }
+    server.mooring.tell(most > 0 && !line.to_server.is_empty());
+    let course = far_turn::<A, T, F, C, O, Quay, Wire>(
         &mut server.end,
-        &mut server.ports,
-        &mut server.data,
+        &mut server.mooring.quay,
+        &mut server.mooring.stream,
         &mut line.to_server,
         &mut line.to_client,
         most,
-    )
+    );
+    if server.mooring.is_known() {
+        course
+    } else {
+        Course::Off
+    }
 }
 
 /// A turn of the server, and then one of the client.
@@ -79,15 +104,15 @@ where
     F: Far<A, T>,
     C: Watch,
     O: Watches<F>,
-    ensures { Rounds result (ends (held_at (timed F.server C.told) server.old) (held_at N.client client.old) (ways_of line.old)) (ends (held_at (timed F.server C.told) server.new) (held_at N.client client.new) (ways_of line.new)) }
+    ensures { Rounds result (ends (held_at (timed F.server C.told) server.old) (held_at N.client client.old) (between_of client.old server.old line.old)) (ends (held_at (timed F.server C.told) server.new) (held_at N.client client.new) (between_of client.new server.new line.new)) }
 {
-    match server_turn::<A, T, F, C, O>(server, line, most) {
-        Course::On => client_turn::<A, N>(client, line, most),
+    match server_turn::<A, T, N, F, C, O>(client, server, line, most) {
+        Course::On => client_turn::<A, T, N, F, C, O>(client, server, line, most),
         Course::Over(()) | Course::Off => Course::Off,
     }
 }
 
-/// Turns of both until the client's operation is answered; none where one broke off, or nothing moves any more.
+/// Turns of both until the client's operation is answered; none where one broke off, or nothing was said for so many rounds.
 fn settle<A, T, N, F, C, O>(
     client: &mut Seat<N>,
     server: &mut Seat<Clocked<F, C, O>>,
@@ -101,14 +126,20 @@ where
     F: Far<A, T>,
     C: Watch,
     O: Watches<F>,
-    ensures { Settles result (ends (held_at (timed F.server C.told) server.old) (held_at N.client client.old) (ways_of line.old)) (ends (held_at (timed F.server C.told) server.new) (held_at N.client client.new) (ways_of line.new)) }
+    ensures { Settles result (ends (held_at (timed F.server C.told) server.old) (held_at N.client client.old) (between_of client.old server.old line.old)) (ends (held_at (timed F.server C.told) server.new) (held_at N.client client.new) (between_of client.new server.new line.new)) }
 {
+    let mut silent: u64 = 0;
     for _ in 0..TURNS {
         match round::<A, T, N, F, C, O>(client, server, line, most) {
             Course::On => {
-                if line.is_empty() {
+                if silent >= SILENT_ROUNDS {
                     return None;
                 }
+                silent = if line.is_empty() {
+                    silent.saturating_add(1)
+                } else {
+                    0
+                };
             }
             Course::Over(answer) => return Some(answer),
             Course::Off => return None,
@@ -122,16 +153,17 @@ fn begin<A, N>(client: &mut Seat<N>, op: Op<Text<A>>) -> bool
 where
     A: Allocator + Copy,
     N: Near<A>,
-    ensures { IsTrue result → Begins op (held_at N.client client.old) (held_at N.client client.new) }
+    ensures begun { IsTrue result → Begins op (held_at N.client client.old) (held_at N.client client.new) }
+    ensures same { client.new.mooring ≡ client.old.mooring }
 {
     let mut given = Some(op);
     client.end.begin(&mut given);
     given.is_none()
 }
 
-/// Begins an operation, and lets both ends take turns over their control connection, the server first, until the client has its answer: in each turn an end
-/// reads at most `most` of the octets that came. None where a drive broke off or the server's was over, where nothing moved any more, or where the client
-/// was busy.
+/// Begins an operation, and lets both ends take turns over their connections, the server first, until the client has its answer: in each turn an end
+/// reads at most `most` of the octets that came over the control connection. None where a drive broke off or the server's was over, where nothing moved any
+/// more, or where the client was busy.
 pub fn ask<A, T, N, F, C, O>(
     op: Op<Text<A>>,
     client: &mut Seat<N>,
@@ -146,7 +178,7 @@ where
     F: Far<A, T>,
     C: Watch,
     O: Watches<F>,
-    ensures { Asks op result (ends (held_at (timed F.server C.told) server.old) (held_at N.client client.old) (ways_of line.old)) (ends (held_at (timed F.server C.told) server.new) (held_at N.client client.new) (ways_of line.new)) }
+    ensures { Asks op result (ends (held_at (timed F.server C.told) server.old) (held_at N.client client.old) (between_of client.old server.old line.old)) (ends (held_at (timed F.server C.told) server.new) (held_at N.client client.new) (between_of client.new server.new line.new)) }
 {
     if !begin::<A, N>(client, op) {
         return None;

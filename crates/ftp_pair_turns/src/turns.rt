@@ -6,16 +6,15 @@ ghost use Rattle.ftp_pair_turns.specs.Turning.{FarTurned, NearTurned};
 ghost use Rattle.ftp_server_drive.specs.Side.{timed};
 
 use crate::course::{Course, far_course, near_course};
-use crate::way::{Inlet, Outlet};
 use ftp_client_drive::{Control, Data};
 use ftp_client_model::Near;
-use ftp_control::{Ports, TURNS, Watch};
+use ftp_control::{Duplex, Ports, TURNS, Watch};
 use ftp_operation::Answer;
+use ftp_pair_wires::{Inlet, Outlet};
 use ftp_server_drive::{Clocked, Watches};
 use ftp_server_model::Far;
 use ftp_tree::Tree;
 use std::alloc::Allocator;
-use std::io::{Read, Write};
 
 /// Lets a client's drive go on until it waits or is over. Of the octets that came over its control connection at most `most` are read, and they leave `came`;
 /// what the client says goes behind `goes`.
@@ -31,7 +30,7 @@ where
     A: Allocator + Copy,
     N: Near<A>,
     P: Ports<Stream = S>,
-    S: Read + Write,
+    S: Duplex,
     ensures { NearTurned result (held (N.client client.old) (lane_at S.remaining S.contents (P.history ports.old) data.old [])) (held (N.client client.new) (lane_at S.remaining S.contents (P.history ports.new) data.new [])) came.old.items came.new.items goes.old.items goes.new.items }
 {
     let mut control = Control::new(Inlet::new(came, most), Outlet::new(goes));
@@ -62,7 +61,7 @@ where
     C: Watch,
     O: Watches<F>,
     P: Ports<Stream = S>,
-    S: Read + Write,
+    S: Duplex,
     ensures { FarTurned result (held (timed F.server C.told clocked.old) (lane_at S.remaining S.contents (P.history ports.old) data.old [])) (held (timed F.server C.told clocked.new) (lane_at S.remaining S.contents (P.history ports.new) data.new [])) came.old.items came.new.items goes.old.items goes.new.items }
 {
     let mut control = Control::new(Inlet::new(came, most), Outlet::new(goes));

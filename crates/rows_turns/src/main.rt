@@ -1,4 +1,4 @@
-//! For tests alone: a script of operations without a transfer, each asked by `ask` of `ftp_pair_turns`, at most so many octets a turn.
+//! For tests alone: a script of operations, each asked by `ask` of `ftp_pair_turns`, at most so many octets a turn.
 #![tactic(auto)]
 
 use ftp_client::Client;
@@ -31,6 +31,9 @@ const MOMENT: u64 = 946_684_800;
 const FEW: usize = 9;
 
 const MANY: usize = 1024;
+
+/// The most octets that a read or a write of a data connection moves.
+const ONE: usize = 1;
 
 /// A clock that stands.
 #[derive(Drop)]
@@ -79,14 +82,15 @@ where
     N: Near<Global> + Drop,
     F: Far<Global, MemTree<Global>> + Drop,
 {
-    let mut client = Seat::new(client);
-    let mut server = Seat::new(Clocked {
+    let clocked = Clocked {
         server,
         watch: Still {
             moment: Moment { seconds: MOMENT },
         },
         watcher: (),
-    });
+    };
+    let mut client = Seat::new(client, alloc, HERE, ONE);
+    let mut server = Seat::new(clocked, alloc, HERE, ONE);
     let mut line = Line::new(alloc);
     let mut most = 1usize;
     for order in orders {

@@ -1,6 +1,11 @@
-use Rattle.std.proofs.Common.{rules}
-use Rattle.ftp_pair_turns.proofs.Gathering.{asks}
+use Rattle.std.proofs.Common.{rules, ap}
+use Rattle.ftp_pair_drives.specs.Between.{Near}
+use Rattle.ftp_pair_wires.specs.Moored.{between_both}
+use Rattle.ftp_pair_turns.specs.Seating.{ways_of}
+use Rattle.ftp_pair_turns.proofs.Gathering.{asks_from}
 use Rattle.ftp_pair_turns.proofs.taking.ask.Goals as goal
 
 pub returns : goal.returns
-returns g c = asks c.args.op c.settle.result _ _ _ _ _ (c.begin.ensures (search rules)) c.settle.ensures
+returns g c =
+    asks_from c.args.op c.settle.result _ _ _ _ _ _ (ap (λ m. between_both Near m c.args.server.now.mooring (ways_of c.args.line.now)) c.begin.ensures.same)
+    (c.begin.ensures.begun (search rules)) c.settle.ensures

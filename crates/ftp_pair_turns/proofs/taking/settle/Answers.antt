@@ -1,4 +1,4 @@
-use Rattle.ftp_pair_turns.proofs.Gathering.{rounds_then, took_none, took_then}
+use Rattle.ftp_pair_turns.proofs.Gathering.{rounds_on, took_none, took_then}
 use Rattle.ftp_pair_turns.specs.declared.course.Course.TheVariants.{Over}
 use Rattle.ftp_pair_turns.proofs.taking.settle.Goals as goal
 
@@ -6,7 +6,7 @@ pub loop-init : goal.loop-init
 loop-init g c = took_none _
 
 pub returns-in-Over : goal.returns-in-Over
-returns-in-Over g c = rounds_then (Over c.in-Over.answer) _ _ _ (rw c.in-Over.is at c.round.ensures) c.loop.invariant
+returns-in-Over g c = rounds_on (Over c.in-Over.answer) _ _ _ (rw c.in-Over.is at c.round.ensures) c.loop.invariant
 
 pub loop-preserved : goal.loop-preserved
 loop-preserved g c = took_then _ _ _ (rw c.in-On.is at c.round.ensures) c.loop.invariant

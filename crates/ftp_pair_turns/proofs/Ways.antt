@@ -1,9 +1,0 @@
--- What a way tells beside its octets.
-use Rattle.std.proofs.Common.{◌≡◌, ℕ, List, [], ◌∷◌, ◌++◌, sym, ap, ◌∙◌, append_assoc, take, drop, take-append-drop}
-
--- the front of a way was read, and what was told behind it is told still
-pub front_read : (octets front rest : List ℕ) (count name : ℕ) → front ≡ take count octets → rest ≡ drop count octets
-    → octets ++ (name ∷ []) ≡ front ++ (rest ++ (name ∷ []))
-front_read octets front rest count name first behind =
-    ap (λ l. l ++ name ∷ []) (sym (take-append-drop count octets) ∙ ap (λ l. l ++ drop count octets) (sym first) ∙ ap (λ l. front ++ l) (sym behind))
-    ∙ append_assoc front rest (name ∷ [])
