@@ -89,7 +89,7 @@ impl Socket {
     }
 
     /// Reads what is on its way; none is the end behind it.
-    pub(crate) fn receive(&self, room: &mut [u8]) -> io::Result<usize>
+    pub(crate) fn receive_some(&self, room: &mut [u8]) -> io::Result<usize>
         ensures within { IfOk result (λ count. count ≤ length room.new) }
     {
         match self.coming.flow() {
@@ -106,7 +106,7 @@ impl Socket {
     }
 
     /// Writes as many octets as there is room for.
-    pub(crate) fn send(&self, octets: &[u8]) -> io::Result<usize>
+    pub(crate) fn send_some(&self, octets: &[u8]) -> io::Result<usize>
         ensures within { IfOk result (λ count. count ≤ length octets.now) }
     {
         if self.going.flow() != Flow::Open {
@@ -144,13 +144,13 @@ impl Socket {
 
 impl Read for Socket {
     fn read(&mut self, room: &mut [u8]) -> io::Result<usize> {
-        self.receive(room)
+        self.receive_some(room)
     }
 }
 
 impl Write for Socket {
     fn write(&mut self, octets: &[u8]) -> io::Result<usize> {
-        self.send(octets)
+        self.send_some(octets)
     }
 
     fn flush(&mut self) -> io::Result<()> {
@@ -182,13 +182,13 @@ impl<'h> Line<'h> {
 
 impl<'h> Read for Line<'h> {
     fn read(&mut self, room: &mut [u8]) -> io::Result<usize> {
-        self.socket.receive(room)
+        self.socket.receive_some(room)
     }
 }
 
 impl<'h> Write for Line<'h> {
     fn write(&mut self, octets: &[u8]) -> io::Result<usize> {
-        self.socket.send(octets)
+        self.socket.send_some(octets)
     }
 
     fn flush(&mut self) -> io::Result<()> {
