@@ -1,5 +1,6 @@
 // Both ends of a session in their seats, and a control connection in memory.
 ghost use Rattle.std.specs.Prelude.{◌≡◌, [], List, ℕ};
+ghost use Rattle.ftp_pair_wires.specs.Moored.{IsFresh};
 
 use ftp_endpoint::Host;
 use ftp_pair_wires::Mooring;
@@ -40,7 +41,8 @@ pub struct Seat<E> {
 impl<E> Seat<E> {
     /// An end, as a session begins with this host at the other end: each read or write of a data connection moves at most so many octets, of none one.
     pub fn new(end: E, alloc: Global, peer: Host, most: usize) -> Seat<E>
-        ensures { result.end ≡ end }
+        ensures end { result.end ≡ end }
+        ensures fresh { IsFresh result.mooring }
     {
         Seat {
             end,

@@ -1,17 +1,20 @@
 -- A data connection in memory is taken from where it is, and put back.
 use Rattle.std.proofs.Common.{◌≡◌, ℕ, Bool, true, false, not, true≢false, ◌++◌, [], List, Option, None, Some, is_some, refl, sym, ap, subst, ◌∙◌}
-use Rattle.ftp_control.specs.Lane.{Lane, with_ends}
+use Rattle.ftp_control.specs.Carrying.{told_by}
+use Rattle.ftp_control.specs.Lane.{Lane, no_lane, with_ends}
 use Rattle.ftp_control.specs.Asking.{Asked}
-use Rattle.ftp_control_drive.specs.Standing.{IsExchanged, IsSameLane, lane_at}
+use Rattle.ftp_control_drive.specs.Standing.{HasNone, IsExchanged, IsSameLane, lane_at}
 use Rattle.ftp_control_drive.specs.declared.data.Data.{Data}
-use Rattle.ftp_pair_wires.specs.Berth.{Berth, called_by, mark}
-use Rattle.ftp_pair_drives.specs.Between.{Has}
-use Rattle.ftp_pair_wires.specs.Docking.{hold_at, is_back, is_ended, is_out, went_in}
+use Rattle.ftp_pair_wires.specs.Berth.{Berth, called_by, hold_by, mark}
+use Rattle.ftp_pair_drives.specs.Between.{Has, Has_not, Hold}
+use Rattle.ftp_pair_wires.specs.Docking.{hold_at, is_back, is_ended, is_out, left_in, went_in}
+use Rattle.ftp_pair_wires.specs.Plain.{plain_lane}
 use Rattle.ftp_pair_wires.proofs.Noting.{back_has, back_marked}
-use Rattle.ftp_pair_wires.specs.Moored.{Answers, IsKnown, IsStill, Lifts, Lowers, Meets, Prepares, berth_of, came_at, came_in, lane_in, mark_in, octets_of, of_two, plain_in, told_in, went_at}
+use Rattle.ftp_pair_wires.specs.Moored.{Answers, IsFresh, IsKnown, IsStill, Lifts, Lowers, Meets, Prepares, berth_of, came_at, came_in, lane_in, mark_in, octets_of, of_two, plain_in, told_in, went_at}
 use Rattle.ftp_pair_wires.specs.declared.dock.Stay.{Stay}
 use Rattle.ftp_pair_wires.specs.declared.dock.Stay.TheVariants as Stays
 use Rattle.ftp_pair_wires.specs.declared.mooring.Mooring.{Mooring}
+use Rattle.ftp_pair_wires.specs.declared.wire.Closed.TheVariants as Closes
 use Rattle.ftp_pair_wires.specs.declared.wire.Wire.{Wire}
 
 -- who has one is out
@@ -209,4 +212,41 @@ known_there old new none lane not_out known same =
       agrees = stands ∙ sym not_out ∙ ap (λ d. is_out d.stay) (sym same);
       mark = λ it. absurd (true≢false (sym it ∙ stands));
       known = ap (λ d. d.spoiled) same ∙ known;
+    }
+
+-- ---- one that nobody has yet
+
+told_none : (stream : Option Wire) → told_by (λ wire. None) stream ≡ None
+told_none (Some wire) = refl
+told_none None = refl
+
+-- where nothing is told
+pub plain_is : (asked : Option (List Asked)) (stream : Data Wire) → plain_lane (lane_at left_in went_in asked stream []) ≡ plain_in stream
+plain_is asked stream =
+    let none = sym (told_none stream.connection.stream) in
+    let lane = plain_lane (lane_at left_in went_in asked stream []) in
+    ap (λ l. record lane { left = l }) none ∙ ap (λ w. record lane { left = (plain_in stream).left; written = w }) none
+
+there_of : (stands : Bool) (one other : Hold) → stands ≡ false → of_two stands one other ≡ other
+there_of stands one other is = ap (λ s. of_two s one other) is
+
+abbrev berth_made : Hold → (came went : List ℕ) → Bool → Option ℕ → Bool → Berth
+berth_made hold came went ended calls dialled = record { hold = hold; came = came; went = went; ended = ended; calls = calls; dialled = dialled }
+
+-- at first there is none
+pub fresh : (m : Mooring) → HasNone left_in went_in m.stream → m.quay.dock.stay ≡ Stays.Free → m.quay.dock.wire.came.items ≡ [] → m.quay.dock.wire.went.items ≡ []
+    → m.quay.dock.wire.closed ≡ Closes.No → m.quay.dock.calls ≡ None → m.quay.dock.dialled ≡ false → IsFresh m
+fresh m none stay came went closed calls undialled =
+    let lane : plain_in m.stream ≡ no_lane None = sym (plain_is None m.stream) ∙ ap plain_lane (none None) in
+    let stands : (plain_in m.stream).stands ≡ false = ap (λ (l : Lane). l.stands) lane in
+    let hold = there_of (plain_in m.stream).stands (hold_by (plain_in m.stream).fate) (hold_at m.quay.dock.stay) stands ∙ ap hold_at stay in
+    let octets = there (plain_in m.stream).stands (told_in came_in m.stream) m.quay.dock.wire.came.items stands ∙ came in
+    let gone = there (plain_in m.stream).stands (told_in went_in m.stream) m.quay.dock.wire.went.items stands ∙ went in
+    record {
+      berth = ap (λ h. berth_made h (came_at m) (went_at m) (is_ended m.quay.dock.wire.closed) m.quay.dock.calls m.quay.dock.dialled) hold
+          ∙ ap (λ c. berth_made Has_not c (went_at m) (is_ended m.quay.dock.wire.closed) m.quay.dock.calls m.quay.dock.dialled) octets
+          ∙ ap (λ w. berth_made Has_not [] w (is_ended m.quay.dock.wire.closed) m.quay.dock.calls m.quay.dock.dialled) gone
+          ∙ ap (λ c. berth_made Has_not [] [] (is_ended c) m.quay.dock.calls m.quay.dock.dialled) closed
+          ∙ ap (λ c. berth_made Has_not [] [] false c m.quay.dock.dialled) calls ∙ ap (λ d. berth_made Has_not [] [] false None d) undialled;
+      lane = lane;
     }

@@ -23,6 +23,7 @@ use Rattle.ftp_pair_wires.specs.declared.dock.Stay.TheVariants as Stays
 use Rattle.ftp_pair_wires.specs.declared.mooring.Mooring.{Mooring}
 use Rattle.ftp_pair_wires.specs.declared.wire.Wire.{Wire}
 use Rattle.ftp_pair_wires.proofs.Happening.{deeds_asked, happens}
+use Rattle.ftp_pair_wires.proofs.Lifting.{plain_is}
 use Rattle.ftp_pair_wires.proofs.Noting.{ran_since}
 
 -- ---- how a turn found it is told by what was noted first
@@ -114,17 +115,6 @@ left_seen None ended stands marked = absurd (true≢false (sym stands))
 went_seen : (stream : Option Wire) → is_some stream ≡ true → told_by went_in stream ≡ Some (octets_of (told_by went_in stream))
 went_seen (Some wire) stands = refl
 went_seen None stands = absurd (true≢false (sym stands))
-
-told_none : (stream : Option Wire) → told_by (λ wire. None) stream ≡ None
-told_none (Some wire) = refl
-told_none None = refl
-
--- where nothing is told
-plain_is : (asked : Option (List Asked)) (stream : Data Wire) → plain_lane (lane_at left_in went_in asked stream []) ≡ plain_in stream
-plain_is asked stream =
-    let none = sym (told_none stream.connection.stream) in
-    let lane = plain_lane (lane_at left_in went_in asked stream []) in
-    ap (λ l. record lane { left = l }) none ∙ ap (λ w. record lane { left = (plain_in stream).left; written = w }) none
 
 out_is : (stay : Stay) → is_out stay ≡ true → hold_at stay ≡ Has
 out_is Stays.Out is = refl

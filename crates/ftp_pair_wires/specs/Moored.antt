@@ -1,10 +1,10 @@
 -- A data connection in memory, wherever it is: with the end, or with its ports; of values of the program.
 use Rattle.std.specs.Prelude.{◌≡◌, ℕ, Bool, true, false, List, [], ◌++◌, Option, None, Some}
 use Rattle.ftp_control.specs.Asking.{Asked}
-use Rattle.ftp_control.specs.Lane.{Lane}
+use Rattle.ftp_control.specs.Lane.{Lane, no_lane}
 use Rattle.ftp_control_drive.specs.Standing.{lane_at}
 use Rattle.ftp_control_drive.specs.declared.data.Data.{Data}
-use Rattle.ftp_pair_drives.specs.Between.{Between, Hold, Ways, Who}
+use Rattle.ftp_pair_drives.specs.Between.{Between, Has_not, Hold, Ways, Who}
 use Rattle.ftp_pair_wires.specs.Berth.{Berth, Knows, between_at, called_by, hold_by, mark}
 use Rattle.ftp_pair_wires.specs.Docked.{asked_of}
 use Rattle.ftp_pair_wires.specs.Docking.{berth_at, header, hold_at, is_ended, is_out, left_in, went_in}
@@ -59,6 +59,14 @@ berth_of mooring = record {
   calls = mooring.quay.dock.calls;
   dialled = mooring.quay.dock.dialled;
 }
+
+-- nothing came or went yet
+abbrev pub no_berth : Berth
+no_berth = record { hold = Has_not; came = []; went = []; ended = false; calls = None; dialled = false }
+
+pub record IsFresh (mooring : Mooring) : Type 0 where
+  pub berth : berth_of mooring ≡ no_berth
+  pub lane : plain_in mooring.stream ≡ no_lane None
 
 -- ports and end agree on who has it
 abbrev pub Agrees : Mooring → Type 0

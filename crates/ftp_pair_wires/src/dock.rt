@@ -67,7 +67,14 @@ impl Dock {
     ghost use Rattle.ftp_pair_wires.specs.Docked.{asked_of};
 
     /// There is none.
-    pub(crate) fn new(alloc: Global, most: usize) -> Dock {
+    pub(crate) fn new(alloc: Global, most: usize) -> Dock
+        ensures stay { result.stay ≡ Stay.Free }
+        ensures came { result.wire.came.items ≡ [] }
+        ensures went { result.wire.went.items ≡ [] }
+        ensures closed { result.wire.closed ≡ Closed.No }
+        ensures calls { result.calls ≡ None }
+        ensures undialled { result.dialled ≡ false }
+    {
         Dock {
             stay: Stay::Free,
             wire: Wire::new(alloc, Closed::No, most),

@@ -24,10 +24,12 @@ impl Drop for Mooring {
 }
 
 impl Mooring {
-    ghost use Rattle.ftp_pair_wires.specs.Moored.{IsKnown, Lifts, Lowers};
+    ghost use Rattle.ftp_pair_wires.specs.Moored.{IsFresh, IsKnown, Lifts, Lowers};
 
     /// There is none, and this host is at the other end; each read or write moves at most so many octets, of none one.
-    pub fn new(alloc: Global, peer: Host, most: usize) -> Mooring {
+    pub fn new(alloc: Global, peer: Host, most: usize) -> Mooring
+        ensures { IsFresh result }
+    {
         Mooring {
             quay: Quay::new(alloc, peer, most),
             stream: Data::new(),

@@ -3,8 +3,8 @@ ghost use Rattle.std.specs.Prelude.{◌<◌, Some};
 ghost use Rattle.ftp_control.specs.Asking.{Closes};
 ghost use Rattle.ftp_pair_wires.specs.Docking.{left_in, went_in};
 
-use crate::dock::Dock;
-use crate::wire::Wire;
+use crate::dock::{Dock, Stay};
+use crate::wire::{Closed, Wire};
 use ftp_control::{Accepted, Awaited, Beside, For, Ports, Ready, Spoken, Whole};
 use ftp_endpoint::{Endpoint, Host};
 use std::alloc::Global;
@@ -27,9 +27,16 @@ pub struct Quay {
 }
 
 impl Quay {
-    ghost use Rattle.std.specs.Prelude.{◌≡◌};
+    ghost use Rattle.std.specs.Prelude.{◌≡◌, [], None, false};
 
-    pub(crate) fn new(alloc: Global, peer: Host, most: usize) -> Quay {
+    pub(crate) fn new(alloc: Global, peer: Host, most: usize) -> Quay
+        ensures stay { result.dock.stay ≡ Stay.Free }
+        ensures came { result.dock.wire.came.items ≡ [] }
+        ensures went { result.dock.wire.went.items ≡ [] }
+        ensures closed { result.dock.wire.closed ≡ Closed.No }
+        ensures calls { result.dock.calls ≡ None }
+        ensures undialled { result.dock.dialled ≡ false }
+    {
         Quay {
             dock: Dock::new(alloc, most),
             peer,
