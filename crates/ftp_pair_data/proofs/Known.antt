@@ -5,6 +5,7 @@ use Rattle.ftp_ends.specs.declared.link.Wants.{Wants}
 use Rattle.ftp_ends.specs.declared.link.Wants.TheVariants as Want
 use Rattle.ftp_client_model.specs.Calls as near
 use Rattle.ftp_client_model.specs.Calls.{is_busy}
+use Rattle.ftp_client_model.specs.View.{Doing, Job}
 use Rattle.ftp_server_model.specs.Machine.{is_transferring}
 use Rattle.ftp_server_model.specs.View.{Transfer}
 use Rattle.ftp_server_model.specs.declared.session.ServerLink.{ServerLink}
@@ -16,9 +17,15 @@ use Rattle.ftp_pair_agreement.specs.Cut.{Cut, PlacedAt, world_at}
 
 -- ---- what is so
 
+-- an operation is at a step before its transfer
+abbrev pub is_doing : Job → Bool
+is_doing (Doing op step) = true
+is_doing job = false
+
 -- the client dials a server that waits for it, and nothing else is to be said or moved
 pub record Dialling (w : World) : Type 0 where
   pub busy : is_busy w.near ≡ true
+  pub doing : is_doing w.near.job ≡ true
   pub link : w.link ≡ Gone
   pub far : w.far.session.connection ≡ FarData.Passive
   pub owes : w.far.owed ≡ []

@@ -47,13 +47,14 @@ module _ (read : Reading) (from : State) (begun : List Order) where
   pub not_lost : (w : World) → w.control ≡ Stands → IsLost from begun w → ⊥
   not_lost w control lost = true≢false (sym (ap is_parted lost.control) ∙ ap is_parted control)
 
-  -- a Peek that is cut short is at its ABOR
-  abort_sent : (halt : Halt) → is_unsent (halt_abort halt) ≡ false
-  abort_sent (Gives octet more) = refl
-  abort_sent (Gave whole heard asked gap) = refl
-  abort_sent (Halted whole left) = refl
+-- ---- a Peek that has sent ABOR
 
-  pub not_halting : (now : State) (ask : Ask) (own : List Mark) (w : World) → AtHalt now ask own w → is_unaborted w.near.job ≡ true → ⊥
-  not_halting now ask own w h unaborted =
-      let job = ap (λ (u : World). is_unaborted u.near.job) h.is ∙ ap (λ (n : Near). is_unaborted n.job) h.here.near ∙ abort_sent h.halt in
-      true≢false (sym unaborted ∙ job)
+abort_sent : (halt : Halt) → is_unsent (halt_abort halt) ≡ false
+abort_sent (Gives octet more) = refl
+abort_sent (Gave whole heard asked gap) = refl
+abort_sent (Halted whole left) = refl
+
+-- is at it
+pub halt_aborted : (now : State) (ask : Ask) (own : List Mark) (w : World) → AtHalt now ask own w → is_unaborted w.near.job ≡ false
+halt_aborted now ask own w h =
+    ap (λ (u : World). is_unaborted u.near.job) h.is ∙ ap (λ (n : Near). is_unaborted n.job) h.here.near ∙ abort_sent h.halt

@@ -5,6 +5,7 @@ pub mod FarForms
 pub mod Holding
 pub mod Plain
 pub mod Plainly
+pub mod Fresh
 pub mod Serves
 pub mod Parting
 pub mod Resting

@@ -1,7 +1,7 @@
--- A client that begins no Peek, and with transfers only such operations as it dials for, has no port of its own and sends no
--- ABOR, whatever it hears.
+-- A client that begins with transfers only such operations as it dials for has no port of its own, whatever it hears; and what is so of a transfer as it
+-- begins, and stays so by all that is replied to it, is so as long as it is under way.
 use Rattle.std.proofs.Common.{◌≡◌, ℕ, ◌==◌, Bool, true, false, true≢false, not, ◌&&◌, ◌||◌, List, [], ◌∷◌, Option, Some, None, refl, sym, ap, subst, ◌∙◌}
-use Rattle.std.specs.Prelude.{if◌then◌else◌, ⊤}
+use Rattle.std.specs.Prelude.{if◌then◌else◌, ⊤, ◌<◌}
 use Rattle.ftp_command.specs.declared.command.Command.{Command}
 use Rattle.ftp_endpoint.specs.declared.endpoint.Endpoint.{Endpoint}
 use Rattle.ftp_endpoint.specs.declared.host.Host.{Host}
@@ -21,8 +21,8 @@ use Rattle.ftp_settings.specs.Representation.{same_kind, same_mode, same_structu
 use Rattle.ftp_settings.specs.declared.representation.Representation.{Representation}
 use Rattle.ftp_client_model.specs.Calls as near
 use Rattle.ftp_client_model.specs.Calls.{data_end, data_opened, ending_of, event_taken, events_taken, hears, hears_octet, heard_flow, line_taken, opened_by, over_by, receives, receives_octet, started_by, starts, unsendable_by}
-use Rattle.ftp_client_model.specs.Dialogue.{abort_answered, aborts_once_enough, answer_in, answered, answers_by, answers_once_over, awaited, awaits_reply, begins, carries_on, closes, closes_once_given_by, dials, endpoint_named, enters_with, finishes, finishes_by, finishes_read, goes_on, greeted, has_begun, is_given, is_to_abort, is_unsent, job_answered, judged, judged_reply, last_job, login_ends, marked_flow, next_job, pass_answered, passive_named, placed, port_named, sends_abort, sends_if, stand_answered, step_answered, step_done, transfer_answered, unless_open, user_answered, with_reply}
-use Rattle.ftp_client_model.specs.Octets.{flow_of, has_settled}
+use Rattle.ftp_client_model.specs.Dialogue.{abort_answered, aborts_once_enough, answer_in, answered, answers_by, answers_once_over, awaited, awaits_reply, begins, carries_on, closes, closes_once_given_by, dials, endpoint_named, enters_with, finishes, finishes_by, finishes_read, goes_on, greeted, has_begun, is_given, is_to_abort, job_answered, judged, judged_reply, last_job, login_ends, marked_flow, next_job, pass_answered, passive_named, placed, port_named, sends_abort, sends_if, stand_answered, step_answered, step_done, transfer_answered, unless_open, user_answered, with_reply}
+use Rattle.ftp_client_model.specs.Octets.{flow_of}
 use Rattle.ftp_client_model.specs.Plan.{alone_step, asked_settings, command_of, count_of, first_step, from_kind, from_mode, from_structure, how_of, is_extended, next_step, offset_of, opening_of, settings_behind, step_behind_opening, step_by}
 use Rattle.ftp_client_model.specs.Replies.{Closing, Completion, Displaced, Intermediate, Negative, Preliminary, Verdict, verdict_of}
 use Rattle.ftp_client_model.specs.View.{Doing, Flow, Idle, Job, Told, Transfer, Transferring, View as Near, Waiting, done_with, dropped, fails, fails_by, strange}
@@ -40,35 +40,66 @@ use Rattle.ftp_client_model.specs.declared.client.Standing.{Standing}
 use Rattle.ftp_client_model.specs.declared.client.Standing.TheVariants as Stands
 use Rattle.ftp_client_model.specs.declared.client.Step.{Step}
 use Rattle.ftp_client_model.specs.declared.client.Step.TheVariants as Steps
-use Rattle.ftp_pair_data.specs.Unaborted.{is_unaborted}
 use Rattle.ftp_pair_deeds.specs.Deeds.{is_dialling}
 use Rattle.ftp_pair_deeds.proofs.Stands.{has_port}
 
 -- ---- operations, steps and jobs
 
--- the client dials for it, and it asks for no number of octets
+-- a number of octets that is asked for is one at least
+abbrev pub IsSome : Option ℕ → Type 0
+IsSome None = ⊤
+IsSome (Some count) = 0 < count
+
+-- the client dials for it, and it asks for one octet at least, where it asks for a number of them
 pub record IsPlain (op : Op (List ℕ)) : Type 0 where
   pub dials : is_dialling (how_of op) ≡ true
-  pub count : count_of op ≡ None
+  pub some : IsSome (count_of op)
 
 -- a port of the client is waited for
 abbrev pub is_listen : Step → Bool
 is_listen Steps.Listen = true
 is_listen step = false
 
--- one that is begun is plain, and no ABOR was sent
-abbrev pub IsPlainJob : Job → Type 0
-IsPlainJob Idle = ⊤
-IsPlainJob (Told said) = ⊤
-IsPlainJob (Waiting op) = IsPlain op
-IsPlainJob (Doing op step) = IsPlain op
-IsPlainJob (Transferring op transfer) = IsPlain op × (transfer.abort ≡ Aborts.Unsent)
+-- this is so of a transfer as it begins, and stays so whatever is replied, noted, aborted and answered
+pub record IsKept (Kept : Op (List ℕ) → Transfer → Type 0) : Type 0 where
+  pub begins : (op : Op (List ℕ)) (flow : Flow) → flow_of op ≡ Some flow → Kept op (record { replied = Replies.Nothing; abort = Aborts.Unsent; flow = flow })
+  pub replies : (replied : Replied) (op : Op (List ℕ)) (transfer : Transfer) → Kept op transfer → Kept op (record transfer { replied = replied })
+  pub notes : (mark : Option ℕ) (op : Op (List ℕ)) (transfer : Transfer) → Kept op transfer
+      → Kept op (record transfer { flow = marked_flow mark transfer.flow })
+  pub aborts : (link : ClientLink) (op : Op (List ℕ)) (transfer : Transfer) → IsPlain op → Kept op transfer → is_to_abort link op transfer ≡ true
+      → Kept op (record transfer { abort = Aborts.Sent })
+  pub answers : (op : Op (List ℕ)) (transfer : Transfer) → Kept op transfer → transfer.abort ≡ Aborts.Sent
+      → Kept op (record transfer { abort = Aborts.Answered })
+
+-- one that is begun is plain, and this is kept of its transfer
+abbrev pub IsPlainJob : (Op (List ℕ) → Transfer → Type 0) → Job → Type 0
+IsPlainJob Kept Idle = ⊤
+IsPlainJob Kept (Told said) = ⊤
+IsPlainJob Kept (Waiting op) = IsPlain op
+IsPlainJob Kept (Doing op step) = IsPlain op
+IsPlainJob Kept (Transferring op transfer) = IsPlain op × Kept op transfer
 
 -- no port of it, and no upload over breaks
-pub record IsPlainly (n : Near) : Type 0 where
-  pub job : IsPlainJob n.job
+pub record IsPlainBy (Kept : Op (List ℕ) → Transfer → Type 0) (n : Near) : Type 0 where
+  pub job : IsPlainJob Kept n.job
   pub port : has_port n.connection ≡ false
   pub run : n.run ≡ None
+
+-- whatever is so of its transfer
+abbrev pub Whatever : Op (List ℕ) → Transfer → Type 0
+Whatever op transfer = ⊤
+
+pub whatever_kept : IsKept Whatever
+whatever_kept = record {
+  begins = λ op flow is. tt;
+  replies = λ replied op transfer kept. tt;
+  notes = λ mark op transfer kept. tt;
+  aborts = λ link op transfer plain kept is. tt;
+  answers = λ op transfer kept is. tt;
+}
+
+abbrev pub IsPlainly : Near → Type 0
+IsPlainly n = IsPlainBy Whatever n
 
 -- ---- the steps
 
@@ -136,354 +167,331 @@ next_plain now op Steps.Restart plain = refl
 next_plain now op Steps.Source plain = refl
 next_plain now op Steps.Last plain = refl
 
--- ---- an operation goes on, or ends
+module _ (Kept : Op (List ℕ) → Transfer → Type 0) (keeps : IsKept Kept) where
+  -- ---- an operation goes on, or ends
 
--- what is sent is of no matter
-sent_plain : (command : Option (Command (List ℕ))) (n : Near) → IsPlainly n → IsPlainly (sends_if command n)
-sent_plain None n p = p
-sent_plain (Some command) n p = record { job = p.job; port = p.port; run = p.run }
+  -- what is sent is of no matter
+  sent_plain : (command : Option (Command (List ℕ))) (n : Near) → IsPlainBy Kept n → IsPlainBy Kept (sends_if command n)
+  sent_plain None n p = p
+  sent_plain (Some command) n p = record { job = p.job; port = p.port; run = p.run }
 
-placed_plain : (op : Op (List ℕ)) (step : Step) (n : Near) → IsPlain op → is_listen step ≡ false → has_port n.connection ≡ false → n.run ≡ None
-    → IsPlainly (placed op step n)
-placed_plain op step n plain listens port run = by step listens
-  where
-    last : (flow : Option Flow) → IsPlainJob (last_job op flow)
-    last None = plain
-    last (Some flow) = (plain, refl)
+  placed_plain : (op : Op (List ℕ)) (step : Step) (n : Near) → IsPlain op → is_listen step ≡ false → has_port n.connection ≡ false → n.run ≡ None
+      → IsPlainBy Kept (placed op step n)
+  placed_plain op step n plain listens port run = by step listens
+    where
+      last : (flow : Option Flow) → flow_of op ≡ flow → IsPlainJob Kept (last_job op flow)
+      last None is = plain
+      last (Some flow) is = (plain, keeps.begins op flow is)
 
-    by : (step : Step) → is_listen step ≡ false → IsPlainly (placed op step n)
-    by Steps.Listen e = absurd (true≢false e)
-    by Steps.Last e =
-        sent_plain (command_of n op Steps.Last) (record n { job = last_job op (flow_of op) }) (record { job = last (flow_of op); port = port; run = run })
-    by other e = sent_plain (command_of n op other) (record n { job = Doing op other }) (record { job = plain; port = port; run = run })
+      by : (step : Step) → is_listen step ≡ false → IsPlainBy Kept (placed op step n)
+      by Steps.Listen e = absurd (true≢false e)
+      by Steps.Last e =
+          sent_plain (command_of n op Steps.Last) (record n { job = last_job op (flow_of op) }) (record { job = last (flow_of op) refl; port = port; run = run })
+      by other e = sent_plain (command_of n op other) (record n { job = Doing op other }) (record { job = plain; port = port; run = run })
 
-begins_plain : (op : Op (List ℕ)) (n : Near) → IsPlain op → has_port n.connection ≡ false → n.run ≡ None → IsPlainly (begins op n)
-begins_plain op n plain port run = placed_plain op (first_step n.settings op) n plain (first_plain n.settings op plain) port run
+  begins_plain : (op : Op (List ℕ)) (n : Near) → IsPlain op → has_port n.connection ≡ false → n.run ≡ None → IsPlainBy Kept (begins op n)
+  begins_plain op n plain port run = placed_plain op (first_step n.settings op) n plain (first_plain n.settings op plain) port run
 
-goes_plain : (op : Op (List ℕ)) (step : Step) (n : Near) → IsPlain op → has_port n.connection ≡ false → n.run ≡ None → IsPlainly (goes_on op step n)
-goes_plain op step n plain port run = placed_plain op (next_step n.settings op step) n plain (next_plain n.settings op step plain) port run
+  goes_plain : (op : Op (List ℕ)) (step : Step) (n : Near) → IsPlain op → has_port n.connection ≡ false → n.run ≡ None → IsPlainBy Kept (goes_on op step n)
+  goes_plain op step n plain port run = placed_plain op (next_step n.settings op step) n plain (next_plain n.settings op step plain) port run
 
--- a failure
-failed_plain : (failure : Failure) (n : Near) → IsPlainly n → IsPlainly (fails failure n)
-failed_plain failure n p = by n.standing n.job p.job
-  where
-    by : (standing : Standing) (job : Job) → IsPlainJob job → IsPlainly (fails_by standing failure (record n { job = job }))
-    by (Stands.Failed before) job plain = record { job = plain; port = p.port; run = p.run }
-    by standing Idle plain = record { job = tt; port = refl; run = refl }
-    by standing (Told said) plain = record { job = tt; port = refl; run = refl }
-    by standing (Waiting op) plain = record { job = tt; port = refl; run = refl }
-    by standing (Doing op step) plain = record { job = tt; port = refl; run = refl }
-    by standing (Transferring op transfer) plain = record { job = tt; port = refl; run = refl }
+  -- a failure
+  failed_plain : (failure : Failure) (n : Near) → IsPlainBy Kept n → IsPlainBy Kept (fails failure n)
+  failed_plain failure n p = by n.standing n.job p.job
+    where
+      by : (standing : Standing) (job : Job) → IsPlainJob Kept job → IsPlainBy Kept (fails_by standing failure (record n { job = job }))
+      by (Stands.Failed before) job plain = record { job = plain; port = p.port; run = p.run }
+      by standing Idle plain = record { job = tt; port = refl; run = refl }
+      by standing (Told said) plain = record { job = tt; port = refl; run = refl }
+      by standing (Waiting op) plain = record { job = tt; port = refl; run = refl }
+      by standing (Doing op step) plain = record { job = tt; port = refl; run = refl }
+      by standing (Transferring op transfer) plain = record { job = tt; port = refl; run = refl }
 
--- an answer
-finished_plain : (said : Said) (n : Near) → IsPlainly n → IsPlainly (finishes said n)
-finished_plain said n p = subst (λ next. IsPlainly (finishes_by next said n)) (sym (ap (λ r. next_job r n.job said) p.run ∙ none n.job)) done
-  where
-    none : (job : Job) → next_job None job said ≡ None
-    none (Doing op step) = refl
-    none (Transferring op transfer) = refl
-    none job = refl
+  -- an answer
+  finished_plain : (said : Said) (n : Near) → IsPlainBy Kept n → IsPlainBy Kept (finishes said n)
+  finished_plain said n p = subst (λ next. IsPlainBy Kept (finishes_by next said n)) (sym (ap (λ r. next_job r n.job said) p.run ∙ none n.job)) done
+    where
+      none : (job : Job) → next_job None job said ≡ None
+      none (Doing op step) = refl
+      none (Transferring op transfer) = refl
+      none job = refl
 
-    done : IsPlainly (done_with said (dropped n))
-    done = record { job = tt; port = refl; run = refl }
+      done : IsPlainBy Kept (done_with said (dropped n))
+      done = record { job = tt; port = refl; run = refl }
 
-read_plain : (said : Option Said) (n : Near) → IsPlainly n → IsPlainly (finishes_read said n)
-read_plain None n p = failed_plain Failures.Strange n p
-read_plain (Some said) n p = finished_plain said n p
+  read_plain : (said : Option Said) (n : Near) → IsPlainBy Kept n → IsPlainBy Kept (finishes_read said n)
+  read_plain None n p = failed_plain Failures.Strange n p
+  read_plain (Some said) n p = finished_plain said n p
 
--- ---- a transfer goes on
+  -- ---- a transfer goes on
 
--- one of a plain operation, in which no ABOR was sent
-carried_plain : (op : Op (List ℕ)) (transfer : Transfer) (n : Near) → IsPlain op → transfer.abort ≡ Aborts.Unsent → has_port n.connection ≡ false
-    → n.run ≡ None → IsPlainly (carries_on (record n { job = Transferring op transfer }))
-carried_plain op transfer n plain unsent port run = by_given (has_begun transfer.replied && is_given transfer.flow) n.connection port
-  where
-    at : ClientLink → Bool → Near
-    at link closing = record n { job = Transferring op transfer; connection = link; closing = closing }
+  -- one of a plain operation
+  carried_plain : (op : Op (List ℕ)) (transfer : Transfer) (n : Near) → IsPlain op → Kept op transfer → has_port n.connection ≡ false
+      → n.run ≡ None → IsPlainBy Kept (carries_on (record n { job = Transferring op transfer }))
+  carried_plain op transfer n plain kept port run = by_given (has_begun transfer.replied && is_given transfer.flow) n.connection port
+    where
+      at : ClientLink → Bool → Near
+      at link closing = record n { job = Transferring op transfer; connection = link; closing = closing }
 
-    plainly : (link : ClientLink) (closing : Bool) → has_port link ≡ false → IsPlainly (at link closing)
-    plainly link closing none = record { job = (plain, unsent); port = none; run = run }
+      plainly : (link : ClientLink) (closing : Bool) → has_port link ≡ false → IsPlainBy Kept (at link closing)
+      plainly link closing none = record { job = (plain, kept); port = none; run = run }
 
-    over : (replied : Replied) (abort : Abort) (link : ClientLink) (flow : Flow) (closing : Bool) → has_port link ≡ false
-        → IsPlainly (answers_by replied abort link op flow (at link closing))
-    over (Replies.Final code) Aborts.Unsent (Data.Over ending) flow closing none =
-        read_plain (judged ending Aborts.Unsent code op flow) (at (Data.Over ending) closing) (plainly (Data.Over ending) closing none)
-    over (Replies.Final code) Aborts.Answered (Data.Over ending) flow closing none =
-        read_plain (judged ending Aborts.Answered code op flow) (at (Data.Over ending) closing) (plainly (Data.Over ending) closing none)
-    over replied abort link flow closing none = plainly link closing none
+      over : (replied : Replied) (abort : Abort) (link : ClientLink) (flow : Flow) (v : Near) → IsPlainBy Kept v → IsPlainBy Kept (answers_by replied abort link op flow v)
+      over (Replies.Final code) Aborts.Unsent (Data.Over ending) flow v p = read_plain (judged ending Aborts.Unsent code op flow) v p
+      over (Replies.Final code) Aborts.Answered (Data.Over ending) flow v p = read_plain (judged ending Aborts.Answered code op flow) v p
+      over replied abort link flow v p = p
 
-    three : (one other : Bool) → one && other && false ≡ false
-    three true true = refl
-    three true false = refl
-    three false other = refl
+      enough : (link : ClientLink) (closing : Bool) → has_port link ≡ false → (aborts : Bool)
+          → (aborts ≡ true → Kept op (record transfer { abort = Aborts.Sent }))
+          → IsPlainBy Kept (answers_once_over (if aborts then sends_abort op transfer (at link closing) else at link closing))
+      enough link closing none true sent =
+          over transfer.replied Aborts.Sent link transfer.flow (sends_abort op transfer (at link closing))
+          (record { job = (plain, sent refl); port = none; run = run })
+      enough link closing none false sent = over transfer.replied transfer.abort link transfer.flow (at link closing) (plainly link closing none)
 
-    never : (link : ClientLink) → is_to_abort link op transfer ≡ false
-    never Data.Open =
-        ap (λ k. is_unsent transfer.abort && has_begun transfer.replied && has_settled k transfer.flow) plain.count
-        ∙ three (is_unsent transfer.abort) (has_begun transfer.replied)
-    never link = refl
+      by_given : (given : Bool) (link : ClientLink) → has_port link ≡ false
+          → IsPlainBy Kept (let closed = closes_once_given_by given link (at link n.closing) in answers_once_over (aborts_once_enough closed.job closed))
+      by_given true Data.Open none = enough (Data.Over Endings.Ours) (n.closing || true) refl false (λ e. absurd (true≢false (sym e)))
+      by_given true link none = enough link n.closing none (is_to_abort link op transfer) (keeps.aborts link op transfer plain kept)
+      by_given false link none = enough link n.closing none (is_to_abort link op transfer) (keeps.aborts link op transfer plain kept)
 
-    enough : (link : ClientLink) (closing : Bool) → has_port link ≡ false → (aborts : Bool) → aborts ≡ false
-        → IsPlainly (answers_once_over (if aborts then sends_abort op transfer (at link closing) else at link closing))
-    enough link closing none true e = absurd (true≢false e)
-    enough link closing none false e = over transfer.replied transfer.abort link transfer.flow closing none
+  -- with another reply
+  replied_plain : (replied : Replied) (op : Op (List ℕ)) (transfer : Transfer) (n : Near) → IsPlain op → Kept op transfer
+      → has_port n.connection ≡ false → n.run ≡ None → IsPlainBy Kept (with_reply replied op transfer n)
+  replied_plain replied op transfer n plain kept port run =
+      carried_plain op (record transfer { replied = replied }) n plain (keeps.replies replied op transfer kept) port run
 
-    by_given : (given : Bool) (link : ClientLink) → has_port link ≡ false
-        → IsPlainly (let closed = closes_once_given_by given link (at link n.closing) in answers_once_over (aborts_once_enough closed.job closed))
-    by_given true Data.Open none = enough (Data.Over Endings.Ours) (n.closing || true) refl false refl
-    by_given true link none = enough link n.closing none (is_to_abort link op transfer) (never link)
-    by_given false link none = enough link n.closing none (is_to_abort link op transfer) (never link)
+  -- the replies to a transfer
+  transfer_plain : (replied : Replied) (verdict : Verdict) (code : ℕ) (text : Text) (op : Op (List ℕ)) (transfer : Transfer) (n : Near) → IsPlain op
+      → Kept op transfer → IsPlainBy Kept n → IsPlainBy Kept (transfer_answered replied verdict code text op transfer n)
+  transfer_plain replied verdict code text op transfer n plain kept p = by_replied replied verdict
+    where
+      opens : (is_mark : Bool) → IsPlainBy Kept (if is_mark then n else with_reply Replies.Begun op transfer (record n { connection = awaited n.connection }))
+      opens true = p
+      opens false = replied_plain Replies.Begun op transfer (record n { connection = awaited n.connection }) plain kept (waits n.connection p.port) p.run
+        where
+          waits : (link : ClientLink) → has_port link ≡ false → has_port (awaited link) ≡ false
+          waits (Data.Listening port) e = absurd (true≢false e)
+          waits link e = e
 
--- with another reply
-replied_plain : (replied : Replied) (op : Op (List ℕ)) (transfer : Transfer) (n : Near) → IsPlain op → transfer.abort ≡ Aborts.Unsent
-    → has_port n.connection ≡ false → n.run ≡ None → IsPlainly (with_reply replied op transfer n)
-replied_plain replied op transfer n plain unsent port run = carried_plain op (record transfer { replied = replied }) n plain unsent port run
+      notes : (is_mark : Bool) (mark : Option ℕ)
+          → IsPlainBy Kept (if is_mark then record n { job = Transferring op (record transfer { flow = marked_flow mark transfer.flow }) } else n)
+      notes true mark = record { job = (plain, keeps.notes mark op transfer kept); port = p.port; run = p.run }
+      notes false mark = p
 
--- the replies to a transfer
-transfer_plain : (replied : Replied) (verdict : Verdict) (code : ℕ) (text : Text) (op : Op (List ℕ)) (transfer : Transfer) (n : Near) → IsPlain op
-    → transfer.abort ≡ Aborts.Unsent → IsPlainly n → IsPlainly (transfer_answered replied verdict code text op transfer n)
-transfer_plain replied verdict code text op transfer n plain unsent p = by_replied replied verdict
-  where
-    opens : (is_mark : Bool) → IsPlainly (if is_mark then n else with_reply Replies.Begun op transfer (record n { connection = awaited n.connection }))
-    opens true = p
-    opens false = replied_plain Replies.Begun op transfer (record n { connection = awaited n.connection }) plain unsent (waits n.connection p.port) p.run
-      where
-        waits : (link : ClientLink) → has_port link ≡ false → has_port (awaited link) ≡ false
-        waits (Data.Listening port) e = absurd (true≢false e)
-        waits link e = e
+      unopened : (link : ClientLink) → n.connection ≡ link → IsPlainBy Kept (with_reply (Replies.Final code) op transfer (unless_open link n))
+      unopened Data.Open is = replied_plain (Replies.Final code) op transfer n plain kept p.port p.run
+      unopened (Data.Over ending) is = replied_plain (Replies.Final code) op transfer n plain kept p.port p.run
+      unopened link is = replied_plain (Replies.Final code) op transfer (closes n) plain kept refl p.run
 
-    notes : (is_mark : Bool) (flow : Flow) → IsPlainly (if is_mark then record n { job = Transferring op (record transfer { flow = flow }) } else n)
-    notes true flow = record { job = (plain, unsent); port = p.port; run = p.run }
-    notes false flow = p
+      late : (abort : Abort) (verdict : Verdict) → transfer.abort ≡ abort → IsPlainBy Kept (abort_answered abort verdict op transfer n)
+      late Aborts.Sent Completion is =
+          carried_plain op (record transfer { abort = Aborts.Answered }) n plain (keeps.answers op transfer kept is) p.port p.run
+      late Aborts.Sent verdict is = failed_plain Failures.Strange n p
+      late Aborts.Unsent verdict is = failed_plain Failures.Strange n p
+      late Aborts.Answered verdict is = failed_plain Failures.Strange n p
 
-    unopened : (link : ClientLink) → n.connection ≡ link → IsPlainly (with_reply (Replies.Final code) op transfer (unless_open link n))
-    unopened Data.Open is = replied_plain (Replies.Final code) op transfer n plain unsent p.port p.run
-    unopened (Data.Over ending) is = replied_plain (Replies.Final code) op transfer n plain unsent p.port p.run
-    unopened link is = replied_plain (Replies.Final code) op transfer (closes n) plain unsent refl p.run
+      by_replied : (replied : Replied) (verdict : Verdict) → IsPlainBy Kept (transfer_answered replied verdict code text op transfer n)
+      by_replied Replies.Nothing Preliminary = opens (code == 110)
+      by_replied Replies.Nothing Negative = replied_plain (Replies.Final code) op transfer (closes n) plain kept refl p.run
+      by_replied Replies.Nothing verdict = failed_plain Failures.Strange n p
+      by_replied Replies.Begun Preliminary = notes (code == 110) (mark_value text)
+      by_replied Replies.Begun Completion = replied_plain (Replies.Final code) op transfer n plain kept p.port p.run
+      by_replied Replies.Begun Negative = unopened n.connection refl
+      by_replied Replies.Begun verdict = failed_plain Failures.Strange n p
+      by_replied (Replies.Final before) verdict = late transfer.abort verdict refl
 
-    late : (abort : Abort) (verdict : Verdict) → transfer.abort ≡ abort → IsPlainly (abort_answered abort verdict op transfer n)
-    late Aborts.Sent verdict is = absurd (true≢false (sym (ap is_unsent unsent) ∙ ap is_unsent is))
-    late Aborts.Unsent verdict is = failed_plain Failures.Strange n p
-    late Aborts.Answered verdict is = failed_plain Failures.Strange n p
+  -- ---- a step is answered
 
-    by_replied : (replied : Replied) (verdict : Verdict) → IsPlainly (transfer_answered replied verdict code text op transfer n)
-    by_replied Replies.Nothing Preliminary = opens (code == 110)
-    by_replied Replies.Nothing Negative = replied_plain (Replies.Final code) op transfer (closes n) plain unsent refl p.run
-    by_replied Replies.Nothing verdict = failed_plain Failures.Strange n p
-    by_replied Replies.Begun Preliminary = notes (code == 110) (marked_flow (mark_value text) transfer.flow)
-    by_replied Replies.Begun Completion = replied_plain (Replies.Final code) op transfer n plain unsent p.port p.run
-    by_replied Replies.Begun Negative = unopened n.connection refl
-    by_replied Replies.Begun verdict = failed_plain Failures.Strange n p
-    by_replied (Replies.Final before) verdict = late transfer.abort verdict refl
+  -- a passive port is named: it is dialled, or not
+  dials_plain : (op : Op (List ℕ)) (endpoint : Endpoint) (n : Near) → IsPlain op → n.run ≡ None → IsPlainBy Kept (dials op endpoint n)
+  dials_plain op endpoint n plain run = goes_plain op Steps.Passive (record n { connection = Data.Connecting endpoint }) plain refl run
 
--- ---- a step is answered
+  named_plain : (extended : Bool) (op : Op (List ℕ)) (text : Text) (n : Near) → IsPlain op → IsPlainBy Kept n → IsPlainBy Kept (passive_named extended op text n)
+  named_plain true op text n plain p = by (extended_value text)
+    where
+      by : (port : Option ℕ) → IsPlainBy Kept (port_named port op n)
+      by None = failed_plain Failures.Strange n p
+      by (Some port) = dials_plain op (record { host = n.peer; port = port }) n plain p.run
+  named_plain false op text n plain p = by (passive_value text)
+    where
+      one : (endpoint : Endpoint) (same : Bool) → IsPlainBy Kept (if same then dials op endpoint n else finishes Foreign n)
+      one endpoint true = dials_plain op endpoint n plain p.run
+      one endpoint false = finished_plain Foreign n p
 
--- a passive port is named: it is dialled, or not
-dials_plain : (op : Op (List ℕ)) (endpoint : Endpoint) (n : Near) → IsPlain op → n.run ≡ None → IsPlainly (dials op endpoint n)
-dials_plain op endpoint n plain run = goes_plain op Steps.Passive (record n { connection = Data.Connecting endpoint }) plain refl run
+      by : (endpoint : Option Endpoint) → IsPlainBy Kept (endpoint_named endpoint op n)
+      by None = failed_plain Failures.Strange n p
+      by (Some endpoint) = one endpoint (same_host endpoint.host n.peer)
 
-named_plain : (extended : Bool) (op : Op (List ℕ)) (text : Text) (n : Near) → IsPlain op → IsPlainly n → IsPlainly (passive_named extended op text n)
-named_plain true op text n plain p = by (extended_value text)
-  where
-    by : (port : Option ℕ) → IsPlainly (port_named port op n)
-    by None = failed_plain Failures.Strange n p
-    by (Some port) = dials_plain op (record { host = n.peer; port = port }) n plain p.run
-named_plain false op text n plain p = by (passive_value text)
-  where
-    one : (endpoint : Endpoint) (same : Bool) → IsPlainly (if same then dials op endpoint n else finishes Foreign n)
-    one endpoint true = dials_plain op endpoint n plain p.run
-    one endpoint false = finished_plain Foreign n p
+  -- a step is done
+  done_plain : (op : Op (List ℕ)) (step : Step) (texts : List Text) (n : Near) → IsPlain op → IsPlainBy Kept n → IsPlainBy Kept (step_done op step texts n)
+  done_plain op Steps.Port texts n plain p = goes_plain op Steps.Port n plain p.port p.run
+  done_plain op Steps.Passive texts n plain p = named_plain (is_extended n op) op (joined texts) n plain p
+  done_plain op Steps.Last texts n plain p = read_plain (answer_in op texts) n p
+  done_plain op Steps.Listen texts n plain p = failed_plain Failures.Strange n p
+  done_plain op Steps.Connect texts n plain p = failed_plain Failures.Strange n p
+  done_plain op Steps.Restart texts n plain p = failed_plain Failures.Strange n p
+  done_plain op Steps.Source texts n plain p = failed_plain Failures.Strange n p
+  done_plain op step texts n plain p = goes_plain op step (record n { settings = settings_behind step n.settings (asked_settings op) }) plain p.port p.run
 
-    by : (endpoint : Option Endpoint) → IsPlainly (endpoint_named endpoint op n)
-    by None = failed_plain Failures.Strange n p
-    by (Some endpoint) = one endpoint (same_host endpoint.host n.peer)
+  -- it is answered
+  step_plain : (op : Op (List ℕ)) (step : Step) (verdict : Verdict) (code : ℕ) (texts : List Text) (n : Near) → IsPlain op → IsPlainBy Kept n
+      → IsPlainBy Kept (step_answered op step verdict code texts n)
+  step_plain op step Completion code texts n plain p = done_plain op step texts n plain p
+  step_plain op Steps.Restart Intermediate code texts n plain p = goes_plain op Steps.Restart n plain p.port p.run
+  step_plain op Steps.Source Intermediate code texts n plain p = goes_plain op Steps.Source n plain p.port p.run
+  step_plain op step Intermediate code texts n plain p = failed_plain Failures.Strange n p
+  step_plain op step Negative code texts n plain p = by (awaits_reply step)
+    where
+      by : (awaits : Bool) → IsPlainBy Kept (if awaits then finishes (Refused code) n else strange n)
+      by true = finished_plain (Refused code) n p
+      by false = failed_plain Failures.Strange n p
+  step_plain op step verdict code texts n plain p = failed_plain Failures.Strange n p
 
--- a step is done
-done_plain : (op : Op (List ℕ)) (step : Step) (texts : List Text) (n : Near) → IsPlain op → IsPlainly n → IsPlainly (step_done op step texts n)
-done_plain op Steps.Port texts n plain p = goes_plain op Steps.Port n plain p.port p.run
-done_plain op Steps.Passive texts n plain p = named_plain (is_extended n op) op (joined texts) n plain p
-done_plain op Steps.Last texts n plain p = read_plain (answer_in op texts) n p
-done_plain op Steps.Listen texts n plain p = failed_plain Failures.Strange n p
-done_plain op Steps.Connect texts n plain p = failed_plain Failures.Strange n p
-done_plain op Steps.Restart texts n plain p = failed_plain Failures.Strange n p
-done_plain op Steps.Source texts n plain p = failed_plain Failures.Strange n p
-done_plain op step texts n plain p = goes_plain op step (record n { settings = settings_behind step n.settings (asked_settings op) }) plain p.port p.run
+  -- ---- a reply
 
--- it is answered
-step_plain : (op : Op (List ℕ)) (step : Step) (verdict : Verdict) (code : ℕ) (texts : List Text) (n : Near) → IsPlain op → IsPlainly n
-    → IsPlainly (step_answered op step verdict code texts n)
-step_plain op step Completion code texts n plain p = done_plain op step texts n plain p
-step_plain op Steps.Restart Intermediate code texts n plain p = goes_plain op Steps.Restart n plain p.port p.run
-step_plain op Steps.Source Intermediate code texts n plain p = goes_plain op Steps.Source n plain p.port p.run
-step_plain op step Intermediate code texts n plain p = failed_plain Failures.Strange n p
-step_plain op step Negative code texts n plain p = by (awaits_reply step)
-  where
-    by : (awaits : Bool) → IsPlainly (if awaits then finishes (Refused code) n else strange n)
-    by true = finished_plain (Refused code) n p
-    by false = failed_plain Failures.Strange n p
-step_plain op step verdict code texts n plain p = failed_plain Failures.Strange n p
+  job_plain : (job : Job) (verdict : Verdict) (code : ℕ) (texts : List Text) (n : Near) → n.job ≡ job → IsPlainJob Kept job → IsPlainBy Kept n
+      → IsPlainBy Kept (job_answered job verdict code texts n)
+  job_plain (Doing op step) verdict code texts n is plain p = step_plain op step verdict code texts n plain p
+  job_plain (Transferring op transfer) verdict code texts n is plain p =
+      transfer_plain transfer.replied verdict code (joined texts) op transfer n plain.0 plain.1 p
+  job_plain job verdict code texts n is plain p = failed_plain Failures.Strange n p
 
--- ---- a reply
+  -- the login is over
+  entered_plain : (n : Near) → IsPlainBy Kept n → IsPlainBy Kept (login_ends n)
+  entered_plain n p = by n.job p.job
+    where
+      by : (job : Job) → IsPlainJob Kept job → IsPlainBy Kept (enters_with job (record n { job = job; standing = Stands.Entered }))
+      by (Waiting op) plain = begins_plain op (record n { job = Waiting op; standing = Stands.Entered }) plain p.port p.run
+      by Idle plain = record { job = tt; port = p.port; run = p.run }
+      by (Told said) plain = record { job = tt; port = p.port; run = p.run }
+      by (Doing op step) plain = record { job = plain; port = p.port; run = p.run }
+      by (Transferring op transfer) plain = record { job = plain; port = p.port; run = p.run }
 
-job_plain : (job : Job) (verdict : Verdict) (code : ℕ) (texts : List Text) (n : Near) → n.job ≡ job → IsPlainJob job → IsPlainly n
-    → IsPlainly (job_answered job verdict code texts n)
-job_plain (Doing op step) verdict code texts n is plain p = step_plain op step verdict code texts n plain p
-job_plain (Transferring op transfer) verdict code texts n is plain p =
-    transfer_plain transfer.replied verdict code (joined texts) op transfer n plain.0 plain.1 p
-job_plain job verdict code texts n is plain p = failed_plain Failures.Strange n p
+  greeted_plain : (verdict : Verdict) (code : ℕ) (n : Near) → IsPlainBy Kept n → IsPlainBy Kept (greeted verdict code n)
+  greeted_plain Completion code n p = record { job = p.job; port = p.port; run = p.run }
+  greeted_plain Preliminary code n p = by (code == 120)
+    where
+      by : (skips : Bool) → IsPlainBy Kept (if skips then n else strange n)
+      by true = p
+      by false = failed_plain Failures.Strange n p
+  greeted_plain verdict code n p = failed_plain Failures.Strange n p
 
--- the login is over
-entered_plain : (n : Near) → IsPlainly n → IsPlainly (login_ends n)
-entered_plain n p = by n.job p.job
-  where
-    by : (job : Job) → IsPlainJob job → IsPlainly (enters_with job (record n { job = job; standing = Stands.Entered }))
-    by (Waiting op) plain = begins_plain op (record n { job = Waiting op; standing = Stands.Entered }) plain p.port p.run
-    by Idle plain = record { job = tt; port = p.port; run = p.run }
-    by (Told said) plain = record { job = tt; port = p.port; run = p.run }
-    by (Doing op step) plain = record { job = plain; port = p.port; run = p.run }
-    by (Transferring op transfer) plain = record { job = plain; port = p.port; run = p.run }
+  user_plain : (verdict : Verdict) (n : Near) → IsPlainBy Kept n → IsPlainBy Kept (user_answered verdict n)
+  user_plain Intermediate n p = record { job = p.job; port = p.port; run = p.run }
+  user_plain Completion n p = entered_plain n p
+  user_plain Negative n p = entered_plain n p
+  user_plain verdict n p = failed_plain Failures.Strange n p
 
-greeted_plain : (verdict : Verdict) (code : ℕ) (n : Near) → IsPlainly n → IsPlainly (greeted verdict code n)
-greeted_plain Completion code n p = record { job = p.job; port = p.port; run = p.run }
-greeted_plain Preliminary code n p = by (code == 120)
-  where
-    by : (skips : Bool) → IsPlainly (if skips then n else strange n)
-    by true = p
-    by false = failed_plain Failures.Strange n p
-greeted_plain verdict code n p = failed_plain Failures.Strange n p
+  pass_plain : (verdict : Verdict) (n : Near) → IsPlainBy Kept n → IsPlainBy Kept (pass_answered verdict n)
+  pass_plain Completion n p = entered_plain n p
+  pass_plain Negative n p = entered_plain n p
+  pass_plain verdict n p = failed_plain Failures.Strange n p
 
-user_plain : (verdict : Verdict) (n : Near) → IsPlainly n → IsPlainly (user_answered verdict n)
-user_plain Intermediate n p = record { job = p.job; port = p.port; run = p.run }
-user_plain Completion n p = entered_plain n p
-user_plain Negative n p = entered_plain n p
-user_plain verdict n p = failed_plain Failures.Strange n p
+  stand_plain : (standing : Standing) (verdict : Verdict) (code : ℕ) (texts : List Text) (n : Near) → IsPlainBy Kept n
+      → IsPlainBy Kept (stand_answered standing verdict code texts n)
+  stand_plain Stands.Greeting verdict code texts n p = greeted_plain verdict code n p
+  stand_plain Stands.User verdict code texts n p = user_plain verdict n p
+  stand_plain Stands.Pass verdict code texts n p = pass_plain verdict n p
+  stand_plain Stands.Entered verdict code texts n p = job_plain n.job verdict code texts n refl p.job p
+  stand_plain (Stands.Failed failure) verdict code texts n p = p
 
-pass_plain : (verdict : Verdict) (n : Near) → IsPlainly n → IsPlainly (pass_answered verdict n)
-pass_plain Completion n p = entered_plain n p
-pass_plain Negative n p = entered_plain n p
-pass_plain verdict n p = failed_plain Failures.Strange n p
+  answered_plain : (code : ℕ) (texts : List Text) (n : Near) → IsPlainBy Kept n → IsPlainBy Kept (answered code texts n)
+  unfolding answered
+  answered_plain code texts n p = by (verdict_of code)
+    where
+      by : (verdict : Verdict) → IsPlainBy Kept (judged_reply verdict code texts n)
+      by Closing = failed_plain Failures.Lost n p
+      by Displaced = failed_plain Failures.Strange n p
+      by Preliminary = stand_plain n.standing Preliminary code texts n p
+      by Completion = stand_plain n.standing Completion code texts n p
+      by Intermediate = stand_plain n.standing Intermediate code texts n p
+      by Negative = stand_plain n.standing Negative code texts n p
 
-stand_plain : (standing : Standing) (verdict : Verdict) (code : ℕ) (texts : List Text) (n : Near) → IsPlainly n
-    → IsPlainly (stand_answered standing verdict code texts n)
-stand_plain Stands.Greeting verdict code texts n p = greeted_plain verdict code n p
-stand_plain Stands.User verdict code texts n p = user_plain verdict n p
-stand_plain Stands.Pass verdict code texts n p = pass_plain verdict n p
-stand_plain Stands.Entered verdict code texts n p = job_plain n.job verdict code texts n refl p.job p
-stand_plain (Stands.Failed failure) verdict code texts n p = p
+  -- ---- octets of the control connection
 
-answered_plain : (code : ℕ) (texts : List Text) (n : Near) → IsPlainly n → IsPlainly (answered code texts n)
-unfolding answered
-answered_plain code texts n p = by (verdict_of code)
-  where
-    by : (verdict : Verdict) → IsPlainly (judged_reply verdict code texts n)
-    by Closing = failed_plain Failures.Lost n p
-    by Displaced = failed_plain Failures.Strange n p
-    by Preliminary = stand_plain n.standing Preliminary code texts n p
-    by Completion = stand_plain n.standing Completion code texts n p
-    by Intermediate = stand_plain n.standing Intermediate code texts n p
-    by Negative = stand_plain n.standing Negative code texts n p
+  line_plain : (heard : Heard) (n : Near) → IsPlainBy Kept n → IsPlainBy Kept (line_taken heard n)
+  line_plain (GoesOn gathered) n p = record { job = p.job; port = p.port; run = p.run }
+  line_plain (Says code texts) n p = answered_plain code texts (record n { gathered = Between }) (record { job = p.job; port = p.port; run = p.run })
+  line_plain (Faulty fault) n p = failed_plain Failures.Strange n p
 
--- ---- octets of the control connection
+  event_plain : (event : NvtEvent) (n : Near) → IsPlainBy Kept n → IsPlainBy Kept (event_taken event n)
+  event_plain (line text) n p = line_plain (line_heard n.gathered text) n p
+  event_plain too_long n p = failed_plain Failures.Strange n p
+  event_plain (owed octets) n p = record { job = p.job; port = p.port; run = p.run }
 
-line_plain : (heard : Heard) (n : Near) → IsPlainly n → IsPlainly (line_taken heard n)
-line_plain (GoesOn gathered) n p = record { job = p.job; port = p.port; run = p.run }
-line_plain (Says code texts) n p = answered_plain code texts (record n { gathered = Between }) (record { job = p.job; port = p.port; run = p.run })
-line_plain (Faulty fault) n p = failed_plain Failures.Strange n p
+  events_plain : (events : List NvtEvent) (n : Near) → IsPlainBy Kept n → IsPlainBy Kept (events_taken events n)
+  events_plain [] n p = p
+  events_plain (event ∷ events) n p = events_plain events (event_taken event n) (event_plain event n p)
 
-event_plain : (event : NvtEvent) (n : Near) → IsPlainly n → IsPlainly (event_taken event n)
-event_plain (line text) n p = line_plain (line_heard n.gathered text) n p
-event_plain too_long n p = failed_plain Failures.Strange n p
-event_plain (owed octets) n p = record { job = p.job; port = p.port; run = p.run }
+  pub hears_plain : (octets : List ℕ) (n : Near) → IsPlainBy Kept n → IsPlainBy Kept (hears n octets)
+  hears_plain [] n p = p
+  hears_plain (octet ∷ octets) n p =
+      hears_plain octets (hears_octet n octet)
+      (events_plain ((ear reply_limit).out n.ear octet) (record n { ear = (ear reply_limit).step n.ear octet })
+      (record { job = p.job; port = p.port; run = p.run }))
 
-events_plain : (events : List NvtEvent) (n : Near) → IsPlainly n → IsPlainly (events_taken events n)
-events_plain [] n p = p
-events_plain (event ∷ events) n p = events_plain events (event_taken event n) (event_plain event n p)
+  -- ---- an operation begins, and its data connection
 
-pub hears_plain : (octets : List ℕ) (n : Near) → IsPlainly n → IsPlainly (hears n octets)
-hears_plain [] n p = p
-hears_plain (octet ∷ octets) n p =
-    hears_plain octets (hears_octet n octet)
-    (events_plain ((ear reply_limit).out n.ear octet) (record n { ear = (ear reply_limit).step n.ear octet })
-    (record { job = p.job; port = p.port; run = p.run }))
+  pub starts_plain : (op : Op (List ℕ)) (n : Near) → IsPlain op → IsPlainBy Kept n → IsPlainBy Kept (starts op n)
+  unfolding starts
+  starts_plain op n plain p = by (can_be_sent op) n.standing
+    where
+      by : (can : Bool) (standing : Standing) → IsPlainBy Kept (if can then started_by standing op (record n { run = None }) else unsendable_by standing n)
+      by true Stands.Entered = begins_plain op (record n { run = None }) plain p.port refl
+      by true (Stands.Failed failure) = record { job = tt; port = p.port; run = refl }
+      by true Stands.Greeting = record { job = plain; port = p.port; run = refl }
+      by true Stands.User = record { job = plain; port = p.port; run = refl }
+      by true Stands.Pass = record { job = plain; port = p.port; run = refl }
+      by false (Stands.Failed failure) = record { job = tt; port = p.port; run = refl }
+      by false Stands.Entered = record { job = tt; port = p.port; run = refl }
+      by false Stands.Greeting = record { job = tt; port = p.port; run = refl }
+      by false Stands.User = record { job = tt; port = p.port; run = refl }
+      by false Stands.Pass = record { job = tt; port = p.port; run = refl }
 
--- ---- an operation begins, and its data connection
+  pub opened_plain : (host : Host) (n : Near) → IsPlainBy Kept n → IsPlainBy Kept (data_opened host n)
+  unfolding data_opened
+  opened_plain host n p = by n.closing n.connection p.port
+    where
+      connects : (job : Job) → n.job ≡ job → IsPlainJob Kept job → IsPlainBy Kept (near.connected job n)
+      connects (Doing op Steps.Connect) is plain = goes_plain op Steps.Connect (record n { connection = Data.Open }) plain refl p.run
+      connects job is plain = p
 
-pub starts_plain : (op : Op (List ℕ)) (n : Near) → IsPlain op → IsPlainly n → IsPlainly (starts op n)
-unfolding starts
-starts_plain op n plain p = by (can_be_sent op) n.standing
-  where
-    by : (can : Bool) (standing : Standing) → IsPlainly (if can then started_by standing op (record n { run = None }) else unsendable_by standing n)
-    by true Stands.Entered = begins_plain op (record n { run = None }) plain p.port refl
-    by true (Stands.Failed failure) = record { job = tt; port = p.port; run = refl }
-    by true Stands.Greeting = record { job = plain; port = p.port; run = refl }
-    by true Stands.User = record { job = plain; port = p.port; run = refl }
-    by true Stands.Pass = record { job = plain; port = p.port; run = refl }
-    by false (Stands.Failed failure) = record { job = tt; port = p.port; run = refl }
-    by false Stands.Entered = record { job = tt; port = p.port; run = refl }
-    by false Stands.Greeting = record { job = tt; port = p.port; run = refl }
-    by false Stands.User = record { job = tt; port = p.port; run = refl }
-    by false Stands.Pass = record { job = tt; port = p.port; run = refl }
+      by : (closing : Bool) (link : ClientLink) → has_port link ≡ false → IsPlainBy Kept (if closing then n else opened_by link host n)
+      by true link e = p
+      by false (Data.Connecting endpoint) e = connects n.job refl p.job
+      by false (Data.Accepting port) e = absurd (true≢false e)
+      by false link e = p
 
-pub opened_plain : (host : Host) (n : Near) → IsPlainly n → IsPlainly (data_opened host n)
-unfolding data_opened
-opened_plain host n p = by n.closing n.connection p.port
-  where
-    connects : (job : Job) → n.job ≡ job → IsPlainJob job → IsPlainly (near.connected job n)
-    connects (Doing op Steps.Connect) is plain = goes_plain op Steps.Connect (record n { connection = Data.Open }) plain refl p.run
-    connects job is plain = p
+  pub ended_plain : (n : Near) → IsPlainBy Kept n → IsPlainBy Kept (data_end n)
+  unfolding data_end
+  ended_plain n p = by n.closing n.connection
+    where
+      over : (ending : Ending) (job : Job) → IsPlainJob Kept job → IsPlainBy Kept (carries_on (record n { job = job; connection = Data.Over ending }))
+      over ending (Transferring op transfer) plain = carried_plain op transfer (record n { connection = Data.Over ending }) plain.0 plain.1 refl p.run
+      over ending Idle plain = record { job = tt; port = refl; run = p.run }
+      over ending (Told said) plain = record { job = tt; port = refl; run = p.run }
+      over ending (Waiting op) plain = record { job = plain; port = refl; run = p.run }
+      over ending (Doing op step) plain = record { job = plain; port = refl; run = p.run }
 
-    by : (closing : Bool) (link : ClientLink) → has_port link ≡ false → IsPlainly (if closing then n else opened_by link host n)
-    by true link e = p
-    by false (Data.Connecting endpoint) e = connects n.job refl p.job
-    by false (Data.Accepting port) e = absurd (true≢false e)
-    by false link e = p
+      by : (closing : Bool) (link : ClientLink) → IsPlainBy Kept (if closing then n else over_by link (ending_of n.job) n)
+      by true link = p
+      by false Data.Open = over (ending_of n.job) n.job p.job
+      by false link = p
+
+-- ---- octets of a data connection
 
 pub received_plain : (octets : List ℕ) (n : Near) → IsPlainly n → IsPlainly (receives n octets)
 received_plain [] n p = p
-received_plain (octet ∷ octets) n p = received_plain octets (receives_octet n octet) (by n.job refl p.job)
+received_plain (octet ∷ octets) n p = received_plain octets (receives_octet n octet) (by n.job p.job)
   where
-    three : (one other : Bool) → one && other && false ≡ false
-    three true true = refl
-    three true false = refl
-    three false other = refl
-
-    by_abort : (op : Op (List ℕ)) (transfer : Transfer) → IsPlain op → transfer.abort ≡ Aborts.Unsent → (aborts : Bool) → aborts ≡ false
+    by_abort : (op : Op (List ℕ)) (transfer : Transfer) → IsPlain op → (aborts : Bool)
         → IsPlainly (if aborts then sends_abort op transfer (record n { job = Transferring op transfer }) else record n { job = Transferring op transfer })
-    by_abort op transfer plain unsent true e = absurd (true≢false e)
-    by_abort op transfer plain unsent false e = record { job = (plain, unsent); port = p.port; run = p.run }
+    by_abort op transfer plain true = record { job = (plain, tt); port = p.port; run = p.run }
+    by_abort op transfer plain false = record { job = (plain, tt); port = p.port; run = p.run }
 
-    never : (link : ClientLink) (op : Op (List ℕ)) (transfer : Transfer) → IsPlain op → is_to_abort link op transfer ≡ false
-    never Data.Open op transfer plain =
-        ap (λ k. is_unsent transfer.abort && has_begun transfer.replied && has_settled k transfer.flow) plain.count
-        ∙ three (is_unsent transfer.abort) (has_begun transfer.replied)
-    never link op transfer plain = refl
-
-    by : (job : Job) → n.job ≡ job → IsPlainJob job → IsPlainly (near.heard_by job octet n)
-    by (Transferring op transfer) is plain =
+    by : (job : Job) → IsPlainJob Whatever job → IsPlainly (near.heard_by job octet n)
+    by (Transferring op transfer) plain =
         let heard : Transfer = record transfer { flow = heard_flow transfer.abort transfer.flow octet } in
-        by_abort op heard plain.0 plain.1 (is_to_abort n.connection op heard) (never n.connection op heard plain.0)
-    by job is plain = p
-
-pub ended_plain : (n : Near) → IsPlainly n → IsPlainly (data_end n)
-unfolding data_end
-ended_plain n p = by n.closing n.connection
-  where
-    over : (ending : Ending) (job : Job) → IsPlainJob job → IsPlainly (carries_on (record n { job = job; connection = Data.Over ending }))
-    over ending (Transferring op transfer) plain = carried_plain op transfer (record n { connection = Data.Over ending }) plain.0 plain.1 refl p.run
-    over ending Idle plain = record { job = tt; port = refl; run = p.run }
-    over ending (Told said) plain = record { job = tt; port = refl; run = p.run }
-    over ending (Waiting op) plain = record { job = plain; port = refl; run = p.run }
-    over ending (Doing op step) plain = record { job = plain; port = refl; run = p.run }
-
-    by : (closing : Bool) (link : ClientLink) → IsPlainly (if closing then n else over_by link (ending_of n.job) n)
-    by true link = p
-    by false Data.Open = over (ending_of n.job) n.job p.job
-    by false link = p
-
--- such a client sent no ABOR
-pub plain_unaborted : (n : Near) → IsPlainly n → is_unaborted n.job ≡ true
-plain_unaborted n p = by n.job p.job
-  where
-    by : (job : Job) → IsPlainJob job → is_unaborted job ≡ true
-    by (Transferring op transfer) plain = ap is_unsent plain.1
-    by job plain = refl
+        by_abort op heard plain.0 (is_to_abort n.connection op heard)
+    by job plain = p

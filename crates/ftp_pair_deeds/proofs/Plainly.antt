@@ -1,6 +1,6 @@
--- A client that is plain stays so by each deed but those that begin an operation and give octets: it has no port of its own and sends no ABOR; and by each of
--- these but hearing and being told of an end it does not fail.
-use Rattle.std.proofs.Common.{◌≡◌, true, [], ◌∷◌, length, take, refl, sym, ap, subst, ◌∙◌}
+-- A client that is plain stays so by each deed but those that begin an operation and give or take octets: it has no port of its own; and by each of these but
+-- hearing and being told of an end it does not fail.
+use Rattle.std.proofs.Common.{◌≡◌, ℕ, true, List, [], ◌∷◌, length, take, refl, sym, ap, subst, ◌∙◌}
 use Rattle.std.specs.Prelude.{⊤}
 use Rattle.ftp_control.specs.Asking.{Connected, Ended as EndedBy, Shut}
 use Rattle.ftp_control.specs.Deeds.{Deed, Done, Heard, Other, Read, Said as Says, Stand}
@@ -8,11 +8,12 @@ use Rattle.ftp_control.specs.Machine.{Aside, Closed, End, Got, Held, Left, LetGo
 use Rattle.ftp_client_drive.specs.Side.{Reporting, client_side}
 use Rattle.ftp_client_model.specs.Calls.{data_opened, is_sound, receives}
 use Rattle.ftp_client_model.specs.Failing.{Client}
-use Rattle.ftp_client_model.specs.View.{Doing, Idle, Job, Told, Transferring, View as Near, Waiting}
+use Rattle.ftp_client_model.specs.View.{Doing, Idle, Job, Told, Transfer, Transferring, View as Near, Waiting}
+use Rattle.ftp_operation.specs.declared.op.Op.{Op}
 use Rattle.ftp_pair_drives.specs.Alone.{ClientIsCalm}
 use Rattle.ftp_pair_drives.proofs.Taken.{idle_of, reports_is, taken}
 use Rattle.ftp_pair_deeds.proofs.NearForms.{dialled_standing, dialling_of, receives_standing}
-use Rattle.ftp_pair_deeds.proofs.Plain.{IsPlainJob, IsPlainly, ended_plain, hears_plain, opened_plain, received_plain}
+use Rattle.ftp_pair_deeds.proofs.Plain.{IsKept, IsPlainBy, IsPlainJob, IsPlainly, ended_plain, hears_plain, opened_plain, received_plain}
 
 -- ---- deeds of a client that gives no octet of a data connection
 
@@ -39,46 +40,57 @@ ClientTakes deed old new = IsTaking deed × ClientIsCalm old new
 
 -- ---- that it stays plain
 
--- once its report is taken
-taken_plain : (n : Near) → IsPlainly n → IsPlainly (taken n)
-taken_plain n p = record { job = by n.job p.job; port = p.port; run = p.run }
-  where
-    by : (job : Job) → IsPlainJob job → IsPlainJob (idle_of job)
-    by (Told said) plain = tt
-    by Idle plain = plain
-    by (Waiting op) plain = plain
-    by (Doing op step) plain = plain
-    by (Transferring op transfer) plain = plain
+-- a deed but taking octets
+abbrev pub TakesNone : Deed client_side → Type 0
+TakesNone (Other (Received octets count)) = ⊥
+TakesNone deed = Unit {0}
 
-module _ (old new : Stand client_side) where
-  abbrev v : Near
-  v = old.owner.end.view
+module _ (Kept : Op (List ℕ) → Transfer → Type 0) (keeps : IsKept Kept) where
+  -- once its report is taken
+  taken_plain : (n : Near) → IsPlainBy Kept n → IsPlainBy Kept (taken n)
+  taken_plain n p = record { job = by n.job p.job; port = p.port; run = p.run }
+    where
+      by : (job : Job) → IsPlainJob Kept job → IsPlainJob Kept (idle_of job)
+      by (Told said) plain = tt
+      by Idle plain = plain
+      by (Waiting op) plain = plain
+      by (Doing op step) plain = plain
+      by (Transferring op transfer) plain = plain
 
-  abbrev u : Near
-  u = new.owner.end.view
+  module _ (old new : Stand client_side) where
+    abbrev v : Near
+    v = old.owner.end.view
 
-  -- it is this now
-  is_now : (n : Near) → u ≡ n → IsPlainly n → IsPlainly u
-  is_now n is p = subst IsPlainly (sym is) p
+    abbrev u : Near
+    u = new.owner.end.view
 
-  -- a deed
-  pub deed_plain : (deed : Deed client_side) → ClientTakes deed old.owner new.owner → Done deed old new → IsPlainly v → IsPlainly u
-  deed_plain (Heard octets) is did p =
-      is_now _ (did.hears.0.0.0 is.1).0 (hears_plain (take (length octets) old.unheard) v p)
-  deed_plain (Says octets) is did p = is_now _ did.gives.gave.0 (record { job = p.job; port = p.port; run = p.run })
-  deed_plain (Read octets) is did p = is_now v (ap (λ o. o.end.view) did.owner) p
-  deed_plain (Other (Aside (Reporting said))) is did p = is_now (taken v) (did.0.0.1.0 ∙ reports_is v) (taken_plain v p)
-  deed_plain (Other (Opened host (Connected endpoint left written ∷ []) at_first so_far rest)) is did p =
-      is_now _ (did.0.0.0.0.0 is.1) (opened_plain host v p)
-  deed_plain (Other (Got octets)) is did p = is_now v (ap (λ c. c.view) did.0.0) p
-  deed_plain (Other (Received octets count)) is did p = is_now _ (did.0.0.0.0 is.1).0 (received_plain (take count octets) v p)
-  deed_plain (Other End) is did p = is_now _ (did.0.0.0.0 is.1) (ended_plain v p)
-  deed_plain (Other (Waited lost)) is did p = is_now v (ap (λ c. c.view) did.0.0) p
-  deed_plain (Other (LetGo octets)) is did p = is_now v (ap (λ c. c.view) did.0.0.0) p
-  deed_plain (Other (Left (EndedBy left written))) is did p = is_now v (ap (λ c. c.view) did.0.0) p
-  deed_plain (Other (Left Shut)) is did p = is_now v (ap (λ c. c.view) did.0.0) p
-  deed_plain (Other Closed) is did p = is_now _ did.0.0.0 (record { job = p.job; port = p.port; run = p.run })
-  deed_plain deed is did p = absurd is.0
+    -- it is this now
+    is_now : (n : Near) → u ≡ n → IsPlainBy Kept n → IsPlainBy Kept u
+    is_now n is p = subst (IsPlainBy Kept) (sym is) p
+
+    -- a deed
+    pub deed_plain : (deed : Deed client_side) → TakesNone deed → ClientTakes deed old.owner new.owner → Done deed old new → IsPlainBy Kept v → IsPlainBy Kept u
+    deed_plain (Heard octets) none is did p =
+        is_now _ (did.hears.0.0.0 is.1).0 (hears_plain Kept keeps (take (length octets) old.unheard) v p)
+    deed_plain (Says octets) none is did p = is_now _ did.gives.gave.0 (record { job = p.job; port = p.port; run = p.run })
+    deed_plain (Read octets) none is did p = is_now v (ap (λ o. o.end.view) did.owner) p
+    deed_plain (Other (Aside (Reporting said))) none is did p = is_now (taken v) (did.0.0.1.0 ∙ reports_is v) (taken_plain v p)
+    deed_plain (Other (Opened host (Connected endpoint left written ∷ []) at_first so_far rest)) none is did p =
+        is_now _ (did.0.0.0.0.0 is.1) (opened_plain Kept keeps host v p)
+    deed_plain (Other (Got octets)) none is did p = is_now v (ap (λ c. c.view) did.0.0) p
+    deed_plain (Other (Received octets count)) none is did p = absurd none
+    deed_plain (Other End) none is did p = is_now _ (did.0.0.0.0 is.1) (ended_plain Kept keeps v p)
+    deed_plain (Other (Waited lost)) none is did p = is_now v (ap (λ c. c.view) did.0.0) p
+    deed_plain (Other (LetGo octets)) none is did p = is_now v (ap (λ c. c.view) did.0.0.0) p
+    deed_plain (Other (Left (EndedBy left written))) none is did p = is_now v (ap (λ c. c.view) did.0.0) p
+    deed_plain (Other (Left Shut)) none is did p = is_now v (ap (λ c. c.view) did.0.0) p
+    deed_plain (Other Closed) none is did p = is_now _ did.0.0.0 (record { job = p.job; port = p.port; run = p.run })
+    deed_plain deed none is did p = absurd is.0
+
+-- octets are taken
+pub took_plain : (octets : List ℕ) (count : ℕ) (old new : Stand client_side) → ClientIsCalm old.owner new.owner → Done (Other (Received octets count)) old new
+    → IsPlainly old.owner.end.view → IsPlainly new.owner.end.view
+took_plain octets count old new calm did p = subst IsPlainly (sym (did.0.0.0.0 calm).0) (received_plain (take count octets) old.owner.end.view p)
 
 -- ---- that it has not failed
 

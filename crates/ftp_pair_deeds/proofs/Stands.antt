@@ -7,7 +7,6 @@ use Rattle.ftp_client_model.specs.declared.client.ClientLink.{ClientLink}
 use Rattle.ftp_client_model.specs.declared.client.ClientLink.TheVariants as Data
 use Rattle.ftp_server_drive.specs.Side.{Timed}
 use Rattle.ftp_server_model.specs.declared.session.Life.TheVariants as Lives
-use Rattle.ftp_pair_data.specs.Unaborted.{is_unaborted}
 
 -- a server that runs, and at which no line waits
 pub record ServerServes (at : Held Timed) : Type 0 where
@@ -21,8 +20,7 @@ has_port (Data.Listening port) = true
 has_port (Data.Accepting port) = true
 has_port link = false
 
--- it has not failed, has no port of its own, and sent no ABOR
+-- it has not failed, and has no port of its own
 pub record ClientFetches (at : Held Client) : Type 0 where
   pub sound : is_sound at.end.view.standing ≡ true
   pub dials : has_port at.end.view.connection ≡ false
-  pub unaborted : is_unaborted at.end.view.job ≡ true

@@ -32,7 +32,8 @@ use Rattle.ftp_pair_data.proofs.Served.{rests, settled}
 use Rattle.ftp_pair_data.proofs.Settling.{none_taken}
 use Rattle.ftp_pair_deeds.proofs.Holding.{Takes, both, is_had, is_sound, unclosed}
 use Rattle.ftp_pair_deeds.proofs.NearForms.{busy_same, no_close, wants_rest}
-use Rattle.ftp_pair_deeds.proofs.Plain.{IsPlainly}
+use Rattle.ftp_pair_deeds.proofs.Fresh.{Fresh}
+use Rattle.ftp_pair_deeds.proofs.Plain.{IsPlainBy, IsPlainly}
 use Rattle.ftp_pair_deeds.proofs.Stands.{ClientFetches, ServerServes}
 use Rattle.ftp_pair_transfers.proofs.Beside.{Goes, Together, Writes, rested}
 use Rattle.ftp_pair_transfers.proofs.ClientStays.{client_stays}
@@ -191,8 +192,16 @@ module _ (read : Reading) (orders : List Order) (server : Stand server_side) (ol
     gave_plain p = subst IsPlainly (sym is) (by left (subst IsPlainly form p))
       where
         by : (rest : List ℕ) → IsPlainly (lifting l.op whole l.mark v) → IsPlainly (lifted l.op rest l.mark v)
-        by [] q = record { job = (q.job.0, refl); port = refl; run = refl }
-        by (octet ∷ rest) q = record { job = (q.job.0, refl); port = refl; run = refl }
+        by [] q = record { job = (q.job.0, tt); port = refl; run = refl }
+        by (octet ∷ rest) q = record { job = (q.job.0, tt); port = refl; run = refl }
+
+    -- it took none
+    pub gave_fresh : IsPlainBy Fresh v → IsPlainBy Fresh u
+    gave_fresh p = subst (IsPlainBy Fresh) (sym is) (by left (subst (IsPlainBy Fresh) form p))
+      where
+        by : (rest : List ℕ) → IsPlainBy Fresh (lifting l.op whole l.mark v) → IsPlainBy Fresh (lifted l.op rest l.mark v)
+        by [] q = record { job = (q.job.0, (refl, refl)); port = refl; run = refl }
+        by (octet ∷ rest) q = record { job = (q.job.0, (refl, refl)); port = refl; run = refl }
 
     had : is_had between.near ≡ true
     had = t.keeping.had (ap is_near_held l.link)

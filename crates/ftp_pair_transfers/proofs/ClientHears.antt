@@ -27,14 +27,13 @@ use Rattle.ftp_pair_drives.proofs.Taken.{HearsAlike, hears_alike, taken, taken_n
 use Rattle.ftp_pair_transfers.specs.Ahead.{Ahead, Level, Listened, Listens, Opens, Parted, far_ahead, freed, is_left}
 use Rattle.ftp_pair_transfers.proofs.Ahead.{Holds, opens_ready}
 use Rattle.ftp_pair_data.specs.Ahead.{is_asked}
-use Rattle.ftp_pair_data.specs.Unaborted.{is_unaborted}
 use Rattle.ftp_pair_data.proofs.Moves.{Rested, drop_front, near_hears, take_front}
 use Rattle.ftp_pair_data.proofs.Served.{rests, settled}
 use Rattle.ftp_client_model.specs.Calls.{is_sound as is_sound_at}
 use Rattle.ftp_pair_deeds.proofs.Holding.{Takes, is_false, is_sound, unclosed}
 use Rattle.ftp_pair_deeds.proofs.FarForms.{told_passive}
-use Rattle.ftp_pair_deeds.proofs.NearForms.{is_unaborted_same, wants_rest}
-use Rattle.ftp_pair_deeds.proofs.Plain.{IsPlainly, plain_unaborted}
+use Rattle.ftp_pair_deeds.proofs.NearForms.{wants_rest}
+use Rattle.ftp_pair_deeds.proofs.Plain.{IsPlainly}
 use Rattle.ftp_pair_deeds.proofs.Stands.{ClientFetches, ServerServes, has_port}
 use Rattle.ftp_pair_transfers.proofs.Blind.{hears_blind}
 use Rattle.ftp_pair_transfers.proofs.Beside.{Goes, Keeping, Together, Writes, rested}
@@ -135,19 +134,11 @@ module _ (read : Reading) (begun : List Order) (server : Stand server_side) (old
         ∙ ap near.may_hear (heard (take k old.unheard))
         ∙ (hears_alike (take k old.unheard) v).may ∙ (did.hears.0.0.0 calm).1 k less
 
-    unaborted : is_unaborted w.near.job ≡ true
-    unaborted = ap (λ (n : Near). is_unaborted n.job) near_is ∙ is_unaborted_same v ∙ before.unaborted
-
-    unaborted_then : is_unaborted (near.hears w.near (take (length all) w.control_to_client)).job ≡ true
-    unaborted_then =
-        ap (λ (n : Near). is_unaborted n.job) pushed_near ∙ sym (is_unaborted_same (near.hears w.near all)) ∙ ap (λ (n : Near). is_unaborted n.job) taken_is
-        ∙ is_unaborted_same u ∙ plain_unaborted u plain
-
     -- it has not failed
     sound : is_sound_at u.standing ≡ true
     sound =
         ap (λ (n : Near). is_sound_at n.standing) (sym taken_is) ∙ ap (λ (n : Near). is_sound_at n.standing) (sym pushed_near)
-        ∙ hears_sound read reads from begun puts w (length all) runs t.beside.control t.beside.unready unaborted unaborted_then
+        ∙ hears_sound read reads from begun puts w (length all) runs t.beside.control t.beside.unready
 
     wants : rests (near.wants (data_closed (near.hears w.near all))) ≡ true
     wants =
@@ -161,7 +152,7 @@ module _ (read : Reading) (begun : List Order) (server : Stand server_side) (old
     s : NearSettles now (settled now)
     s =
         near_settles now r.far_open r.none_asked (λ e. known.still (known.left e))
-        (λ e. hears_closing read reads from begun puts w (length all) runs t.beside.control t.beside.unready unaborted unaborted_then
+        (λ e. hears_closing read reads from begun puts w (length all) runs t.beside.control t.beside.unready
         (ap (λ (n : Near). n.closing) pushed_near ∙ e))
 
     unwritten : new.owner.lane.unwritten ≡ old.owner.lane.unwritten
@@ -234,10 +225,6 @@ module _ (read : Reading) (begun : List Order) (server : Stand server_side) (old
       near_now : (settled now).near ≡ data_closed (taken u)
       near_now = s.near ∙ taken_is
 
-      unaborted_now : is_unaborted (settled now).near.job ≡ true
-      unaborted_now =
-          ap (λ (n : Near). is_unaborted n.job) near_now ∙ is_unaborted_same u ∙ plain_unaborted u plain
-
       rested_now : Rested (settled now)
       rested_now = record {
         near_rests = ap (λ n. rests (near.wants n)) near_now ∙ wants_rest (data_closed (taken u)) sound plain.port refl;
@@ -262,14 +249,14 @@ module _ (read : Reading) (begun : List Order) (server : Stand server_side) (old
       refused granted =
           let open_then : now.near.closing ≡ false =
           ap (λ (n : Near). n.closing) (sym pushed_near)
-          ∙ granted_stays read reads from begun puts w runs t.beside.control t.beside.unready unaborted granted ready (length all) in
+          ∙ granted_stays read reads from begun puts w runs t.beside.control t.beside.unready granted ready (length all) in
           true≢false (sym ready ∙ t.beside.unready (ap is_closed_by_near (sym (s.stays open_then)) ∙ left))
 
       ready_now : is_ready (settled now).far.session.connection ≡ true
       ready_now = ap (λ (f : Far). is_ready f.session.connection) s.far ∙ ready
 
-      p : Parts read reads from begun puts (settled now) runs_now (s.same.control ∙ t.beside.control) unaborted_now left ready_now refused
-      p = parts read reads from begun puts (settled now) runs_now (s.same.control ∙ t.beside.control) unaborted_now left ready_now refused rested_now
+      p : Parts read reads from begun puts (settled now) runs_now (s.same.control ∙ t.beside.control) left ready_now refused
+      p = parts read reads from begun puts (settled now) runs_now (s.same.control ∙ t.beside.control) left ready_now refused rested_now
           (s.same.rising ∙ none_rises)
 
       -- how the drive's server stands then

@@ -27,7 +27,6 @@ use Rattle.ftp_pair_drives.specs.Touches.{ToldEnd}
 use Rattle.ftp_pair_drives.proofs.Taken.{taken}
 use Rattle.ftp_pair_data.specs.Ahead.{is_open}
 use Rattle.ftp_pair_transfers.specs.Ahead.{Ahead, Level, Listened, Listens, Opens, Parted}
-use Rattle.ftp_pair_data.specs.Unaborted.{is_unaborted}
 use Rattle.ftp_pair_data.proofs.Moves.{Rested, ends}
 use Rattle.ftp_pair_data.proofs.Served.{rests, settled}
 use Rattle.ftp_pair_deeds.proofs.Holding.{both, is_called, is_false, is_had}
@@ -120,7 +119,7 @@ module _ (read : Reading) (begun : List Order) (server : Stand server_side) (old
     sound : is_sound u.standing ≡ true
     sound =
         ap (λ (n : Near). is_sound n.standing) (sym ended)
-        ∙ ends_sound read reads from begun puts w runs t.beside.unready (ap (λ (n : Near). is_unaborted n.job) near_is ∙ before.unaborted)
+        ∙ ends_sound read reads from begun puts w runs t.beside.unready
         (ap is_closed_by_far link) none
 
     pub client_told_end : Goes read [] begun next told server new (reports ++ []) w × (is_sound u.standing ≡ true)

@@ -40,9 +40,9 @@ use Rattle.ftp_pair_agreement.proofs.FetchServed.{leads_still}
 use Rattle.ftp_pair_agreement.proofs.FetchTurns.{fetch_goes}
 use Rattle.ftp_pair_agreement.proofs.Keeps.{pushes_to_client}
 use Rattle.ftp_pair_agreement.proofs.Still.{IsSeen, IsStill, seen_placed}
-use Rattle.ftp_pair_data.specs.Unaborted.{is_unaborted}
-use Rattle.ftp_pair_data.proofs.Running.{free_still, not_halting, not_lost, under_still}
+use Rattle.ftp_pair_data.proofs.Running.{free_still, not_lost, under_still}
 use Rattle.ftp_pair_transfers.specs.Deeds.{AreGranted, IsGranted}
+use Rattle.ftp_pair_transfers.proofs.Halting.{halt_stands}
 use Rattle.ftp_pair_transfers.proofs.Known.{AreCarried, aside_rests, held_busy, is_ready, last_carried}
 use Rattle.ftp_pair_transfers.proofs.Running.{not_trailing}
 
@@ -244,9 +244,9 @@ module _ (read : Reading) (reads : IsReading read) (state : State) (ask : Ask) (
 
 module _ (read : Reading) (reads : IsReading read) (from : State) (begun : List Order) (puts : AreCarried begun) where
   pub granted_stays : (w : World) → OverRuns read from begun w → w.control ≡ OnControl
-      → (is_closed_by_near w.link ≡ true → is_ready w.far.session.connection ≡ false) → is_unaborted w.near.job ≡ true → AreGranted begun
+      → (is_closed_by_near w.link ≡ true → is_ready w.far.session.connection ≡ false) → AreGranted begun
       → is_ready w.far.session.connection ≡ true → (count : ℕ) → (near.hears w.near (take count w.control_to_client)).closing ≡ false
-  granted_stays w runs control unready unaborted granted ready count = by runs
+  granted_stays w runs control unready granted ready count = by runs
     where
       still : IsStill w → (near.hears w.near (take count w.control_to_client)).closing ≡ false
       still waits = absurd (true≢false (sym ready ∙ (aside_rests w.far.session.connection waits.far.aside).1))
@@ -263,6 +263,7 @@ module _ (read : Reading) (reads : IsReading read) (from : State) (begun : List 
           stage_stays read reads f.now f.ask f.is_ask f.sound
           (is_placed f.ask f.is_ask (last_granted f.done f.ask.op f.moment begun f.begun_is puts granted)) f.own w f.stands on.lasts ready count
       by (inl (inr (inr (inl trailing)))) = absurd (not_trailing read reads from begun puts w unready trailing)
-      by (inl (inr (inr (inr halting)))) = absurd (not_halting read from begun _ _ _ w halting.halting.stands unaborted)
+      by (inl (inr (inr (inr on)))) =
+          let h = on.halting in absurd (true≢false (sym ready ∙ (halt_stands h.now h.ask h.own w h.stands).unready))
       by (inr (inl trying)) = absurd (last_carried trying.going.done _ begun trying.going.begun_is puts)
       by (inr (inr tailing)) = absurd (last_carried tailing.going.done _ begun tailing.going.begun_is puts)

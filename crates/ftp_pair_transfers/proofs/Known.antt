@@ -1,6 +1,6 @@
 -- What is so of every world that a session comes to in which files are put and fetched, where the client alone has left no link of which the server made
--- nothing yet, and no ABOR was sent.
-use Rattle.std.proofs.Common.{◌≡◌, inl, inr, ℕ, Bool, true, false, true≢false, List, [], ◌∷◌, ◌++◌, Option, None, refl, sym, ap, subst, ◌∙◌}
+-- nothing yet; and that it is so where no ABOR was sent.
+use Rattle.std.proofs.Common.{◌≡◌, ◌⊎◌, inl, inr, ℕ, Bool, true, false, true≢false, List, [], ◌∷◌, ◌++◌, Option, None, refl, sym, ap, subst, ◌∙◌}
 use Rattle.std.specs.Prelude.{⊤}
 use Rattle.ftp_ends.specs.Link.{same_host}
 use Rattle.ftp_ends.specs.Reply.{Reply}
@@ -13,7 +13,7 @@ use Rattle.ftp_wire.specs.Decoder.{Decoder}
 use Rattle.ftp_client_model.specs.Calls as near
 use Rattle.ftp_client_model.specs.Calls.{is_busy}
 use Rattle.ftp_client_model.specs.Plan.{count_of}
-use Rattle.ftp_client_model.specs.View.{Doing, Job, Transferring}
+use Rattle.ftp_client_model.specs.View.{Doing, Job, Transferring, View as Near}
 use Rattle.ftp_client_model.specs.declared.client.Abort.TheVariants as Aborts
 use Rattle.ftp_client_model.specs.declared.client.ClientLink.{ClientLink as NearConnection}
 use Rattle.ftp_client_model.specs.declared.client.ClientLink.TheVariants as NearData
@@ -44,7 +44,8 @@ use Rattle.ftp_pair_agreement.proofs.FetchWants.{lasting_busy}
 use Rattle.ftp_pair_agreement.proofs.Rests.{near_form}
 use Rattle.ftp_pair_agreement.proofs.Still.{IsSeen, near_wants, no_octets, rest_placed, seen_placed}
 use Rattle.ftp_pair_data.specs.Ahead.{is_open}
-use Rattle.ftp_pair_data.proofs.Known.{Dialling, Idling, aside_still, beside, is_receive, one_way}
+use Rattle.ftp_pair_data.specs.Unaborted.{is_unaborted}
+use Rattle.ftp_pair_data.proofs.Known.{Dialling, Idling, aside_still, beside, is_doing, is_receive, one_way}
 use Rattle.ftp_pair_transfers.specs.Deeds.{AreGranted, IsCarried}
 
 -- ---- the orders
@@ -114,8 +115,9 @@ is_ready link = false
 
 pub record Known (w : World) : Type 0 where
   pub dials : (endpoint : Endpoint) → near.wants w.near ≡ Want.Connect endpoint → Dialling w
-  pub says : (octet : ℕ) (octets : List ℕ) → w.far.owed ≡ octet ∷ octets → w.control_to_server ≡ []
-  pub lines : is_transferring w.far.session.connection ≡ true → w.control_to_server ≡ []
+  pub says : is_unaborted w.near.job ≡ true → (octet : ℕ) (octets : List ℕ) → w.far.owed ≡ octet ∷ octets → w.control_to_server ≡ []
+  pub lines : is_transferring w.far.session.connection ≡ true
+      → (w.control_to_server ≡ []) ⊎ ((is_unaborted w.near.job ≡ false) × (is_giving w.far.session.connection ≡ true))
   pub idle : is_busy w.near ≡ false → Idling w
   pub still : is_upload w.far.session.connection ≡ false → w.data_to_server ≡ []
   pub closed : is_closed_by_near w.link ≡ true → is_upload w.far.session.connection ≡ true
@@ -156,8 +158,8 @@ pub calm_known : (w : World) → Says w → is_calm (near.wants w.near) ≡ true
     → w.data_to_client ≡ [] → Known w
 calm_known w says calm none lines idle unclosed empty ungiven flat = record {
   dials = λ endpoint e. absurd (true≢false (sym calm ∙ ap is_calm e));
-  says = says;
-  lines = lines;
+  says = λ unaborted. says;
+  lines = λ e. inl (lines e);
   idle = idle;
   still = λ e. empty;
   closed = λ e. absurd (true≢false (sym e ∙ unclosed));
@@ -270,8 +272,8 @@ module _ (read : Reading) (state : State) (ask : Ask) (good : IsAsk ask) (own : 
           let wants_now : near.wants w.near ≡ Want.Receive = ap near.wants (near_form s.base w seen job NearData.Open near_is) ∙ wants in
           record {
             dials = λ endpoint e. absurd (true≢false (ap is_receive (sym wants_now ∙ e)));
-            says = one_way At w s;
-            lines = λ e. lines (sym (ap is_transferring is) ∙ e);
+            says = λ unaborted. one_way At w s;
+            lines = λ e. inl (lines (sym (ap is_transferring is) ∙ e));
             idle = λ free. absurd (busy_now free);
             still = λ e. rising_at ∙ empty;
             closed = λ e. absurd (true≢false (sym e ∙ ap is_closed_by_near (link_at ∙ tied) ∙ unclosed));
@@ -296,8 +298,8 @@ module _ (read : Reading) (state : State) (ask : Ask) (good : IsAsk ask) (own : 
           let alone : w.control_to_server ≡ [] = replying rows way in
           record {
             dials = λ endpoint e. absurd (undialled endpoint e);
-            says = λ octet octets e. alone;
-            lines = λ e. alone;
+            says = λ unaborted octet octets e. alone;
+            lines = λ e. inl alone;
             idle = λ free. absurd (busy_now free);
             still = λ e. absurd (true≢false (sym held_now ∙ e));
             closed = λ e. held_now;
@@ -323,6 +325,7 @@ module _ (read : Reading) (state : State) (ask : Ask) (good : IsAsk ask) (own : 
           record {
             dials = λ endpoint e. record {
               busy = lasting_busy read state ask good.plan own w s lasts;
+              doing = ap (λ (n : Near). is_doing n.job) (near_form s.base w seen _ _ h.near);
               link = link_at ∙ h.link;
               far = far;
               owes = ap (λ (u : World). u.far.owed) is;
@@ -330,7 +333,7 @@ module _ (read : Reading) (state : State) (ask : Ask) (good : IsAsk ask) (own : 
               same = ap (λ (u : World). same_host u.near.here u.far.footing.peer) is
                   ∙ ap (λ host. same_host host s.base.far.footing.peer) h.steady.here ∙ own_host s.base.far.footing.peer;
             };
-            says = one_way At w s;
+            says = λ unaborted. one_way At w s;
             lines = λ e. absurd (true≢false (sym e ∙ ap is_transferring far));
             idle = λ free. absurd (busy_now free);
             still = λ e. rising_at ∙ h.to_server;

@@ -1,5 +1,7 @@
 pub mod Blind
 pub mod Known
+pub mod Halting
+pub mod Aborting
 pub mod Ahead
 pub mod Left
 pub mod Running
@@ -19,6 +21,7 @@ pub mod ClientMoves
 pub mod ClientHears
 pub mod ClientDials
 pub mod ClientGiving
+pub mod Called
 pub mod Simulating
 pub mod Concluding
 pub mod Ending

@@ -21,15 +21,14 @@ use Rattle.ftp_pair_agreement.proofs.OverRunning.{over_lead}
 use Rattle.ftp_pair_agreement.proofs.Still.{IsSeen, seen_placed}
 use Rattle.ftp_pair_drives.proofs.Worlds.{LeadsOn}
 use Rattle.ftp_pair_data.specs.Ahead.{is_asked}
-use Rattle.ftp_pair_data.specs.Unaborted.{is_unaborted}
 use Rattle.ftp_pair_data.proofs.Known.{beside}
 use Rattle.ftp_pair_data.proofs.Moves.{Rested}
 use Rattle.ftp_pair_data.proofs.Rising.{far_ends}
-use Rattle.ftp_pair_data.proofs.Running.{not_halting}
 use Rattle.ftp_pair_data.proofs.Served.{settled}
 use Rattle.ftp_pair_transfers.specs.Ahead.{Listened, far_ahead, freed}
 use Rattle.ftp_pair_transfers.specs.Deeds.{AreGranted}
 use Rattle.ftp_pair_transfers.proofs.Ahead.{FarSettles, far_settles, next_ahead}
+use Rattle.ftp_pair_transfers.proofs.Halting.{halt_unclosed}
 use Rattle.ftp_pair_transfers.proofs.Known.{AreCarried, Known, is_near_held, is_ready, last_carried, stage_known}
 use Rattle.ftp_pair_transfers.proofs.Left.{end_freed}
 use Rattle.ftp_pair_transfers.proofs.Settling.{far_held}
@@ -59,7 +58,7 @@ ready_untaken link e = ap is_upload (ready_is link e)
 -- ---- a world
 
 module _ (read : Reading) (reads : IsReading read) (from : State) (begun : List Order) (puts : AreCarried begun) (x : World)
-    (runs : OverRuns read from begun x) (stands : x.control ≡ Stands) (unaborted : is_unaborted x.near.job ≡ true)
+    (runs : OverRuns read from begun x) (stands : x.control ≡ Stands)
     (left : is_closed_by_near x.link ≡ true) (ready : is_ready x.far.session.connection ≡ true) (refused : AreGranted begun → ⊥) where
   -- it is one of which the client alone has closed the link
   trailing : IsTrailing from begun x
@@ -74,7 +73,8 @@ module _ (read : Reading) (reads : IsReading read) (from : State) (begun : List 
           let f = on.fetching in
           let k : Known x = stage_known read f.now f.ask f.is_ask f.own x f.stands on.lasts in absurd (taken_not (k.closed left))
       by (inl (inr (inr (inl t)))) = t
-      by (inl (inr (inr (inr halting)))) = absurd (not_halting read from begun _ _ _ x halting.halting.stands unaborted)
+      by (inl (inr (inr (inr on)))) =
+          let h = on.halting in absurd (true≢false (sym left ∙ halt_unclosed h.now h.ask h.own x h.stands))
       by (inr (inl trying)) = absurd (last_carried trying.going.done _ begun trying.going.begun_is puts)
       by (inr (inr tailing)) = absurd (last_carried tailing.going.done _ begun tailing.going.begun_is puts)
 
@@ -136,7 +136,7 @@ module _ (read : Reading) (reads : IsReading read) (from : State) (begun : List 
     cutoff = f.same.cutoff;
     unclosed = f.same.link;
     unheld = λ e. true≢false (sym (far_held now r.near_open e));
-    twin = parted read reads from begun puts (settled now) (f.same.control ∙ stands) (ap (λ (n : Near). is_unaborted n.job) f.near ∙ unaborted)
+    twin = parted read reads from begun puts (settled now) (f.same.control ∙ stands)
         (ap is_busy f.near ∙ job_is) (ap (λ (n : Near). n.standing) f.near ∙ entered) (gone_link now refl unclosed unasked)
         (gone_far now refl unclosed unasked ∙ ap (λ (g : Far). g.session.connection) end) refused
         (subst (λ l. OverRuns read from l (settled now)) (append-nil begun)

@@ -1,5 +1,5 @@
--- Every world that a session comes to in which files are put and fetched is known, while the client has left no link of which the server made nothing yet
--- and no ABOR was sent; what is taken of an upload, and what its end leaves; the moment at which it was begun.
+-- Every world that a session comes to in which files are put and fetched is known, while the client has left no link of which the server made nothing yet;
+-- what is taken of an upload, and what its end leaves; the moment at which it was begun.
 use Rattle.std.proofs.Common.{◌≡◌, inl, inr, ℕ, Bool, true, false, true≢false, List, [], ◌∷◌, ◌++◌, take, refl, sym, ap, subst, ◌∙◌, append-nil}
 use Rattle.ftp_client_model.specs.Calls as near
 use Rattle.ftp_client_model.specs.Calls.{is_sound}
@@ -27,18 +27,20 @@ use Rattle.ftp_pair_agreement.specs.Cut.{Cut, PlacedAt, of_ends, world_at}
 use Rattle.ftp_pair_agreement.specs.Follows.{Follows, IsUnlinked, Phase}
 use Rattle.ftp_pair_agreement.specs.Over.{OverRuns}
 use Rattle.ftp_pair_agreement.specs.Rising.{Lift, Settled, Rising, Risen, Offered, Declined, Unjoined}
-use Rattle.ftp_pair_agreement.specs.Runs.{AtClosed, IsFetching, IsFetchingOn, IsTrailing}
+use Rattle.ftp_pair_agreement.specs.Runs.{AtClosed, IsFetching, IsFetchingOn, IsHalting, IsTrailing}
 use Rattle.ftp_pair_agreement.specs.Stages.{Answers, Aside as LeavesAside, AtFetch, Awaits, Carries, Closed, Course, Dialled, Dials, Dismissed, Early, Ended, Given, Giving, Holds, Leaving, LinkLeft, LinkOpen, LinkParting, Lost, PortAsked, PortDenied, PortSaid, PortTaken, PortTold, PortWanted, Ported, Refusing, Restarts, Retrieves, Rises, Severed, Stage, Tells, Unaccepted, Unclosed, Unopened, early_far, far_link, gives_on, tie_of}
 use Rattle.ftp_pair_agreement.proofs.Deliveries.{pushed_client as still_heard, pushed_server as still_told}
 use Rattle.ftp_pair_agreement.proofs.FetchEnds.{ends_fetching}
 use Rattle.ftp_pair_agreement.proofs.FetchRuns.{OnOrHalted, pushed_client, pushed_server, serving_first}
 use Rattle.ftp_pair_agreement.proofs.FetchServed.{leads_still}
+use Rattle.ftp_pair_agreement.proofs.PeekEvents.{halt_ends, halt_pushes_up}
+use Rattle.ftp_pair_agreement.proofs.PeekHears.{OnOrTold, halt_pushes_down}
 use Rattle.ftp_pair_agreement.proofs.Still.{IsSeen, IsStill, near_wants, seen, seen_placed}
-use Rattle.ftp_pair_data.specs.Unaborted.{is_unaborted}
 use Rattle.ftp_pair_data.proofs.Known.{aside_still, beside, one_way}
-use Rattle.ftp_pair_data.proofs.Running.{free_still, not_halting, not_lost, under_still}
+use Rattle.ftp_pair_data.proofs.Running.{free_still, not_lost, under_still}
 use Rattle.ftp_pair_data.proofs.Served.{Runs}
 use Rattle.ftp_pair_transfers.specs.Deeds.{begun_at, last_of, number_in}
+use Rattle.ftp_pair_transfers.proofs.Halting.{halt_known, halt_runs, halt_sound, halt_stands, halt_unclosing}
 use Rattle.ftp_pair_transfers.proofs.Known.{AreCarried, Known, aside_rests, calm_known, gives_none, is_calm, is_ready, last_carried, stage_known}
 
 -- ---- where neither end wants anything of a data connection
@@ -199,8 +201,8 @@ module _ (read : Reading) (reads : IsReading read) (from : State) (begun : List 
       beside_link (Answering rows) c = refl
 
   pub world_known : (w : World) → OverRuns read from begun w → w.control ≡ Stands
-      → (is_closed_by_near w.link ≡ true → is_ready w.far.session.connection ≡ false) → is_unaborted w.near.job ≡ true → Known w
-  world_known w runs control unready unaborted = by runs
+      → (is_closed_by_near w.link ≡ true → is_ready w.far.session.connection ≡ false) → Known w
+  world_known w runs control unready = by runs
     where
       by_phase : (f : Follows read from begun w) → Phase read from begun w → Known w
       by_phase f (inl (linked, inl free)) = still_known (of_ends (AtFree free.now)) w free.stands f.unlinked (free_still read from begun w free)
@@ -215,7 +217,7 @@ module _ (read : Reading) (reads : IsReading read) (from : State) (begun : List 
           let f = on.fetching in
           stage_known read f.now f.ask f.is_ask f.own w f.stands on.lasts
       by (inl (inr (inr (inl trailing)))) = absurd (not_trailing w unready trailing)
-      by (inl (inr (inr (inr halting)))) = absurd (not_halting read from begun _ _ _ w halting.halting.stands unaborted)
+      by (inl (inr (inr (inr on)))) = let h = on.halting in halt_known h.now h.ask h.own w h.stands on.lasts
       by (inr (inl trying)) = absurd (last_carried trying.going.done _ begun trying.going.begun_is puts)
       by (inr (inr tailing)) = absurd (last_carried tailing.going.done _ begun tailing.going.begun_is puts)
 
@@ -227,9 +229,8 @@ module _ (read : Reading) (reads : IsReading read) (from : State) (begun : List 
 
   -- a server that hears octets runs on, and no line waits there
   pub hears_serving : (w : World) (count : ℕ) → OverRuns read from begun w → w.control ≡ Stands
-      → (is_closed_by_near w.link ≡ true → is_ready w.far.session.connection ≡ false) → is_unaborted w.near.job ≡ true
-      → Runs (pushed read ControlToServer count w).far
-  hears_serving w count runs control unready unaborted = by runs
+      → (is_closed_by_near w.link ≡ true → is_ready w.far.session.connection ≡ false) → Runs (pushed read ControlToServer count w).far
+  hears_serving w count runs control unready = by runs
     where
       new : World
       new = pushed read ControlToServer count w
@@ -247,15 +248,15 @@ module _ (read : Reading) (reads : IsReading read) (from : State) (begun : List 
       by (inl (inl f)) = by_phase (still_told read reads from begun count w (record { unlinked = f.unlinked; phase = f.phase })).phase
       by (inl (inr (inl on))) = fetching_serves new (pushed_server read reads from begun count w on.fetching w (serving_first read reads from begun w on))
       by (inl (inr (inr (inl trailing)))) = absurd (not_trailing w unready trailing)
-      by (inl (inr (inr (inr halting)))) = absurd (not_halting read from begun _ _ _ w halting.halting.stands unaborted)
+      by (inl (inr (inr (inr on)))) =
+          let h = on.halting in halt_runs h.now h.ask h.own new (halt_pushes_up read reads h.now h.ask h.own count w h.stands)
       by (inr (inl trying)) = absurd (last_carried trying.going.done _ begun trying.going.begun_is puts)
       by (inr (inr tailing)) = absurd (last_carried tailing.going.done _ begun tailing.going.begun_is puts)
 
   -- a client that does has not failed
   pub hears_sound : (w : World) (count : ℕ) → OverRuns read from begun w → w.control ≡ Stands
-      → (is_closed_by_near w.link ≡ true → is_ready w.far.session.connection ≡ false) → is_unaborted w.near.job ≡ true
-      → is_unaborted (near.hears w.near (take count w.control_to_client)).job ≡ true → is_sound (pushed read ControlToClient count w).near.standing ≡ true
-  hears_sound w count runs control unready unaborted then_unaborted = by runs
+      → (is_closed_by_near w.link ≡ true → is_ready w.far.session.connection ≡ false) → is_sound (pushed read ControlToClient count w).near.standing ≡ true
+  hears_sound w count runs control unready = by runs
     where
       new : World
       new = pushed read ControlToClient count w
@@ -266,49 +267,64 @@ module _ (read : Reading) (reads : IsReading read) (from : State) (begun : List 
       by_phase (inr lost) = absurd (not_lost read from begun new control lost)
 
       by_on : (on : IsFetchingOn read from begun w) → OnOrHalted read reads from begun w on.fetching new → is_sound new.near.standing ≡ true
-      by_on on (inr halts) = absurd (not_halting read from begun _ _ _ new halts then_unaborted)
+      by_on on (inr halts) = halt_sound on.fetching.now on.fetching.ask on.fetching.own new halts
       by_on on (inl f) = fetching_sound new f
+
+      by_halt : (h : IsHalting from begun w) → OnOrTold read h.now h.ask h.own new → is_sound new.near.standing ≡ true
+      by_halt h (inl halts) = halt_sound h.now h.ask h.own new halts
+      by_halt h (inr told) = stage_sound read h.now h.ask h.is_ask h.own new told
 
       by : OverRuns read from begun w → is_sound new.near.standing ≡ true
       by (inl (inl f)) = by_phase (still_heard read reads from begun count w (record { unlinked = f.unlinked; phase = f.phase })).phase
       by (inl (inr (inl on))) = by_on on (pushed_client read reads from begun count w on.fetching w (serving_first read reads from begun w on))
       by (inl (inr (inr (inl trailing)))) = absurd (not_trailing w unready trailing)
-      by (inl (inr (inr (inr halting)))) = absurd (not_halting read from begun _ _ _ w halting.halting.stands unaborted)
+      by (inl (inr (inr (inr on)))) =
+          let h = on.halting in by_halt h (halt_pushes_down read h.now h.ask h.own count w h.stands)
       by (inr (inl trying)) = absurd (last_carried trying.going.done _ begun trying.going.begun_is puts)
       by (inr (inr tailing)) = absurd (last_carried tailing.going.done _ begun tailing.going.begun_is puts)
 
   -- a client that hears octets and then is to close has no octet on its way to it
   pub hears_closing : (w : World) (count : ℕ) → OverRuns read from begun w → w.control ≡ Stands
-      → (is_closed_by_near w.link ≡ true → is_ready w.far.session.connection ≡ false) → is_unaborted w.near.job ≡ true
-      → is_unaborted (near.hears w.near (take count w.control_to_client)).job ≡ true → (near.hears w.near (take count w.control_to_client)).closing ≡ true
+      → (is_closed_by_near w.link ≡ true → is_ready w.far.session.connection ≡ false) → (near.hears w.near (take count w.control_to_client)).closing ≡ true
       → w.data_to_client ≡ []
-  hears_closing w count runs control unready unaborted then_unaborted closing = by runs
+  hears_closing w count runs control unready closing = by runs
     where
       new : World
       new = pushed read ControlToClient count w
 
       by_on : (on : IsFetchingOn read from begun w) → OnOrHalted read reads from begun w on.fetching new → w.data_to_client ≡ []
-      by_on on (inr halts) = absurd (not_halting read from begun _ _ _ new halts then_unaborted)
+      by_on on (inr halts) =
+          absurd (true≢false (sym closing ∙ halt_unclosing on.fetching.now on.fetching.ask on.fetching.own new halts))
       by_on on (inl f) = stage_closes read f.now f.ask f.is_ask f.own new f.stands closing
+
+      by_halt : (h : IsHalting from begun w) → OnOrTold read h.now h.ask h.own new → w.data_to_client ≡ []
+      by_halt h (inl halts) = absurd (true≢false (sym closing ∙ halt_unclosing h.now h.ask h.own new halts))
+      by_halt h (inr told) = stage_closes read h.now h.ask h.is_ask h.own new told closing
 
       by : OverRuns read from begun w → w.data_to_client ≡ []
       by (inl (inl f)) = f.unlinked.to_client
       by (inl (inr (inl on))) = by_on on (pushed_client read reads from begun count w on.fetching w (serving_first read reads from begun w on))
       by (inl (inr (inr (inl trailing)))) = absurd (not_trailing w unready trailing)
-      by (inl (inr (inr (inr halting)))) = absurd (not_halting read from begun _ _ _ w halting.halting.stands unaborted)
+      by (inl (inr (inr (inr on)))) =
+          let h = on.halting in by_halt h (halt_pushes_down read h.now h.ask h.own count w h.stands)
       by (inr (inl trying)) = absurd (last_carried trying.going.done _ begun trying.going.begun_is puts)
       by (inr (inr tailing)) = absurd (last_carried tailing.going.done _ begun tailing.going.begun_is puts)
 
   -- a client that is told of the end of a link on which no octet is left has not failed
   pub ends_sound : (w : World) → OverRuns read from begun w → (is_closed_by_near w.link ≡ true → is_ready w.far.session.connection ≡ false)
-      → is_unaborted w.near.job ≡ true → is_closed_by_far w.link ≡ true → w.data_to_client ≡ [] → is_sound (told DataToClient w).near.standing ≡ true
-  ends_sound w runs unready unaborted left empty = by runs
+      → is_closed_by_far w.link ≡ true → w.data_to_client ≡ [] → is_sound (told DataToClient w).near.standing ≡ true
+  ends_sound w runs unready left empty = by runs
     where
+      by_halt : (h : IsHalting from begun w) → OnOrTold read h.now h.ask h.own (told DataToClient w) → is_sound (told DataToClient w).near.standing ≡ true
+      by_halt h (inl halts) = halt_sound h.now h.ask h.own (told DataToClient w) halts
+      by_halt h (inr over) = stage_sound read h.now h.ask h.is_ask h.own (told DataToClient w) over
+
       by : OverRuns read from begun w → is_sound (told DataToClient w).near.standing ≡ true
       by (inl (inl f)) = absurd (true≢false (sym left ∙ ap is_closed_by_far f.unlinked.link))
       by (inl (inr (inl on))) = fetching_sound (told DataToClient w) (ends_fetching read reads from begun w on left empty)
       by (inl (inr (inr (inl trailing)))) = absurd (not_trailing w unready trailing)
-      by (inl (inr (inr (inr halting)))) = absurd (not_halting read from begun _ _ _ w halting.halting.stands unaborted)
+      by (inl (inr (inr (inr on)))) =
+          let h = on.halting in by_halt h (halt_ends read reads h.now h.ask h.own w h.stands on.lasts left)
       by (inr (inl trying)) = absurd (last_carried trying.going.done _ begun trying.going.begun_is puts)
       by (inr (inr tailing)) = absurd (last_carried tailing.going.done _ begun tailing.going.begun_is puts)
 
@@ -334,9 +350,9 @@ module _ (read : Reading) (reads : IsReading read) (from : State) (moments : ℕ
     (begun_at moments deeds)) where
   -- a server that takes octets of an upload was told the moment at which the last operation was begun
   pub world_timed : (w : World) → OverRuns read from (begun_at moments deeds) w → w.control ≡ Stands
-      → (is_closed_by_near w.link ≡ true → is_ready w.far.session.connection ≡ false) → is_unaborted w.near.job ≡ true
-      → is_upload w.far.session.connection ≡ true → w.far.footing.moment ≡ last_of moments (number_in deeds)
-  world_timed w runs control unready unaborted takes = by runs
+      → (is_closed_by_near w.link ≡ true → is_ready w.far.session.connection ≡ false) → is_upload w.far.session.connection ≡ true
+      → w.far.footing.moment ≡ last_of moments (number_in deeds)
+  world_timed w runs control unready takes = by runs
     where
       begun : List Order
       begun = begun_at moments deeds
@@ -365,6 +381,7 @@ module _ (read : Reading) (reads : IsReading read) (from : State) (moments : ℕ
       by (inl (inl f)) = by_phase f.phase
       by (inl (inr (inl on))) = by_on on
       by (inl (inr (inr (inl trailing)))) = absurd (not_trailing read reads from begun puts w unready trailing)
-      by (inl (inr (inr (inr halting)))) = absurd (not_halting read from begun _ _ _ w halting.halting.stands unaborted)
+      by (inl (inr (inr (inr on)))) =
+          let h = on.halting in absurd (true≢false (sym takes ∙ (halt_stands h.now h.ask h.own w h.stands).untaken))
       by (inr (inl trying)) = absurd (last_carried trying.going.done _ begun trying.going.begun_is puts)
       by (inr (inr tailing)) = absurd (last_carried tailing.going.done _ begun tailing.going.begun_is puts)

@@ -14,9 +14,7 @@ use Rattle.ftp_server_drive.specs.Side.{server_side}
 use Rattle.ftp_server_model.specs.Calls as far
 use Rattle.ftp_server_model.specs.Calls.{clock_step, given_by, given_step, is_upload}
 use Rattle.ftp_server_model.specs.Machine.{Reading, completed}
-use Rattle.ftp_server_model.specs.View.{Transfer, View as Far}
-use Rattle.ftp_server_model.specs.declared.session.ServerLink.{ServerLink}
-use Rattle.ftp_server_model.specs.declared.session.Transfer.TheVariants as Transfers
+use Rattle.ftp_server_model.specs.View.{View as Far}
 use Rattle.ftp_server_model.specs.declared.session.Life.TheVariants as Lives
 use Rattle.ftp_server_model.specs.declared.session.ServerLink.TheVariants as Data
 use Rattle.ftp_pair_world.specs.Agreement.{Order}
@@ -35,6 +33,7 @@ use Rattle.ftp_pair_transfers.proofs.Ahead.{FarSettles, Holds, far_settles, next
 use Rattle.ftp_pair_deeds.proofs.Holding.{both, is_called, is_false, is_had, is_sound}
 use Rattle.ftp_pair_deeds.proofs.FarForms.{GivenKeeps, Sending, given_all, given_is, given_keeps, given_shut, gives_on, giving, is_send, no_close, none_later, sending_of}
 use Rattle.ftp_pair_deeds.proofs.Stands.{ClientFetches, ServerServes}
+use Rattle.ftp_pair_transfers.proofs.Aborting.{given_untaken}
 use Rattle.ftp_pair_transfers.proofs.Beside.{Comes, Goes, Together, Writes, rested}
 use Rattle.ftp_pair_transfers.proofs.Known.{Known, is_giving, is_near_held}
 use Rattle.ftp_pair_transfers.proofs.ServerStays.{server_stays}
@@ -152,18 +151,6 @@ given_of false all = refl
 gives_octets : (listed : Bool) (octets : List ℕ) → is_giving (Data.Transferring (giving_of listed octets)) ≡ true
 gives_octets true octets = refl
 gives_octets false octets = refl
-
-given_untaken : (link : ServerLink Transfer) → is_giving link ≡ true → is_upload link ≡ false
-given_untaken Data.Free e = refl
-given_untaken (Data.Asked verb) e = refl
-given_untaken (Data.Active endpoint) e = refl
-given_untaken Data.Passive e = refl
-given_untaken Data.Ready e = refl
-given_untaken (Data.Opening transfer way) e = refl
-given_untaken (Data.Transferring (Transfers.Upload path keep d)) e = absurd (true≢false (sym e))
-given_untaken (Data.Transferring Transfers.OverLimit) e = absurd (true≢false (sym e))
-given_untaken (Data.Transferring (Transfers.Download rest)) e = refl
-given_untaken (Data.Transferring (Transfers.Listing rest)) e = refl
 
 -- octets are given whatever the moment
 given_clock : (listed : Bool) (rest : List ℕ) (moment : ℕ) (v : Far)

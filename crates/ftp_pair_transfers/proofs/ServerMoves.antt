@@ -34,11 +34,12 @@ use Rattle.ftp_pair_data.proofs.Served.{Runs, far_wants, settled}
 use Rattle.ftp_pair_transfers.proofs.Ahead.{FarSettles, Holds, Keeps, far_is, far_settles, fits_next, is_ahead, keeps, left_is, left_link, next_ahead, next_whole, says_after}
 use Rattle.ftp_pair_deeds.proofs.Holding.{both, is_called, is_false, is_had, is_sound}
 use Rattle.ftp_pair_deeds.proofs.NearForms.{is_unaborted_same}
-use Rattle.ftp_pair_deeds.proofs.FarForms.{called_speaks, first_of_some, none_later, quiet_of, same_opens, waiting_open, waits_unasked}
+use Rattle.ftp_pair_deeds.proofs.FarForms.{called_speaks, first_of_some, giving, none_later, quiet_of, same_opens, waiting_open, waits_unasked}
 use Rattle.ftp_pair_deeds.proofs.Stands.{ClientFetches, ServerServes}
+use Rattle.ftp_pair_transfers.proofs.Aborting.{given_untaken, giving_is, giving_moment, giving_turns}
 use Rattle.ftp_pair_transfers.proofs.Beside.{Comes, Goes, Together, Writes, rested}
 use Rattle.ftp_pair_transfers.proofs.FarForms.{upload_takes}
-use Rattle.ftp_pair_transfers.proofs.Known.{Known, is_near_held}
+use Rattle.ftp_pair_transfers.proofs.Known.{Known, is_giving, is_near_held}
 use Rattle.ftp_pair_transfers.proofs.Left.{Goes as LeftGoes, Leaves, Remains, Starts, is_spare, octet_goes}
 use Rattle.ftp_pair_transfers.proofs.ServerStays.{server_stays}
 use Rattle.ftp_pair_transfers.proofs.Settling.{far_held}
@@ -123,6 +124,11 @@ module _ (read : Reading) (reads : IsReading read) (orders : List Order) (old ne
   abbrev heard_far : ℕ → Far
   heard_far octet = hears_octet read v octet
 
+  -- it acts alike on it whatever the moment, and its data connection turns so
+  record Alike (octet : ℕ) : Type 0 where
+    same : (m : ℕ) → hears_octet read (clock_step m v) octet ≡ clock_step m (heard_far octet)
+    turns : Turns v.session.connection (heard_far octet)
+
   -- so it did, and its data connection turned so
   record Heard (octet : ℕ) : Type 0 where
     m : ℕ
@@ -133,7 +139,8 @@ module _ (read : Reading) (reads : IsReading read) (orders : List Order) (old ne
     comes : (hold : Hold) → Comes hold v.session old.owner.lane → Comes hold u.session new.owner.lane
     writes : (hold : Hold) → Writes hold old.owner.lane → Writes hold new.owner.lane
 
-  module _ (octet : ℕ) (moment : ℕ) (between : Between) (told : ℕ) (next : old.unheard ≡ octet ∷ new.unheard) where
+  module _ (octet : ℕ) (moment : ℕ) (between : Between) (told : ℕ) (next : old.unheard ≡ octet ∷ new.unheard)
+      (fresh : is_called between.far ≡ true → is_unaborted client.owner.end.view.job ≡ true) where
     abbrev now : World
     now = record w { far = hears_octet read w.far octet; control_to_server = new.unheard ++ between.control.to_server; taken = octet ∷ [] }
 
@@ -155,9 +162,10 @@ module _ (read : Reading) (reads : IsReading read) (orders : List Order) (old ne
     -- nor is a link left by the client alone
     unclosed_now : (ahead : Ahead) → Together read orders moment ahead between told old client reports w → is_closed_by_near w.link ≡ false
     unclosed_now ahead t =
-        is_false (is_closed_by_near w.link)
-        (λ e. no_octets octet (new.unheard ++ between.control.to_server) w.control_to_server (on_way ahead t)
-        (known.lines (upload_takes w.far.session.connection (known.closed e)).busy))
+        is_false (is_closed_by_near w.link) (λ e. elim (known.lines (upload_takes w.far.session.connection (known.closed e)).busy) [
+          | inl none ↦ no_octets octet (new.unheard ++ between.control.to_server) w.control_to_server (on_way ahead t) none
+          | inr halts ↦ both (known.closed e) (given_untaken w.far.session.connection halts.1)
+        ])
 
     -- a world's server that heard it is as the drive's, or is ahead by an opening
     finish : (ahead onward : Ahead) → (t : Together read orders moment ahead between told old client reports w) → (h : Heard octet)
@@ -286,25 +294,12 @@ module _ (read : Reading) (reads : IsReading read) (orders : List Order) (old ne
             → w.control_to_server ≡ octet ∷ (new.unheard ++ between.control.to_server)
         queue ahead t = t.beside.to_server ∙ ap (λ a. a ++ between.control.to_server) next
 
-        -- an octet is on its way, so no transfer is under way there
-        still_there : (ahead : Ahead) → Together read orders moment ahead between told old client reports w → is_transferring w.far.session.connection ≡ false
-        still_there ahead t =
-            is_false (is_transferring w.far.session.connection)
-            (λ e. no_octets octet (new.unheard ++ between.control.to_server) w.control_to_server (queue ahead t) (known.lines e))
-
-        -- so its data connection turns
-        turns_of : is_transferring v.session.connection ≡ false → Turns v.session.connection (heard_far octet)
-        turns_of still =
-            subst (λ f. Turns v.session.connection (hears_octet read f octet)) (ap (λ c. record v { session = record v.session { closing = c } })
-            (sym unclosed))
-            (octet_turns read octet v.session.connection (quiet_of v.session.connection unasked still) v)
-
-        -- of a server at which no transfer is under way
-        heard_of : is_transferring v.session.connection ≡ false → Heard octet
-        heard_of still = record {
+        -- of one that acts so on it
+        heard_so : Alike octet → Heard octet
+        heard_so a = record {
           m = heard.moment;
-          is = heard.is ∙ octet_moment read octet heard.moment v still;
-          turns = turns_of still;
+          is = heard.is ∙ a.same heard.moment;
+          turns = a.turns;
           lane = ap (λ (l : Lane). l.untold) did.hears.1;
           unwritten = ap (λ (l : Lane). l.unwritten) did.hears.1;
           writes = λ hold writes. record {
@@ -312,28 +307,59 @@ module _ (read : Reading) (reads : IsReading read) (orders : List Order) (old ne
             bare = λ e. ap (λ (l : Lane). l.unwritten) did.hears.1 ∙ writes.bare (ap (λ (l : Lane). l.stands) (sym did.hears.1) ∙ e);
           };
           comes = λ hold c.
-              let turned : Turns v.session.connection (heard_far octet) = turns_of still in
               let session : u.session ≡ (heard_far octet).session =
-              ap (λ (x : Far). x.session) heard.is ∙ ap (λ (x : Far). x.session) (octet_moment read octet heard.moment v still) in
+              ap (λ (x : Far). x.session) heard.is ∙ ap (λ (x : Far). x.session) (a.same heard.moment) in
               record {
                 bare = λ e. ap (λ (l : Lane). l.untold) did.hears.1 ∙ c.bare (ap (λ (l : Lane). l.stands) (sym did.hears.1) ∙ e);
                 spare = λ e. ap (λ (l : Lane). l.untold) did.hears.1 ∙ c.spare e;
                 over = λ e. ap (λ (l : Lane). l.untold) did.hears.1 ∙ c.over (ap (λ (l : Lane). is_sound l.fate) (sym did.hears.1) ∙ e);
                 shut = λ e. is_false (is_open u.session.connection)
-                    (λ o. both (turned.opened (ap (λ (x : Session). is_open x.connection) (sym session) ∙ o)).0
+                    (λ o. both (a.turns.opened (ap (λ (x : Session). is_open x.connection) (sym session) ∙ o)).0
                     (c.shut (ap (λ (l : Lane). is_sound l.fate) (sym did.hears.1) ∙ e)));
               };
         }
 
+        -- so does one at which no transfer is under way
+        alike_still : is_transferring v.session.connection ≡ false → Alike octet
+        alike_still still = record {
+          same = λ m. octet_moment read octet m v still;
+          turns = subst (λ f. Turns v.session.connection (hears_octet read f octet)) (ap (λ c. record v { session = record v.session { closing = c } })
+              (sym unclosed)) (octet_turns read octet v.session.connection (quiet_of v.session.connection unasked still) v);
+        }
+
+        heard_of : is_transferring v.session.connection ≡ false → Heard octet
+        heard_of still = heard_so (alike_still still)
+
+        -- and one that gives octets
+        alike_giving : is_giving v.session.connection ≡ true → Alike octet
+        alike_giving gives =
+            let g = giving_is v.session.connection gives in
+            let vg : v ≡ giving g.0 g.1 v = λ i. record v { session = record v.session { connection = g.2 i; closing = unclosed i } } in
+            record {
+              same = λ m. ap (λ f. hears_octet read (clock_step m f) octet) vg ∙ giving_moment read octet g.0 g.1 v before.none_waits m
+                  ∙ ap (λ f. clock_step m (hears_octet read f octet)) (sym vg);
+              turns = subst (λ f. Turns v.session.connection (hears_octet read f octet)) (sym vg)
+                  (subst (λ l. Turns l (hears_octet read (giving g.0 g.1 v) octet)) (sym g.2) (giving_turns read octet g.0 g.1 v before.none_waits));
+            }
+
         by_level : Together read orders moment Level between told old client reports w → Went
         by_level t =
-            let wf : w.far ≡ clock_step moment v = t.beside.far ∙ ap (clock_step moment) (closed_is v unclosed) in
-            let still : is_transferring v.session.connection ≡ false =
-            ap (λ (f : Far). is_transferring f.session.connection) (sym wf) ∙ still_there Level t in
-            let got : Heard octet = heard_of still in
+            let a : Alike octet = alike (is_transferring v.session.connection) refl in
+            let got : Heard octet = heard_so a in
             finish_level Level t got (ap may_hear wf ∙ heard.may.0)
-            (ap (λ f. hears_octet read f octet) wf ∙ octet_moment read octet moment v still ∙ ap (clock_step moment) (sym got.is)) t.beside.listens
+            (ap (λ f. hears_octet read f octet) wf ∙ a.same moment ∙ ap (clock_step moment) (sym got.is)) t.beside.listens
             (λ c e. true≢false (sym (t.holds.called c (got.turns.accepted (ap (λ (f : Far). accepts f.session.connection) (sym got.is) ∙ e)).0)))
+          where
+            wf : w.far ≡ clock_step moment v
+            wf = t.beside.far ∙ ap (clock_step moment) (closed_is v unclosed)
+
+            -- an octet is on its way, so a transfer that is under way is one that a Peek aborts
+            alike : (busy : Bool) → is_transferring v.session.connection ≡ busy → Alike octet
+            alike false still = alike_still still
+            alike true busy = elim (known.lines (ap (λ (f : Far). is_transferring f.session.connection) wf ∙ busy)) [
+              | inl none ↦ absurd (no_octets octet (new.unheard ++ between.control.to_server) w.control_to_server (queue Level t) none)
+              | inr halts ↦ alike_giving (ap (λ (f : Far). is_giving f.session.connection) (sym wf) ∙ halts.1)
+            ]
 
         -- it waits for who comes, before a line
         by_passive : Together read orders moment Opens between told old client reports w → v.session.connection ≡ Data.Passive
@@ -372,15 +398,26 @@ module _ (read : Reading) (reads : IsReading read) (orders : List Order) (old ne
             let wf : w.far ≡ clock_step moment (far_ahead Opens (at_link (Data.Opening transfer Ways.Accept) false v)) =
             t.beside.far ∙ ap (λ f. clock_step moment (far_ahead Opens f)) vp in
             elim (called_speaks transfer v) [
-              | inl moves ↦ absurd (both (ap (λ (f : Far). is_transferring f.session.connection) wf ∙ moves) (still_there Opens t))
+              | inl moves ↦ absurd (busy (ap (λ (f : Far). is_transferring f.session.connection) wf ∙ moves))
               | inr says ↦ absurd (spoken wf says)
             ]
           where
+            -- no ABOR was sent
+            unaborted : is_unaborted w.near.job ≡ true
+            unaborted =
+                ap (λ (n : Near). is_unaborted n.job) t.beside.near ∙ is_unaborted_same client.owner.end.view ∙ fresh (t.holds.opened refl)
+
+            busy : is_transferring w.far.session.connection ≡ true → ⊥
+            busy moves = elim (known.lines moves) [
+              | inl none ↦ no_octets octet (new.unheard ++ between.control.to_server) w.control_to_server (queue Opens t) none
+              | inr halts ↦ both unaborted halts.0
+            ]
+
             spoken : w.far ≡ clock_step moment (far_ahead Opens (at_link (Data.Opening transfer Ways.Accept) false v))
                 → has_octets (far_ahead Opens (at_link (Data.Opening transfer Ways.Accept) false v)).owed ≡ true → ⊥
             spoken wf says =
                 let first = first_of_some w.far.owed (ap (λ (f : Far). has_octets f.owed) wf ∙ says) in
-                no_octets octet (new.unheard ++ between.control.to_server) w.control_to_server (queue Opens t) (known.says first.0 first.1 first.2)
+                no_octets octet (new.unheard ++ between.control.to_server) w.control_to_server (queue Opens t) (known.says unaborted first.0 first.1 first.2)
 
         by_link : Together read orders moment Opens between told old client reports w → (link : ServerLink Transfer) → v.session.connection ≡ link
             → accepts link ≡ true → Went
@@ -491,9 +528,7 @@ module _ (read : Reading) (reads : IsReading read) (orders : List Order) (old ne
             starts : Starts (λ l. hears_octet read (at_link l false v) octet) → ⊥
             starts g =
                 none_begins read reads orders octet (new.unheard ++ between.control.to_server) g.transfer w (t.twin refl) (on_way (Parted accepted) t)
-                t.beside.control
-                (ap (λ (n : Near). is_unaborted n.job) t.beside.near ∙ is_unaborted_same client.owner.end.view ∙ asks.unaborted)
-                (ap (λ (f : Far). f.session.connection) beyond ∙ g.is)
+                t.beside.control (ap (λ (f : Far). f.session.connection) beyond ∙ g.is)
 
             by_goes : LeftGoes (λ l. hears_octet read (at_link l false v) octet) → Went
             by_goes (inl g) = remains g
@@ -509,8 +544,9 @@ module _ (read : Reading) (reads : IsReading read) (orders : List Order) (old ne
   -- none is heard, or one
   pub server_heard : (octets : List ℕ) (moment : ℕ) (ahead : Ahead) (between : Between) (told : ℕ)
       → Together read orders moment ahead between told old client reports w
+      → (is_called between.far ≡ true → is_unaborted client.owner.end.view.job ≡ true)
       → HearsNext octets old new → Goes read [] orders between told new client reports w × ServerServes new.owner
-  server_heard [] moment ahead between told t did =
+  server_heard [] moment ahead between told t fresh did =
       let heard = hears_at read reads (ends_line old.unheard) [] old.owner.end new.owner.end did.hears.0.1 calm before.none_waits in
       let session : u.session ≡ v.session = ap (λ (f : Far). f.session) heard.is in
       let untold : new.owner.lane.untold ≡ old.owner.lane.untold = ap (λ (l : Lane). l.untold) did.hears.1 in (
@@ -537,8 +573,8 @@ module _ (read : Reading) (reads : IsReading read) (orders : List Order) (old ne
           none_waits = ap (λ (f : Far). f.waiting) heard.is ∙ before.none_waits;
         },
       )
-  server_heard (octet ∷ []) moment ahead between told t did = hears_so octet moment between told did.next ahead t did
-  server_heard (octet ∷ more ∷ octets) moment ahead between told t did = absurd (too_many octets did.hears.0.0)
+  server_heard (octet ∷ []) moment ahead between told t fresh did = hears_so octet moment between told did.next fresh ahead t did
+  server_heard (octet ∷ more ∷ octets) moment ahead between told t fresh did = absurd (too_many octets did.hears.0.0)
     where
       too_many : (octets : List ℕ) → suc (suc (length octets)) ≤ 1 → ⊥
       too_many octets few = omega (arith, few)

@@ -7,7 +7,6 @@ use Rattle.ftp_control.specs.Machine.{End, Received}
 use Rattle.ftp_control.specs.declared.whole.Fate.TheVariants.{Over}
 use Rattle.ftp_client_drive.specs.Side.{client_side}
 use Rattle.ftp_client_model.specs.Calls as near
-use Rattle.ftp_client_model.specs.View.{View as Near}
 use Rattle.ftp_direct.specs.Direct.{State}
 use Rattle.ftp_ends.specs.declared.link.Wants.TheVariants as Want
 use Rattle.ftp_operation.specs.Answer.{Said}
@@ -29,14 +28,12 @@ use Rattle.ftp_pair_drives.proofs.Calm.{first_is_calm}
 use Rattle.ftp_pair_drives.proofs.Worlds.{LeadsOn}
 use Rattle.ftp_pair_data.specs.Ahead.{accepts, is_asked, is_open}
 use Rattle.ftp_pair_transfers.specs.Ahead.{Ahead, Level, Listened, Listens, Opens, Parted, far_ahead}
-use Rattle.ftp_pair_data.specs.Unaborted.{is_unaborted}
 use Rattle.ftp_pair_data.proofs.Ahead.{closed_is}
 use Rattle.ftp_pair_data.proofs.Moves.{Rested, take_front}
 use Rattle.ftp_pair_data.proofs.Rising.{far_ends, far_takes}
 use Rattle.ftp_pair_data.proofs.Served.{Runs, far_wants, settled}
 use Rattle.ftp_pair_transfers.proofs.Ahead.{FarSettles, far_settles, left_rests, next_ahead}
 use Rattle.ftp_pair_deeds.proofs.Holding.{both, is_false, is_had, is_sound}
-use Rattle.ftp_pair_deeds.proofs.NearForms.{is_unaborted_same}
 use Rattle.ftp_pair_deeds.proofs.FarForms.{no_close, none_later}
 use Rattle.ftp_pair_deeds.proofs.Stands.{ClientFetches, ServerServes}
 use Rattle.ftp_pair_transfers.proofs.Beside.{Comes, Goes, Together, Writes, rested}
@@ -74,9 +71,6 @@ module _ (read : Reading) (reads : IsReading read) (from : State) (begun : List 
 
     had : is_had between.far ≡ true
     had = t.holds.had form.opened
-
-    unaborted : is_unaborted w.near.job ≡ true
-    unaborted = ap (λ (n : Near). is_unaborted n.job) t.beside.near ∙ is_unaborted_same client.owner.end.view ∙ asks.unaborted
 
     r : Rested w
     r = rested moment ahead between told old client reports w t.beside before asks
@@ -162,8 +156,7 @@ module _ (read : Reading) (reads : IsReading read) (from : State) (begun : List 
       on : TakesOn (receives w.far all)
       on =
           subst (λ q. TakesOn (receives w.far q)) (ap (take (length all)) queue ∙ take_front all rest)
-          (takes_on read reads from begun puts w (length all) octet (more ++ rest) queue few runs t.beside.unready
-          (unaborted did.0.2.1 moment Level between told t))
+          (takes_on read reads from begun puts w (length all) octet (more ++ rest) queue few runs t.beside.unready)
 
       may : (k : ℕ) → k < length all → may_receive (receives w.far (take k w.data_to_server)) ≡ true
       may k less =
@@ -286,7 +279,7 @@ module _ (read : Reading) (reads : IsReading read) (from : State) (begun : List 
     end_rested = r did.0.2 moment Level between told t
 
     over : Runs (far.data_end w.far) × (near.to_give w.near ≡ [])
-    over = ends_on read reads from begun puts w link_closed empty runs t.beside.unready (unaborted did.0.2 moment Level between told t)
+    over = ends_on read reads from begun puts w link_closed empty runs t.beside.unready
 
     -- the drive's server is told the same
     there : far.data_end w.far ≡ u

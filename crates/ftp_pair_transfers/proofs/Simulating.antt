@@ -1,17 +1,16 @@
 -- Two drives that put and fetch files, as a list of a world's events: deed by deed.
-use Rattle.std.proofs.Common.{◌≡◌, ℕ, Bool, true, false, true≢false, List, [], ◌∷◌, ◌++◌, take, Option, Some, None, option_to_list, refl, sym, ap, ap₂, subst, ◌∙◌, append-nil}
+use Rattle.std.proofs.Common.{◌≡◌, ℕ, true, true≢false, List, [], ◌∷◌, ◌++◌, take, option_to_list, refl, sym, ap, ap₂, subst, ◌∙◌, append-nil}
 use Rattle.ftp_control.specs.Asking.{Came, Connected, Ended as EndedBy, Reset, Shut}
 use Rattle.ftp_control.specs.Deeds.{Deed, Done, Heard, Led, Other, Read, Said as Says, Stand}
 use Rattle.ftp_control.specs.Machine.{Aside, Closed, End, Gave, Got, Left, LetGo, Listening, Opened, Received, Waited, Wrote}
 use Rattle.ftp_client_drive.specs.Side.{Reporting, Starting, client_side}
 use Rattle.ftp_client_model.specs.Calls as near
 use Rattle.ftp_client_model.specs.Calls.{is_sound}
-use Rattle.ftp_client_model.specs.View.{View as Near}
-use Rattle.ftp_client_model.specs.Plan.{count_of}
+use Rattle.ftp_client_model.specs.View.{Doing, Idle, Job, Told, Transferring, View as Near, Waiting}
+use Rattle.ftp_endpoint.specs.declared.endpoint.Endpoint.{Endpoint}
+use Rattle.ftp_ends.specs.declared.link.Wants.TheVariants as Want
 use Rattle.ftp_operation.specs.Answer.{Said}
-use Rattle.ftp_operation.specs.declared.op.How.{How}
 use Rattle.ftp_operation.specs.declared.op.Op.{Op}
-use Rattle.ftp_operation.specs.declared.op.Op.TheVariants as Ops
 use Rattle.ftp_server_drive.specs.Side.{server_side}
 use Rattle.ftp_server_model.specs.Calls as far
 use Rattle.ftp_server_model.specs.Machine.{IsReading, Reading, hears, hears_octet}
@@ -23,25 +22,27 @@ use Rattle.ftp_pair_drives.specs.Alone.{ClientIsCalm, begun_by, reported_by, rep
 use Rattle.ftp_pair_drives.specs.Between.{Between, CanTurn, Client, Happened, Server, Turn, client_deeds, nothing_yet, server_deeds}
 use Rattle.ftp_pair_drives.specs.Claims.{Begins}
 use Rattle.ftp_pair_drives.proofs.Simulating.{reported_is}
-use Rattle.ftp_pair_drives.proofs.Taken.{reports_is, taken}
+use Rattle.ftp_pair_drives.specs.Touches.{touch_in}
+use Rattle.ftp_pair_drives.proofs.Taken.{idle_of, reports_is, taken, taken_wants}
 use Rattle.ftp_pair_drives.proofs.Worlds.{LeadsOn, leads_none, leads_then}
 use Rattle.ftp_pair_data.specs.Ahead.{is_asked, is_open}
 use Rattle.ftp_pair_transfers.specs.Ahead.{Ahead, Level, far_ahead, is_parted}
-use Rattle.ftp_pair_data.specs.Unaborted.{is_unaborted}
+use Rattle.ftp_pair_data.proofs.Known.{is_doing}
 use Rattle.ftp_pair_data.proofs.Running.{all_runs}
 use Rattle.ftp_pair_data.proofs.Served.{Runs}
 use Rattle.ftp_pair_deeds.specs.Deeds.{ArePorts, listened_in}
-use Rattle.ftp_pair_deeds.proofs.Holding.{both, is_false}
-use Rattle.ftp_pair_deeds.proofs.NearForms.{is_unaborted_same, starts_standing}
-use Rattle.ftp_pair_deeds.proofs.Plain.{IsPlain, IsPlainly, plain_unaborted, starts_plain}
-use Rattle.ftp_pair_deeds.proofs.Plainly.{deed_plain, deed_sound}
+use Rattle.ftp_pair_deeds.proofs.Holding.{both, is_false, unclosed}
+use Rattle.ftp_pair_deeds.proofs.NearForms.{no_close, starts_standing}
+use Rattle.ftp_pair_deeds.proofs.Plain.{IsPlainly, Whatever, starts_plain, whatever_kept}
+use Rattle.ftp_pair_deeds.proofs.Plainly.{deed_plain, deed_sound, took_plain}
 use Rattle.ftp_pair_deeds.proofs.Serves.{deed_serves}
 use Rattle.ftp_pair_deeds.proofs.Stands.{ClientFetches, ServerServes}
 use Rattle.ftp_pair_transfers.specs.Claims.{TransfersAreOfWorlds}
-use Rattle.ftp_pair_transfers.specs.Deeds.{AreMoments, AreToldAt, ClientTransfers, AsksAlong, IsCarried, IsTransferred, IsToldAt, ServerTransfers, ServesAlong, begun_at, last_of, number_in}
+use Rattle.ftp_pair_transfers.specs.Deeds.{AreMoments, AreToldAt, ClientTransfers, AsksAlong, IsToldAt, ServerTransfers, ServesAlong, begun_at, last_of, number_in}
 use Rattle.ftp_pair_transfers.proofs.Beside.{Goes, Together}
+use Rattle.ftp_pair_transfers.proofs.Called.{StaysFresh, called_unaborted, far_fresh, near_fresh, transferred_plain}
 use Rattle.ftp_pair_transfers.proofs.ClientDials.{client_dials}
-use Rattle.ftp_pair_transfers.proofs.ClientGiving.{client_gave, gave_plain, gave_sound}
+use Rattle.ftp_pair_transfers.proofs.ClientGiving.{client_gave, gave_fresh, gave_plain, gave_sound}
 use Rattle.ftp_pair_transfers.proofs.ClientHears.{client_heard}
 use Rattle.ftp_pair_transfers.proofs.ClientMoves.{client_begins, client_said}
 use Rattle.ftp_pair_transfers.proofs.ClientStays.{client_closed, client_ends, client_got, client_lets, client_read, client_reports, client_shuts, client_waited, client_wrote}
@@ -89,20 +90,13 @@ starts_sound : (op : Op (List ℕ)) (old new : Stand client_side) → ClientIsCa
 starts_sound op old new calm did sound =
     ap (λ (n : Near). is_sound n.standing) (did.0.0.1.0.0 calm) ∙ ap is_sound (starts_standing op old.owner.end.view) ∙ sound
 
--- an operation that is begun is plain
-transferred_plain : (op : Op (List ℕ)) → IsTransferred op → IsPlain op
-transferred_plain op is = record { dials = is.1; count = by op is.0 }
-  where
-    is_there : Option How → Bool
-    is_there None = false
-    is_there (Some how) = true
-
-    none : (how : How) → ◌≡◌ {A = Option How} (Some how) None → ⊥
-    none how e = true≢false (ap is_there e)
-
-    by : (op : Op (List ℕ)) → IsCarried op → count_of op ≡ None
-    by (Ops.Peek path count how) put = absurd (none how put)
-    by op put = refl
+-- where its reports are taken an operation is at a step just where it was
+doing_same : (job : Job) → is_doing (idle_of job) ≡ is_doing job
+doing_same (Told said) = refl
+doing_same Idle = refl
+doing_same (Waiting op) = refl
+doing_same (Doing op step) = refl
+doing_same (Transferring op transfer) = refl
 
 module _ (read : Reading) (reads : IsReading read) (moments : ℕ → ℕ) (timed : AreMoments moments) (b : Beginning) (fair : IsFair b) where
   -- after deeds, a world is beside both drives
@@ -116,10 +110,11 @@ module _ (read : Reading) (reads : IsReading read) (moments : ℕ → ℕ) (time
     pub serves : ServerServes server.owner
     pub plain : IsPlainly client.owner.end.view
     pub sound : is_sound client.owner.end.view.standing ≡ true
+    pub fresh : StaysFresh between client
 
   -- how a client stands
   fetches : (client : Stand client_side) → IsPlainly client.owner.end.view → is_sound client.owner.end.view.standing ≡ true → ClientFetches client.owner
-  fetches client plain sound = record { sound = sound; dials = plain.port; unaborted = plain_unaborted client.owner.end.view plain }
+  fetches client plain sound = record { sound = sound; dials = plain.port }
 
   -- what is known of it
   module _ (deeds : List (Deed client_side)) (between : Between) (told : ℕ) (server : Stand server_side) (client : Stand client_side) (reports : List Said)
@@ -130,17 +125,22 @@ module _ (read : Reading) (reads : IsReading read) (moments : ℕ → ℕ) (time
     runs : OverRuns read (state_of b) (begun_at moments deeds) o.world
     runs = all_runs read reads b fair o.leads.events (begun_at moments deeds) o.world o.leads.timed o.leads.leads
 
-    unaborted : is_unaborted o.world.near.job ≡ true
-    unaborted = ap (λ (n : Near). is_unaborted n.job) o.together.beside.near ∙ is_unaborted_same client.owner.end.view ∙ asks.unaborted
-
     known : Known o.world
-    known = world_known read reads (state_of b) (begun_at moments deeds) puts o.world runs o.together.beside.control o.together.beside.unready unaborted
+    known = world_known read reads (state_of b) (begun_at moments deeds) puts o.world runs o.together.beside.control o.together.beside.unready
 
     -- its server that hears an octet goes on
     hears_on : (octet : ℕ) (queue : List ℕ) → o.world.control_to_server ≡ octet ∷ queue → Runs (hears_octet read o.world.far octet)
     hears_on octet queue is =
         subst (λ q. Runs (hears read o.world.far (take 1 q))) is
-        (hears_serving read reads (state_of b) (begun_at moments deeds) puts o.world 1 runs o.together.beside.control o.together.beside.unready unaborted)
+        (hears_serving read reads (state_of b) (begun_at moments deeds) puts o.world 1 runs o.together.beside.control o.together.beside.unready)
+
+    -- one that dials is at a step of its operation
+    doing : (endpoint : Endpoint) → near.wants client.owner.end.view ≡ Want.Connect endpoint → is_doing client.owner.end.view.job ≡ true
+    doing endpoint wants =
+        let v : Near = client.owner.end.view in
+        let near_is : o.world.near ≡ taken v = o.together.beside.near ∙ unclosed (taken v) (no_close v (Want.Connect endpoint) wants refl) in
+        sym (doing_same v.job) ∙ ap (λ (n : Near). is_doing n.job) (sym near_is)
+        ∙ (known.dials endpoint (ap near.wants near_is ∙ taken_wants v ∙ wants)).doing
 
   -- ---- a deed
 
@@ -155,7 +155,7 @@ module _ (read : Reading) (reads : IsReading read) (moments : ℕ → ℕ) (time
       (server_heard read reads (begun_at moments deeds) old new client reports o.world is.1 o.serves
       (asks deeds p (listened_in before) old client reports o puts)
       (known deeds p (listened_in before) old client reports o puts) (hears_on deeds p (listened_in before) old client reports o puts) octets o.last o.ahead p
-      (listened_in before) o.together did)
+      (listened_in before) o.together (called_unaborted p client o.fresh) did)
   server_goes (Says octets) old new is deeds puts before ports p q can client reports o did told = (
     server_said read reads (begun_at moments deeds) old new client reports o.world is.1 o.serves (asks deeds p (listened_in before) old client reports o puts)
         (known deeds p (listened_in before) old client reports o puts) (hears_on deeds p (listened_in before) old client reports o puts) octets
@@ -209,7 +209,7 @@ module _ (read : Reading) (reads : IsReading read) (moments : ℕ → ℕ) (time
       (asks deeds p (listened_in before) old client reports o puts) (known deeds p (listened_in before) old client reports o puts)
       (runs deeds p (listened_in before) old client reports o puts) o.last o.ahead p q (listened_in before) did can
       (λ takes. world_timed read reads (state_of b) moments deeds puts o.world (runs deeds p (listened_in before) old client reports o puts)
-      o.together.beside.control o.together.beside.unready (unaborted deeds p (listened_in before) old client reports o puts) takes
+      o.together.beside.control o.together.beside.unready takes
       ∙ sym told) o.together
   server_goes (Other (Gave count octets rest)) old new is deeds puts before ports p q can client reports o did told = (
     subst (λ (m : Between). Goes read [] (begun_at moments deeds) m (listened_in before) new client reports o.world) (sym can)
@@ -381,30 +381,40 @@ module _ (read : Reading) (reads : IsReading read) (moments : ℕ → ℕ) (time
   client_plain : (deed : Deed client_side) (old new : Stand client_side) → ClientTransfers deed old.owner new.owner → (deeds : List (Deed client_side))
       → AreCarried (begun_at moments deeds) → (p : Between) (told : ℕ) (server : Stand server_side) (reports : List Said)
       → Reached (begun_at moments deeds) p told server old reports → Done deed old new → IsPlainly new.owner.end.view
-  client_plain (Heard octets) old new is deeds puts p told server reports o did = deed_plain old new (Heard octets) (tt, is.1) did o.plain
-  client_plain (Says octets) old new is deeds puts p told server reports o did = deed_plain old new (Says octets) (tt, is.1) did o.plain
-  client_plain (Read octets) old new is deeds puts p told server reports o did = deed_plain old new (Read octets) (tt, is.1) did o.plain
+  client_plain (Heard octets) old new is deeds puts p told server reports o did = deed_plain Whatever whatever_kept old new (Heard octets) tt (tt, is.1) did o.plain
+  client_plain (Says octets) old new is deeds puts p told server reports o did = deed_plain Whatever whatever_kept old new (Says octets) tt (tt, is.1) did o.plain
+  client_plain (Read octets) old new is deeds puts p told server reports o did = deed_plain Whatever whatever_kept old new (Read octets) tt (tt, is.1) did o.plain
   client_plain (Other (Aside (Reporting said))) old new is deeds puts p told server reports o did =
-      deed_plain old new (Other (Aside (Reporting said))) (tt, is.1) did o.plain
+      deed_plain Whatever whatever_kept old new (Other (Aside (Reporting said))) tt (tt, is.1) did o.plain
   client_plain (Other (Aside (Starting op))) old new is deeds puts p told server reports o did =
-      subst IsPlainly (sym (did.0.0.1.0.0 is.1)) (starts_plain op old.owner.end.view (transferred_plain op is.0.0) o.plain)
+      subst IsPlainly (sym (did.0.0.1.0.0 is.1)) (starts_plain Whatever whatever_kept op old.owner.end.view (transferred_plain op is.0.0) o.plain)
   client_plain (Other (Opened host (Connected endpoint left written ∷ []) at_first so_far rest)) old new is deeds puts p told server reports o did =
-      deed_plain old new (Other (Opened host (Connected endpoint left written ∷ []) at_first so_far rest)) (tt, is.1) did o.plain
+      deed_plain Whatever whatever_kept old new (Other (Opened host (Connected endpoint left written ∷ []) at_first so_far rest)) tt (tt, is.1) did o.plain
   client_plain (Other (Gave count octets rest)) old new is deeds puts p told server reports o did =
       gave_plain read (begun_at moments deeds) server old new reports o.world is.1 o.serves (asks deeds p told server old reports o puts)
       (known deeds p told server old reports o puts) count octets rest o.last o.ahead p told did o.together o.plain
   client_plain (Other (Wrote octets)) old new is deeds puts p told server reports o did = subst (λ c. IsPlainly c.view) (sym did.0.0) o.plain
-  client_plain (Other (Got octets)) old new is deeds puts p told server reports o did = deed_plain old new (Other (Got octets)) (tt, is.1) did o.plain
+  client_plain (Other (Got octets)) old new is deeds puts p told server reports o did = deed_plain Whatever whatever_kept old new (Other (Got octets)) tt (tt, is.1) did o.plain
   client_plain (Other (Received octets count)) old new is deeds puts p told server reports o did =
-      deed_plain old new (Other (Received octets count)) (tt, is.1) did o.plain
-  client_plain (Other End) old new is deeds puts p told server reports o did = deed_plain old new (Other End) (tt, is.1) did o.plain
-  client_plain (Other (Waited lost)) old new is deeds puts p told server reports o did = deed_plain old new (Other (Waited lost)) (tt, is.1) did o.plain
-  client_plain (Other (LetGo octets)) old new is deeds puts p told server reports o did = deed_plain old new (Other (LetGo octets)) (tt, is.1) did o.plain
+      took_plain octets count old new is.1 did o.plain
+  client_plain (Other End) old new is deeds puts p told server reports o did = deed_plain Whatever whatever_kept old new (Other End) tt (tt, is.1) did o.plain
+  client_plain (Other (Waited lost)) old new is deeds puts p told server reports o did = deed_plain Whatever whatever_kept old new (Other (Waited lost)) tt (tt, is.1) did o.plain
+  client_plain (Other (LetGo octets)) old new is deeds puts p told server reports o did = deed_plain Whatever whatever_kept old new (Other (LetGo octets)) tt (tt, is.1) did o.plain
   client_plain (Other (Left (EndedBy left written))) old new is deeds puts p told server reports o did =
-      deed_plain old new (Other (Left (EndedBy left written))) (tt, is.1) did o.plain
-  client_plain (Other (Left Shut)) old new is deeds puts p told server reports o did = deed_plain old new (Other (Left Shut)) (tt, is.1) did o.plain
-  client_plain (Other Closed) old new is deeds puts p told server reports o did = deed_plain old new (Other Closed) (tt, is.1) did o.plain
+      deed_plain Whatever whatever_kept old new (Other (Left (EndedBy left written))) tt (tt, is.1) did o.plain
+  client_plain (Other (Left Shut)) old new is deeds puts p told server reports o did = deed_plain Whatever whatever_kept old new (Other (Left Shut)) tt (tt, is.1) did o.plain
+  client_plain (Other Closed) old new is deeds puts p told server reports o did = deed_plain Whatever whatever_kept old new (Other Closed) tt (tt, is.1) did o.plain
   client_plain deed old new is deeds puts p told server reports o did = absurd is.0
+
+  -- while the server was dialled nothing came to it
+  client_fresh : (deed : Deed client_side) (old new : Stand client_side) → ClientTransfers deed old.owner new.owner → (deeds : List (Deed client_side))
+      → AreCarried (begun_at moments deeds) → (p q : Between) → CanTurn (Client deed) p q → (told : ℕ) (server : Stand server_side) (reports : List Said)
+      → Reached (begun_at moments deeds) p told server old reports → Done deed old new → StaysFresh q new
+  client_fresh deed old new is deeds puts p q can told server reports o did =
+      near_fresh p q old new o.fresh deed is o.plain (doing deeds p told server old reports o puts)
+      (λ f count octets rest gave. gave_fresh read (begun_at moments deeds) server old new reports o.world is.1 o.serves
+      (asks deeds p told server old reports o puts) (known deeds p told server old reports o puts) count octets rest o.last o.ahead p told gave o.together f)
+      did can
 
   -- ---- one after another
 
@@ -457,6 +467,7 @@ module _ (read : Reading) (reads : IsReading read) (moments : ℕ → ℕ) (time
     serves = record { running = ap (λ f. f.session.life) begins.server_view; none_waits = ap (λ f. f.waiting) begins.server_view };
     plain = subst IsPlainly (sym begins.client_view) (record { job = tt; port = refl; run = refl });
     sound = ap (λ n. is_sound n.standing) begins.client_view;
+    fresh = λ e. absurd (true≢false (sym e));
   }
 
   -- deed by deed
@@ -494,6 +505,7 @@ module _ (read : Reading) (reads : IsReading read) (moments : ℕ → ℕ) (time
         serves = went.1;
         plain = o.plain;
         sound = o.sound;
+        fresh = far_fresh happened.0 between client o.fresh (touch_in deed) happened.2;
       }
   reaches (Client deed ∷ before) between happened server_start server client_start client begins untold unwritten far_unwritten near_untold server_led
       client_led takes gives ports
@@ -519,6 +531,8 @@ module _ (read : Reading) (reads : IsReading read) (moments : ℕ → ℕ) (time
         serves = o.serves;
         plain = plain;
         sound = went.1;
+        fresh = client_fresh deed client_led.0 client gives.1 (client_deeds before) puts happened.0 between happened.2 (listened_in (server_deeds before))
+            server (reports_in (client_deeds before)) o client_led.2;
       }
 
 -- events of a world lead to what both drives hold

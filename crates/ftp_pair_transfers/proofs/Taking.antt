@@ -22,10 +22,9 @@ use Rattle.ftp_pair_agreement.proofs.Rests.{near_form}
 use Rattle.ftp_pair_agreement.proofs.Still.{IsSeen, seen_placed}
 use Rattle.ftp_pair_agreement.proofs.UploadData.{AtRise, rise_ends, rise_is}
 use Rattle.ftp_pair_agreement.proofs.UploadRuns.{moved_pushes}
-use Rattle.ftp_pair_data.specs.Unaborted.{is_unaborted}
 use Rattle.ftp_pair_data.proofs.Known.{beside}
-use Rattle.ftp_pair_data.proofs.Running.{not_halting}
 use Rattle.ftp_pair_data.proofs.Served.{Runs}
+use Rattle.ftp_pair_transfers.proofs.Halting.{halt_unclosed}
 use Rattle.ftp_pair_transfers.proofs.Known.{AreCarried, held_takes, is_ready, last_carried}
 use Rattle.ftp_pair_transfers.proofs.Running.{not_trailing, stage_serves}
 
@@ -67,9 +66,9 @@ module _ (read : Reading) (reads : IsReading read) (from : State) (begun : List 
   some_octets octet queue all some none = true≢false (ap has_octets (sym some ∙ none))
 
   pub takes_on : (w : World) (count octet : ℕ) (queue : List ℕ) → w.data_to_server ≡ octet ∷ queue → count ≤ length w.data_to_server
-      → OverRuns read from begun w → (is_closed_by_near w.link ≡ true → is_ready w.far.session.connection ≡ false) → is_unaborted w.near.job ≡ true
+      → OverRuns read from begun w → (is_closed_by_near w.link ≡ true → is_ready w.far.session.connection ≡ false)
       → TakesOn (pushed read DataToServer count w).far
-  takes_on w count octet queue some few runs unready unaborted = by runs
+  takes_on w count octet queue some few runs unready = by runs
     where
       on_way : (on : IsFetchingOn read from begun w) → TakesOn (pushed read DataToServer count w).far
       on_way on =
@@ -84,7 +83,9 @@ module _ (read : Reading) (reads : IsReading read) (from : State) (begun : List 
       by (inl (inl f)) = absurd (some_octets octet queue w.data_to_server some f.unlinked.to_server)
       by (inl (inr (inl on))) = on_way on
       by (inl (inr (inr (inl trailing)))) = absurd (not_trailing read reads from begun puts w unready trailing)
-      by (inl (inr (inr (inr halting)))) = absurd (not_halting read from begun _ _ _ w halting.halting.stands unaborted)
+      by (inl (inr (inr (inr on)))) =
+          let h = on.halting in
+          absurd (some_octets octet queue w.data_to_server some (ap (λ (u : World). u.data_to_server) h.stands.is ∙ h.stands.here.to_server))
       by (inr (inl trying)) = absurd (last_carried trying.going.done _ begun trying.going.begun_is puts)
       by (inr (inr tailing)) = absurd (last_carried tailing.going.done _ begun tailing.going.begun_is puts)
 
@@ -123,9 +124,9 @@ module _ (read : Reading) (reads : IsReading read) (from : State) (begun : List 
       by_lift Unjoined rises h = absurd (true≢false (sym rises))
 
   pub ends_on : (w : World) → w.link ≡ ClosedByNear → w.data_to_server ≡ [] → OverRuns read from begun w
-      → (is_closed_by_near w.link ≡ true → is_ready w.far.session.connection ≡ false) → is_unaborted w.near.job ≡ true
+      → (is_closed_by_near w.link ≡ true → is_ready w.far.session.connection ≡ false)
       → Runs (told DataToServer w).far × (near.to_give w.near ≡ [])
-  ends_on w closed empty runs unready unaborted = by runs
+  ends_on w closed empty runs unready = by runs
     where
       on_way : (on : IsFetchingOn read from begun w) → Runs (told DataToServer w).far × (near.to_give w.near ≡ [])
       on_way on =
@@ -139,6 +140,7 @@ module _ (read : Reading) (reads : IsReading read) (from : State) (begun : List 
       by (inl (inl f)) = absurd (true≢false (sym (ap is_closed_by_near closed) ∙ ap is_closed_by_near f.unlinked.link))
       by (inl (inr (inl on))) = on_way on
       by (inl (inr (inr (inl trailing)))) = absurd (not_trailing read reads from begun puts w unready trailing)
-      by (inl (inr (inr (inr halting)))) = absurd (not_halting read from begun _ _ _ w halting.halting.stands unaborted)
+      by (inl (inr (inr (inr on)))) =
+          let h = on.halting in absurd (true≢false (sym (ap is_closed_by_near closed) ∙ halt_unclosed h.now h.ask h.own w h.stands))
       by (inr (inl trying)) = absurd (last_carried trying.going.done _ begun trying.going.begun_is puts)
       by (inr (inr tailing)) = absurd (last_carried tailing.going.done _ begun tailing.going.begun_is puts)

@@ -45,17 +45,18 @@ use Rattle.ftp_pair_agreement.proofs.FetchRuns.{pushed_server, serving_first}
 use Rattle.ftp_pair_agreement.proofs.FetchServed.{leads_still}
 use Rattle.ftp_pair_agreement.proofs.FetchWants.{lasting_busy}
 use Rattle.ftp_pair_agreement.proofs.OverRunning.{over_lead}
+use Rattle.ftp_pair_agreement.proofs.PeekRuns.{halt_busy}
 use Rattle.ftp_pair_agreement.proofs.Still.{IsSeen, no_octets, operation_on, rest_world, seen, seen_placed}
 use Rattle.ftp_pair_drives.proofs.Leaving.{is_entered, not_logging}
 use Rattle.ftp_pair_drives.proofs.Taken.{taken}
 use Rattle.ftp_pair_drives.proofs.Worlds.{LeadsOn}
 use Rattle.ftp_pair_data.specs.Ahead.{is_asked}
-use Rattle.ftp_pair_data.specs.Unaborted.{is_unaborted}
 use Rattle.ftp_pair_data.proofs.Moves.{Rested, begins, far_hears, far_says, far_saying, near_hears, near_says, near_saying}
-use Rattle.ftp_pair_data.proofs.Running.{free_still, not_halting, not_lost, under_still}
+use Rattle.ftp_pair_data.proofs.Running.{free_still, not_lost, under_still}
 use Rattle.ftp_pair_data.proofs.Served.{Runs, far_shut, far_told, near_shut, rests, settled}
 use Rattle.ftp_pair_data.proofs.Settling.{far_idle}
 use Rattle.ftp_pair_transfers.specs.Deeds.{AreGranted, IsCarried}
+use Rattle.ftp_pair_transfers.proofs.Halting.{halt_stands}
 use Rattle.ftp_pair_transfers.proofs.Known.{AreCarried, both_carried, front_granted, last_carried}
 use Rattle.ftp_pair_transfers.proofs.Running.{not_trailing}
 
@@ -273,9 +274,8 @@ module _ (read : Reading) (state : State) (ask : Ask) (good : IsAsk ask) (own : 
 module _ (read : Reading) (reads : IsReading read) (begun : List Order) where
   -- a twin that hears an octet doesn't come to wait so
   pub none_begins : (octet : ℕ) (queue : List ℕ) (transfer : Transfer) (w : World) → HasTwin read begun w → w.control_to_server ≡ octet ∷ queue
-      → w.control ≡ Stands → is_unaborted w.near.job ≡ true
-      → (hears_octet read (awaiting w.far) octet).session.connection ≡ Data.Opening transfer Ways.Accept → ⊥
-  none_begins octet queue transfer w k some control unaborted awaited = true≢false (sym (ap is_awaited now_awaited) ∙ by k.runs)
+      → w.control ≡ Stands → (hears_octet read (awaiting w.far) octet).session.connection ≡ Data.Opening transfer Ways.Accept → ⊥
+  none_begins octet queue transfer w k some control awaited = true≢false (sym (ap is_awaited now_awaited) ∙ by k.runs)
     where
       new : World
       new = pushed read ControlToServer 1 (twin w)
@@ -297,7 +297,8 @@ module _ (read : Reading) (reads : IsReading read) (begun : List Order) where
           by_fetching (pushed_server read reads k.from begun 1 (twin w) on.fetching (twin w) (serving_first read reads k.from begun (twin w) on))
       by (inl (inr (inr (inl trailing)))) =
           absurd (not_trailing read reads k.from begun k.carried (twin w) (λ e. absurd (true≢false (sym e ∙ ap is_closed_by_near k.link))) trailing)
-      by (inl (inr (inr (inr halting)))) = absurd (not_halting read k.from begun _ _ _ (twin w) halting.halting.stands unaborted)
+      by (inl (inr (inr (inr on)))) =
+          let h = on.halting in absurd (true≢false (halt_stands h.now h.ask h.own (twin w) h.stands).unaccepting)
       by (inr (inl trying)) = absurd (last_carried trying.going.done _ begun trying.going.begun_is k.carried)
       by (inr (inr tailing)) = absurd (last_carried tailing.going.done _ begun tailing.going.begun_is k.carried)
 
@@ -322,7 +323,7 @@ waits_so state n f s = record {
 
 module _ (read : Reading) (reads : IsReading read) (from : State) (begun : List Order) (puts : AreCarried begun) (y : World) where
   -- a client that has no operation under way, and is logged in
-  module _ (control : y.control ≡ Stands) (unaborted : is_unaborted y.near.job ≡ true) (idle : is_busy y.near ≡ false)
+  module _ (control : y.control ≡ Stands) (idle : is_busy y.near ≡ false)
       (entered : y.near.standing ≡ Standings.Entered) (link : y.link ≡ Gone) (none : y.far.session.connection ≡ Data.Free)
       (refused : AreGranted begun → ⊥) where
     twin_free : IsFree from begun y → IsFree from begun (twin y)
@@ -376,6 +377,7 @@ module _ (read : Reading) (reads : IsReading read) (from : State) (begun : List 
             let f = on.fetching in absurd (true≢false (sym (lasting_busy read f.now f.ask f.is_ask.plan f.own y f.stands on.lasts) ∙ idle))
         by (inl (inr (inr (inl trailing)))) =
             absurd (not_trailing read reads from begun puts y (λ e. absurd (true≢false (sym e ∙ ap is_closed_by_near link))) trailing)
-        by (inl (inr (inr (inr halting)))) = absurd (not_halting read from begun _ _ _ y halting.halting.stands unaborted)
+        by (inl (inr (inr (inr on)))) =
+            let h = on.halting in absurd (true≢false (sym (halt_busy h.now h.ask h.own y h.stands) ∙ idle))
         by (inr (inl trying)) = absurd (last_carried trying.going.done _ begun trying.going.begun_is puts)
         by (inr (inr tailing)) = absurd (last_carried tailing.going.done _ begun tailing.going.begun_is puts)

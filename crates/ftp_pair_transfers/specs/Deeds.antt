@@ -1,6 +1,6 @@
 -- The deeds of one server's drive and of drives of one client while whole files are put and fetched, and listings, over data connections that the server
 -- listens for, and the moments that the server is told as octets that were put end (RFC 959, sections 3.2 and 4.1.3).
-use Rattle.std.specs.Prelude.{◌≡◌, ⊤, ℕ, zero, suc, ◌≤◌, false, true, List, [], ◌∷◌, ◌++◌, None}
+use Rattle.std.specs.Prelude.{◌≡◌, ⊤, ℕ, zero, suc, ◌<◌, ◌≤◌, false, true, List, [], ◌∷◌, ◌++◌, None}
 use Rattle.ftp_direct.specs.Direct.{offset_refusal}
 use Rattle.ftp_control.specs.Asking.{Came, Connected, Ended as EndedBy, Reset, Shut}
 use Rattle.ftp_control.specs.Deeds.{Deed, Done, Heard, Said as Says, Read, Other, Stand, Led}
@@ -50,18 +50,10 @@ ServesAlong deeds start now led = Along ServerTransfers deeds start now led
 
 -- ---- the client
 
--- an operation without a transfer, or one that puts a file, in place of another, behind it or from an offset on, or brings a file, whole or from an offset on,
--- or a listing, as entries, names or text
+-- any operation, but a Peek asks for one octet at least
 abbrev pub IsCarried : Op (List ℕ) → Type 0
-IsCarried (Ops.Put path octets how) = ⊤
-IsCarried (Ops.Append path octets how) = ⊤
-IsCarried (Ops.PutFrom path offset octets how) = ⊤
-IsCarried (Ops.Get path how) = ⊤
-IsCarried (Ops.GetFrom path offset how) = ⊤
-IsCarried (Ops.List path how) = ⊤
-IsCarried (Ops.Names path how) = ⊤
-IsCarried (Ops.Text verb path how) = ⊤
-IsCarried op = how_of op ≡ None
+IsCarried (Ops.Peek path count how) = 0 < count
+IsCarried op = ⊤
 
 -- for which the client dials
 abbrev pub IsTransferred : Op (List ℕ) → Type 0
