@@ -22,8 +22,7 @@ use Rattle.ftp_pair_deeds.proofs.Stands.{ServerServes}
 
 -- ---- deeds of a server that takes no octet of a data connection
 
--- it hears and says; it listens at its ports, accepts its peer there, gives and writes octets, and leaves its data connections: none is reset while octets
--- are unwritten, and nothing of one fails
+-- it hears and says; it listens at its ports, accepts its peer there, gives and writes octets, and leaves its data connections: nothing of one fails
 abbrev pub IsGiving : Deed server_side → Held Timed → Type 0
 IsGiving (Heard octets) at = ⊤
 IsGiving (Says octets) at = ⊤
@@ -36,7 +35,7 @@ IsGiving (Other (Wrote octets)) at = ⊤
 IsGiving (Other (Waited lost)) at = ⊤
 IsGiving (Other (LetGo octets)) at = ⊤
 IsGiving (Other (Left (EndedBy left written))) at = ⊤
-IsGiving (Other (Left (Reset left written))) at = at.lane.unwritten ≡ []
+IsGiving (Other (Left (Reset left written))) at = ⊤
 IsGiving (Other (Left Shut)) at = ⊤
 IsGiving (Other Closed) at = ⊤
 IsGiving deed at = ⊥

@@ -23,7 +23,7 @@ use Rattle.ftp_pair_transfers.proofs.Ahead.{keeps}
 use Rattle.ftp_pair_transfers.specs.Deeds.{begun_at, number_in}
 use Rattle.ftp_pair_transfers.specs.Claims.{TransfersAgree, TransfersAreTheDirectRun, TransfersPartingAgree}
 use Rattle.ftp_pair_deeds.proofs.Parting.{cut_report, parts}
-use Rattle.ftp_pair_transfers.proofs.Simulating.{transfers_are_of_worlds}
+use Rattle.ftp_pair_transfers.proofs.Reaching.{transfers_are_of_worlds}
 
 -- no deed begins an upload over breaks as an order of its own
 by_single : (moment : ℕ) (deed : Deed client_side) → AreSingle (begun_by moment deed)

@@ -13,6 +13,7 @@ pub mod Settling
 pub mod Twins
 pub mod Parting
 pub mod Beside
+pub mod Lost
 pub mod ServerStays
 pub mod ServerMoves
 pub mod ServerTaking
@@ -23,6 +24,7 @@ pub mod ClientDials
 pub mod ClientGiving
 pub mod Called
 pub mod Simulating
+pub mod Reaching
 pub mod Concluding
 pub mod Ending
 pub mod ServerGiving

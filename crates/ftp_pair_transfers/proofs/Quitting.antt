@@ -34,7 +34,8 @@ use Rattle.ftp_pair_transfers.proofs.Ahead.{left_is, left_link}
 use Rattle.ftp_pair_transfers.proofs.Concluding.{transfers_are_the_direct_run}
 use Rattle.ftp_pair_transfers.proofs.Ending.{answers_are, answers_go, as_many, orders_are, transferred_free}
 use Rattle.ftp_pair_transfers.proofs.Resting.{idles}
-use Rattle.ftp_pair_transfers.proofs.Simulating.{in_carried, reaches}
+use Rattle.ftp_pair_transfers.proofs.Reaching.{reaches}
+use Rattle.ftp_pair_transfers.proofs.Simulating.{in_carried}
 
 -- ---- the last deeds
 
@@ -87,8 +88,9 @@ quits_next : (read : Reading) → IsReading read → (b : Beginning) → IsFair 
 quits_next read reads b fair moments timed turns between server client did free entered told =
     let n : Near = client.owner.end.view in
     let v : Far = server.owner.end.server.view in
-    let o = reaches read reads moments timed b fair turns between did.happened did.server_start server did.client_start client did.begins did.untold
+    let at = reaches read reads moments timed b fair turns between did.happened did.server_start server did.client_start client did.begins did.untold
     did.unwritten did.server_unwritten did.client_untold did.server_led did.client_led did.takes did.gives did.ports did.told in
+    let o = at.reached in
     let w = o.world in
     let s = o.together.beside in
     let begun : List Order = begun_at moments (client_deeds turns) in
@@ -98,7 +100,7 @@ quits_next read reads b fair moments timed turns between server client did free 
     let standing : w.near.standing ≡ Standings.Entered = ap (λ (u : Near). u.standing) s.near ∙ entered in
     let carried = in_carried moments (client_deeds turns) did.client_start client did.client_led did.gives in
     let idle = idles read reads (state_of b) begun carried w s.unready s.cutoff all runs standing in
-    begins_quit server between o.serves (sym s.to_server ∙ idle.to_server) (rests_now o.ahead v s.fits (idle_at o.last w.far _ s.far idle.far))
+    begins_quit server between o.serves (ap (λ c. server.unheard ++ c.to_server) (sym at.is_seen.control) ∙ sym s.to_server ∙ idle.to_server) (rests_now o.ahead v s.fits (idle_at o.last w.far _ s.far idle.far))
 
 pub transfers_that_quit_are_the_direct_run : TransfersThatQuitAreTheDirectRun
 transfers_that_quit_are_the_direct_run b fair moments timed asked server over =

@@ -1,6 +1,6 @@
 -- Deeds of a server that takes files for which nothing happens in a world: octets are read, it is looked at or waited for, a data connection is left, a close
 -- or a port is told, and who came is accepted.
-use Rattle.std.proofs.Common.{◌≡◌, ◌⊎◌, inl, inr, ℕ, Bool, true, false, true≢false, List, [], ◌∷◌, ◌++◌, Option, Some, refl, sym, ap, ap₂, subst, ◌∙◌, append_assoc}
+use Rattle.std.proofs.Common.{◌≡◌, ◌⊎◌, inl, inr, ℕ, Bool, true, false, true≢false, List, [], ◌∷◌, ◌++◌, Option, Some, refl, sym, ap, ap₂, subst, ◌∙◌, append_assoc, append-nil}
 use Rattle.std.specs.Prelude.{◌≢◌}
 use Rattle.ftp_endpoint.specs.declared.host.Host.{Host}
 use Rattle.ftp_ends.specs.Link.{is_accepting, same_host}
@@ -25,8 +25,8 @@ use Rattle.ftp_pair_world.specs.Agreement.{Order}
 use Rattle.ftp_pair_world.specs.World.{World, next_listen, port_at}
 use Rattle.ftp_pair_agreement.proofs.Chunks.{both_empty}
 use Rattle.ftp_pair_drives.specs.Alone.{ServerIsCalm}
-use Rattle.ftp_pair_drives.specs.Between.{Awaits, Between, Can, Far as TheServer, Has, Has_ended, Has_lost, Hold, IsOver, IsStanding, with_hold}
-use Rattle.ftp_pair_drives.specs.Touches.{Accepts, Ends, Listens as ListensAt, Resets, Takes as TakesOctets, Writes as WritesOctets}
+use Rattle.ftp_pair_drives.specs.Between.{Awaits, Between, Can, Far as TheServer, Has, Has_lost, Hold, IsOver, IsStanding, with_hold}
+use Rattle.ftp_pair_drives.specs.Touches.{Accepts, Ends, Listens as ListensAt, Takes as TakesOctets, Writes as WritesOctets}
 use Rattle.ftp_pair_drives.proofs.Worlds.{leads_none}
 use Rattle.ftp_pair_data.specs.Ahead.{accepts, is_asked, is_open}
 use Rattle.ftp_pair_transfers.specs.Ahead.{Ahead, Fits, Level, Listened, Listens, Opens, Parted, ahead_of, far_ahead, is_left, is_parted}
@@ -40,6 +40,7 @@ use Rattle.ftp_pair_deeds.proofs.Stands.{ServerServes}
 use Rattle.ftp_pair_transfers.proofs.Beside.{Comes, Goes, Together, Writes}
 use Rattle.ftp_pair_transfers.proofs.FarForms.{is_receive, receives_upload, shut_untaken}
 use Rattle.ftp_pair_transfers.proofs.Known.{Known}
+use Rattle.ftp_pair_transfers.proofs.Lost.{with_lost}
 
 -- an end that has none had none
 not_had : (hold : Hold) → IsOver hold → is_had hold ≡ false
@@ -512,29 +513,30 @@ module _ (read : Reading) (orders : List Order) (old new : Stand server_side) (c
             | inr other ↦ true≢false (ap is_shut other)
           ]
 
-  -- one that has written all leaves by an end or by a reset
-  leaves_so : (asked : Asked) (hold : Hold) (moment : ℕ) (ahead : Ahead) (between next : Between) (told : ℕ)
+  -- it leaves one by an end or by a reset, after which this goes to the client
+  leaves_so : (asked : Asked) (moment : ℕ) (ahead : Ahead) (between next : Between) (told : ℕ)
       → Together read orders moment ahead between told old client reports w → Calls {side = server_side} (Left asked) old new
-      → next ≡ with_hold TheServer hold between
-      → is_called hold ≡ false → is_called between.far ≡ false → old.owner.lane.unwritten ≡ [] → Goes read [] orders next told new client reports w
-  leaves_so asked hold moment ahead between next told t did can apart uncalled none =
+      → next.control ≡ between.control → next.data_ways.to_server ≡ between.data_ways.to_server → next.near ≡ between.near
+      → next.data_ways.to_client ≡ between.data_ways.to_client ++ old.owner.lane.unwritten
+      → is_called next.far ≡ false → is_called between.far ≡ false → Goes read [] orders next told new client reports w
+  leaves_so asked moment ahead between next told t did control ways near falls apart uncalled =
       let lane = did.0.1 in
       let is : u ≡ v = ap (λ at. at.server.view) did.0.0 in
       let session : u.session ≡ v.session = ap (λ (f : Far). f.session) is in
-      let has : next.far ≡ hold = ap (λ (m : Between). m.far) can in
       let none_open : is_open v.session.connection ≡ false = left_shut asked moment ahead between told t did in
       let empty : old.owner.lane.untold ≡ [] = none_there moment ahead between told t (shut_untaken v.session.connection none_open) in
       server_stays moment ahead ahead between next told told t (subst (λ (s : Session). Fits ahead s.connection) (sym session) t.beside.fits)
       (ap (λ f. clock_step moment (far_ahead ahead f)) (sym is)) (λ l. l) (λ e. e)
-      (ap₂ (λ (s : Stand server_side) (m : Between). s.unheard ++ m.control.to_server) (sym did.1) (sym can))
-      (ap (λ (m : Between). m.control.to_client) can)
-      (ap₂ (λ o (m : Between). o ++ (m.data_ways.to_server ++ client.owner.lane.unwritten)) (empty ∙ sym lane.untold) (sym can))
-      (ap₂ (λ o (m : Between). client.owner.lane.untold ++ (m.data_ways.to_client ++ o)) (none ∙ sym lane.unwritten) (sym can))
-      (ap (λ (m : Between). m.near) can)
+      (ap₂ (λ (s : Stand server_side) c. s.unheard ++ c.to_server) (sym did.1) (sym control))
+      (ap (λ c. c.to_client) control)
+      (ap₂ (λ o d. o ++ (d ++ client.owner.lane.unwritten)) (empty ∙ sym lane.untold) (sym ways))
+      (ap (λ o. client.owner.lane.untold ++ o)
+      (sym falls ∙ sym (append-nil next.data_ways.to_client) ∙ ap (λ o. next.data_ways.to_client ++ o) (sym lane.unwritten)))
+      near
       (record {
         shut = λ e. ap (λ (s : Session). is_open s.connection) session ∙ none_open;
         had = λ e. absurd (both e (ap (λ (s : Session). is_open s.connection) session ∙ none_open));
-        called = λ c e. absurd (both c (ap is_called has ∙ apart));
+        called = λ c e. absurd (both c apart);
         opened = λ e. absurd (both (t.holds.opened e) uncalled);
       })
       (record {
@@ -549,13 +551,19 @@ module _ (read : Reading) (orders : List Order) (old new : Stand server_side) (c
       → Together read orders moment ahead between told old client reports w → Calls {side = server_side} (Left (EndedBy left written)) old new
       → Can TheServer Ends between next → Goes read [] orders next told new client reports w
   server_ends left written moment ahead between next told t did can =
-      leaves_so (EndedBy left written) Has_ended moment ahead between next told t did can.1 refl (ap is_called can.0) did.0.2.1.0
+      leaves_so (EndedBy left written) moment ahead between next told t did (ap (λ (m : Between). m.control) can.1)
+      (ap (λ (m : Between). m.data_ways.to_server) can.1) (ap (λ (m : Between). m.near) can.1)
+      (ap (λ (m : Between). m.data_ways.to_client) can.1 ∙ sym (append-nil between.data_ways.to_client)
+      ∙ ap (λ o. between.data_ways.to_client ++ o) (sym did.0.2.1.0)) (ap (λ (m : Between). is_called m.far) can.1) (ap is_called can.0)
 
-  pub server_resets : (left written : Option (List ℕ)) (moment : ℕ) (ahead : Ahead) (between next : Between) (told : ℕ)
+  -- what it did not write yet is on its way in a world
+  pub server_resets : (left written : Option (List ℕ)) (moment : ℕ) (ahead : Ahead) (between : Between) (told : ℕ)
       → Together read orders moment ahead between told old client reports w → Calls {side = server_side} (Left (Reset left written)) old new
-      → Can TheServer Resets between next → old.owner.lane.unwritten ≡ [] → Goes read [] orders next told new client reports w
-  server_resets left written moment ahead between next told t did can none =
-      leaves_so (Reset left written) Has_lost moment ahead between next told t did can.1 refl (standing between.far can.0) none
+      → IsStanding between.far
+      → Goes read [] orders (with_lost old.owner.lane.unwritten (with_hold TheServer Has_lost between)) told new client reports w
+  server_resets left written moment ahead between told t did stands =
+      leaves_so (Reset left written) moment ahead between (with_lost old.owner.lane.unwritten (with_hold TheServer Has_lost between)) told t did
+      refl refl refl refl refl (standing between.far stands)
     where
       standing : (hold : Hold) → IsStanding hold → is_called hold ≡ false
       standing Has is = refl

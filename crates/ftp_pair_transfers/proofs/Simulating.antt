@@ -1,5 +1,5 @@
 -- Two drives that put and fetch files, as a list of a world's events: deed by deed.
-use Rattle.std.proofs.Common.{◌≡◌, ℕ, true, true≢false, List, [], ◌∷◌, ◌++◌, take, option_to_list, refl, sym, ap, ap₂, subst, ◌∙◌, append-nil}
+use Rattle.std.proofs.Common.{◌≡◌, ℕ, true, List, [], ◌∷◌, ◌++◌, take, option_to_list, refl, sym, ap, subst, ◌∙◌, append-nil}
 use Rattle.ftp_control.specs.Asking.{Came, Connected, Ended as EndedBy, Reset, Shut}
 use Rattle.ftp_control.specs.Deeds.{Deed, Done, Heard, Led, Other, Read, Said as Says, Stand}
 use Rattle.ftp_control.specs.Machine.{Aside, Closed, End, Gave, Got, Left, LetGo, Listening, Opened, Received, Waited, Wrote}
@@ -12,35 +12,30 @@ use Rattle.ftp_ends.specs.declared.link.Wants.TheVariants as Want
 use Rattle.ftp_operation.specs.Answer.{Said}
 use Rattle.ftp_operation.specs.declared.op.Op.{Op}
 use Rattle.ftp_server_drive.specs.Side.{server_side}
-use Rattle.ftp_server_model.specs.Calls as far
 use Rattle.ftp_server_model.specs.Machine.{IsReading, Reading, hears, hears_octet}
 use Rattle.ftp_pair_world.specs.Agreement.{Order, Single}
 use Rattle.ftp_pair_world.specs.Claims.{Beginning, IsFair, state_of, world_of}
 use Rattle.ftp_pair_world.specs.World.{World}
 use Rattle.ftp_pair_agreement.specs.Over.{OverRuns}
-use Rattle.ftp_pair_drives.specs.Alone.{ClientIsCalm, begun_by, reported_by, reports_in}
-use Rattle.ftp_pair_drives.specs.Between.{Between, CanTurn, Client, Happened, Server, Turn, client_deeds, nothing_yet, server_deeds}
-use Rattle.ftp_pair_drives.specs.Claims.{Begins}
+use Rattle.ftp_pair_drives.specs.Alone.{ClientIsCalm, begun_by, reported_by}
+use Rattle.ftp_pair_drives.specs.Between.{Between, CanTurn, Client, Server}
 use Rattle.ftp_pair_drives.proofs.Simulating.{reported_is}
-use Rattle.ftp_pair_drives.specs.Touches.{touch_in}
-use Rattle.ftp_pair_drives.proofs.Taken.{idle_of, reports_is, taken, taken_wants}
-use Rattle.ftp_pair_drives.proofs.Worlds.{LeadsOn, leads_none, leads_then}
-use Rattle.ftp_pair_data.specs.Ahead.{is_asked, is_open}
-use Rattle.ftp_pair_transfers.specs.Ahead.{Ahead, Level, far_ahead, is_parted}
+use Rattle.ftp_pair_drives.proofs.Taken.{idle_of, taken, taken_wants}
+use Rattle.ftp_pair_drives.proofs.Worlds.{LeadsOn}
+use Rattle.ftp_pair_transfers.specs.Ahead.{Ahead}
 use Rattle.ftp_pair_data.proofs.Known.{is_doing}
 use Rattle.ftp_pair_data.proofs.Running.{all_runs}
 use Rattle.ftp_pair_data.proofs.Served.{Runs}
 use Rattle.ftp_pair_deeds.specs.Deeds.{ArePorts, listened_in}
-use Rattle.ftp_pair_deeds.proofs.Holding.{both, is_false, unclosed}
+use Rattle.ftp_pair_deeds.proofs.Holding.{unclosed}
 use Rattle.ftp_pair_deeds.proofs.NearForms.{no_close, starts_standing}
 use Rattle.ftp_pair_deeds.proofs.Plain.{IsPlainly, Whatever, starts_plain, whatever_kept}
 use Rattle.ftp_pair_deeds.proofs.Plainly.{deed_plain, deed_sound, took_plain}
 use Rattle.ftp_pair_deeds.proofs.Serves.{deed_serves}
 use Rattle.ftp_pair_deeds.proofs.Stands.{ClientFetches, ServerServes}
-use Rattle.ftp_pair_transfers.specs.Claims.{TransfersAreOfWorlds}
-use Rattle.ftp_pair_transfers.specs.Deeds.{AreMoments, AreToldAt, ClientTransfers, AsksAlong, IsToldAt, ServerTransfers, ServesAlong, begun_at, last_of, number_in}
+use Rattle.ftp_pair_transfers.specs.Deeds.{AreMoments, ClientTransfers, AsksAlong, IsToldAt, ServerTransfers, begun_at, last_of, number_in}
 use Rattle.ftp_pair_transfers.proofs.Beside.{Goes, Together}
-use Rattle.ftp_pair_transfers.proofs.Called.{StaysFresh, called_unaborted, far_fresh, near_fresh, transferred_plain}
+use Rattle.ftp_pair_transfers.proofs.Called.{StaysFresh, called_unaborted, near_fresh, transferred_plain}
 use Rattle.ftp_pair_transfers.proofs.ClientDials.{client_dials}
 use Rattle.ftp_pair_transfers.proofs.ClientGiving.{client_gave, gave_fresh, gave_plain, gave_sound}
 use Rattle.ftp_pair_transfers.proofs.ClientHears.{client_heard}
@@ -52,13 +47,13 @@ use Rattle.ftp_pair_transfers.proofs.Known.{AreCarried, Known, both_carried}
 use Rattle.ftp_pair_transfers.proofs.Running.{hears_serving, world_known, world_timed}
 use Rattle.ftp_pair_transfers.proofs.ServerGiving.{server_gave}
 use Rattle.ftp_pair_transfers.proofs.ServerMoves.{server_heard, server_said}
-use Rattle.ftp_pair_transfers.proofs.ServerStays.{server_accepts, server_aside, server_closed, server_ends, server_got, server_lets, server_listens, server_read, server_resets, server_shuts, server_waited, server_wrote}
+use Rattle.ftp_pair_transfers.proofs.ServerStays.{server_accepts, server_aside, server_closed, server_ends, server_got, server_lets, server_listens, server_read, server_shuts, server_waited, server_wrote}
 use Rattle.ftp_pair_transfers.proofs.ServerTaking.{server_received, server_told_end}
 
--- the ports of the deeds before one are those of a world too
-earlier : (deed : Deed server_side) (before : List (Deed server_side)) → ArePorts (deed ∷ before) → ArePorts before
-earlier (Other (Listening port)) before ports = ports.0
-earlier deed before ports = ports
+-- a deed but a reset
+abbrev pub ResetsNone : Deed server_side → Type 0
+ResetsNone (Other (Left (Reset left written))) = ⊥
+ResetsNone deed = Unit {0}
 
 -- ---- what was begun
 
@@ -76,11 +71,11 @@ in_carried moments (deed ∷ before) start now led gives =
     (by_carried (moments (number_in before)) deed led.0.owner now.owner gives.1)
 
 -- what was begun after a deed
-abbrev orders_after : (moment : ℕ) → Deed client_side → List Order → List Order
+abbrev pub orders_after : (moment : ℕ) → Deed client_side → List Order → List Order
 orders_after moment (Other (Aside (Starting op))) orders = orders ++ Single op moment ∷ []
 orders_after moment deed orders = orders
 
-orders_are : (moment : ℕ) (deed : Deed client_side) (orders : List Order) → orders_after moment deed orders ≡ orders ++ begun_by moment deed
+pub orders_are : (moment : ℕ) (deed : Deed client_side) (orders : List Order) → orders_after moment deed orders ≡ orders ++ begun_by moment deed
 orders_are moment (Other (Aside (Starting op))) orders = refl
 orders_are moment deed orders = sym (append-nil orders)
 
@@ -125,7 +120,7 @@ module _ (read : Reading) (reads : IsReading read) (moments : ℕ → ℕ) (time
     runs : OverRuns read (state_of b) (begun_at moments deeds) o.world
     runs = all_runs read reads b fair o.leads.events (begun_at moments deeds) o.world o.leads.timed o.leads.leads
 
-    known : Known o.world
+    pub known : Known o.world
     known = world_known read reads (state_of b) (begun_at moments deeds) puts o.world runs o.together.beside.control o.together.beside.unready
 
     -- its server that hears an octet goes on
@@ -145,24 +140,24 @@ module _ (read : Reading) (reads : IsReading read) (moments : ℕ → ℕ) (time
   -- ---- a deed
 
   -- of the server
-  server_goes : (deed : Deed server_side) (old new : Stand server_side) → ServerTransfers deed old.owner new.owner → (deeds : List (Deed client_side))
+  pub server_goes : (deed : Deed server_side) → ResetsNone deed → (old new : Stand server_side) → ServerTransfers deed old.owner new.owner → (deeds : List (Deed client_side))
       → AreCarried (begun_at moments deeds) → (before : List (Deed server_side)) → ArePorts (deed ∷ before) → (p q : Between) → CanTurn (Server deed) p q
       → (client : Stand client_side) (reports : List Said) → (o : Reached (begun_at moments deeds) p (listened_in before) old client reports)
       → (did : Done deed old new) → IsToldAt deed old new did (last_of moments (number_in deeds))
       → Goes read [] (begun_at moments deeds) q (listened_in (deed ∷ before)) new client reports o.world × ServerServes new.owner
-  server_goes (Heard octets) old new is deeds puts before ports p q can client reports o did told =
+  server_goes (Heard octets) kept old new is deeds puts before ports p q can client reports o did told =
       subst (λ (m : Between). Goes read [] (begun_at moments deeds) m (listened_in before) new client reports o.world × ServerServes new.owner) (sym can)
       (server_heard read reads (begun_at moments deeds) old new client reports o.world is.1 o.serves
       (asks deeds p (listened_in before) old client reports o puts)
       (known deeds p (listened_in before) old client reports o puts) (hears_on deeds p (listened_in before) old client reports o puts) octets o.last o.ahead p
       (listened_in before) o.together (called_unaborted p client o.fresh) did)
-  server_goes (Says octets) old new is deeds puts before ports p q can client reports o did told = (
+  server_goes (Says octets) kept old new is deeds puts before ports p q can client reports o did told = (
     server_said read reads (begun_at moments deeds) old new client reports o.world is.1 o.serves (asks deeds p (listened_in before) old client reports o puts)
         (known deeds p (listened_in before) old client reports o puts) (hears_on deeds p (listened_in before) old client reports o puts) octets
         o.last o.ahead p q (listened_in before) o.together did can,
     deed_serves (Says octets) tt old new (tt, is.1) did o.serves,
   )
-  server_goes (Read octets) old new is deeds puts before ports p q can client reports o did told = (
+  server_goes (Read octets) kept old new is deeds puts before ports p q can client reports o did told = (
     server_read read (begun_at moments deeds) old new client reports o.world is.1 o.serves (known deeds p (listened_in before) old client reports o puts)
         octets o.last o.ahead p q
         (listened_in before) o.together did can.0
@@ -170,27 +165,27 @@ module _ (read : Reading) (reads : IsReading read) (moments : ℕ → ℕ) (time
         (m : Between). m.near) can.1),
     deed_serves (Read octets) tt old new (tt, is.1) did o.serves,
   )
-  server_goes (Other (Aside tt)) old new is deeds puts before ports p q can client reports o did told = (
+  server_goes (Other (Aside tt)) kept old new is deeds puts before ports p q can client reports o did told = (
     subst (λ (m : Between). Goes read [] (begun_at moments deeds) m (listened_in before) new client reports o.world) (sym can)
         (server_aside read (begun_at moments deeds) old new client reports o.world is.1 o.serves
         (known deeds p (listened_in before) old client reports o puts) o.last o.ahead p
         (listened_in before) o.together did),
     deed_serves (Other (Aside tt)) tt old new (tt, is.1) did o.serves,
   )
-  server_goes (Other (Listening port)) old new is deeds puts before ports p q can client reports o did told = (
+  server_goes (Other (Listening port)) kept old new is deeds puts before ports p q can client reports o did told = (
     server_listens read (begun_at moments deeds) old new client reports o.world is.1 o.serves (known deeds p (listened_in before) old client reports o puts)
         port o.last o.ahead p q
         (listened_in before) o.together did can ports.1,
     deed_serves (Other (Listening port)) tt old new (tt, is.1) did o.serves,
   )
-  server_goes (Other (Opened host (Came from left written ∷ []) at_first so_far rest)) old new is deeds puts before ports p q can client reports o did told = (
+  server_goes (Other (Opened host (Came from left written ∷ []) at_first so_far rest)) kept old new is deeds puts before ports p q can client reports o did told = (
     server_accepts read (begun_at moments deeds) old new client reports o.world is.1 o.serves (known deeds p (listened_in before) old client reports o puts)
         host from left written
         at_first so_far rest o.last o.ahead p q (listened_in before)
         o.together did can is.0,
     deed_serves (Other (Opened host (Came from left written ∷ []) at_first so_far rest)) tt old new is did o.serves,
   )
-  server_goes (Other (Got octets)) old new is deeds puts before ports p q can client reports o did told = (
+  server_goes (Other (Got octets)) kept old new is deeds puts before ports p q can client reports o did told = (
     server_got read (begun_at moments deeds) old new client reports o.world is.1 o.serves (known deeds p (listened_in before) old client reports o puts)
         octets o.last o.ahead p q
         (listened_in before) o.together did can,
@@ -199,74 +194,69 @@ module _ (read : Reading) (reads : IsReading read) (moments : ℕ → ℕ) (time
       none_waits = ap (λ at. at.server.view.waiting) did.0.0 ∙ o.serves.none_waits;
     },
   )
-  server_goes (Other (Received octets count)) old new is deeds puts before ports p q can client reports o did told =
+  server_goes (Other (Received octets count)) kept old new is deeds puts before ports p q can client reports o did told =
       subst (λ (m : Between). Goes read [] (begun_at moments deeds) m (listened_in before) new client reports o.world × ServerServes new.owner) (sym can)
       (server_received read reads (state_of b) (begun_at moments deeds) puts old new client reports o.world is.1 o.serves
       (asks deeds p (listened_in before) old client reports o puts) (known deeds p (listened_in before) old client reports o puts)
       (runs deeds p (listened_in before) old client reports o puts) octets count o.last o.ahead p (listened_in before) did o.together)
-  server_goes (Other End) old new is deeds puts before ports p q can client reports o did told =
+  server_goes (Other End) kept old new is deeds puts before ports p q can client reports o did told =
       server_told_end read reads (state_of b) (begun_at moments deeds) puts old new client reports o.world is.1 o.serves
       (asks deeds p (listened_in before) old client reports o puts) (known deeds p (listened_in before) old client reports o puts)
       (runs deeds p (listened_in before) old client reports o puts) o.last o.ahead p q (listened_in before) did can
       (λ takes. world_timed read reads (state_of b) moments deeds puts o.world (runs deeds p (listened_in before) old client reports o puts)
       o.together.beside.control o.together.beside.unready takes
       ∙ sym told) o.together
-  server_goes (Other (Gave count octets rest)) old new is deeds puts before ports p q can client reports o did told = (
+  server_goes (Other (Gave count octets rest)) kept old new is deeds puts before ports p q can client reports o did told = (
     subst (λ (m : Between). Goes read [] (begun_at moments deeds) m (listened_in before) new client reports o.world) (sym can)
         (server_gave read (begun_at moments deeds) old new client reports o.world is.1 o.serves (asks deeds p (listened_in before) old client reports o puts)
         (known deeds p (listened_in before) old client reports o puts) count octets rest o.last p (listened_in before) did o.ahead o.together),
     deed_serves (Other (Gave count octets rest)) tt old new (tt, is.1) did o.serves,
   )
-  server_goes (Other (Wrote octets)) old new is deeds puts before ports p q can client reports o did told = (
+  server_goes (Other (Wrote octets)) kept old new is deeds puts before ports p q can client reports o did told = (
     server_wrote read (begun_at moments deeds) old new client reports o.world is.1 o.serves (known deeds p (listened_in before) old client reports o puts)
         octets o.last o.ahead p q
         (listened_in before) o.together did can,
     deed_serves (Other (Wrote octets)) tt old new (tt, is.1) did o.serves,
   )
-  server_goes (Other (Waited lost)) old new is deeds puts before ports p q can client reports o did told = (
+  server_goes (Other (Waited lost)) kept old new is deeds puts before ports p q can client reports o did told = (
     subst (λ (m : Between). Goes read [] (begun_at moments deeds) m (listened_in before) new client reports o.world) (sym can)
         (server_waited read (begun_at moments deeds) old new client reports o.world is.1 o.serves
         (known deeds p (listened_in before) old client reports o puts) lost o.last o.ahead p
         (listened_in before) o.together did),
     deed_serves (Other (Waited lost)) tt old new (tt, is.1) did o.serves,
   )
-  server_goes (Other (LetGo octets)) old new is deeds puts before ports p q can client reports o did told = (
+  server_goes (Other (LetGo octets)) kept old new is deeds puts before ports p q can client reports o did told = (
     subst (λ (m : Between). Goes read [] (begun_at moments deeds) m (listened_in before) new client reports o.world) (sym can)
         (server_lets read (begun_at moments deeds) old new client reports o.world is.1 o.serves (known deeds p (listened_in before) old client reports o puts)
         octets o.last o.ahead p
         (listened_in before) o.together did),
     deed_serves (Other (LetGo octets)) tt old new (tt, is.1) did o.serves,
   )
-  server_goes (Other (Left (EndedBy left written))) old new is deeds puts before ports p q can client reports o did told = (
+  server_goes (Other (Left (EndedBy left written))) kept old new is deeds puts before ports p q can client reports o did told = (
     server_ends read (begun_at moments deeds) old new client reports o.world is.1 o.serves (known deeds p (listened_in before) old client reports o puts) left
         written o.last o.ahead
         p q (listened_in before) o.together did can,
     deed_serves (Other (Left (EndedBy left written))) tt old new (tt, is.1) did o.serves,
   )
-  server_goes (Other (Left (Reset left written))) old new is deeds puts before ports p q can client reports o did told = (
-    server_resets read (begun_at moments deeds) old new client reports o.world is.1 o.serves (known deeds p (listened_in before) old client reports o puts)
-        left written o.last o.ahead
-        p q (listened_in before) o.together did can is.0,
-    deed_serves (Other (Left (Reset left written))) tt old new is did o.serves,
-  )
-  server_goes (Other (Left Shut)) old new is deeds puts before ports p q can client reports o did told = (
+  server_goes (Other (Left (Reset left written))) kept old new is deeds puts before ports p q can client reports o did told = absurd kept
+  server_goes (Other (Left Shut)) kept old new is deeds puts before ports p q can client reports o did told = (
     subst (λ (m : Between). Goes read [] (begun_at moments deeds) m (listened_in before) new client reports o.world) (sym can)
         (server_shuts read (begun_at moments deeds) old new client reports o.world is.1 o.serves
         (known deeds p (listened_in before) old client reports o puts) o.last o.ahead p
         (listened_in before) o.together did),
     deed_serves (Other (Left Shut)) tt old new (tt, is.1) did o.serves,
   )
-  server_goes (Other Closed) old new is deeds puts before ports p q can client reports o did told = (
+  server_goes (Other Closed) kept old new is deeds puts before ports p q can client reports o did told = (
     subst (λ (m : Between). Goes read [] (begun_at moments deeds) m (listened_in before) new client reports o.world) (sym can)
         (server_closed read (begun_at moments deeds) old new client reports o.world is.1 o.serves
         (known deeds p (listened_in before) old client reports o puts) o.last o.ahead p
         (listened_in before) o.together did),
     deed_serves (Other Closed) tt old new (tt, is.1) did o.serves,
   )
-  server_goes deed old new is deeds puts before ports p q can client reports o did told = absurd is.0
+  server_goes deed kept old new is deeds puts before ports p q can client reports o did told = absurd is.0
 
   -- of the client
-  client_goes : (deed : Deed client_side) (old new : Stand client_side) → ClientTransfers deed old.owner new.owner → (deeds : List (Deed client_side))
+  pub client_goes : (deed : Deed client_side) (old new : Stand client_side) → ClientTransfers deed old.owner new.owner → (deeds : List (Deed client_side))
       → AreCarried (begun_at moments deeds) → (p q : Between) → CanTurn (Client deed) p q → (told : ℕ) (server : Stand server_side) (reports : List Said)
       → (o : Reached (begun_at moments deeds) p told server old reports) → IsPlainly new.owner.end.view → Done deed old new
       → Goes read (begun_by (moments (number_in deeds)) deed) (orders_after (moments (number_in deeds)) deed (begun_at moments deeds)) q told server new
@@ -378,7 +368,7 @@ module _ (read : Reading) (reads : IsReading read) (moments : ℕ → ℕ) (time
   client_goes deed old new is deeds puts p q can told server reports o plain did = absurd is.0
 
   -- the client stays plain
-  client_plain : (deed : Deed client_side) (old new : Stand client_side) → ClientTransfers deed old.owner new.owner → (deeds : List (Deed client_side))
+  pub client_plain : (deed : Deed client_side) (old new : Stand client_side) → ClientTransfers deed old.owner new.owner → (deeds : List (Deed client_side))
       → AreCarried (begun_at moments deeds) → (p : Between) (told : ℕ) (server : Stand server_side) (reports : List Said)
       → Reached (begun_at moments deeds) p told server old reports → Done deed old new → IsPlainly new.owner.end.view
   client_plain (Heard octets) old new is deeds puts p told server reports o did = deed_plain Whatever whatever_kept old new (Heard octets) tt (tt, is.1) did o.plain
@@ -407,7 +397,7 @@ module _ (read : Reading) (reads : IsReading read) (moments : ℕ → ℕ) (time
   client_plain deed old new is deeds puts p told server reports o did = absurd is.0
 
   -- while the server was dialled nothing came to it
-  client_fresh : (deed : Deed client_side) (old new : Stand client_side) → ClientTransfers deed old.owner new.owner → (deeds : List (Deed client_side))
+  pub client_fresh : (deed : Deed client_side) (old new : Stand client_side) → ClientTransfers deed old.owner new.owner → (deeds : List (Deed client_side))
       → AreCarried (begun_at moments deeds) → (p q : Between) → CanTurn (Client deed) p q → (told : ℕ) (server : Stand server_side) (reports : List Said)
       → Reached (begun_at moments deeds) p told server old reports → Done deed old new → StaysFresh q new
   client_fresh deed old new is deeds puts p q can told server reports o did =
@@ -415,147 +405,3 @@ module _ (read : Reading) (reads : IsReading read) (moments : ℕ → ℕ) (time
       (λ f count octets rest gave. gave_fresh read (begun_at moments deeds) server old new reports o.world is.1 o.serves
       (asks deeds p told server old reports o puts) (known deeds p told server old reports o puts) count octets rest o.last o.ahead p told gave o.together f)
       did can
-
-  -- ---- one after another
-
-  -- as a session begins
-  starts_so : (server : Stand server_side) (client : Stand client_side) → Begins b server client → server.owner.lane.untold ≡ []
-      → client.owner.lane.unwritten ≡ [] → server.owner.lane.unwritten ≡ [] → client.owner.lane.untold ≡ [] → Reached [] nothing_yet 0 server client []
-  starts_so server client begins untold unwritten far_unwritten near_untold = record {
-    world = world_of b;
-    leads = leads_none read (world_of b);
-    last = 0;
-    ahead = Level;
-    together = record {
-      beside = record {
-        fits = ap (λ f. is_asked f.session.connection) begins.server_view;
-        near = ap (λ n. near.data_closed (taken n)) (sym begins.client_view);
-        far = ap (λ f. far.clock_step 0 (far_ahead Level f)) (sym begins.server_view);
-        to_server = ap (λ q. q ++ []) (sym begins.server_unheard);
-        to_client = ap (λ q. q ++ []) (sym begins.client_unheard);
-        rising = ap₂ (λ q r. q ++ ([] ++ r)) (sym untold) (sym unwritten);
-        falling = ap₂ (λ q r. q ++ ([] ++ r)) (sym near_untold) (sym far_unwritten);
-        listens = refl;
-        reported = ap (λ n. option_to_list (near.report_of n)) (sym begins.client_view);
-        control = refl;
-        unready = λ e. absurd (true≢false (sym e));
-        marks = tt;
-        cutoff = refl;
-      };
-      holds = record {
-        shut = λ e. ap (λ f. is_open f.session.connection) begins.server_view;
-        had = λ e. absurd (both e (ap (λ f. is_open f.session.connection) begins.server_view));
-        called = λ c e. absurd (true≢false (sym c));
-        opened = λ e. absurd (true≢false (sym e));
-      };
-      comes = record {
-        bare = λ e. untold;
-        spare = λ e. untold;
-        over = λ e. untold;
-        shut = λ e. ap (λ f. is_open f.session.connection) begins.server_view;
-      };
-      serves = record { spare = λ e. far_unwritten; bare = λ e. far_unwritten };
-      takes = record { bare = λ e. near_untold; over = λ e. near_untold };
-      gives = record { spare = λ e. unwritten; bare = λ e. unwritten };
-      keeping = record {
-        had = λ e. absurd (true≢false (sym e));
-        shut = λ e. absurd (both e (ap (λ n. n.closing) begins.client_view));
-        over = λ e. refl;
-      };
-      twin = λ e. absurd (true≢false (sym e));
-    };
-    serves = record { running = ap (λ f. f.session.life) begins.server_view; none_waits = ap (λ f. f.waiting) begins.server_view };
-    plain = subst IsPlainly (sym begins.client_view) (record { job = tt; port = refl; run = refl });
-    sound = ap (λ n. is_sound n.standing) begins.client_view;
-    fresh = λ e. absurd (true≢false (sym e));
-  }
-
-  -- deed by deed
-  pub reaches : (turns : List Turn) (between : Between) → Happened turns between
-      → (server_start server : Stand server_side) (client_start client : Stand client_side) → Begins b server_start client_start
-      → server_start.owner.lane.untold ≡ [] → client_start.owner.lane.unwritten ≡ []
-      → server_start.owner.lane.unwritten ≡ [] → client_start.owner.lane.untold ≡ []
-      → (server_led : Led (server_deeds turns) server_start server) (client_led : Led (client_deeds turns) client_start client)
-      → ServesAlong (server_deeds turns) server_start server server_led → AsksAlong (client_deeds turns) client_start client client_led
-      → ArePorts (server_deeds turns) → AreToldAt moments turns server_start server server_led
-      → Reached (begun_at moments (client_deeds turns)) between (listened_in (server_deeds turns)) server client (reports_in (client_deeds turns))
-  reaches [] between happened server_start server client_start client begins untold unwritten far_unwritten near_untold server_led client_led takes gives
-      ports told =
-      subst (λ (m : Between). Reached [] m 0 server client []) (sym happened)
-      (subst (λ (s : Stand server_side). Reached [] nothing_yet 0 s client []) (sym server_led)
-      (subst (λ (c : Stand client_side). Reached [] nothing_yet 0 server_start c []) (sym client_led)
-      (starts_so server_start client_start begins untold unwritten far_unwritten near_untold)))
-  reaches (Server deed ∷ before) between happened server_start server client_start client begins untold unwritten far_unwritten near_untold server_led
-      client_led takes gives ports
-      told =
-      let o = reaches before happened.0 happened.1 server_start server_led.0 client_start client begins untold unwritten far_unwritten near_untold
-      server_led.1 client_led takes.0
-      gives (earlier deed (server_deeds before) ports) told.0 in
-      let begun : List Order = begun_at moments (client_deeds before) in
-      let went = server_goes deed server_led.0 server takes.1 (client_deeds before) (in_carried moments
-      (client_deeds before) client_start client client_led gives)
-      (server_deeds before) ports happened.0 between happened.2 client (reports_in (client_deeds before)) o server_led.2 told.1 in
-      record {
-        world = went.0.world;
-        leads = subst (λ l. LeadsOn read l (world_of b) went.0.world) (append-nil begun)
-            (leads_then read begun [] (world_of b) o.world went.0.world o.leads went.0.leads);
-        last = went.0.moment;
-        ahead = went.0.ahead;
-        together = went.0.together;
-        serves = went.1;
-        plain = o.plain;
-        sound = o.sound;
-        fresh = far_fresh happened.0 between client o.fresh (touch_in deed) happened.2;
-      }
-  reaches (Client deed ∷ before) between happened server_start server client_start client begins untold unwritten far_unwritten near_untold server_led
-      client_led takes gives ports
-      told =
-      let o = reaches before happened.0 happened.1 server_start server client_start client_led.0 begins untold unwritten far_unwritten near_untold server_led
-      client_led.1 takes gives.0
-      ports told in
-      let begun : List Order = begun_at moments (client_deeds before) in
-      let puts = in_carried moments (client_deeds before) client_start client_led.0 client_led.1 gives.0 in
-      let plain = client_plain deed client_led.0 client gives.1 (client_deeds before) puts happened.0 (listened_in (server_deeds before)) server
-      (reports_in (client_deeds before)) o client_led.2 in
-      let went = client_goes deed client_led.0 client gives.1 (client_deeds before) puts happened.0 between happened.2 (listened_in
-      (server_deeds before)) server
-      (reports_in (client_deeds before)) o plain client_led.2 in
-      record {
-        world = went.0.world;
-        leads = leads_then read begun (begun_by (moments (number_in (client_deeds before))) deed) (world_of b) o.world went.0.world o.leads went.0.leads;
-        last = went.0.moment;
-        ahead = went.0.ahead;
-        together = subst (λ l. Together read l went.0.moment went.0.ahead between (listened_in (server_deeds before)) server client
-            (reports_in (client_deeds before) ++ reported_by deed) went.0.world) (orders_are (moments (number_in (client_deeds before))) deed begun)
-            went.0.together;
-        serves = o.serves;
-        plain = plain;
-        sound = went.1;
-        fresh = client_fresh deed client_led.0 client gives.1 (client_deeds before) puts happened.0 between happened.2 (listened_in (server_deeds before))
-            server (reports_in (client_deeds before)) o client_led.2;
-      }
-
--- events of a world lead to what both drives hold
-pub transfers_are_of_worlds : TransfersAreOfWorlds
-transfers_are_of_worlds read reads b fair moments timed turns between server client did =
-    let o = reaches read reads moments timed b fair turns between did.happened did.server_start server did.client_start client did.begins did.untold
-    did.unwritten did.server_unwritten did.client_untold did.server_led did.client_led did.takes did.gives did.ports did.told in
-    let s = o.together.beside in
-    record {
-      events = o.leads.events;
-      timed = o.leads.timed;
-      world = o.world;
-      leads = o.leads.leads;
-      both = record {
-        moment = o.last;
-        ahead = o.ahead;
-        fits = s.fits;
-        near = s.near ∙ ap near.data_closed (sym (reports_is client.owner.end.view));
-        far = s.far;
-        reported = s.reported;
-        control = s.control;
-        marks = s.marks;
-        cutoff = s.cutoff;
-      };
-      granted = λ g. is_false (is_parted o.ahead) (λ e. (o.together.twin e).refused g);
-    }

@@ -20,7 +20,7 @@ use Rattle.ftp_pair_deeds.specs.Deeds.{Along, IsPeer, is_dialling}
 -- ---- the server
 
 -- it hears and says; it listens at its ports, accepts its peer there, gives and writes octets, takes octets to the end that it is told, and leaves its data
--- connections: none is reset while octets are unwritten, and nothing of one fails
+-- connections, by an end or by a reset: nothing of one fails
 abbrev pub IsServing : Deed server_side → Held Timed → Type 0
 IsServing (Heard octets) at = ⊤
 IsServing (Says octets) at = ⊤
@@ -36,7 +36,7 @@ IsServing (Other (Wrote octets)) at = ⊤
 IsServing (Other (Waited lost)) at = ⊤
 IsServing (Other (LetGo octets)) at = ⊤
 IsServing (Other (Left (EndedBy left written))) at = ⊤
-IsServing (Other (Left (Reset left written))) at = at.lane.unwritten ≡ []
+IsServing (Other (Left (Reset left written))) at = ⊤
 IsServing (Other (Left Shut)) at = ⊤
 IsServing (Other Closed) at = ⊤
 IsServing deed at = ⊥
