@@ -2,7 +2,7 @@
 use Rattle.std.proofs.Common.{◌≡◌, Bool, true, false, true≢false, [], refl, sym, ap, ◌∙◌}
 use Rattle.ftp_control.specs.Lane.{Lane}
 use Rattle.ftp_control.specs.declared.whole.Fate.{Fate}
-use Rattle.ftp_control.specs.declared.whole.Fate.TheVariants.{Sound}
+use Rattle.ftp_control.specs.declared.whole.Fate.TheVariants.{Sound, Failed}
 use Rattle.ftp_client_model.specs.Calls.{data_closed}
 use Rattle.ftp_client_model.specs.View.{View as Near}
 use Rattle.ftp_pair_drives.specs.Between.{Has, Hold, Is_called}
@@ -16,9 +16,10 @@ abbrev pub is_called : Hold → Bool
 is_called Is_called = true
 is_called hold = false
 
--- octets may come and go
+-- the end was not told that it ended or broke
 abbrev pub is_sound : Fate → Bool
 is_sound Sound = true
+is_sound Failed = true
 is_sound fate = false
 
 -- what came and was not told is of one that stands and is sound

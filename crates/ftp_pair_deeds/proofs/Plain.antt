@@ -186,7 +186,8 @@ module _ (Kept : Op (List ℕ) → Transfer → Type 0) (keeps : IsKept Kept) wh
       by : (step : Step) → is_listen step ≡ false → IsPlainBy Kept (placed op step n)
       by Steps.Listen e = absurd (true≢false e)
       by Steps.Last e =
-          sent_plain (command_of n op Steps.Last) (record n { job = last_job op (flow_of op) }) (record { job = last (flow_of op) refl; port = port; run = run })
+          sent_plain (command_of n op Steps.Last) (record n { job = last_job op (flow_of op) })
+          (record { job = last (flow_of op) refl; port = port; run = run })
       by other e = sent_plain (command_of n op other) (record n { job = Doing op other }) (record { job = plain; port = port; run = run })
 
   begins_plain : (op : Op (List ℕ)) (n : Near) → IsPlain op → has_port n.connection ≡ false → n.run ≡ None → IsPlainBy Kept (begins op n)
@@ -236,7 +237,8 @@ module _ (Kept : Op (List ℕ) → Transfer → Type 0) (keeps : IsKept Kept) wh
       plainly : (link : ClientLink) (closing : Bool) → has_port link ≡ false → IsPlainBy Kept (at link closing)
       plainly link closing none = record { job = (plain, kept); port = none; run = run }
 
-      over : (replied : Replied) (abort : Abort) (link : ClientLink) (flow : Flow) (v : Near) → IsPlainBy Kept v → IsPlainBy Kept (answers_by replied abort link op flow v)
+      over : (replied : Replied) (abort : Abort) (link : ClientLink) (flow : Flow) (v : Near) → IsPlainBy Kept v
+          → IsPlainBy Kept (answers_by replied abort link op flow v)
       over (Replies.Final code) Aborts.Unsent (Data.Over ending) flow v p = read_plain (judged ending Aborts.Unsent code op flow) v p
       over (Replies.Final code) Aborts.Answered (Data.Over ending) flow v p = read_plain (judged ending Aborts.Answered code op flow) v p
       over replied abort link flow v p = p
@@ -307,7 +309,8 @@ module _ (Kept : Op (List ℕ) → Transfer → Type 0) (keeps : IsKept Kept) wh
   dials_plain : (op : Op (List ℕ)) (endpoint : Endpoint) (n : Near) → IsPlain op → n.run ≡ None → IsPlainBy Kept (dials op endpoint n)
   dials_plain op endpoint n plain run = goes_plain op Steps.Passive (record n { connection = Data.Connecting endpoint }) plain refl run
 
-  named_plain : (extended : Bool) (op : Op (List ℕ)) (text : Text) (n : Near) → IsPlain op → IsPlainBy Kept n → IsPlainBy Kept (passive_named extended op text n)
+  named_plain : (extended : Bool) (op : Op (List ℕ)) (text : Text) (n : Near) → IsPlain op → IsPlainBy Kept n
+      → IsPlainBy Kept (passive_named extended op text n)
   named_plain true op text n plain p = by (extended_value text)
     where
       by : (port : Option ℕ) → IsPlainBy Kept (port_named port op n)

@@ -240,6 +240,7 @@ module _ (b : Beginning) (first : Far) (op : Op (List ℕ)) (said : Said) (clien
           turns = Client (Other Closed) ∷ Client (Other (Left asked)) ∷ Client (Other (Report (Some said))) ∷ p.turns;
           between = both_ended;
           happened = (both_ended, (there, (there, p.happened, refl), can), refl);
+          resets = p.resets;
           closed = Shut;
           server_is = refl;
           client_is = ap (λ l. Other Closed ∷ Other (Left asked) ∷ Other (Report (Some said)) ∷ l) p.client_is;
@@ -273,6 +274,7 @@ module _ (b : Beginning) (first : Far) (op : Op (List ℕ)) (said : Said) (clien
       turns = Client (Other Closed) ∷ Client (Other (Left asked)) ∷ Client (Other (Report (Some said))) ∷ p.turns;
       between = both_ended;
       happened = (both_ended, (there, (there, p.happened, refl), can), refl);
+      resets = p.resets;
       closed = Shut;
       finals = q.finals;
       server_is = refl;

@@ -171,6 +171,7 @@ module _ (table : Table) (moments : ℕ → ℕ) where
   begins = record {
     turns = Client (Other (Begun fetch)) ∷ [];
     happened = (nothing_yet, refl, refl);
+    resets = tt;
     far_led = refl;
     gives = tt;
     midst = [];
@@ -240,6 +241,7 @@ module _ (table : Table) (moments : ℕ → ℕ) where
       record {
         turns = Server (Other (Listening 49152)) ∷ p.turns;
         happened = (lies [] [] [] [] Has_not Has_not, p.happened, (tt, refl));
+        resets = p.resets;
         far_led = (far_in none_yet far_asked [], p.far_led, done);
         gives = (p.gives, (tt, refl));
         midst = p.midst;
@@ -276,7 +278,8 @@ module _ (table : Table) (moments : ℕ → ℕ) where
       let v : Far = quiet far_told in
       let open_near = near_in (one_stands [] []) near_open [] in
       let open_far = far_in (one_stands [] []) far_ready [] in
-      let dialled = near_turn moments Starts begun fetch (Other (Opened here (Connected endpoint None None ∷ []) None None Rests.Nothing)) tt 1 none called
+      let dialled = near_turn moments Starts begun fetch (Other (Opened here (Connected endpoint None None ∷ []) None None Rests.Nothing)) (tt, tt) 1 none
+      called
       (far_in none_yet v []) (near_in none_yet near_called []) open_near (tt, refl) (dials endpoint near_called refl refl refl) (tt, refl, refl) (calls root) in
       let accepted = far_turn moments Starts begun fetch (Other (Opened here (Came here None None ∷ []) None None Rests.Nothing))
       ((λ before. (refl, λ ports. ports)), λ old new done moment. tt) 1 called both
@@ -331,13 +334,16 @@ module _ (table : Table) (moments : ℕ → ℕ) where
         let some = lies [] [] [] example_octets Has Has_ended in
         let none = lies [] [] [] [] Has Has_ended in
         let told = near_is_told moments Starts begun fetch 1 [] example_octets Has Has_ended [] all server (one_stands [] []) (still near_open) refl refl sends in
-        let got = near_turn moments Starts begun fetch (Other (Got example_octets)) tt 1 some none server (near_in (one_stands [] []) near_heard [])
+        let got = near_turn moments Starts begun fetch (Other (Got example_octets)) (tt, tt) 1 some none server (near_in (one_stands [] []) near_heard [])
         (near_in (one_stands [] example_octets) near_heard []) (tt, refl) (gets example_octets near_heard refl) (refl, refl, refl) told in
-        let one = near_turn moments Starts begun fetch (Other (Received example_octets 1)) tt 1 none none server (near_in (one_stands [] example_octets) near_heard [])
+        let one = near_turn moments Starts begun fetch (Other (Received example_octets 1)) (tt, tt) 1 none none server
+        (near_in (one_stands [] example_octets) near_heard [])
         (near_in (one_stands [] (105 ∷ [])) near_taking []) (tt, refl) (takes_one 104 (105 ∷ []) near_heard refl refl) refl got in
-        let taken = near_turn moments Starts begun fetch (Other (Received (105 ∷ []) 1)) tt 1 none none server (near_in (one_stands [] (105 ∷ [])) near_taking [])
+        let taken = near_turn moments Starts begun fetch (Other (Received (105 ∷ []) 1)) (tt, tt) 1 none none server
+        (near_in (one_stands [] (105 ∷ [])) near_taking [])
         (near_in (one_stands [] []) near_taken []) (tt, refl) (takes_one 105 [] near_taking refl refl) refl one in
-        near_turn moments Starts begun fetch (Other End) tt 1 none none server (near_in (one_stands [] []) near_taken []) (near_in one_over near_over []) (tt, refl)
+        near_turn moments Starts begun fetch (Other End) (tt, tt) 1 none none server (near_in (one_stands [] []) near_taken [])
+        (near_in one_over near_over []) (tt, refl)
         (ends near_taken refl) (refl, refl, refl) taken
 
     -- both began as a session does, and the operation was begun

@@ -2,7 +2,7 @@
 use Rattle.std.proofs.Common.{◌≡◌, inl, ℕ, ◌<◌, Bool, true, false, true≢false, ◌&&◌, List, [], ◌∷◌, ◌++◌, length, take, drop, None, refl, sym, ap, subst, ◌∙◌, append-nil, arith}
 use Rattle.ftp_control.specs.Deeds.{Deed, Done, Heard, HearsNext, Led, Other, Read, ReadsNext, Said as Says, Says as SaysNext, Stand}
 use Rattle.ftp_control.specs.Lane.{Lane, no_lane}
-use Rattle.ftp_control.specs.Machine.{Aside, End, seen}
+use Rattle.ftp_control.specs.Machine.{Aside, Break, End, seen}
 use Rattle.ftp_control.specs.declared.whole.Fate.TheVariants as Fates
 use Rattle.ftp_control.specs.declared.whole.Rest.TheVariants as Rests
 use Rattle.ftp_client_drive.specs.Side.{Begun, Starting, client_side}
@@ -23,7 +23,7 @@ use Rattle.ftp_tree.specs.Change.{never_strayed}
 use Rattle.ftp_pair_drives.specs.Between.{Between, CanTurn, Client, Happened, Hold, Server, Turn, client_deeds, server_deeds}
 use Rattle.ftp_pair_drives.proofs.Playing.{Attends, ear_after, far_at, far_ending, far_hears, far_reading, far_saying, is_silent}
 use Rattle.ftp_pair_deeds.specs.Deeds.{AreMidst, ArePorts, IsMidst, listened_in}
-use Rattle.ftp_pair_transfers.specs.Deeds.{AreToldAt, AsksAlong, ClientTransfers, IsToldAt, ServerTransfers, ServesAlong, last_of, number_in}
+use Rattle.ftp_pair_transfers.specs.Deeds.{AreResets, AreToldAt, AsksAlong, ClientTransfers, IsToldAt, ServerTransfers, ServesAlong, last_of, number_in}
 
 -- ---- stands beside a data connection
 
@@ -74,6 +74,7 @@ pub record Played (moments : ℕ → ℕ) (start : Stand server_side) (begun : S
     (server : Stand server_side) (client : Stand client_side) : Type 0 where
   pub turns : List Turn
   pub happened : Happened turns between
+  pub resets : AreResets turns between happened
   pub far_led : Led (server_deeds turns) start server
   pub gives : ServesAlong (server_deeds turns) start server far_led
   pub midst : List (Deed client_side)
@@ -108,6 +109,16 @@ midst_numbers : (deeds before : List (Deed client_side)) → AreMidst deeds → 
 midst_numbers [] before midst = refl
 midst_numbers (deed ∷ deeds) before midst = midst_number deed (deeds ++ before) midst.1 ∙ midst_numbers deeds before midst.0
 
+-- a deed of the client but that it is told of a break: nothing is asked of the server for it
+abbrev pub IsUnbroken : Deed client_side → Type 0
+IsUnbroken (Other Break) = ⊥
+IsUnbroken deed = Unit {0}
+
+near_resets : (deed : Deed client_side) → IsUnbroken deed → (before : List Turn) (old new : Between) (happened : Happened before old)
+    (can : CanTurn (Client deed) old new) → AreResets before old happened → AreResets (Client deed ∷ before) new (old, happened, can)
+near_resets (Other Break) unbroken before old new happened can resets = absurd unbroken
+near_resets deed unbroken before old new happened can resets = resets
+
 module _ (moments : ℕ → ℕ) (start : Stand server_side) (begun : Stand client_side) (op : Op (List ℕ)) where
   -- a deed of the server
   pub far_turn : (deed : Deed server_side) → IsQuiet deed → (listened : ℕ) (old new : Between) (at next : Stand server_side) (client : Stand client_side)
@@ -116,6 +127,7 @@ module _ (moments : ℕ → ℕ) (start : Stand server_side) (begun : Stand clie
   far_turn deed quiet listened old new at next client gives done can p = record {
     turns = Server deed ∷ p.turns;
     happened = (old, p.happened, can);
+    resets = p.resets;
     far_led = (at, p.far_led, done);
     gives = (p.gives, gives);
     midst = p.midst;
@@ -138,6 +150,7 @@ module _ (moments : ℕ → ℕ) (start : Stand server_side) (begun : Stand clie
   far_is_told listened old new at next client gives done timely can p = record {
     turns = Server (Other End) ∷ p.turns;
     happened = (old, p.happened, can);
+    resets = p.resets;
     far_led = (at, p.far_led, done);
     gives = (p.gives, gives);
     midst = p.midst;
@@ -154,16 +167,18 @@ module _ (moments : ℕ → ℕ) (start : Stand server_side) (begun : Stand clie
   }
 
   -- a deed of the client
-  pub near_turn : (deed : Deed client_side) → IsMidst deed → (listened : ℕ) (old new : Between) (server : Stand server_side) (at next : Stand client_side)
+  pub near_turn : (deed : Deed client_side) → IsMidst deed × IsUnbroken deed
+      → (listened : ℕ) (old new : Between) (server : Stand server_side) (at next : Stand client_side)
       → ClientTransfers deed at.owner next.owner → Done deed at next → CanTurn (Client deed) old new
       → Played moments start begun op listened old server at → Played moments start begun op listened new server next
   near_turn deed amid listened old new server at next takes done can p = record {
     turns = Client deed ∷ p.turns;
     happened = (old, p.happened, can);
+    resets = near_resets deed amid.1 p.turns old new p.happened can p.resets;
     far_led = p.far_led;
     gives = p.gives;
     midst = deed ∷ p.midst;
-    are = (p.are, amid);
+    are = (p.are, amid.0);
     client_is = ap (λ l. deed ∷ l) p.client_is;
     later = Client deed ∷ p.later;
     turns_are = ap (λ t. Client deed ∷ t) p.turns_are;
@@ -281,7 +296,8 @@ module _ (moments : ℕ → ℕ) (start : Stand server_side) (begun : Stand clie
         left = refl;
         unheard = refl;
       } in
-      near_turn moments start begun op (Says n.owed) tt listened (lies up down go come near_hold far_hold) (lies (up ++ n.owed) down go come near_hold far_hold)
+      near_turn moments start begun op (Says n.owed) (tt, tt) listened (lies up down go come near_hold far_hold)
+      (lies (up ++ n.owed) down go come near_hold far_hold)
       server (near_in lane n []) (near_in lane new []) (tt, refl) says refl p
 
   -- the client hears what it has read, octet by octet
@@ -306,7 +322,8 @@ module _ (moments : ℕ → ℕ) (start : Stand server_side) (begun : Stand clie
         written = refl;
       } in
       near_hears up down server lane octets next (other_is (takes_only (near.wants n)) _ more)
-      (near_turn moments start begun op (Heard (octet ∷ [])) tt listened (lies up down go come near_hold far_hold) (lies up down go come near_hold far_hold)
+      (near_turn moments start begun op (Heard (octet ∷ [])) (tt, tt) listened (lies up down go come near_hold far_hold)
+      (lies up down go come near_hold far_hold)
       server (near_in lane n (octet ∷ octets)) (near_in lane next octets) (tt, refl) hears refl p)
     where
       zero_below : (k : ℕ) → k < 1 → 0 ≡ k
@@ -327,7 +344,7 @@ module _ (moments : ℕ → ℕ) (start : Stand server_side) (begun : Stand clie
         written = refl;
       } in
       near_hears up [] server lane down n can
-      (near_turn moments start begun op (Read down) tt listened (lies up down go come near_hold far_hold) (lies up [] go come near_hold far_hold)
+      (near_turn moments start begun op (Read down) (tt, tt) listened (lies up down go come near_hold far_hold) (lies up [] go come near_hold far_hold)
       server (near_in lane n []) (near_in lane n down) (tt, refl) reads (sym (append-nil down), refl) p)
 
   -- the server reads a line that is on its way, and hears it

@@ -182,6 +182,7 @@ module _ (table : Table) (moments : ℕ → ℕ) where
   begins = record {
     turns = Client (Other (Begun put)) ∷ [];
     happened = (nothing_yet, refl, refl);
+    resets = tt;
     far_led = refl;
     gives = tt;
     midst = [];
@@ -251,6 +252,7 @@ module _ (table : Table) (moments : ℕ → ℕ) where
       record {
         turns = Server (Other (Listening 49152)) ∷ p.turns;
         happened = (lies [] [] [] [] Has_not Has_not, p.happened, (tt, refl));
+        resets = p.resets;
         far_led = (far_in none_yet far_asked [], p.far_led, done);
         gives = (p.gives, (tt, refl));
         midst = p.midst;
@@ -287,7 +289,7 @@ module _ (table : Table) (moments : ℕ → ℕ) where
       let v : Far = quiet far_told in
       let open_near = near_in (one_stands [] []) near_open [] in
       let open_far = far_in (one_stands [] []) far_ready [] in
-      let dialled = near_turn moments Starts begun put (Other (Opened here (Connected endpoint None None ∷ []) None None Rests.Nothing)) tt 1 none called
+      let dialled = near_turn moments Starts begun put (Other (Opened here (Connected endpoint None None ∷ []) None None Rests.Nothing)) (tt, tt) 1 none called
       (far_in none_yet v []) (near_in none_yet near_called []) open_near (tt, refl) (dials endpoint near_called refl refl refl) (tt, refl, refl) (calls root) in
       let accepted = far_turn moments Starts begun put (Other (Opened here (Came here None None ∷ []) None None Rests.Nothing))
       ((λ before. (refl, λ ports. ports)), λ old new done moment. tt) 1 called both
@@ -319,15 +321,16 @@ module _ (table : Table) (moments : ℕ → ℕ) where
         let opens = far_says moments Starts begun put 1 [] [] Has Has [] [] (one_stands [] []) far_up (near_in (one_stands [] []) (still near_open) []) refl
         obeys in
         let told = near_is_told moments Starts begun put 1 [] [] Has Has [] far_up.owed server (one_stands [] []) (still near_open) refl refl opens in
-        let given = near_turn moments Starts begun put (Other (Gave 1 put_octets Rests.Nothing)) tt 1 both both server
+        let given = near_turn moments Starts begun put (Other (Gave 1 put_octets Rests.Nothing)) (tt, tt) 1 both both server
         (near_in (one_stands [] []) near_begun []) (near_in (one_stands put_octets []) near_given []) (tt, refl)
         (near_gives put_octets near_begun near_given refl refl refl refl) refl told in
-        let written = near_turn moments Starts begun put (Other (Wrote put_octets)) tt 1 both sent server
+        let written = near_turn moments Starts begun put (Other (Wrote put_octets)) (tt, tt) 1 both sent server
         (near_in (one_stands put_octets []) near_given []) (near_in (one_stands [] []) near_given []) (tt, refl)
         (near_writes put_octets near_given (omega arith)) (refl, refl) given in
-        let left = near_turn moments Starts begun put (Other (Left (EndedBy None None))) tt 1 sent over server
+        let left = near_turn moments Starts begun put (Other (Left (EndedBy None None))) (tt, tt) 1 sent over server
         (near_in (one_stands [] []) near_given []) (near_in none_yet near_given []) (tt, refl) (near_ends near_given refl refl) (refl, refl) written in
-        near_turn moments Starts begun put (Other Closed) tt 1 over over server (near_in none_yet near_given []) (near_in none_yet near_closed []) (tt, refl)
+        near_turn moments Starts begun put (Other Closed) (tt, tt) 1 over over server (near_in none_yet near_given []) (near_in none_yet near_closed [])
+        (tt, refl)
         (near_is_closed near_given refl) refl left
 
     -- what there is room for is within the limit of a file

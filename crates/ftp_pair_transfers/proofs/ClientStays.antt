@@ -4,10 +4,10 @@ use Rattle.std.proofs.Common.{◌≡◌, ◌⊎◌, inl, inr, ℕ, Bool, true, f
 use Rattle.std.specs.Prelude.{◌≢◌}
 use Rattle.ftp_ends.specs.declared.link.Wants.{Wants}
 use Rattle.ftp_ends.specs.declared.link.Wants.TheVariants as Want
-use Rattle.ftp_control.specs.Asking.{Asked, Ended as EndedBy, Shut}
+use Rattle.ftp_control.specs.Asking.{Asked, Ended as EndedBy, Reset, Shut}
 use Rattle.ftp_control.specs.Deeds.{Calls, ReadsNext, Stand}
-use Rattle.ftp_control.specs.Lane.{IsEnded, Lane}
-use Rattle.ftp_control.specs.Machine.{Aside, Closed, Got, Left, LetGo, MayLeave, Waited, Wrote, leaves}
+use Rattle.ftp_control.specs.Lane.{IsEnded, Lane, with_fate}
+use Rattle.ftp_control.specs.Machine.{Aside, Closed, Failed as HasFailed, Got, Left, LetGo, MayLeave, Waited, Wrote, leaves}
 use Rattle.ftp_control.specs.declared.whole.Fate.{Fate}
 use Rattle.ftp_control.specs.declared.whole.Fate.TheVariants.{Sound, Failed, Broken, Over}
 use Rattle.ftp_client_drive.specs.Side.{Reporting, client_side, is_under_way}
@@ -21,7 +21,7 @@ use Rattle.ftp_pair_world.specs.Agreement.{Order}
 use Rattle.ftp_pair_world.specs.World.{World}
 use Rattle.ftp_pair_drives.specs.Alone.{ClientIsCalm}
 use Rattle.ftp_pair_drives.specs.Between.{Between, Can, Has_ended, Hold, Near as TheClient}
-use Rattle.ftp_pair_drives.specs.Touches.{Ends, Takes as TakesOctets, Writes as WritesOctets}
+use Rattle.ftp_pair_drives.specs.Touches.{Ends, Resets, Takes as TakesOctets, Writes as WritesOctets}
 use Rattle.ftp_pair_agreement.proofs.Chunks.{both_empty}
 use Rattle.ftp_pair_drives.proofs.Taken.{reports_is, taken, taken_none, taken_twice, taken_wants}
 use Rattle.ftp_pair_drives.proofs.Worlds.{leads_none}
@@ -333,9 +333,44 @@ module _ (read : Reading) (orders : List Order) (server : Stand server_side) (ol
 
       by_fate : (fate : Fate) → old.owner.lane.fate ≡ fate → MayLeave (is_under_way v.job ≡ false) (near.wants v) fate → is_near_held w.link ≡ false
       by_fate Sound is may = by v.closing refl may
-      by_fate Failed is may = t.keeping.over (ap is_sound is)
+      by_fate Failed is may = by v.closing refl (inr may)
       by_fate Broken is may = t.keeping.over (ap is_sound is)
       by_fate Over is may = t.keeping.over (ap is_sound is)
+
+  -- a read of it fails, and the client is not told of that yet
+  pub client_fails : (moment : ℕ) (ahead : Ahead) (between : Between) (told : ℕ) → Together read orders moment ahead between told server old reports w
+      → Calls {side = client_side} HasFailed old new → Goes read [] orders between told server new (reports ++ []) w
+  client_fails moment ahead between told t did =
+      let lane : new.owner.lane ≡ with_fate Failed old.owner.lane = did.0.1.0 in
+      let sound : is_sound new.owner.lane.fate ≡ true = ap (λ (l : Lane). is_sound l.fate) lane in
+      client_idle moment ahead between between told t (ap (λ c. c.view) did.0.0) (ap (λ (s : Stand client_side). s.unheard) did.1) refl
+      (ap (λ (l : Lane). server.owner.lane.untold ++ (between.data_ways.to_server ++ l.unwritten)) (sym lane))
+      (ap (λ (l : Lane). l.untold ++ (between.data_ways.to_client ++ server.owner.lane.unwritten)) (sym lane)) refl
+      (record {
+        bare = λ e. ap (λ (l : Lane). l.untold) lane ∙ t.takes.bare (ap (λ (l : Lane). l.stands) (sym lane) ∙ e);
+        over = λ e. absurd (both sound e);
+      })
+      (record {
+        spare = λ e. ap (λ (l : Lane). l.unwritten) lane ∙ t.gives.spare e;
+        bare = λ e. ap (λ (l : Lane). l.unwritten) lane ∙ t.gives.bare (ap (λ (l : Lane). l.stands) (sym lane) ∙ e);
+      })
+      t.keeping.had (λ e. absurd (both sound e))
+
+  -- one that broke, and of which none are unwritten, is left by a reset
+  pub client_resets : (left written : Option (List ℕ)) (moment : ℕ) (ahead : Ahead) (between next : Between) (told : ℕ)
+      → Together read orders moment ahead between told server old reports w → Calls {side = client_side} (Left (Reset left written)) old new
+      → old.owner.lane.fate ≡ Broken → old.owner.lane.unwritten ≡ [] → Can TheClient Resets between next
+      → Goes read [] orders next told server new (reports ++ []) w
+  client_resets left written moment ahead between next told t did broke empty can =
+      let lane = did.0.1 in
+      let free : is_near_held w.link ≡ false = t.keeping.over (ap is_sound broke) in
+      let none : old.owner.lane.untold ≡ [] = t.takes.over (ap is_sound broke) in
+      client_idle moment ahead between next told t (ap (λ c. c.view) did.0.0) (ap (λ (s : Stand client_side). s.unheard) did.1)
+      (ap (λ (m : Between). m.control) can.1)
+      (ap₂ (λ (m : Between) o. server.owner.lane.untold ++ (m.data_ways.to_server ++ o)) (sym can.1) (empty ∙ sym lane.unwritten))
+      (ap₂ (λ (m : Between) o. o ++ (m.data_ways.to_client ++ server.owner.lane.unwritten)) (sym can.1) (none ∙ sym lane.untold))
+      (ap (λ (m : Between). m.far) can.1) (record { bare = λ e. lane.untold; over = λ e. lane.untold })
+      (record { spare = λ e. lane.unwritten; bare = λ e. lane.unwritten }) (λ e. absurd (both e free)) (λ e. free)
 
   -- a data connection is left by an end
   pub client_ends : (asks : ClientFetches old.owner) (left written : Option (List ℕ)) (moment : ℕ) (ahead : Ahead) (between next : Between) (told : ℕ)

@@ -1,10 +1,15 @@
 -- What follows of a world that holds what both drives hold: agreement, and the direct run.
-use Rattle.std.proofs.Common.{◌≡◌, ℕ, false, List, [], ◌∷◌, ◌++◌, length, Option, Some, None, option_to_list, ap, ap₂, subst, ◌∙◌, append_assoc, append-nil}
+use Rattle.std.proofs.Common.{◌≡◌, inl, inr, ℕ, false, List, [], ◌∷◌, ◌++◌, length, Option, Some, None, option_to_list, refl, ap, ap₂, subst, ◌∙◌, append_assoc, append-nil}
 use Rattle.ftp_control.specs.Deeds.{Deed, Other}
 use Rattle.ftp_control.specs.Machine.{Aside}
 use Rattle.ftp_client_drive.specs.Side.{Starting, client_side}
-use Rattle.ftp_client_model.specs.Calls.{control_end, data_closed, report_of}
-use Rattle.ftp_client_model.specs.View.{View as Near}
+use Rattle.ftp_client_model.specs.Calls.{control_end, data_closed, report_of, reports as reports_now}
+use Rattle.ftp_client_model.specs.View.{Job, View as Near, fails_by}
+use Rattle.ftp_client_model.specs.declared.client.ClientLink.TheVariants as Data
+use Rattle.ftp_client_model.specs.declared.client.Ending.TheVariants as Endings
+use Rattle.ftp_client_model.specs.declared.client.Failure.TheVariants as Failures
+use Rattle.ftp_client_model.specs.declared.client.Standing.{Standing}
+use Rattle.ftp_client_model.specs.declared.client.Standing.TheVariants as Stands
 use Rattle.ftp_operation.specs.Answer.{Said}
 use Rattle.ftp_server_model.specs.View.{View as Far}
 use Rattle.ftp_server_model.proofs.LinesDecided.{reading_exists}
@@ -21,7 +26,7 @@ use Rattle.ftp_pair_drives.proofs.Taken.{cut_alike, free_none, reports_is, taken
 use Rattle.ftp_pair_drives.proofs.Worlds.{LeadsOn, leads_then}
 use Rattle.ftp_pair_transfers.proofs.Ahead.{keeps}
 use Rattle.ftp_pair_transfers.specs.Deeds.{begun_at, number_in}
-use Rattle.ftp_pair_transfers.specs.Claims.{TransfersAgree, TransfersAreTheDirectRun, TransfersPartingAgree}
+use Rattle.ftp_pair_transfers.specs.Claims.{IsNear, TransfersAgree, TransfersAreTheDirectRun, TransfersPartingAgree}
 use Rattle.ftp_pair_deeds.proofs.Parting.{cut_report, parts}
 use Rattle.ftp_pair_transfers.proofs.Reaching.{transfers_are_of_worlds}
 
@@ -60,6 +65,21 @@ transfers_agree b fair moments timed turns between server client did =
           (subst (λ (c : Option ℕ). Agrees (state_of b) begun w.marks c w.reports w.far.session.table) s.cutoff agree)),
     )
 
+-- how a link is over is all the same to the report of a client that is told that the control connection ended
+near_cut : (there here : Near) → IsNear there here → report_of (control_end there) ≡ report_of (control_end here)
+unfolding control_end
+near_cut there here (inl same) = ap (λ n. report_of (control_end n)) same
+near_cut there here (inr told) = ap (λ n. report_of (control_end n)) told.is ∙ by here.standing here.job
+  where
+    by : (standing : Standing) (job : Job)
+        → report_of (fails_by standing Failures.Lost (record here { standing = standing; job = job; connection = Data.Over Endings.Clean }))
+        ≡ report_of (fails_by standing Failures.Lost (record here { standing = standing; job = job }))
+    by (Stands.Failed before) job = refl
+    by Stands.Greeting job = refl
+    by Stands.User job = refl
+    by Stands.Pass job = refl
+    by Stands.Entered job = refl
+
 -- one more event ends the control connection for both
 pub transfers_parting_agree : TransfersPartingAgree
 transfers_parting_agree b fair moments timed turns between server client did =
@@ -77,7 +97,8 @@ transfers_parting_agree b fair moments timed turns between server client did =
     (leads_then read begun [] (world_of b) w p.new to_there p.leads) in
     let agree : WorldAgrees (state_of b) begun p.new = agrees-always read reading_exists.1 b fair all.events begun p.new all.timed all.leads in
     let near_is : report_of (control_end w.near) ≡ report_of (control_end (taken v)) =
-    ap (λ n. report_of (control_end n)) (s.near ∙ ap data_closed (reports_is v)) ∙ cut_report false (taken v) in
+    near_cut w.near (data_closed (reports_now v)) s.near
+    ∙ ap (λ n. report_of (control_end n)) (ap data_closed (reports_is v)) ∙ cut_report false (taken v) in
     let told : p.new.reports ≡ reports ++ option_to_list (report_of (control_end v)) =
     p.reports ∙ ap₂ (λ r n. r ++ option_to_list n) s.reported near_is
     ∙ append_assoc reports (option_to_list (report_of v)) (option_to_list (report_of (control_end (taken v)))) ∙ ap (λ l. reports ++ l) (cut_alike v) in

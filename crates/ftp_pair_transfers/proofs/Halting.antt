@@ -156,7 +156,8 @@ module _ (state : State) (ask : Ask) (own : List Mark) (w : World) (a : AtHalt s
       by_halt : (halt : Halt) → Stood halt → is_halt_passing halt ≡ false → Known w
       by_halt (Gives octet more) h lasts =
           let is = ap (λ (s : Session). s.connection) h.session in
-          taking (wants_so _ _ h.near Want.Receive refl) (FarData.Transferring (giving_of ask.listed (octet ∷ more))) is (λ e. gives_on ask.listed (octet ∷ more))
+          taking (wants_so _ _ h.near Want.Receive refl) (FarData.Transferring (giving_of ask.listed (octet ∷ more))) is
+          (λ e. gives_on ask.listed (octet ∷ more))
           (λ e. record { listed = ask.listed; octet = octet; more = more; far = connection_at ∙ is }) Opened h.link refl (λ e. absurd (true≢false e))
       by_halt (Gave whole heard asked Unclosed) h lasts = absurd (true≢false lasts)
       by_halt (Gave whole heard asked Closed) h lasts =

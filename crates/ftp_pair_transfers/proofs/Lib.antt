@@ -14,6 +14,8 @@ pub mod Twins
 pub mod Parting
 pub mod Beside
 pub mod Lost
+pub mod EitherEnd
+pub mod Broke
 pub mod ServerStays
 pub mod ServerMoves
 pub mod ServerTaking
@@ -30,5 +32,6 @@ pub mod Ending
 pub mod ServerGiving
 pub mod ClientTaking
 pub mod ClientTold
+pub mod ClientBroken
 pub mod Resting
 pub mod Quitting

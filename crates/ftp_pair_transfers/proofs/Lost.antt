@@ -1,16 +1,22 @@
 -- What lies between two drives, and what is there as a world sees it: octets that the server gave, and dropped as it reset its data connection, are on their
 -- way to the client still.
-use Rattle.std.proofs.Common.{◌≡◌, ◌⊎◌, inl, inr, ℕ, Bool, true, false, List, ◌++◌, Some, None, refl, sym, ap, subst, ◌∙◌, append_assoc}
+use Rattle.std.proofs.Common.{◌≡◌, ◌⊎◌, inl, inr, ℕ, Bool, true, false, List, [], ◌++◌, Some, None, refl, sym, ap, subst, ◌∙◌, append_assoc}
 use Rattle.ftp_pair_drives.specs.Between.{Awaits, Between, Can, Far, Has, Has_ended, Has_lost, Hold, IsOver, IsStanding, Is_called, Near, Who, coming, dialled, sent, with_coming, with_hold}
 use Rattle.ftp_pair_drives.specs.Touches.{Accepts, Dials, Ends, IsDenied, IsMissed, Listens, None_of_it, Parts, Reads, Resets, Says, Takes, ToldBreak, ToldEnd, Touch, Writes}
-use Rattle.ftp_pair_deeds.proofs.Holding.{both}
+use Rattle.ftp_pair_deeds.proofs.Holding.{both, is_had}
 
--- a server that stands so to a data connection has reset it, or none since
+-- an end that stands so to a data connection has reset it or was told that it broke, or has none since
 abbrev pub is_lost : Hold → Bool
 is_lost Has = false
 is_lost Is_called = false
 is_lost Has_ended = false
 is_lost hold = true
+
+-- none go to a client that takes none any more
+pub record IsNone (between seen : Between) : Type 0 where
+  pub none : seen.data_ways.to_client ≡ []
+  pub far : is_lost between.far ≡ true
+  pub near : is_lost between.near ≡ true
 
 -- more octets are on their way than lie between
 pub record IsMore (between seen : Between) : Type 0 where
@@ -19,7 +25,7 @@ pub record IsMore (between seen : Between) : Type 0 where
   pub hold : is_lost between.far ≡ true
 
 abbrev pub Falls : (between seen : Between) → Type 0
-Falls between seen = (seen.data_ways.to_client ≡ between.data_ways.to_client) ⊎ IsMore between seen
+Falls between seen = (seen.data_ways.to_client ≡ between.data_ways.to_client) ⊎ (IsMore between seen ⊎ IsNone between seen)
 
 -- all else is the same
 pub record IsSeen (between seen : Between) : Type 0 where
@@ -38,20 +44,27 @@ with_lost octets between = record between { data_ways = record between.data_ways
 
 -- ---- small steps
 
+-- it has none
+pub lost_spare : (hold : Hold) → is_lost hold ≡ true → is_had hold ≡ false
+lost_spare Has e = absurd (both e refl)
+lost_spare hold e = refl
+
 -- where the same goes to the client
 falls_as : (a b c d : Between) → c.data_ways.to_client ≡ a.data_ways.to_client → d.data_ways.to_client ≡ b.data_ways.to_client
-    → (is_lost a.far ≡ true → is_lost c.far ≡ true) → Falls a b → Falls c d
-falls_as a b c d ways seen hold (inl e) = inl (seen ∙ e ∙ sym ways)
-falls_as a b c d ways seen hold (inr m) = inr (record {
+    → (is_lost a.far ≡ true → is_lost c.far ≡ true) → (is_lost a.near ≡ true → is_lost c.near ≡ true) → Falls a b → Falls c d
+falls_as a b c d ways seen hold held (inl e) = inl (seen ∙ e ∙ sym ways)
+falls_as a b c d ways seen hold held (inr (inl m)) = inr (inl (record {
   lost = m.lost;
   falling = seen ∙ m.falling ∙ ap (λ o. o ++ m.lost) (sym ways);
   hold = hold m.hold;
-})
+}))
+falls_as a b c d ways seen hold held (inr (inr m)) = inr (inr (record { none = seen ∙ m.none; far = hold m.far; near = held m.near }))
 
 -- a server that has it lost none
 whole : (a b : Between) (hold : Hold) → a.far ≡ hold → is_lost hold ≡ false → Falls a b → b.data_ways.to_client ≡ a.data_ways.to_client
 whole a b hold is none (inl e) = e
-whole a b hold is none (inr m) = absurd (both m.hold (ap is_lost is ∙ none))
+whole a b hold is none (inr (inl m)) = absurd (both m.hold (ap is_lost is ∙ none))
+whole a b hold is none (inr (inr m)) = absurd (both m.far (ap is_lost is ∙ none))
 
 -- ---- what a deed does between is done there
 
@@ -76,7 +89,8 @@ module _ (p q s : Between) (seen : IsSeen p s) where
       rising = seen.rising;
       near = seen.near;
       far = seen.far;
-      falls = falls_as p s (record p { control = sent who octets p.control }) (record s { control = sent who octets s.control }) refl refl (λ e. e) seen.falls;
+      falls = falls_as p s (record p { control = sent who octets p.control }) (record s { control = sent who octets s.control }) refl refl (λ e. e) (λ e. e)
+          seen.falls;
     });
   }
 
@@ -95,7 +109,7 @@ module _ (p q s : Between) (seen : IsSeen p s) where
       near = seen.near ∙ sym (ap (λ (m : Between). m.near) can.1);
       far = seen.far ∙ sym (ap (λ (m : Between). m.far) can.1);
       falls = falls_as p s q (record s { control = q.control }) (ap (λ (m : Between). m.data_ways.to_client) can.1) refl
-          (λ e. ap (λ (m : Between). is_lost m.far) can.1 ∙ e) seen.falls;
+          (λ e. ap (λ (m : Between). is_lost m.far) can.1 ∙ e) (λ e. ap (λ (m : Between). is_lost m.near) can.1 ∙ e) seen.falls;
     };
   }
 
@@ -106,17 +120,17 @@ module _ (p q s : Between) (seen : IsSeen p s) where
     rising = seen.rising;
     near = seen.near;
     far = refl;
-    falls = falls_as p s (with_hold Far hold p) (with_hold Far hold s) refl refl lost seen.falls;
+    falls = falls_as p s (with_hold Far hold p) (with_hold Far hold s) refl refl lost (λ e. e) seen.falls;
   })
 
   -- the client does
-  near_there : (hold : Hold) → q ≡ with_hold Near hold p → IsSeen q (with_hold Near hold s)
-  near_there hold can = subst (λ (m : Between). IsSeen m (with_hold Near hold s)) (sym can) (record {
+  near_there : (hold : Hold) → q ≡ with_hold Near hold p → (is_lost p.near ≡ true → is_lost hold ≡ true) → IsSeen q (with_hold Near hold s)
+  near_there hold can lost = subst (λ (m : Between). IsSeen m (with_hold Near hold s)) (sym can) (record {
     control = seen.control;
     rising = seen.rising;
     near = refl;
     far = seen.far;
-    falls = falls_as p s (with_hold Near hold p) (with_hold Near hold s) refl refl (λ e. e) seen.falls;
+    falls = falls_as p s (with_hold Near hold p) (with_hold Near hold s) refl refl (λ e. e) lost seen.falls;
   })
 
   -- one is dialled
@@ -207,7 +221,8 @@ module _ (p q s : Between) (seen : IsSeen p s) where
       falls = inl refl;
     };
   }
-  took_there octets can (inr m) = record {
+  took_there octets can (inr (inr m)) = absurd (both m.near (ap is_lost can.0))
+  took_there octets can (inr (inl m)) = record {
     after = record s { data_ways = record s.data_ways { to_client = q.data_ways.to_client ++ m.lost } };
     can = (seen.near ∙ can.0, m.falling ∙ ap (λ o. o ++ m.lost) can.1 ∙ append_assoc octets q.data_ways.to_client m.lost, refl);
     is_seen = record {
@@ -215,7 +230,7 @@ module _ (p q s : Between) (seen : IsSeen p s) where
       rising = seen.rising ∙ sym (ap (λ (m : Between). m.data_ways.to_server) can.2);
       near = seen.near ∙ sym (ap (λ (m : Between). m.near) can.2);
       far = seen.far ∙ sym (ap (λ (m : Between). m.far) can.2);
-      falls = inr (record { lost = m.lost; falling = refl; hold = ap (λ (m : Between). is_lost m.far) can.2 ∙ m.hold });
+      falls = inr (inl (record { lost = m.lost; falling = refl; hold = ap (λ (m : Between). is_lost m.far) can.2 ∙ m.hold }));
     };
   }
 
@@ -230,14 +245,15 @@ module _ (p q s : Between) (seen : IsSeen p s) where
   near_done (Listens (Some port)) can = record {
     after = with_hold Near (Awaits port) s;
     can = (subst IsOver (sym seen.near) can.0, refl);
-    is_seen = near_there (Awaits port) can.1;
+    is_seen = near_there (Awaits port) can.1 (λ e. refl);
   }
   near_done (Dials endpoint) can = record {
     after = dialled Near s;
     can = (subst IsOver (sym seen.near) can.0, seen.far ∙ can.1, refl);
     is_seen = dials_there Near can.2;
   }
-  near_done (Accepts host) can = record { after = with_hold Near Has s; can = (seen.near ∙ can.0, refl); is_seen = near_there Has can.1 }
+  near_done (Accepts host) can =
+      record { after = with_hold Near Has s; can = (seen.near ∙ can.0, refl); is_seen = near_there Has can.1 (λ e. absurd (both e (ap is_lost can.0))) }
   near_done (Writes octets) can =
       let wrote : Between → Between = λ m. record m { data_ways = sent Near octets m.data_ways } in
       record {
@@ -248,37 +264,42 @@ module _ (p q s : Between) (seen : IsSeen p s) where
           rising = ap (λ o. o ++ octets) seen.rising;
           near = seen.near;
           far = seen.far;
-          falls = falls_as p s (wrote p) (wrote s) refl refl (λ e. e) seen.falls;
+          falls = falls_as p s (wrote p) (wrote s) refl refl (λ e. e) (λ e. e) seen.falls;
         });
       }
   near_done (Takes octets) can = took_there octets can seen.falls
-  near_done Ends can = record { after = with_hold Near Has_ended s; can = (seen.near ∙ can.0, refl); is_seen = near_there Has_ended can.1 }
+  near_done Ends can = record {
+    after = with_hold Near Has_ended s;
+    can = (seen.near ∙ can.0, refl);
+    is_seen = near_there Has_ended can.1 (λ e. absurd (both e (ap is_lost can.0)));
+  }
   near_done Resets can = record {
     after = with_hold Near Has_lost s;
     can = (subst IsStanding (sym seen.near) can.0, refl);
-    is_seen = near_there Has_lost can.1;
+    is_seen = near_there Has_lost can.1 (λ e. refl);
   }
   near_done ToldEnd can = record {
     after = s;
     can = (seen.far ∙ can.0, whole p s Has_ended can.0 refl seen.falls ∙ can.1, refl);
     is_seen = same_there can.2;
   }
-  near_done ToldBreak can = record { after = with_hold Near Has_lost s; can = (seen.near ∙ can.0, refl); is_seen = near_there Has_lost can.1 }
+  near_done ToldBreak can = record { after = with_hold Near Has_lost s; can = (seen.near ∙ can.0, refl); is_seen = near_there Has_lost can.1 (λ e. refl) }
 
-  -- the server resets one of which octets are unwritten
-  pub resets_losing : (octets : List ℕ) → Can Far Resets p q → IsSeen q (with_lost octets (with_hold Far Has_lost s))
-  resets_losing octets can = subst (λ (m : Between). IsSeen m (with_lost octets (with_hold Far Has_lost s))) (sym can.1) (record {
+  -- the server resets one of which octets are unwritten; of one that it does not have, none are
+  pub resets_losing : (octets : List ℕ) → (is_had p.far ≡ false → octets ≡ []) → Can Far Resets p q → IsSeen q (with_lost octets (with_hold Far Has_lost s))
+  resets_losing octets unwritten can = subst (λ (m : Between). IsSeen m (with_lost octets (with_hold Far Has_lost s))) (sym can.1) (record {
     control = seen.control;
     rising = seen.rising;
     near = seen.near;
     far = refl;
-    falls = inr (by seen.falls);
+    falls = by seen.falls;
   })
     where
-      by : Falls p s → IsMore (with_hold Far Has_lost p) (with_lost octets (with_hold Far Has_lost s))
-      by (inl e) = record { lost = octets; falling = ap (λ o. o ++ octets) e; hold = refl }
-      by (inr m) = record {
+      by : Falls p s → Falls (with_hold Far Has_lost p) (with_lost octets (with_hold Far Has_lost s))
+      by (inl e) = inr (inl (record { lost = octets; falling = ap (λ o. o ++ octets) e; hold = refl }))
+      by (inr (inl m)) = inr (inl (record {
         lost = m.lost ++ octets;
         falling = ap (λ o. o ++ octets) m.falling ∙ append_assoc p.data_ways.to_client m.lost octets;
         hold = refl;
-      }
+      }))
+      by (inr (inr m)) = inr (inr (record { none = ap (λ o. o ++ octets) m.none ∙ unwritten (lost_spare p.far m.far); far = refl; near = m.near }))

@@ -14,7 +14,7 @@ use Rattle.ftp_tree.specs.Tree.{Table}
 use Rattle.ftp_pair_world.specs.Agreement.{Order}
 use Rattle.ftp_pair_world.specs.Claims.{AreAnswers, Beginning, IsFair, state_of}
 use Rattle.ftp_pair_drives.specs.Alone.{reports_in}
-use Rattle.ftp_pair_drives.specs.Between.{Between, Turn, client_deeds}
+use Rattle.ftp_pair_drives.specs.Between.{Between, Turn, client_deeds, server_deeds}
 use Rattle.ftp_pair_drives.specs.Over.{answers_of}
 use Rattle.ftp_pair_drives.specs.Quitting.{HappenedAlone, quitting}
 use Rattle.ftp_pair_drives.proofs.Leaving.{quits_table}
@@ -22,6 +22,7 @@ use Rattle.ftp_pair_drives.proofs.Quitting.{Quits}
 use Rattle.ftp_pair_drives.proofs.Taken.{free_none}
 use Rattle.ftp_pair_data.specs.Ahead as plainly
 use Rattle.ftp_pair_data.proofs.Running.{all_runs}
+use Rattle.ftp_pair_deeds.specs.Deeds.{listened_in}
 use Rattle.ftp_pair_deeds.proofs.Along.{Went}
 use Rattle.ftp_pair_deeds.proofs.Closing.{AtQuit, LeftSince, at_quit, begins_quit}
 use Rattle.ftp_pair_deeds.proofs.Resting.{AtRest, IsIdle, idle_at, rests_so}
@@ -34,8 +35,8 @@ use Rattle.ftp_pair_transfers.proofs.Ahead.{left_is, left_link}
 use Rattle.ftp_pair_transfers.proofs.Concluding.{transfers_are_the_direct_run}
 use Rattle.ftp_pair_transfers.proofs.Ending.{answers_are, answers_go, as_many, orders_are, transferred_free}
 use Rattle.ftp_pair_transfers.proofs.Resting.{idles}
-use Rattle.ftp_pair_transfers.proofs.Reaching.{reaches}
-use Rattle.ftp_pair_transfers.proofs.Simulating.{in_carried}
+use Rattle.ftp_pair_transfers.proofs.Reaching.{reaches, shown_itself}
+use Rattle.ftp_pair_transfers.proofs.Simulating.{Reached, in_carried}
 
 -- ---- the last deeds
 
@@ -88,9 +89,10 @@ quits_next : (read : Reading) → IsReading read → (b : Beginning) → IsFair 
 quits_next read reads b fair moments timed turns between server client did free entered told =
     let n : Near = client.owner.end.view in
     let v : Far = server.owner.end.server.view in
-    let at = reaches read reads moments timed b fair turns between did.happened did.server_start server did.client_start client did.begins did.untold
+    let at = reaches read reads moments timed b fair turns between did.happened did.resets did.server_start server did.client_start client did.begins did.untold
     did.unwritten did.server_unwritten did.client_untold did.server_led did.client_led did.takes did.gives did.ports did.told in
-    let o = at.reached in
+    let o = subst (λ c. Reached read reads moments timed b fair (begun_at moments (client_deeds turns)) at.seen (listened_in (server_deeds turns)) server c
+    (reports_in (client_deeds turns))) (shown_itself between client at.shown at.shows free) at.reached in
     let w = o.world in
     let s = o.together.beside in
     let begun : List Order = begun_at moments (client_deeds turns) in
@@ -100,7 +102,8 @@ quits_next read reads b fair moments timed turns between server client did free 
     let standing : w.near.standing ≡ Standings.Entered = ap (λ (u : Near). u.standing) s.near ∙ entered in
     let carried = in_carried moments (client_deeds turns) did.client_start client did.client_led did.gives in
     let idle = idles read reads (state_of b) begun carried w s.unready s.cutoff all runs standing in
-    begins_quit server between o.serves (ap (λ c. server.unheard ++ c.to_server) (sym at.is_seen.control) ∙ sym s.to_server ∙ idle.to_server) (rests_now o.ahead v s.fits (idle_at o.last w.far _ s.far idle.far))
+    begins_quit server between o.serves (ap (λ c. server.unheard ++ c.to_server) (sym at.is_seen.control) ∙ sym s.to_server ∙ idle.to_server)
+    (rests_now o.ahead v s.fits (idle_at o.last w.far _ s.far idle.far))
 
 pub transfers_that_quit_are_the_direct_run : TransfersThatQuitAreTheDirectRun
 transfers_that_quit_are_the_direct_run b fair moments timed asked server over =
@@ -117,6 +120,7 @@ transfers_that_quit_are_the_direct_run b fair moments timed asked server over =
       server_unwritten = over.server_unwritten;
       client_untold = over.client_untold;
       happened = over.happened;
+      resets = over.resets;
       server_led = over.server_led;
       client_led = near.0;
       takes = over.serves;

@@ -1,44 +1,125 @@
 -- Two drives that put and fetch files, as a list of a world's events: one deed after another; a world sees what lies between, and what a reset dropped.
-use Rattle.std.proofs.Common.{◌≡◌, ℕ, true≢false, List, [], ◌∷◌, ◌++◌, option_to_list, refl, sym, ap, ap₂, subst, append-nil, ◌∙◌}
-use Rattle.ftp_control.specs.Asking.{Reset}
-use Rattle.ftp_control.specs.Deeds.{Deed, Done, Led, Other, Stand}
-use Rattle.ftp_control.specs.Machine.{Left, Listening}
+use Rattle.std.proofs.Common.{◌≡◌, inl, inr, ℕ, false, true≢false, List, [], ◌∷◌, ◌++◌, option_to_list, refl, sym, ap, ap₂, subst, append-nil, ◌∙◌}
+use Rattle.std.specs.Prelude.{⊤}
+use Rattle.ftp_control.specs.Asking.{Came, Ended as EndedBy, Reset, Shut}
+use Rattle.ftp_control.specs.Deeds.{Deed, Done, Heard, Led, Other, Read, Said as Says, Stand}
+use Rattle.ftp_control.specs.Lane.{Lane}
+use Rattle.ftp_control.specs.Machine.{Aside, Break, Closed, End, Gave, Got, Held, Left, LetGo, Listening, Opened, Received, Waited, Wrote}
 use Rattle.ftp_client_drive.specs.Side.{client_side}
 use Rattle.ftp_client_model.specs.Calls as near
-use Rattle.ftp_client_model.specs.Calls.{is_sound}
+use Rattle.ftp_client_model.specs.View.{View as Near}
+use Rattle.ftp_client_model.specs.declared.client.ClientLink.TheVariants as Data
+use Rattle.ftp_client_model.specs.declared.client.Ending.TheVariants as Endings
+use Rattle.ftp_client_model.specs.Calls.{is_sound as is_sound_at}
 use Rattle.ftp_operation.specs.Answer.{Said}
-use Rattle.ftp_server_drive.specs.Side.{server_side}
+use Rattle.ftp_server_drive.specs.Side.{Timed, server_side}
 use Rattle.ftp_server_model.specs.Calls as far
 use Rattle.ftp_server_model.specs.Machine.{IsReading, Reading}
 use Rattle.ftp_pair_world.specs.Agreement.{Order}
-use Rattle.ftp_pair_world.specs.Claims.{Beginning, IsFair, world_of}
+use Rattle.ftp_pair_world.specs.Claims.{Beginning, IsFair, state_of, world_of}
 use Rattle.ftp_pair_world.specs.World.{World}
 use Rattle.ftp_pair_drives.specs.Alone.{begun_by, reported_by, reports_in}
-use Rattle.ftp_pair_drives.specs.Between.{Between, CanTurn, Client, Far as TheServer, Happened, Has_lost, IsStanding, Server, Turn, client_deeds, nothing_yet, server_deeds, with_hold}
+use Rattle.ftp_pair_drives.specs.Between.{Between, CanTurn, Client, Far as TheServer, Happened, Has_lost, IsStanding, Near as TheClient, Server, Turn, client_deeds, nothing_yet, server_deeds, with_hold}
 use Rattle.ftp_pair_drives.specs.Claims.{Begins}
 use Rattle.ftp_pair_drives.specs.Touches.{touch_in}
 use Rattle.ftp_pair_drives.proofs.Taken.{reports_is, taken}
 use Rattle.ftp_pair_drives.proofs.Worlds.{LeadsOn, leads_none, leads_then}
 use Rattle.ftp_pair_data.specs.Ahead.{is_asked, is_open}
+use Rattle.ftp_pair_data.specs.Unaborted.{is_unaborted}
 use Rattle.ftp_pair_deeds.specs.Deeds.{ArePorts, listened_in}
-use Rattle.ftp_pair_deeds.proofs.Holding.{both, is_false}
+use Rattle.ftp_pair_deeds.proofs.Holding.{both, is_called, is_false, is_had, is_sound}
 use Rattle.ftp_pair_deeds.proofs.Plain.{IsPlainly}
 use Rattle.ftp_pair_deeds.proofs.Serves.{deed_serves}
 use Rattle.ftp_pair_deeds.proofs.Stands.{ServerServes}
 use Rattle.ftp_pair_transfers.specs.Ahead.{Level, far_ahead, is_parted}
-use Rattle.ftp_pair_transfers.specs.Claims.{TransfersAreOfWorlds}
-use Rattle.ftp_pair_transfers.specs.Deeds.{AreMoments, AreToldAt, AsksAlong, IsToldAt, ServerTransfers, ServesAlong, begun_at, last_of, number_in}
+use Rattle.ftp_pair_transfers.specs.Claims.{IsNear, TransfersAreOfWorlds}
+use Rattle.ftp_pair_transfers.specs.Deeds.{AreMoments, AreResets, AreToldAt, AsksAlong, ClientTransfers, IsServing, IsToldAt, ServerTransfers, ServesAlong, begun_at, last_of, number_in}
 use Rattle.ftp_pair_transfers.proofs.Beside.{Goes, Together}
-use Rattle.ftp_pair_transfers.proofs.Called.{StaysFresh, far_fresh}
+use Rattle.ftp_pair_transfers.proofs.Broke.{IsShown, broke_does, with_view}
+use Rattle.ftp_pair_transfers.proofs.Called.{BreaksNone, StaysFresh, far_fresh}
+use Rattle.ftp_pair_transfers.proofs.ClientBroken.{client_breaks, with_none}
+use Rattle.ftp_pair_transfers.proofs.EitherEnd.{AreAlike, common}
 use Rattle.ftp_pair_transfers.proofs.Known.{AreCarried}
-use Rattle.ftp_pair_transfers.proofs.Lost.{IsSeen, far_done, near_done, resets_losing, seen_itself, with_lost}
+use Rattle.ftp_pair_transfers.proofs.Lost.{IsSeen, far_done, is_lost, near_done, resets_losing, seen_itself, with_lost}
 use Rattle.ftp_pair_transfers.proofs.ServerStays.{server_resets}
-use Rattle.ftp_pair_transfers.proofs.Simulating.{Reached, client_fresh, client_goes, client_plain, in_carried, known, orders_are, server_goes}
+use Rattle.ftp_pair_transfers.proofs.Simulating.{Reached, asks, client_fresh, client_goes, client_plain, in_carried, known, orders_are, runs, server_goes}
 
 -- the ports of the deeds before one are those of a world too
 earlier : (deed : Deed server_side) (before : List (Deed server_side)) → ArePorts (deed ∷ before) → ArePorts before
 earlier (Other (Listening port)) before ports = ports.0
 earlier deed before ports = ports
+
+-- the reset that a break is told of
+abbrev IsResetFor : Deed client_side → Between → Type 0
+IsResetFor (Other Break) between = between.far ≡ Has_lost
+IsResetFor deed between = ⊤
+
+reset_for : (deed : Deed client_side) (before : List Turn) (between : Between) (happened : Happened (Client deed ∷ before) between)
+    → AreResets (Client deed ∷ before) between happened → IsResetFor deed happened.0
+reset_for (Other Break) before between happened resets = resets.1
+reset_for deed before between happened resets = tt
+
+resets_before : (deed : Deed client_side) (before : List Turn) (between : Between) (happened : Happened (Client deed ∷ before) between)
+    → AreResets (Client deed ∷ before) between happened → AreResets before happened.0 happened.1
+resets_before (Other Break) before between happened resets = resets.0
+resets_before deed before between happened resets = resets
+
+-- how the client stands to it is the same after a deed of the server
+serving_near : (deed : Deed server_side) (at : Held Timed) → IsServing deed at → (p q : Between) → CanTurn (Server deed) p q → q.near ≡ p.near
+serving_near (Heard octets) at is p q can = ap (λ (m : Between). m.near) can
+serving_near (Says octets) at is p q can = ap (λ (m : Between). m.near) can
+serving_near (Read octets) at is p q can = ap (λ (m : Between). m.near) can.1
+serving_near (Other (Aside asked)) at is p q can = ap (λ (m : Between). m.near) can
+serving_near (Other (Listening port)) at is p q can = ap (λ (m : Between). m.near) can.1
+serving_near (Other (Opened host (Came from left written ∷ []) at_first so_far rest)) at is p q can = ap (λ (m : Between). m.near) can.1
+serving_near (Other (Got octets)) at is p q can = ap (λ (m : Between). m.near) can.2
+serving_near (Other (Received octets count)) at is p q can = ap (λ (m : Between). m.near) can
+serving_near (Other End) at is p q can = ap (λ (m : Between). m.near) can.2
+serving_near (Other (Gave count octets rest)) at is p q can = ap (λ (m : Between). m.near) can
+serving_near (Other (Wrote octets)) at is p q can = ap (λ (m : Between). m.near) can.1
+serving_near (Other (Waited lost)) at is p q can = ap (λ (m : Between). m.near) can
+serving_near (Other (LetGo octets)) at is p q can = ap (λ (m : Between). m.near) can
+serving_near (Other (Left (EndedBy left written))) at is p q can = ap (λ (m : Between). m.near) can.1
+serving_near (Other (Left (Reset left written))) at is p q can = ap (λ (m : Between). m.near) can.1
+serving_near (Other (Left Shut)) at is p q can = ap (λ (m : Between). m.near) can
+serving_near (Other Closed) at is p q can = ap (λ (m : Between). m.near) can
+serving_near deed at is p q can = absurd is
+
+-- ---- the client that a world sees
+
+shown_still : (p q : Between) (client shown : Stand client_side) → q.near ≡ p.near → IsShown p client shown → IsShown q client shown
+shown_still p q client shown near (inl same) = inl same
+shown_still p q client shown near (inr broke) =
+    inr (broke.0, broke.1, record { apart = broke.2.apart; near = ap is_lost near ∙ broke.2.near; lane = broke.2.lane })
+
+-- it is the client, where that is not busy
+pub shown_itself : (between : Between) (client shown : Stand client_side) → IsShown between client shown → near.is_busy client.owner.end.view ≡ false
+    → shown ≡ client
+shown_itself between client shown (inl same) free = same
+shown_itself between client shown (inr broke) free = absurd (both (common client.owner.end.view broke.0 broke.2.apart).busy free)
+
+-- it has the same report
+shown_said : (between : Between) (client shown : Stand client_side) → IsShown between client shown
+    → near.report_of shown.owner.end.view ≡ near.report_of client.owner.end.view
+shown_said between client shown (inl same) = ap (λ (c : Stand client_side). near.report_of c.owner.end.view) same
+shown_said between client shown (inr broke) =
+    let c = common client.owner.end.view broke.0 broke.2.apart in
+    ap (λ (c : Stand client_side). near.report_of c.owner.end.view) broke.1 ∙ c.other_said ∙ sym c.one_said
+
+-- and is as it, or told of an end where that was told of a break
+shown_near : (between : Between) (client shown : Stand client_side) → IsShown between client shown → (there : Near)
+    → there ≡ near.data_closed (taken shown.owner.end.view) → IsNear there (near.data_closed (near.reports client.owner.end.view))
+shown_near between client shown (inl same) there is =
+    inl (is ∙ ap (λ (c : Stand client_side). near.data_closed (taken c.owner.end.view)) same
+    ∙ ap near.data_closed (sym (reports_is client.owner.end.view)))
+shown_near between client shown (inr broke) there is =
+    let a = broke.2.apart in
+    inr (record {
+      aborted = ap (λ n. is_unaborted (near.data_closed (near.reports n)).job) a.one_is ∙ a.sent;
+      broke = ap (λ n. (near.data_closed (near.reports n)).connection) a.one_is;
+      is = is ∙ ap (λ (c : Stand client_side). near.data_closed (taken c.owner.end.view)) broke.1 ∙ ap (λ n. near.data_closed (taken n)) a.other_is
+          ∙ sym (ap (λ n. record (near.data_closed (near.reports n)) { connection = Data.Over Endings.Clean }) a.one_is);
+    })
 
 module _ (read : Reading) (reads : IsReading read) (moments : ℕ → ℕ) (timed : AreMoments moments) (b : Beginning) (fair : IsFair b) where
   abbrev At : List Order → Between → ℕ → Stand server_side → Stand client_side → List Said → Type 0
@@ -63,7 +144,7 @@ module _ (read : Reading) (reads : IsReading read) (moments : ℕ → ℕ) (time
       let stands = subst IsStanding (sym seen.far) can.0 in
       record {
         seen = with_lost old.owner.lane.unwritten (with_hold TheServer Has_lost s);
-        is_seen = resets_losing p q s seen old.owner.lane.unwritten can;
+        is_seen = resets_losing p q s seen old.owner.lane.unwritten (λ e. o.together.serves.spare (ap is_had seen.far ∙ e)) can;
         goes = server_resets read (begun_at moments deeds) old new client reports o.world is.1 o.serves
             (known read reads moments timed b fair deeds s (listened_in before) old client reports o puts) left written o.last o.ahead s
             (listened_in before) o.together did stands;
@@ -131,7 +212,7 @@ module _ (read : Reading) (reads : IsReading read) (moments : ℕ → ℕ) (time
     };
     serves = record { running = ap (λ f. f.session.life) begins.server_view; none_waits = ap (λ f. f.waiting) begins.server_view };
     plain = subst IsPlainly (sym begins.client_view) (record { job = tt; port = refl; run = refl });
-    sound = ap (λ n. is_sound n.standing) begins.client_view;
+    sound = ap (λ n. is_sound_at n.standing) begins.client_view;
     fresh = λ e. absurd (true≢false (sym e));
   }
 
@@ -140,10 +221,128 @@ module _ (read : Reading) (reads : IsReading read) (moments : ℕ → ℕ) (time
       (reports : List Said) : Type 0 where
     pub seen : Between
     pub is_seen : IsSeen between seen
-    pub reached : At begun seen told server client reports
+    pub shown : Stand client_side
+    pub shows : IsShown between client shown
+    pub reached : At begun seen told server shown reports
+
+  -- a deed of a client as a world sees it, but that it is told of a break
+  client_goes_on : (deed : Deed client_side) → BreaksNone deed → (old new : Stand client_side) → ClientTransfers deed old.owner new.owner
+      → (deeds : List (Deed client_side)) → AreCarried (begun_at moments deeds) → (s q : Between) → CanTurn (Client deed) s q
+      → (told : ℕ) (server : Stand server_side) (reports : List Said) → At (begun_at moments deeds) s told server old reports → Done deed old new
+      → At (begun_at moments (deed ∷ deeds)) q told server new (reports ++ reported_by deed)
+  client_goes_on deed unbroken old new is deeds puts s q can told server reports o did =
+      let begun : List Order = begun_at moments deeds in
+      let plain = client_plain read reads moments timed b fair deed unbroken old new is deeds puts s told server reports o did in
+      let went = client_goes read reads moments timed b fair deed unbroken old new is deeds puts s q can told server reports o plain did in
+      record {
+        world = went.0.world;
+        leads = leads_then read begun (begun_by (moments (number_in deeds)) deed) (world_of b) o.world went.0.world o.leads went.0.leads;
+        last = went.0.moment;
+        ahead = went.0.ahead;
+        together = subst (λ l. Together read l went.0.moment went.0.ahead q told server new (reports ++ reported_by deed) went.0.world)
+            (orders_are (moments (number_in deeds)) deed begun) went.0.together;
+        serves = o.serves;
+        plain = plain;
+        sound = went.1;
+        fresh = client_fresh read reads moments timed b fair deed unbroken old new is deeds puts s q can told server reports o did;
+      }
+
+  -- one but that it is told of a break
+  client_sees_on : (deed : Deed client_side) → BreaksNone deed → (old new : Stand client_side) → ClientTransfers deed old.owner new.owner
+      → (deeds : List (Deed client_side)) → AreCarried (begun_at moments deeds) → (p q : Between) → CanTurn (Client deed) p q → (told : ℕ)
+      (server : Stand server_side) (reports : List Said) → Seen (begun_at moments deeds) p told server old reports → Done deed old new
+      → Seen (begun_at moments (deed ∷ deeds)) q told server new (reports ++ reported_by deed)
+  client_sees_on deed unbroken old new is deeds puts p q can told server reports at did = by at.shows
+    where
+      by : IsShown p old at.shown → Seen (begun_at moments (deed ∷ deeds)) q told server new (reports ++ reported_by deed)
+      by (inl same) =
+          let there = near_done p q at.seen at.is_seen (touch_in deed) can in
+          let o = subst (λ c. At (begun_at moments deeds) at.seen told server c reports) same at.reached in
+          record {
+            seen = there.after;
+            is_seen = there.is_seen;
+            shown = new;
+            shows = inl refl;
+            reached = client_goes_on deed unbroken old new is deeds puts at.seen there.after there.can told server reports o did;
+          }
+      by (inr broke) =
+          let there = near_done p q at.seen at.is_seen (touch_in deed) can in
+          let so = broke_does p q old new broke.0 broke.2 deed is did can in
+          let o = subst (λ c. At (begun_at moments deeds) at.seen told server c reports) broke.1 at.reached in
+          record {
+            seen = there.after;
+            is_seen = there.is_seen;
+            shown = so.after;
+            shows = so.shows;
+            reached = client_goes_on deed unbroken (with_view broke.0 old) so.after so.is deeds puts at.seen there.after there.can told server reports o so.did;
+          }
+
+  -- where the server reset it, no octets of it come
+  reset_falls : (between seen : Between) → IsSeen between seen → between.far ≡ Has_lost
+      → IsSeen (with_hold TheClient Has_lost between) (with_none seen)
+  reset_falls between seen is lost = record {
+    control = is.control;
+    rising = is.rising;
+    near = refl;
+    far = is.far;
+    falls = inr (inr (record { none = refl; far = ap is_lost lost; near = refl }));
+  }
+
+  -- a deed of the client
+  client_sees : (deed : Deed client_side) (old new : Stand client_side) → ClientTransfers deed old.owner new.owner → (deeds : List (Deed client_side))
+      → AreCarried (begun_at moments deeds) → (p q : Between) → CanTurn (Client deed) p q → IsResetFor deed p → (told : ℕ) (server : Stand server_side)
+      (reports : List Said) → Seen (begun_at moments deeds) p told server old reports → Done deed old new
+      → Seen (begun_at moments (deed ∷ deeds)) q told server new (reports ++ reported_by deed)
+  client_sees (Other Break) old new is deeds puts p q can reset told server reports at did = by at.shows
+    where
+      by : IsShown p old at.shown → Seen (begun_at moments (Other Break ∷ deeds)) q told server new (reports ++ [])
+      by (inr broke) = absurd (both broke.2.near (ap is_lost can.0))
+      by (inl same) =
+          let o : At (begun_at moments deeds) at.seen told server old reports =
+          subst (λ c. At (begun_at moments deeds) at.seen told server c reports) same at.reached in
+          let begun : List Order = begun_at moments deeds in
+          let lost : at.seen.far ≡ Has_lost = at.is_seen.far ∙ reset in
+          let k = client_breaks read reads (state_of b) begun puts server old new reports o.world is.1 o.serves
+          (asks read reads moments timed b fair deeds at.seen told server old reports o puts) o.plain
+          (known read reads moments timed b fair deeds at.seen told server old reports o puts)
+          (runs read reads moments timed b fair deeds at.seen told server old reports o puts) o.last o.ahead at.seen told o.together did is.0.0 is.0.1 is.0.2
+          (ap is_had lost) (ap is_called lost) in
+          let shown : Stand client_side = with_view (near.data_end old.owner.end.view) new in
+          record {
+            seen = with_none at.seen;
+            is_seen = subst (λ m. IsSeen m (with_none at.seen)) (sym can.1) (reset_falls p at.seen at.is_seen reset);
+            shown = shown;
+            shows = shows k.alike;
+            reached = record {
+              world = k.goes.world;
+              leads = leads_then read begun [] (world_of b) o.world k.goes.world o.leads k.goes.leads;
+              last = k.goes.moment;
+              ahead = k.goes.ahead;
+              together = subst (λ l. Together read l k.goes.moment k.goes.ahead (with_none at.seen) told server shown (reports ++ []) k.goes.world)
+                  (sym (append-nil begun)) k.goes.together;
+              serves = o.serves;
+              plain = k.plainly;
+              sound = k.sound;
+              fresh = λ e. absurd (both e (ap is_called lost));
+            };
+          }
+        where
+          shows : AreAlike new.owner.end.view (near.data_end old.owner.end.view) → IsShown q new (with_view (near.data_end old.owner.end.view) new)
+          shows (inl e) = inl (ap (λ n. with_view n new) (sym e))
+          shows (inr apart) = inr (
+            near.data_end old.owner.end.view,
+            refl,
+            record {
+              apart = apart;
+              near = ap (λ (m : Between). is_lost m.near) can.1;
+              lane = λ o. both (ap is_sound o.1) (ap (λ (l : Lane). is_sound l.fate) did.0.1);
+            },
+          )
+  client_sees deed old new is deeds puts p q can reset told server reports at did =
+      client_sees_on deed tt old new is deeds puts p q can told server reports at did
 
   -- deed by deed
-  pub reaches : (turns : List Turn) (between : Between) → Happened turns between
+  pub reaches : (turns : List Turn) (between : Between) → (happened : Happened turns between) → AreResets turns between happened
       → (server_start server : Stand server_side) (client_start client : Stand client_side) → Begins b server_start client_start
       → server_start.owner.lane.untold ≡ [] → client_start.owner.lane.unwritten ≡ []
       → server_start.owner.lane.unwritten ≡ [] → client_start.owner.lane.untold ≡ []
@@ -151,29 +350,33 @@ module _ (read : Reading) (reads : IsReading read) (moments : ℕ → ℕ) (time
       → ServesAlong (server_deeds turns) server_start server server_led → AsksAlong (client_deeds turns) client_start client client_led
       → ArePorts (server_deeds turns) → AreToldAt moments turns server_start server server_led
       → Seen (begun_at moments (client_deeds turns)) between (listened_in (server_deeds turns)) server client (reports_in (client_deeds turns))
-  reaches [] between happened server_start server client_start client begins untold unwritten far_unwritten near_untold server_led client_led takes gives
+  reaches [] between happened resets server_start server client_start client begins untold unwritten far_unwritten near_untold server_led client_led takes gives
       ports told =
       subst (λ (m : Between). Seen [] m 0 server client []) (sym happened)
       (subst (λ (s : Stand server_side). Seen [] nothing_yet 0 s client []) (sym server_led)
       (subst (λ (c : Stand client_side). Seen [] nothing_yet 0 server_start c []) (sym client_led) (record {
         seen = nothing_yet;
         is_seen = seen_itself nothing_yet;
+        shown = client_start;
+        shows = inl refl;
         reached = starts_so server_start client_start begins untold unwritten far_unwritten near_untold;
       })))
-  reaches (Server deed ∷ before) between happened server_start server client_start client begins untold unwritten far_unwritten near_untold server_led
+  reaches (Server deed ∷ before) between happened resets server_start server client_start client begins untold unwritten far_unwritten near_untold server_led
       client_led takes gives ports
       told =
-      let at = reaches before happened.0 happened.1 server_start server_led.0 client_start client begins untold unwritten far_unwritten near_untold
+      let at = reaches before happened.0 happened.1 resets server_start server_led.0 client_start client begins untold unwritten far_unwritten near_untold
       server_led.1 client_led takes.0
       gives (earlier deed (server_deeds before) ports) told.0 in
       let o = at.reached in
       let begun : List Order = begun_at moments (client_deeds before) in
       let went = server_sees deed server_led.0 server takes.1 (client_deeds before) (in_carried moments
       (client_deeds before) client_start client client_led gives)
-      (server_deeds before) ports happened.0 between at.seen at.is_seen happened.2 client (reports_in (client_deeds before)) o server_led.2 told.1 in
+      (server_deeds before) ports happened.0 between at.seen at.is_seen happened.2 at.shown (reports_in (client_deeds before)) o server_led.2 told.1 in
       record {
         seen = went.seen;
         is_seen = went.is_seen;
+        shown = at.shown;
+        shows = shown_still happened.0 between client at.shown (serving_near deed server_led.0.owner takes.1.0 happened.0 between happened.2) at.shows;
         reached = record {
           world = went.goes.world;
           leads = subst (λ l. LeadsOn read l (world_of b) went.goes.world) (append-nil begun)
@@ -187,42 +390,21 @@ module _ (read : Reading) (reads : IsReading read) (moments : ℕ → ℕ) (time
           fresh = went.fresh;
         };
       }
-  reaches (Client deed ∷ before) between happened server_start server client_start client begins untold unwritten far_unwritten near_untold server_led
+  reaches (Client deed ∷ before) between happened resets server_start server client_start client begins untold unwritten far_unwritten near_untold server_led
       client_led takes gives ports
       told =
-      let at = reaches before happened.0 happened.1 server_start server client_start client_led.0 begins untold unwritten far_unwritten near_untold server_led
+      let at = reaches before happened.0 happened.1 (resets_before deed before between happened resets) server_start server client_start client_led.0 begins
+      untold unwritten far_unwritten near_untold server_led
       client_led.1 takes gives.0
       ports told in
-      let o = at.reached in
-      let begun : List Order = begun_at moments (client_deeds before) in
-      let listened : ℕ = listened_in (server_deeds before) in
-      let said : List Said = reports_in (client_deeds before) in
-      let there = near_done happened.0 between at.seen at.is_seen (touch_in deed) happened.2 in
-      let puts = in_carried moments (client_deeds before) client_start client_led.0 client_led.1 gives.0 in
-      let plain = client_plain read reads moments timed b fair deed client_led.0 client gives.1 (client_deeds before) puts at.seen listened server said o client_led.2 in
-      let went = client_goes read reads moments timed b fair deed client_led.0 client gives.1 (client_deeds before) puts at.seen there.after there.can listened server said o plain
-      client_led.2 in
-      record {
-        seen = there.after;
-        is_seen = there.is_seen;
-        reached = record {
-          world = went.0.world;
-          leads = leads_then read begun (begun_by (moments (number_in (client_deeds before))) deed) (world_of b) o.world went.0.world o.leads went.0.leads;
-          last = went.0.moment;
-          ahead = went.0.ahead;
-          together = subst (λ l. Together read l went.0.moment went.0.ahead there.after listened server client (said ++ reported_by deed) went.0.world)
-              (orders_are (moments (number_in (client_deeds before))) deed begun) went.0.together;
-          serves = o.serves;
-          plain = plain;
-          sound = went.1;
-          fresh = client_fresh read reads moments timed b fair deed client_led.0 client gives.1 (client_deeds before) puts at.seen there.after there.can listened server said o client_led.2;
-        };
-      }
+      client_sees deed client_led.0 client gives.1 (client_deeds before) (in_carried moments (client_deeds before) client_start client_led.0 client_led.1
+      gives.0) happened.0 between happened.2 (reset_for deed before between happened resets) (listened_in (server_deeds before)) server
+      (reports_in (client_deeds before)) at client_led.2
 
 -- events of a world lead to what both drives hold
 pub transfers_are_of_worlds : TransfersAreOfWorlds
 transfers_are_of_worlds read reads b fair moments timed turns between server client did =
-    let at = reaches read reads moments timed b fair turns between did.happened did.server_start server did.client_start client did.begins did.untold
+    let at = reaches read reads moments timed b fair turns between did.happened did.resets did.server_start server did.client_start client did.begins did.untold
     did.unwritten did.server_unwritten did.client_untold did.server_led did.client_led did.takes did.gives did.ports did.told in
     let o = at.reached in
     let s = o.together.beside in
@@ -235,9 +417,9 @@ transfers_are_of_worlds read reads b fair moments timed turns between server cli
         moment = o.last;
         ahead = o.ahead;
         fits = s.fits;
-        near = s.near ∙ ap near.data_closed (sym (reports_is client.owner.end.view));
+        near = shown_near between client at.shown at.shows o.world.near s.near;
         far = s.far;
-        reported = s.reported;
+        reported = s.reported ∙ ap (λ r. reports_in (client_deeds turns) ++ option_to_list r) (shown_said between client at.shown at.shows);
         control = s.control;
         marks = s.marks;
         cutoff = s.cutoff;

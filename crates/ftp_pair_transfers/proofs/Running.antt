@@ -1,6 +1,6 @@
 -- Every world that a session comes to in which files are put and fetched is known, while the client has left no link of which the server made nothing yet;
 -- what is taken of an upload, and what its end leaves; the moment at which it was begun.
-use Rattle.std.proofs.Common.{◌≡◌, inl, inr, ℕ, Bool, true, false, true≢false, List, [], ◌∷◌, ◌++◌, take, refl, sym, ap, subst, ◌∙◌, append-nil}
+use Rattle.std.proofs.Common.{◌≡◌, ◌⊎◌, inl, inr, ℕ, Bool, true, false, true≢false, List, [], ◌∷◌, ◌++◌, take, refl, sym, ap, subst, ◌∙◌, append-nil}
 use Rattle.ftp_client_model.specs.Calls as near
 use Rattle.ftp_client_model.specs.Calls.{is_sound}
 use Rattle.ftp_client_model.specs.View.{View as Near}
@@ -9,6 +9,7 @@ use Rattle.ftp_control.specs.Machine.{Aside}
 use Rattle.ftp_client_drive.specs.Side.{Starting, client_side}
 use Rattle.ftp_direct.specs.Direct.{State, answer}
 use Rattle.ftp_endpoint.specs.declared.host.Host.{Host}
+use Rattle.ftp_ends.specs.declared.link.Wants.TheVariants as Want
 use Rattle.ftp_operation.specs.Answer.{Said}
 use Rattle.ftp_operation.specs.declared.op.Op.{Op}
 use Rattle.ftp_path.specs.Path.{Names}
@@ -27,7 +28,7 @@ use Rattle.ftp_pair_agreement.specs.Cut.{Cut, PlacedAt, of_ends, world_at}
 use Rattle.ftp_pair_agreement.specs.Follows.{Follows, IsUnlinked, Phase}
 use Rattle.ftp_pair_agreement.specs.Over.{OverRuns}
 use Rattle.ftp_pair_agreement.specs.Rising.{Lift, Settled, Rising, Risen, Offered, Declined, Unjoined}
-use Rattle.ftp_pair_agreement.specs.Runs.{AtClosed, IsFetching, IsFetchingOn, IsHalting, IsTrailing}
+use Rattle.ftp_pair_agreement.specs.Runs.{AtClosed, IsFetching, IsFetchingOn, IsHalting, IsHaltingOn, IsTrailing}
 use Rattle.ftp_pair_agreement.specs.Stages.{Answers, Aside as LeavesAside, AtFetch, Awaits, Carries, Closed, Course, Dialled, Dials, Dismissed, Early, Ended, Given, Giving, Holds, Leaving, LinkLeft, LinkOpen, LinkParting, Lost, PortAsked, PortDenied, PortSaid, PortTaken, PortTold, PortWanted, Ported, Refusing, Restarts, Retrieves, Rises, Severed, Stage, Tells, Unaccepted, Unclosed, Unopened, early_far, far_link, gives_on, tie_of}
 use Rattle.ftp_pair_agreement.proofs.Deliveries.{pushed_client as still_heard, pushed_server as still_told}
 use Rattle.ftp_pair_agreement.proofs.FetchEnds.{ends_fetching}
@@ -36,7 +37,8 @@ use Rattle.ftp_pair_agreement.proofs.FetchServed.{leads_still}
 use Rattle.ftp_pair_agreement.proofs.PeekEvents.{halt_ends, halt_pushes_up}
 use Rattle.ftp_pair_agreement.proofs.PeekHears.{OnOrTold, halt_pushes_down}
 use Rattle.ftp_pair_agreement.proofs.Still.{IsSeen, IsStill, near_wants, seen, seen_placed}
-use Rattle.ftp_pair_data.proofs.Known.{aside_still, beside, one_way}
+use Rattle.ftp_pair_data.specs.Unaborted.{is_unaborted}
+use Rattle.ftp_pair_data.proofs.Known.{aside_still, beside, is_receive, one_way}
 use Rattle.ftp_pair_data.proofs.Running.{free_still, not_lost, under_still}
 use Rattle.ftp_pair_data.proofs.Served.{Runs}
 use Rattle.ftp_pair_transfers.specs.Deeds.{begun_at, last_of, number_in}
@@ -112,6 +114,29 @@ module _ (read : Reading) (state : State) (ask : Ask) (good : IsAsk ask) (own : 
       by : At s.way s.base → is_sound w.near.standing ≡ true
       by (inl l) = (leads_still read state ask good.plan own s.base w s.way of l).0.near.sound
       by (inr (stage, h)) = ap is_sound of.standing ∙ by_stage stage h
+
+  -- no ABOR was sent, or nothing of a data connection is wanted
+  stage_unaborted : (w : World) → PlacedAt At w → (near.wants w.near ≡ Want.Nothing) ⊎ (is_unaborted w.near.job ≡ true)
+  stage_unaborted w s = by s.here
+    where
+      of : IsSeen s.base w
+      of = seen_placed At w s
+
+      by_lift : (rise : Rise) (lift : Lift) → Holds state ask own (Rises rise lift) s.way s.base → is_unaborted s.base.near.job ≡ true
+      by_lift rise Offered h = ap (λ (n : Near). is_unaborted n.job) h.near
+      by_lift rise (Rising past octet more came queue mark notes) h = ap (λ (n : Near). is_unaborted n.job) h.near
+      by_lift rise (Risen past closed came queue mark notes) h = ap (λ (n : Near). is_unaborted n.job) h.near
+      by_lift rise (Settled begun mark notes fate left after) h = ap (λ (n : Near). is_unaborted n.job) h.near
+      by_lift rise (Declined why door) h = ap (λ (n : Near). is_unaborted n.job) h.near
+      by_lift rise Unjoined h = ap (λ (n : Near). is_unaborted n.job) h.near
+
+      by_stage : (stage : Stage) → Holds state ask own stage s.way s.base → is_unaborted s.base.near.job ≡ true
+      by_stage (Rises rise lift) h = by_lift rise lift h
+      by_stage stage h = ap (λ (n : Near). is_unaborted n.job) h.near
+
+      by : At s.way s.base → (near.wants w.near ≡ Want.Nothing) ⊎ (is_unaborted w.near.job ≡ true)
+      by (inl l) = inl (near_wants w.near (leads_still read state ask good.plan own s.base w s.way of l).0.near)
+      by (inr (stage, h)) = inr (ap is_unaborted of.job ∙ by_stage stage h)
 
   -- where octets rise it was begun at the moment that the server was told
   stage_timed : (w : World) → PlacedAt At w → (rise : Rise) → ask.sends ≡ Up rise → (moment : ℕ) → IsTimely ask.sends moment → w.far.footing.moment ≡ moment
@@ -218,6 +243,33 @@ module _ (read : Reading) (reads : IsReading read) (from : State) (begun : List 
           stage_known read f.now f.ask f.is_ask f.own w f.stands on.lasts
       by (inl (inr (inr (inl trailing)))) = absurd (not_trailing w unready trailing)
       by (inl (inr (inr (inr on)))) = let h = on.halting in halt_known h.now h.ask h.own w h.stands on.lasts
+      by (inr (inl trying)) = absurd (last_carried trying.going.done _ begun trying.going.begun_is puts)
+      by (inr (inr tailing)) = absurd (last_carried tailing.going.done _ begun tailing.going.begun_is puts)
+
+  -- one whose client sent ABOR and takes octets is at a Peek that did
+  pub aborted_halts : (w : World) → OverRuns read from begun w → w.control ≡ Stands
+      → (is_closed_by_near w.link ≡ true → is_ready w.far.session.connection ≡ false) → is_unaborted w.near.job ≡ false → near.wants w.near ≡ Want.Receive
+      → IsHaltingOn from begun w
+  aborted_halts w runs control unready aborted wants = by runs
+    where
+      idle : near.wants w.near ≡ Want.Nothing → ⊥
+      idle none = true≢false (sym (ap is_receive (sym none ∙ wants)))
+
+      by_phase : Phase read from begun w → IsHaltingOn from begun w
+      by_phase (inl (linked, inl free)) = absurd (idle (near_wants w.near (free_still read from begun w free).near))
+      by_phase (inl (linked, inr under)) = absurd (idle (near_wants w.near (under_still read from begun w under).near))
+      by_phase (inr lost) = absurd (not_lost read from begun w control lost)
+
+      by : OverRuns read from begun w → IsHaltingOn from begun w
+      by (inl (inl follows)) = by_phase follows.phase
+      by (inl (inr (inl on))) =
+          let f = on.fetching in
+          elim (stage_unaborted read f.now f.ask f.is_ask f.own w f.stands) [
+            | inl none ↦ absurd (idle none)
+            | inr unaborted ↦ absurd (true≢false (sym unaborted ∙ aborted))
+          ]
+      by (inl (inr (inr (inl trailing)))) = absurd (not_trailing w unready trailing)
+      by (inl (inr (inr (inr on)))) = on
       by (inr (inl trying)) = absurd (last_carried trying.going.done _ begun trying.going.begun_is puts)
       by (inr (inr tailing)) = absurd (last_carried tailing.going.done _ begun tailing.going.begun_is puts)
 

@@ -479,7 +479,7 @@ module _ (read : Reading) (orders : List Order) (old new : Stand server_side) (c
 
       by_fate : (fate : Fate) → old.owner.lane.fate ≡ fate → MayLeave (far.wants v ≡ Want.CloseAll) (far.wants v) fate → is_open v.session.connection ≡ false
       by_fate Sound is may = by v.session.closing refl may
-      by_fate Failed is may = t.comes.shut (ap is_sound is)
+      by_fate Failed is may = by v.session.closing refl (inr may)
       by_fate Broken is may = t.comes.shut (ap is_sound is)
       by_fate Over is may = t.comes.shut (ap is_sound is)
 

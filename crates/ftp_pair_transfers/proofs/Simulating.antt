@@ -2,7 +2,7 @@
 use Rattle.std.proofs.Common.{◌≡◌, ℕ, true, List, [], ◌∷◌, ◌++◌, take, option_to_list, refl, sym, ap, subst, ◌∙◌, append-nil}
 use Rattle.ftp_control.specs.Asking.{Came, Connected, Ended as EndedBy, Reset, Shut}
 use Rattle.ftp_control.specs.Deeds.{Deed, Done, Heard, Led, Other, Read, Said as Says, Stand}
-use Rattle.ftp_control.specs.Machine.{Aside, Closed, End, Gave, Got, Left, LetGo, Listening, Opened, Received, Waited, Wrote}
+use Rattle.ftp_control.specs.Machine.{Aside, Break, Closed, End, Failed as HasFailed, Gave, Got, Left, LetGo, Listening, Opened, Received, Waited, Wrote}
 use Rattle.ftp_client_drive.specs.Side.{Reporting, Starting, client_side}
 use Rattle.ftp_client_model.specs.Calls as near
 use Rattle.ftp_client_model.specs.Calls.{is_sound}
@@ -35,12 +35,12 @@ use Rattle.ftp_pair_deeds.proofs.Serves.{deed_serves}
 use Rattle.ftp_pair_deeds.proofs.Stands.{ClientFetches, ServerServes}
 use Rattle.ftp_pair_transfers.specs.Deeds.{AreMoments, ClientTransfers, AsksAlong, IsToldAt, ServerTransfers, begun_at, last_of, number_in}
 use Rattle.ftp_pair_transfers.proofs.Beside.{Goes, Together}
-use Rattle.ftp_pair_transfers.proofs.Called.{StaysFresh, called_unaborted, near_fresh, transferred_plain}
+use Rattle.ftp_pair_transfers.proofs.Called.{BreaksNone, StaysFresh, called_unaborted, near_fresh, transferred_plain}
 use Rattle.ftp_pair_transfers.proofs.ClientDials.{client_dials}
 use Rattle.ftp_pair_transfers.proofs.ClientGiving.{client_gave, gave_fresh, gave_plain, gave_sound}
 use Rattle.ftp_pair_transfers.proofs.ClientHears.{client_heard}
 use Rattle.ftp_pair_transfers.proofs.ClientMoves.{client_begins, client_said}
-use Rattle.ftp_pair_transfers.proofs.ClientStays.{client_closed, client_ends, client_got, client_lets, client_read, client_reports, client_shuts, client_waited, client_wrote}
+use Rattle.ftp_pair_transfers.proofs.ClientStays.{client_closed, client_ends, client_fails, client_got, client_lets, client_read, client_reports, client_resets, client_shuts, client_waited, client_wrote}
 use Rattle.ftp_pair_transfers.proofs.ClientTaking.{client_received}
 use Rattle.ftp_pair_transfers.proofs.ClientTold.{client_told_end}
 use Rattle.ftp_pair_transfers.proofs.Known.{AreCarried, Known, both_carried}
@@ -114,10 +114,10 @@ module _ (read : Reading) (reads : IsReading read) (moments : ℕ → ℕ) (time
   -- what is known of it
   module _ (deeds : List (Deed client_side)) (between : Between) (told : ℕ) (server : Stand server_side) (client : Stand client_side) (reports : List Said)
       (o : Reached (begun_at moments deeds) between told server client reports) (puts : AreCarried (begun_at moments deeds)) where
-    asks : ClientFetches client.owner
+    pub asks : ClientFetches client.owner
     asks = fetches client o.plain o.sound
 
-    runs : OverRuns read (state_of b) (begun_at moments deeds) o.world
+    pub runs : OverRuns read (state_of b) (begun_at moments deeds) o.world
     runs = all_runs read reads b fair o.leads.events (begun_at moments deeds) o.world o.leads.timed o.leads.leads
 
     pub known : Known o.world
@@ -140,7 +140,8 @@ module _ (read : Reading) (reads : IsReading read) (moments : ℕ → ℕ) (time
   -- ---- a deed
 
   -- of the server
-  pub server_goes : (deed : Deed server_side) → ResetsNone deed → (old new : Stand server_side) → ServerTransfers deed old.owner new.owner → (deeds : List (Deed client_side))
+  pub server_goes : (deed : Deed server_side) → ResetsNone deed → (old new : Stand server_side) → ServerTransfers deed old.owner new.owner
+      → (deeds : List (Deed client_side))
       → AreCarried (begun_at moments deeds) → (before : List (Deed server_side)) → ArePorts (deed ∷ before) → (p q : Between) → CanTurn (Server deed) p q
       → (client : Stand client_side) (reports : List Said) → (o : Reached (begun_at moments deeds) p (listened_in before) old client reports)
       → (did : Done deed old new) → IsToldAt deed old new did (last_of moments (number_in deeds))
@@ -178,13 +179,14 @@ module _ (read : Reading) (reads : IsReading read) (moments : ℕ → ℕ) (time
         (listened_in before) o.together did can ports.1,
     deed_serves (Other (Listening port)) tt old new (tt, is.1) did o.serves,
   )
-  server_goes (Other (Opened host (Came from left written ∷ []) at_first so_far rest)) kept old new is deeds puts before ports p q can client reports o did told = (
-    server_accepts read (begun_at moments deeds) old new client reports o.world is.1 o.serves (known deeds p (listened_in before) old client reports o puts)
-        host from left written
-        at_first so_far rest o.last o.ahead p q (listened_in before)
-        o.together did can is.0,
-    deed_serves (Other (Opened host (Came from left written ∷ []) at_first so_far rest)) tt old new is did o.serves,
-  )
+  server_goes (Other (Opened host (Came from left written ∷ []) at_first so_far rest)) kept old new is deeds puts before ports p q can client reports o
+      did told = (
+        server_accepts read (begun_at moments deeds) old new client reports o.world is.1 o.serves (known deeds p (listened_in before) old client reports o puts)
+            host from left written
+            at_first so_far rest o.last o.ahead p q (listened_in before)
+            o.together did can is.0,
+        deed_serves (Other (Opened host (Came from left written ∷ []) at_first so_far rest)) tt old new is did o.serves,
+      )
   server_goes (Other (Got octets)) kept old new is deeds puts before ports p q can client reports o did told = (
     server_got read (begun_at moments deeds) old new client reports o.world is.1 o.serves (known deeds p (listened_in before) old client reports o puts)
         octets o.last o.ahead p q
@@ -256,41 +258,42 @@ module _ (read : Reading) (reads : IsReading read) (moments : ℕ → ℕ) (time
   server_goes deed kept old new is deeds puts before ports p q can client reports o did told = absurd is.0
 
   -- of the client
-  pub client_goes : (deed : Deed client_side) (old new : Stand client_side) → ClientTransfers deed old.owner new.owner → (deeds : List (Deed client_side))
+  pub client_goes : (deed : Deed client_side) → BreaksNone deed → (old new : Stand client_side) → ClientTransfers deed old.owner new.owner
+      → (deeds : List (Deed client_side))
       → AreCarried (begun_at moments deeds) → (p q : Between) → CanTurn (Client deed) p q → (told : ℕ) (server : Stand server_side) (reports : List Said)
       → (o : Reached (begun_at moments deeds) p told server old reports) → IsPlainly new.owner.end.view → Done deed old new
       → Goes read (begun_by (moments (number_in deeds)) deed) (orders_after (moments (number_in deeds)) deed (begun_at moments deeds)) q told server new
       (reports ++ reported_by deed) o.world
       × (is_sound new.owner.end.view.standing ≡ true)
-  client_goes (Heard octets) old new is deeds puts p q can told server reports o plain did =
+  client_goes (Heard octets) unbroken old new is deeds puts p q can told server reports o plain did =
       subst (λ (m : Between). Goes read [] (begun_at moments deeds) m told server new (reports ++ []) o.world × (is_sound new.owner.end.view.standing ≡ true))
       (sym can)
       (client_heard read (begun_at moments deeds) server old new reports o.world is.1 o.serves (asks deeds p told server old reports o puts) plain
       (known deeds p told server old reports o puts) reads (state_of b) puts
       (runs deeds p told server old reports o puts) octets o.last o.ahead p told
       o.together did)
-  client_goes (Says octets) old new is deeds puts p q can told server reports o plain did = (
+  client_goes (Says octets) unbroken old new is deeds puts p q can told server reports o plain did = (
     client_said read reads (begun_at moments deeds) server old new reports o.world is.1 o.serves (asks deeds p told server old reports o puts)
         (fetches new plain (deed_sound (Says octets) tt old new (tt, is.1) did o.sound)) (known deeds p told server old reports o puts) octets o.last o.ahead
         p q told
         o.together did can,
     deed_sound (Says octets) tt old new (tt, is.1) did o.sound,
   )
-  client_goes (Read octets) old new is deeds puts p q can told server reports o plain did = (
+  client_goes (Read octets) unbroken old new is deeds puts p q can told server reports o plain did = (
     client_read read (begun_at moments deeds) server old new reports o.world is.1 (known deeds p told server old reports o puts) octets o.last o.ahead p q
         told o.together did
         can.0 (ap (λ (m : Between). m.control.to_server) can.1) (ap (λ (m : Between). m.data_ways) can.1) (ap (λ (m : Between). m.far) can.1) (ap (λ
         (m : Between). m.near) can.1),
     deed_sound (Read octets) tt old new (tt, is.1) did o.sound,
   )
-  client_goes (Other (Aside (Reporting said))) old new is deeds puts p q can told server reports o plain did = (
+  client_goes (Other (Aside (Reporting said))) unbroken old new is deeds puts p q can told server reports o plain did = (
     subst (λ (l : List Said). Goes read [] (begun_at moments deeds) q told server new (reports ++ l) o.world) (sym (reported_is said))
         (subst (λ (m : Between). Goes read [] (begun_at moments deeds) m told server new (reports ++ option_to_list said) o.world) (sym can)
         (client_reports read (begun_at moments deeds) server old new reports o.world is.1 (known deeds p told server old reports o puts) said o.last o.ahead p
         told o.together did)),
     deed_sound (Other (Aside (Reporting said))) tt old new (tt, is.1) did o.sound,
   )
-  client_goes (Other (Aside (Starting op))) old new is deeds puts p q can told server reports o plain did = (
+  client_goes (Other (Aside (Starting op))) unbroken old new is deeds puts p q can told server reports o plain did = (
     subst (λ (m : Between). Goes read (Single op (moments (number_in deeds)) ∷ []) (begun_at moments deeds ++ Single op (moments (number_in deeds)) ∷ []) m
         told server new (reports ++ []) o.world) (sym can)
         (client_begins read reads (begun_at moments deeds) server old new reports o.world is.1 o.serves (asks deeds p told server old reports o puts)
@@ -299,109 +302,136 @@ module _ (read : Reading) (reads : IsReading read) (moments : ℕ → ℕ) (time
         o.ahead p told o.together is.0.1 did),
     starts_sound op old new is.1 did o.sound,
   )
-  client_goes (Other (Opened host (Connected endpoint left written ∷ []) at_first so_far rest)) old new is deeds puts p q can told server reports o plain
-      did = (
+  client_goes (Other (Opened host (Connected endpoint left written ∷ []) at_first so_far rest)) unbroken old new is deeds puts p q can told server reports o
+      plain did = (
         client_dials read (begun_at moments deeds) server old new reports o.world is.1 o.serves (asks deeds p told server old reports o puts)
             (fetches new plain (deed_sound (Other (Opened host (Connected endpoint left written ∷ []) at_first so_far rest)) tt old new (tt, is.1) did o.sound))
             (known deeds p told server old reports o puts) host endpoint left written
             at_first so_far rest o.last p q told did can o.ahead o.together,
         deed_sound (Other (Opened host (Connected endpoint left written ∷ []) at_first so_far rest)) tt old new (tt, is.1) did o.sound,
       )
-  client_goes (Other (Gave count octets rest)) old new is deeds puts p q can told server reports o plain did = (
+  client_goes (Other (Gave count octets rest)) unbroken old new is deeds puts p q can told server reports o plain did = (
     subst (λ (m : Between). Goes read [] (begun_at moments deeds) m told server new (reports ++ []) o.world) (sym can)
         (client_gave read (begun_at moments deeds) server old new reports o.world is.1 o.serves (asks deeds p told server old reports o puts)
         (known deeds p told server old reports o puts) count octets rest o.last o.ahead p told did o.together),
     gave_sound read (begun_at moments deeds) server old new reports o.world is.1 o.serves (asks deeds p told server old reports o puts)
         (known deeds p told server old reports o puts) count octets rest o.last o.ahead p told did o.together,
   )
-  client_goes (Other (Wrote octets)) old new is deeds puts p q can told server reports o plain did = (
+  client_goes (Other (Wrote octets)) unbroken old new is deeds puts p q can told server reports o plain did = (
     client_wrote read (begun_at moments deeds) server old new reports o.world is.1 (known deeds p told server old reports o puts) octets o.last o.ahead p q told
         o.together did can,
     ap (λ c. is_sound c.view.standing) did.0.0 ∙ o.sound,
   )
-  client_goes (Other (Got octets)) old new is deeds puts p q can told server reports o plain did = (
+  client_goes (Other (Got octets)) unbroken old new is deeds puts p q can told server reports o plain did = (
     client_got read (begun_at moments deeds) server old new reports o.world is.1 (known deeds p told server old reports o puts) octets o.last o.ahead p q told
         o.together did can,
     deed_sound (Other (Got octets)) tt old new (tt, is.1) did o.sound,
   )
-  client_goes (Other (Received octets count)) old new is deeds puts p q can told server reports o plain did = (
+  client_goes (Other (Received octets count)) unbroken old new is deeds puts p q can told server reports o plain did = (
     subst (λ (m : Between). Goes read [] (begun_at moments deeds) m told server new (reports ++ []) o.world) (sym can)
         (client_received read (begun_at moments deeds) server old new reports o.world is.1 o.serves (asks deeds p told server old reports o puts)
         (fetches new plain (deed_sound (Other (Received octets count)) tt old new (tt, is.1) did o.sound)) (known deeds p told server old reports o puts) octets
         count o.last o.ahead p told o.together did),
     deed_sound (Other (Received octets count)) tt old new (tt, is.1) did o.sound,
   )
-  client_goes (Other End) old new is deeds puts p q can told server reports o plain did =
+  client_goes (Other End) unbroken old new is deeds puts p q can told server reports o plain did =
       client_told_end read (begun_at moments deeds) server old new reports o.world is.1 o.serves (asks deeds p told server old reports o puts) plain
       (known deeds p told server old reports o puts) o.last o.ahead p q told o.together did can reads (state_of b) puts
       (runs deeds p told server old reports o puts)
-  client_goes (Other (Waited lost)) old new is deeds puts p q can told server reports o plain did = (
+  client_goes (Other (Waited lost)) unbroken old new is deeds puts p q can told server reports o plain did = (
     subst (λ (m : Between). Goes read [] (begun_at moments deeds) m told server new (reports ++ []) o.world) (sym can)
         (client_waited read (begun_at moments deeds) server old new reports o.world is.1 (known deeds p told server old reports o puts) lost o.last o.ahead p
         told o.together did),
     deed_sound (Other (Waited lost)) tt old new (tt, is.1) did o.sound,
   )
-  client_goes (Other (LetGo octets)) old new is deeds puts p q can told server reports o plain did = (
+  client_goes (Other (LetGo octets)) unbroken old new is deeds puts p q can told server reports o plain did = (
     subst (λ (m : Between). Goes read [] (begun_at moments deeds) m told server new (reports ++ []) o.world) (sym can)
         (client_lets read (begun_at moments deeds) server old new reports o.world is.1 (known deeds p told server old reports o puts) octets o.last o.ahead p
         told o.together did),
     deed_sound (Other (LetGo octets)) tt old new (tt, is.1) did o.sound,
   )
-  client_goes (Other (Left (EndedBy left written))) old new is deeds puts p q can told server reports o plain did = (
+  client_goes (Other (Left (EndedBy left written))) unbroken old new is deeds puts p q can told server reports o plain did = (
     client_ends read (begun_at moments deeds) server old new reports o.world is.1 (known deeds p told server old reports o puts)
         (asks deeds p told server old reports o puts) left written o.last o.ahead p q told o.together
         did can,
     deed_sound (Other (Left (EndedBy left written))) tt old new (tt, is.1) did o.sound,
   )
-  client_goes (Other (Left Shut)) old new is deeds puts p q can told server reports o plain did = (
+  client_goes (Other HasFailed) unbroken old new is deeds puts p q can told server reports o plain did = (
+    subst (λ (m : Between). Goes read [] (begun_at moments deeds) m told server new (reports ++ []) o.world) (sym can)
+        (client_fails read (begun_at moments deeds) server old new reports o.world is.1 (known deeds p told server old reports o puts) o.last o.ahead p told
+        o.together did),
+    ap (λ c. is_sound c.view.standing) did.0.0 ∙ o.sound,
+  )
+  client_goes (Other (Left (Reset left written))) unbroken old new is deeds puts p q can told server reports o plain did = (
+    client_resets read (begun_at moments deeds) server old new reports o.world is.1 (known deeds p told server old reports o puts) left written o.last o.ahead
+        p q told o.together did is.0.0 is.0.1 can,
+    ap (λ c. is_sound c.view.standing) did.0.0 ∙ o.sound,
+  )
+  client_goes (Other Break) unbroken old new is deeds puts p q can told server reports o plain did = absurd unbroken
+  client_goes (Other (Left Shut)) unbroken old new is deeds puts p q can told server reports o plain did = (
     subst (λ (m : Between). Goes read [] (begun_at moments deeds) m told server new (reports ++ []) o.world) (sym can)
         (client_shuts read (begun_at moments deeds) server old new reports o.world is.1 (known deeds p told server old reports o puts) o.last o.ahead p told
         o.together did),
     deed_sound (Other (Left Shut)) tt old new (tt, is.1) did o.sound,
   )
-  client_goes (Other Closed) old new is deeds puts p q can told server reports o plain did = (
+  client_goes (Other Closed) unbroken old new is deeds puts p q can told server reports o plain did = (
     subst (λ (m : Between). Goes read [] (begun_at moments deeds) m told server new (reports ++ []) o.world) (sym can)
         (client_closed read (begun_at moments deeds) server old new reports o.world is.1 (known deeds p told server old reports o puts) o.last o.ahead p told
         o.together did),
     deed_sound (Other Closed) tt old new (tt, is.1) did o.sound,
   )
-  client_goes deed old new is deeds puts p q can told server reports o plain did = absurd is.0
+  client_goes deed unbroken old new is deeds puts p q can told server reports o plain did = absurd is.0
 
   -- the client stays plain
-  pub client_plain : (deed : Deed client_side) (old new : Stand client_side) → ClientTransfers deed old.owner new.owner → (deeds : List (Deed client_side))
+  pub client_plain : (deed : Deed client_side) → BreaksNone deed → (old new : Stand client_side) → ClientTransfers deed old.owner new.owner
+      → (deeds : List (Deed client_side))
       → AreCarried (begun_at moments deeds) → (p : Between) (told : ℕ) (server : Stand server_side) (reports : List Said)
       → Reached (begun_at moments deeds) p told server old reports → Done deed old new → IsPlainly new.owner.end.view
-  client_plain (Heard octets) old new is deeds puts p told server reports o did = deed_plain Whatever whatever_kept old new (Heard octets) tt (tt, is.1) did o.plain
-  client_plain (Says octets) old new is deeds puts p told server reports o did = deed_plain Whatever whatever_kept old new (Says octets) tt (tt, is.1) did o.plain
-  client_plain (Read octets) old new is deeds puts p told server reports o did = deed_plain Whatever whatever_kept old new (Read octets) tt (tt, is.1) did o.plain
-  client_plain (Other (Aside (Reporting said))) old new is deeds puts p told server reports o did =
+  client_plain (Heard octets) unbroken old new is deeds puts p told server reports o did =
+      deed_plain Whatever whatever_kept old new (Heard octets) tt (tt, is.1) did o.plain
+  client_plain (Says octets) unbroken old new is deeds puts p told server reports o did =
+      deed_plain Whatever whatever_kept old new (Says octets) tt (tt, is.1) did o.plain
+  client_plain (Read octets) unbroken old new is deeds puts p told server reports o did =
+      deed_plain Whatever whatever_kept old new (Read octets) tt (tt, is.1) did o.plain
+  client_plain (Other (Aside (Reporting said))) unbroken old new is deeds puts p told server reports o did =
       deed_plain Whatever whatever_kept old new (Other (Aside (Reporting said))) tt (tt, is.1) did o.plain
-  client_plain (Other (Aside (Starting op))) old new is deeds puts p told server reports o did =
+  client_plain (Other (Aside (Starting op))) unbroken old new is deeds puts p told server reports o did =
       subst IsPlainly (sym (did.0.0.1.0.0 is.1)) (starts_plain Whatever whatever_kept op old.owner.end.view (transferred_plain op is.0.0) o.plain)
-  client_plain (Other (Opened host (Connected endpoint left written ∷ []) at_first so_far rest)) old new is deeds puts p told server reports o did =
+  client_plain (Other (Opened host (Connected endpoint left written ∷ []) at_first so_far rest)) unbroken old new is deeds puts p told server reports o did =
       deed_plain Whatever whatever_kept old new (Other (Opened host (Connected endpoint left written ∷ []) at_first so_far rest)) tt (tt, is.1) did o.plain
-  client_plain (Other (Gave count octets rest)) old new is deeds puts p told server reports o did =
+  client_plain (Other (Gave count octets rest)) unbroken old new is deeds puts p told server reports o did =
       gave_plain read (begun_at moments deeds) server old new reports o.world is.1 o.serves (asks deeds p told server old reports o puts)
       (known deeds p told server old reports o puts) count octets rest o.last o.ahead p told did o.together o.plain
-  client_plain (Other (Wrote octets)) old new is deeds puts p told server reports o did = subst (λ c. IsPlainly c.view) (sym did.0.0) o.plain
-  client_plain (Other (Got octets)) old new is deeds puts p told server reports o did = deed_plain Whatever whatever_kept old new (Other (Got octets)) tt (tt, is.1) did o.plain
-  client_plain (Other (Received octets count)) old new is deeds puts p told server reports o did =
+  client_plain (Other (Wrote octets)) unbroken old new is deeds puts p told server reports o did = subst (λ c. IsPlainly c.view) (sym did.0.0) o.plain
+  client_plain (Other (Got octets)) unbroken old new is deeds puts p told server reports o did =
+      deed_plain Whatever whatever_kept old new (Other (Got octets)) tt (tt, is.1) did o.plain
+  client_plain (Other (Received octets count)) unbroken old new is deeds puts p told server reports o did =
       took_plain octets count old new is.1 did o.plain
-  client_plain (Other End) old new is deeds puts p told server reports o did = deed_plain Whatever whatever_kept old new (Other End) tt (tt, is.1) did o.plain
-  client_plain (Other (Waited lost)) old new is deeds puts p told server reports o did = deed_plain Whatever whatever_kept old new (Other (Waited lost)) tt (tt, is.1) did o.plain
-  client_plain (Other (LetGo octets)) old new is deeds puts p told server reports o did = deed_plain Whatever whatever_kept old new (Other (LetGo octets)) tt (tt, is.1) did o.plain
-  client_plain (Other (Left (EndedBy left written))) old new is deeds puts p told server reports o did =
+  client_plain (Other End) unbroken old new is deeds puts p told server reports o did =
+      deed_plain Whatever whatever_kept old new (Other End) tt (tt, is.1) did o.plain
+  client_plain (Other (Waited lost)) unbroken old new is deeds puts p told server reports o did =
+      deed_plain Whatever whatever_kept old new (Other (Waited lost)) tt (tt, is.1) did o.plain
+  client_plain (Other (LetGo octets)) unbroken old new is deeds puts p told server reports o did =
+      deed_plain Whatever whatever_kept old new (Other (LetGo octets)) tt (tt, is.1) did o.plain
+  client_plain (Other (Left (EndedBy left written))) unbroken old new is deeds puts p told server reports o did =
       deed_plain Whatever whatever_kept old new (Other (Left (EndedBy left written))) tt (tt, is.1) did o.plain
-  client_plain (Other (Left Shut)) old new is deeds puts p told server reports o did = deed_plain Whatever whatever_kept old new (Other (Left Shut)) tt (tt, is.1) did o.plain
-  client_plain (Other Closed) old new is deeds puts p told server reports o did = deed_plain Whatever whatever_kept old new (Other Closed) tt (tt, is.1) did o.plain
-  client_plain deed old new is deeds puts p told server reports o did = absurd is.0
+  client_plain (Other HasFailed) unbroken old new is deeds puts p told server reports o did = subst (λ c. IsPlainly c.view) (sym did.0.0) o.plain
+  client_plain (Other (Left (Reset left written))) unbroken old new is deeds puts p told server reports o did =
+      subst (λ c. IsPlainly c.view) (sym did.0.0) o.plain
+  client_plain (Other Break) unbroken old new is deeds puts p told server reports o did = absurd unbroken
+  client_plain (Other (Left Shut)) unbroken old new is deeds puts p told server reports o did =
+      deed_plain Whatever whatever_kept old new (Other (Left Shut)) tt (tt, is.1) did o.plain
+  client_plain (Other Closed) unbroken old new is deeds puts p told server reports o did =
+      deed_plain Whatever whatever_kept old new (Other Closed) tt (tt, is.1) did o.plain
+  client_plain deed unbroken old new is deeds puts p told server reports o did = absurd is.0
 
   -- while the server was dialled nothing came to it
-  pub client_fresh : (deed : Deed client_side) (old new : Stand client_side) → ClientTransfers deed old.owner new.owner → (deeds : List (Deed client_side))
+  pub client_fresh : (deed : Deed client_side) → BreaksNone deed → (old new : Stand client_side) → ClientTransfers deed old.owner new.owner
+      → (deeds : List (Deed client_side))
       → AreCarried (begun_at moments deeds) → (p q : Between) → CanTurn (Client deed) p q → (told : ℕ) (server : Stand server_side) (reports : List Said)
       → Reached (begun_at moments deeds) p told server old reports → Done deed old new → StaysFresh q new
-  client_fresh deed old new is deeds puts p q can told server reports o did =
-      near_fresh p q old new o.fresh deed is o.plain (doing deeds p told server old reports o puts)
+  client_fresh deed unbroken old new is deeds puts p q can told server reports o did =
+      near_fresh p q old new o.fresh deed unbroken is o.plain (doing deeds p told server old reports o puts)
       (λ f count octets rest gave. gave_fresh read (begun_at moments deeds) server old new reports o.world is.1 o.serves
       (asks deeds p told server old reports o puts) (known deeds p told server old reports o puts) count octets rest o.last o.ahead p told gave o.together f)
       did can

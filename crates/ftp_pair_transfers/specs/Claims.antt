@@ -1,16 +1,20 @@
 -- What is claimed of two drives by their deeds, in any order in which each can happen, where whole files were put and fetched, and listings, over passive
 -- data connections: a list of the world's events leads from the beginning to what both ends hold; so there is agreement, and the direct run.
-use Rattle.std.specs.Prelude.{◌≡◌, ℕ, false, List, [], ◌++◌, length, None, Some, option_to_list}
+use Rattle.std.specs.Prelude.{◌≡◌, ◌⊎◌, ℕ, false, List, [], ◌++◌, length, None, Some, option_to_list}
 use Rattle.ftp_control.specs.Deeds.{Led, Stand}
 use Rattle.ftp_client_drive.specs.Side.{client_side}
 use Rattle.ftp_client_model.specs.Calls.{control_end, data_closed, is_busy, report_of, reports}
+use Rattle.ftp_client_model.specs.View.{View as Near}
+use Rattle.ftp_client_model.specs.declared.client.ClientLink.TheVariants as Data
+use Rattle.ftp_client_model.specs.declared.client.Ending.TheVariants as Endings
 use Rattle.ftp_operation.specs.Answer.{Said}
 use Rattle.ftp_pair_drives.specs.Alone.{reports_in}
 use Rattle.ftp_pair_drives.specs.Between.{Between, Happened, Turn, client_deeds, server_deeds}
 use Rattle.ftp_pair_drives.specs.Claims.{Begins}
+use Rattle.ftp_pair_data.specs.Unaborted.{is_unaborted}
 use Rattle.ftp_pair_deeds.specs.Deeds.{ArePorts}
 use Rattle.ftp_pair_transfers.specs.Ahead.{Ahead, Fits, far_ahead, is_parted}
-use Rattle.ftp_pair_transfers.specs.Deeds.{AreGranted, AreMoments, AreToldAt, AsksAlong, ServesAlong, begun_at}
+use Rattle.ftp_pair_transfers.specs.Deeds.{AreGranted, AreMoments, AreResets, AreToldAt, AsksAlong, ServesAlong, begun_at}
 use Rattle.ftp_pair_world.specs.Agreement.{Agrees, Leads}
 use Rattle.ftp_pair_world.specs.Claims.{AreAnswers, AreTimed, AreUnmarked, Beginning, IsFair, state_of, world_of}
 use Rattle.ftp_pair_world.specs.Events.{Event}
@@ -31,12 +35,23 @@ pub record DidTransfer (b : Beginning) (moments : ℕ → ℕ) (turns : List Tur
   pub server_unwritten : server_start.owner.lane.unwritten ≡ []
   pub client_untold : client_start.owner.lane.untold ≡ []
   pub happened : Happened turns between
+  pub resets : AreResets turns between happened
   pub server_led : Led (server_deeds turns) server_start server
   pub client_led : Led (client_deeds turns) client_start client
   pub takes : ServesAlong (server_deeds turns) server_start server server_led
   pub gives : AsksAlong (client_deeds turns) client_start client client_led
   pub ports : ArePorts (server_deeds turns)
   pub told : AreToldAt moments turns server_start server server_led
+
+-- a client that sent ABOR and was told that its link broke was told there that it ended: that is all the same to its answer
+pub record IsToldEnd (there here : Near) : Type 0 where
+  pub aborted : is_unaborted here.job ≡ false
+  pub broke : here.connection ≡ Data.Over Endings.Broken
+  pub is : there ≡ record here { connection = Data.Over Endings.Clean }
+
+-- it is the same client, or such a one
+abbrev pub IsNear : (there here : Near) → Type 0
+IsNear there here = (there ≡ here) ⊎ IsToldEnd there here
 
 -- A world holds what both ends hold: a close, a report, a port and an opening that are due are done there, and so is the end of a data connection that the
 -- client left before anything was asked for over it; the moment that the server was told last is any. The control connection stands, and no link was refused or
@@ -45,7 +60,7 @@ pub record HoldsBoth (server : Stand server_side) (client : Stand client_side) (
   pub moment : ℕ
   pub ahead : Ahead
   pub fits : Fits ahead server.owner.end.server.view.session.connection
-  pub near : w.near ≡ data_closed (reports client.owner.end.view)
+  pub near : IsNear w.near (data_closed (reports client.owner.end.view))
   pub far : w.far ≡ clock_step moment (far_ahead ahead server.owner.end.server.view)
   pub reported : w.reports ≡ told ++ option_to_list (report_of client.owner.end.view)
   pub control : w.control ≡ Stands

@@ -4,17 +4,21 @@ use Rattle.std.specs.Prelude.{◌≡◌, ⊤, ℕ, zero, suc, ◌<◌, ◌≤◌
 use Rattle.ftp_direct.specs.Direct.{offset_refusal}
 use Rattle.ftp_control.specs.Asking.{Came, Connected, Ended as EndedBy, Reset, Shut}
 use Rattle.ftp_control.specs.Deeds.{Deed, Done, Heard, Said as Says, Read, Other, Stand, Led}
-use Rattle.ftp_control.specs.Machine.{Held, Aside, Closed, End, Gave, Got, Left, LetGo, Listening, Opened, Received, Waited, Wrote}
+use Rattle.ftp_control.specs.Machine.{Held, Aside, Break, Closed, End, Failed, Gave, Got, Left, LetGo, Listening, Opened, Received, Waited, Wrote}
+use Rattle.ftp_control.specs.declared.whole.Fate.TheVariants as Fates
 use Rattle.ftp_client_drive.specs.Side.{Reporting, Starting, client_side}
+use Rattle.ftp_client_model.specs.Calls.{wants}
 use Rattle.ftp_client_model.specs.Failing.{Client}
 use Rattle.ftp_client_model.specs.Plan.{how_of}
+use Rattle.ftp_ends.specs.declared.link.Wants.TheVariants as Want
 use Rattle.ftp_operation.specs.declared.op.Op.{Op}
 use Rattle.ftp_operation.specs.declared.op.Op.TheVariants as Ops
 use Rattle.ftp_server_drive.specs.Side.{Timed, server_side}
 use Rattle.ftp_tree.specs.Sound.{last_second}
 use Rattle.ftp_pair_world.specs.Agreement.{Order, Single, Tries}
 use Rattle.ftp_pair_drives.specs.Alone.{ClientIsCalm, ServerIsCalm, begun_by}
-use Rattle.ftp_pair_drives.specs.Between.{Client as ByClient, Server as ByServer, Turn, client_deeds, server_deeds}
+use Rattle.ftp_pair_drives.specs.Between.{Between, Client as ByClient, Happened, Has_lost, Server as ByServer, Turn, client_deeds, server_deeds}
+use Rattle.ftp_pair_data.specs.Unaborted.{is_unaborted}
 use Rattle.ftp_pair_deeds.specs.Deeds.{Along, IsPeer, is_dialling}
 
 -- ---- the server
@@ -60,7 +64,8 @@ abbrev pub IsTransferred : Op (List ℕ) → Type 0
 IsTransferred op = IsCarried op × (is_dialling (how_of op) ≡ true)
 
 -- it begins such operations, once nothing is to be closed, and is asked for their reports; it dials, gives and writes octets, and takes octets to the end that
--- it is told; it leaves each data connection by an end: nothing of one fails
+-- it is told; it leaves each data connection by an end: nothing of one fails, but a read, and after ABOR it may be told of that once all that came was told:
+-- then it leaves that by a reset
 abbrev pub IsAsking : Deed client_side → Held Client → Type 0
 IsAsking (Heard octets) at = ⊤
 IsAsking (Says octets) at = ⊤
@@ -73,9 +78,12 @@ IsAsking (Other (Wrote octets)) at = ⊤
 IsAsking (Other (Got octets)) at = ⊤
 IsAsking (Other (Received octets count)) at = ⊤
 IsAsking (Other End) at = ⊤
+IsAsking (Other Failed) at = ⊤
+IsAsking (Other Break) at = (is_unaborted at.end.view.job ≡ false) × (wants at.end.view ≡ Want.Receive) × (at.lane.untold ≡ [])
 IsAsking (Other (Waited lost)) at = ⊤
 IsAsking (Other (LetGo octets)) at = ⊤
 IsAsking (Other (Left (EndedBy left written))) at = ⊤
+IsAsking (Other (Left (Reset left written))) at = (at.lane.fate ≡ Fates.Broken) × (at.lane.unwritten ≡ [])
 IsAsking (Other (Left Shut)) at = ⊤
 IsAsking (Other Closed) at = ⊤
 IsAsking deed at = ⊥
@@ -100,6 +108,14 @@ abbrev pub AreGranted : List Order → Type 0
 AreGranted [] = ⊤
 AreGranted (Single op moment ∷ orders) = IsGranted op × AreGranted orders
 AreGranted (Tries upload moment ∷ orders) = ⊤
+
+-- ---- breaks
+
+-- the client is told of one only where the server has reset the data connection
+abbrev pub AreResets : (turns : List Turn) (between : Between) → Happened turns between → Type 0
+AreResets [] between happened = ⊤
+AreResets (ByClient (Other Break) ∷ before) between happened = AreResets before happened.0 happened.1 × (happened.0.far ≡ Has_lost)
+AreResets (turn ∷ before) between happened = AreResets before happened.0 happened.1
 
 -- ---- moments
 

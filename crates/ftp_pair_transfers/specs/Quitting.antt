@@ -17,7 +17,7 @@ use Rattle.ftp_pair_drives.specs.Claims.{Begins}
 use Rattle.ftp_pair_drives.specs.Over.{answers_of, deeds_of_server}
 use Rattle.ftp_pair_drives.specs.Quitting.{HappenedAlone, quitting}
 use Rattle.ftp_pair_deeds.specs.Deeds.{Along, ArePorts, IsLast}
-use Rattle.ftp_pair_transfers.specs.Deeds.{AreMoments, AreToldAt, ServesAlong}
+use Rattle.ftp_pair_transfers.specs.Deeds.{AreMoments, AreResets, AreToldAt, ServesAlong}
 use Rattle.ftp_pair_transfers.specs.Over.{AreTransferred, deeds_in, orders_at}
 
 -- what a server does from then on: no more than that, and it is refused nothing, and nothing fails
@@ -44,6 +44,7 @@ pub record HaveQuit (b : Beginning) (moments : ℕ → ℕ) (asked : List (Op (L
   pub turns : List Turn
   pub between : Between
   pub happened : Happened turns between
+  pub resets : AreResets turns between happened
   pub closed : Asked
   pub finals : List (Deed server_side)
   pub server_is : deeds_of_server drove ≡ Other (Left closed) ∷ (finals ++ server_deeds turns)
