@@ -21,7 +21,7 @@ use Rattle.ftp_server_drive.specs.Side.{server_machine, server_side}
 use Rattle.ftp_server_model.specs.Calls as far
 use Rattle.ftp_server_model.specs.View.{View as Far}
 use Rattle.ftp_pair_world.specs.Claims.{Beginning}
-use Rattle.ftp_pair_drives.specs.Between.{Between, Can, CanTurn, Client, Far as TheServer, Has_ended, server_deeds}
+use Rattle.ftp_pair_drives.specs.Between.{Between, Can, CanTurn, Client, Far as TheServer, Hold, server_deeds}
 use Rattle.ftp_pair_drives.specs.Claims.{Begins}
 use Rattle.ftp_pair_drives.specs.Over.{Answers}
 use Rattle.ftp_pair_drives.specs.Quitting.{HappenedAlone, quit_octets, quitting}
@@ -34,23 +34,20 @@ use Rattle.ftp_pair_transfers.specs.Deeds.{ClientTransfers, IsTransferred}
 use Rattle.ftp_pair_transfers.specs.Over.{AnswersByTransfer, AreOver, AreTransferred}
 use Rattle.ftp_pair_transfers.specs.Quitting.{HaveQuit, LeavesAlong}
 
--- both ended the data connection, and so much of the control connection is to be read
-abbrev pub ended_lies : (up down : List ℕ) → Between
-ended_lies up down = lies up down [] [] Has_ended Has_ended
-
-abbrev pub both_ended : Between
-both_ended = ended_lies [] []
+-- both ended the data connection, or both lost it, and so much of the control connection is to be read
+abbrev pub lies_over : Hold → (up down : List ℕ) → Between
+lies_over hold up down = lies up down [] [] hold hold
 
 -- ---- deeds behind QUIT
 
-module _ (start : Stand server_side) (first : Far) (before : List (Deed server_side)) where
+module _ (start : Stand server_side) (first : Far) (before : List (Deed server_side)) (hold : Hold) where
   -- after it was written the server did deeds alone, which come after those before, and stands so
   pub record Quitted (up : List ℕ) (v : Far) (unheard down : List ℕ) : Type 0 where
     pub finals : List (Deed server_side)
     pub led : Led finals (far_in none_yet first []) (far_in none_yet v unheard)
     pub all : Led (finals ++ before) start (far_in none_yet v unheard)
     pub leaves : LeavesAlong finals (far_in none_yet first []) (far_in none_yet v unheard) led
-    pub happened : HappenedAlone finals (quitting both_ended) (ended_lies up down)
+    pub happened : HappenedAlone finals (quitting (lies_over hold [] [])) (lies_over hold up down)
 
   -- it did none yet
   pub quit_first : Led before start (far_in none_yet first []) → Quitted quit_octets first [] []
@@ -59,14 +56,14 @@ module _ (start : Stand server_side) (first : Far) (before : List (Deed server_s
   -- one more
   pub quit_turn : (deed : Deed server_side) → IsLast deed → (up down next_up next_down : List ℕ) (v new : Far) (u next : List ℕ)
       → Done deed (far_in none_yet v u) (far_in none_yet new next)
-      → Can TheServer (touch_in deed) (ended_lies up down) (ended_lies next_up next_down) → Quitted up v u down
+      → Can TheServer (touch_in deed) (lies_over hold up down) (lies_over hold next_up next_down) → Quitted up v u down
       → Quitted next_up new next next_down
   quit_turn deed is up down next_up next_down v new u next done can q = record {
     finals = deed ∷ q.finals;
     led = (far_in none_yet v u, q.led, done);
     all = (far_in none_yet v u, q.all, done);
     leaves = (q.leaves, (is, refl));
-    happened = (ended_lies up down, q.happened, can);
+    happened = (lies_over hold up down, q.happened, can);
   }
 
 -- its port is shut once it is done
@@ -104,6 +101,7 @@ pub record IsAnswered (b : Beginning) (moments : ℕ → ℕ) (op : Op (List ℕ
   pub heard : Near
   pub lane : Lane
   pub asked : Asked
+  pub hold : Hold
   pub there : Between
   pub begins : Begins b (far_in none_yet first []) (near_in none_yet client_first [])
   pub does : Done (Other (Begun op)) (near_in none_yet client_first []) (near_in none_yet begun [])
@@ -112,18 +110,18 @@ pub record IsAnswered (b : Beginning) (moments : ℕ → ℕ) (op : Op (List ℕ
   pub free : is_under_way (near.reports heard).job ≡ false
   pub leaves : Done (Other (Left asked)) (near_in lane (near.reports heard) []) (near_in none_yet (near.reports heard) [])
   pub may : ClientTransfers (Other (Left asked)) (near_in lane (near.reports heard) []).owner (near_in none_yet (near.reports heard) []).owner
-  pub can : CanTurn (Client (Other (Left asked))) there both_ended
+  pub can : CanTurn (Client (Other (Left asked))) there (lies_over hold [] [])
   pub played : Played moments (far_in none_yet first []) (near_in none_yet begun []) op 1 there (far_in none_yet served []) (near_in lane heard [])
 
 -- ---- both are over
 
 module _ (b : Beginning) (first : Far) (op : Op (List ℕ)) (said : Said) (client_first begun : Near) (v : Far) (n : Near) (moments : ℕ → ℕ)
-    (lane : Lane) (asked : Asked) (there : Between) (begins : Begins b (far_in none_yet first []) (near_in none_yet client_first []))
+    (lane : Lane) (asked : Asked) (hold : Hold) (there : Between) (begins : Begins b (far_in none_yet first []) (near_in none_yet client_first []))
     (does : Done (Other (Begun op)) (near_in none_yet client_first []) (near_in none_yet begun [])) (is : IsTransferred op)
     (some : near.report_of n ≡ Some said) (free : is_under_way (near.reports n).job ≡ false)
     (leaves : Done (Other (Left asked)) (near_in lane (near.reports n) []) (near_in none_yet (near.reports n) []))
     (may : ClientTransfers (Other (Left asked)) (near_in lane (near.reports n) []).owner (near_in none_yet (near.reports n) []).owner)
-    (can : CanTurn (Client (Other (Left asked))) there both_ended)
+    (can : CanTurn (Client (Other (Left asked))) there (lies_over hold [] []))
     (p : Played moments (far_in none_yet first []) (near_in none_yet begun []) op 1 there (far_in none_yet v []) (near_in lane n [])) where
   -- what the client holds as its drive is over
   unfoldable pub near_done : Stand client_side
@@ -238,8 +236,8 @@ module _ (b : Beginning) (first : Far) (op : Op (List ℕ)) (said : Said) (clien
           drove = drove;
           put = all_asked;
           turns = Client (Other Closed) ∷ Client (Other (Left asked)) ∷ Client (Other (Report (Some said))) ∷ p.turns;
-          between = both_ended;
-          happened = (both_ended, (there, (there, p.happened, refl), can), refl);
+          between = lies_over hold [] [];
+          happened = (lies_over hold [] [], (there, (there, p.happened, refl), can), refl);
           resets = p.resets;
           closed = Shut;
           server_is = refl;
@@ -255,7 +253,7 @@ module _ (b : Beginning) (first : Far) (op : Op (List ℕ)) (said : Said) (clien
 
   -- or QUIT was written, and heard
   pub both_quit : (w : Far) (down : List ℕ) → far.wants w ≡ Want.CloseAll → (near.data_closed (near.reports n)).standing ≡ Standings.Entered
-      → Quitted (far_in none_yet first []) v (server_deeds p.turns) [] w [] down → (server : Stand server_side) × HaveQuit b moments ((op, said) ∷ []) server
+      → Quitted (far_in none_yet first []) v (server_deeds p.turns) hold [] w [] down → (server : Stand server_side) × HaveQuit b moments ((op, said) ∷ []) server
   unfolding all_asked near_answers near_drove near_done quit_drove
   both_quit w down over entered q = (
     far_in none_yet w [],
@@ -272,8 +270,8 @@ module _ (b : Beginning) (first : Far) (op : Op (List ℕ)) (said : Said) (clien
       put = all_asked;
       entered = entered;
       turns = Client (Other Closed) ∷ Client (Other (Left asked)) ∷ Client (Other (Report (Some said))) ∷ p.turns;
-      between = both_ended;
-      happened = (both_ended, (there, (there, p.happened, refl), can), refl);
+      between = lies_over hold [] [];
+      happened = (lies_over hold [] [], (there, (there, p.happened, refl), can), refl);
       resets = p.resets;
       closed = Shut;
       finals = q.finals;
@@ -288,7 +286,7 @@ module _ (b : Beginning) (first : Far) (op : Op (List ℕ)) (said : Said) (clien
       final_led = q.led;
       leaves = q.leaves;
       left = shuts w over;
-      last = ended_lies [] down;
+      last = lies_over hold [] down;
       happened_last = q.happened;
     },
   )

@@ -3,9 +3,10 @@ use Rattle.std.proofs.Common.{◌≡◌, inl, inr, ℕ, ◌<◌, false, true, tr
 use Rattle.std.proofs.lemmas.Fmt.{decimal_digit, decimal_step}
 use Rattle.ftp_control.specs.Asking.{Came, Connected, Ended as EndedBy, Shut}
 use Rattle.ftp_control.specs.Deeds.{Done, Other}
-use Rattle.ftp_control.specs.Lane.{Lane}
+use Rattle.ftp_control.specs.Lane.{Lane, with_rest}
 use Rattle.ftp_control.specs.Machine.{Closed, End, Gave, Got, Left, Listening, Opened, Received, Wrote, leaves, rest_by, rest_left}
 use Rattle.ftp_control.specs.declared.whole.Fate.TheVariants as Fates
+use Rattle.ftp_control.specs.declared.whole.Rest.{Rest}
 use Rattle.ftp_control.specs.declared.whole.Rest.TheVariants as Rests
 use Rattle.ftp_client_drive.specs.Side.{Report, is_under_way}
 use Rattle.ftp_client_model.specs.Calls as near
@@ -63,13 +64,13 @@ accepts host v new wants owed is rest = (
   refl,
 )
 
--- it gives the last octets
-pub gives : (octets : List ℕ) (v new : Far) → far.wants v ≡ Want.Send → octets ≡ take (length octets) (far.to_give v)
-    → Rests.Nothing ≡ rest_left (drop (length octets) (far.to_give v)) → new ≡ later (far.given_step (length octets) v)
-    → Done (Other (Gave (length octets) octets Rests.Nothing)) (far_in (one_stands [] []) v []) (far_in (one_stands octets []) new [])
-gives octets v new wants first rest is = (
+-- it gives octets, and has more to give or not
+pub gives : (rest : Rest) (octets : List ℕ) (v new : Far) → far.wants v ≡ Want.Send → octets ≡ take (length octets) (far.to_give v)
+    → rest ≡ rest_left (drop (length octets) (far.to_give v)) → new ≡ later (far.given_step (length octets) v)
+    → Done (Other (Gave (length octets) octets rest)) (far_in (one_stands [] []) v []) (far_in (with_rest rest (one_stands octets [])) new [])
+gives rest octets v new wants first more is = (
   (
-    ((λ course. (first, rest)), (steps (GiveFails (length octets)) (far.given_step (length octets)) v new is, refl)),
+    ((λ course. (first, more)), (steps (GiveFails (length octets)) (far.given_step (length octets)) v new is, refl)),
     (refl, (refl, refl)),
     wants,
   ),
@@ -77,9 +78,9 @@ gives octets v new wants first rest is = (
 )
 
 -- they are written
-pub writes : (octets : List ℕ) (v : Far) → 0 < length octets
-    → Done (Other (Wrote octets)) (far_in (one_stands octets []) v []) (far_in (one_stands [] []) v [])
-writes octets v some = (
+pub writes : (rest : Rest) (octets : List ℕ) (v : Far) → 0 < length octets
+    → Done (Other (Wrote octets)) (far_in (with_rest rest (one_stands octets [])) v []) (far_in (with_rest rest (one_stands [] [])) v [])
+writes rest octets v some = (
   (
     refl,
     record {

@@ -20,7 +20,7 @@ use Rattle.ftp_server_model.specs.Machine.{IsReading, Reading, heard_line, may_h
 use Rattle.ftp_server_model.specs.View.{View as Far, line_limit}
 use Rattle.ftp_server_model.specs.declared.heard.HeardLine.TheVariants.{Asks}
 use Rattle.ftp_tree.specs.Change.{never_strayed}
-use Rattle.ftp_pair_drives.specs.Between.{Between, CanTurn, Client, Happened, Hold, Server, Turn, client_deeds, server_deeds}
+use Rattle.ftp_pair_drives.specs.Between.{Between, CanTurn, Client, Happened, Has_lost, Hold, Server, Turn, client_deeds, server_deeds}
 use Rattle.ftp_pair_drives.proofs.Playing.{Attends, ear_after, far_at, far_ending, far_hears, far_reading, far_saying, is_silent}
 use Rattle.ftp_pair_deeds.specs.Deeds.{AreMidst, ArePorts, IsMidst, listened_in}
 use Rattle.ftp_pair_transfers.specs.Deeds.{AreResets, AreToldAt, AsksAlong, ClientTransfers, IsToldAt, ServerTransfers, ServesAlong, last_of, number_in}
@@ -183,6 +183,29 @@ module _ (moments : ℕ → ℕ) (start : Stand server_side) (begun : Stand clie
     later = Client deed ∷ p.later;
     turns_are = ap (λ t. Client deed ∷ t) p.turns_are;
     later_midst = ap (λ l. deed ∷ l) p.later_midst;
+    near_led = (at, p.near_led, done);
+    takes = (p.takes, takes);
+    listened_is = p.listened_is;
+    ports = p.ports;
+    told = p.told;
+  }
+
+  -- the client is told of a break, as the server has reset the data connection
+  pub near_is_broken : (listened : ℕ) (old new : Between) (server : Stand server_side) (at next : Stand client_side)
+      → ClientTransfers (Other Break) at.owner next.owner → Done (Other Break) at next → old.far ≡ Has_lost → CanTurn (Client (Other Break)) old new
+      → Played moments start begun op listened old server at → Played moments start begun op listened new server next
+  near_is_broken listened old new server at next takes done lost can p = record {
+    turns = Client (Other Break) ∷ p.turns;
+    happened = (old, p.happened, can);
+    resets = (p.resets, lost);
+    far_led = p.far_led;
+    gives = p.gives;
+    midst = Other Break ∷ p.midst;
+    are = (p.are, tt);
+    client_is = ap (λ l. Other Break ∷ l) p.client_is;
+    later = Client (Other Break) ∷ p.later;
+    turns_are = ap (λ t. Client (Other Break) ∷ t) p.turns_are;
+    later_midst = ap (λ l. Other Break ∷ l) p.later_midst;
     near_led = (at, p.near_led, done);
     takes = (p.takes, takes);
     listened_is = p.listened_is;
