@@ -1,4 +1,4 @@
--- How each example begins, deed by deed: the greeting, the login, EPSV, the port, the dial and its accept, and the command that the operation is for is said.
+-- How each example begins, deed by deed: the greeting, the login, EPSV, the port, the dial and its accept, until the command of the transfer is said.
 use Rattle.std.proofs.Common.{◌≡◌, ℕ, List, [], ◌∷◌, ◌++◌, None, Some, refl, sym, ap, subst, arith, codes}
 use Rattle.ftp_command.specs.Argument.{IsName}
 use Rattle.ftp_command.specs.Line.{line_of}
@@ -24,7 +24,8 @@ use Rattle.ftp_reply.specs.Reader.{line_heard}
 use Rattle.ftp_reply.specs.Values.{extended_value}
 use Rattle.ftp_server_drive.specs.Side.{server_side}
 use Rattle.ftp_server_model.specs.Calls.{start}
-use Rattle.ftp_server_model.specs.Machine.{obeyed}
+use Rattle.ftp_server_model.specs.Machine.{heard_line, obeyed}
+use Rattle.ftp_server_model.specs.declared.heard.HeardLine.TheVariants.{Asks}
 use Rattle.ftp_server_model.specs.Replies.{fixed_reply, reply_octets, reply_of}
 use Rattle.ftp_server_model.specs.View.{View as Far}
 use Rattle.ftp_server_model.specs.declared.reply.FixedReply.TheVariants as Texts
@@ -75,6 +76,13 @@ module _ (table : Table) where
 
   abbrev pub far_ready : Far
   far_ready = record far_asked { session = record far_asked.session { connection = Data.Ready } }
+
+  -- once it has none any more, and once it heard QUIT then
+  abbrev pub far_done : Far
+  far_done = record far_ready { session = record far_ready.session { connection = Data.Free } }
+
+  abbrev pub far_bye : Far
+  far_bye = heard_line (Asks command.Quit) far_done
 
 -- ---- the client: before the operation, with it, as it heard each reply, as it dialled, and as its data connection was opened
 

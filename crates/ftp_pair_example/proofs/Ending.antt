@@ -3,7 +3,9 @@
 use Rattle.std.proofs.Common.{◌≡◌, inr, ℕ, false, true, List, [], ◌∷◌, ◌++◌, None, Some, refl, sym, ap}
 use Rattle.ftp_control.specs.Asking.{Asked, Shut}
 use Rattle.ftp_control.specs.Lane.{Lane}
-use Rattle.ftp_control.specs.Deeds.{Deed, Done, Ended, EndsHere, Led, Other, Stand}
+use Rattle.ftp_command.specs.Line.{line_of}
+use Rattle.ftp_command.specs.declared.command.Command.TheVariants as command
+use Rattle.ftp_control.specs.Deeds.{Deed, Done, Ended, EndsHere, Heard, Led, Other, Read, Said as Says, Stand}
 use Rattle.ftp_control.specs.Machine.{Closed, Left, move_of, seen, waits}
 use Rattle.ftp_control.proofs.Courses.{carries}
 use Rattle.ftp_control.proofs.Idling.{carrier}
@@ -19,6 +21,9 @@ use Rattle.ftp_operation.specs.declared.op.Op.{Op}
 use Rattle.ftp_server_drive.specs.Driving.{Drove as ServerDrove}
 use Rattle.ftp_server_drive.specs.Side.{server_machine, server_side}
 use Rattle.ftp_server_model.specs.Calls as far
+use Rattle.ftp_server_model.specs.Machine.{obeyed}
+use Rattle.ftp_server_model.proofs.ReadingLemmas.{reads_stated}
+use Rattle.ftp_tree.specs.Tree.{Table}
 use Rattle.ftp_server_model.specs.View.{View as Far}
 use Rattle.ftp_pair_world.specs.Claims.{Beginning}
 use Rattle.ftp_pair_drives.specs.Between.{Between, Can, CanTurn, Client, Far as TheServer, Hold, server_deeds}
@@ -26,8 +31,9 @@ use Rattle.ftp_pair_drives.specs.Claims.{Begins}
 use Rattle.ftp_pair_drives.specs.Over.{Answers}
 use Rattle.ftp_pair_drives.specs.Quitting.{HappenedAlone, quit_octets, quitting}
 use Rattle.ftp_pair_drives.specs.Touches.{touch_in}
-use Rattle.ftp_pair_drives.proofs.Playing.{Attends}
+use Rattle.ftp_pair_drives.proofs.Playing.{Attends, ear_after, far_ending, far_hears, far_reading, far_saying, is_silent, no_events}
 use Rattle.ftp_pair_deeds.specs.Deeds.{IsLast}
+use Rattle.ftp_pair_example.proofs.Calling.{far_bye, far_done, quiet}
 use Rattle.ftp_pair_example.proofs.Moves.{near_closes, says_answer}
 use Rattle.ftp_pair_example.proofs.Playing.{Played, far_in, lies, near_in, none_yet}
 use Rattle.ftp_pair_transfers.specs.Deeds.{ClientTransfers, IsTransferred}
@@ -65,6 +71,26 @@ module _ (start : Stand server_side) (first : Far) (before : List (Deed server_s
     leaves = (q.leaves, (is, refl));
     happened = (lies_over hold up down, q.happened, can);
   }
+
+-- QUIT is heard and answered
+pub quits : (table : Table) (start : Stand server_side) (before : List (Deed server_side)) (hold : Hold)
+    → Led before start (far_in none_yet (far_done table) []) → Quitted start (far_done table) before hold [] (quiet (far_bye table)) [] (far_bye table).owed
+unfolding obeyed is_silent ear_after no_events
+quits table start before hold led =
+    let v : Far = far_done table in
+    let bye : Far = far_bye table in
+    let quit : List ℕ = 81 ∷ 85 ∷ 73 ∷ 84 ∷ 13 ∷ [] in
+    let last : Far = record v { ear = ear_after v.ear quit } in
+    let at : Attends v = record { wants = refl; running = refl; none_waits = refl } in
+    let there : Attends last = record { wants = refl; running = refl; none_waits = refl } in
+    let read = quit_turn start v before hold (Read quit_octets) tt quit_octets [] [] [] v v [] quit_octets (far_reading v quit_octets at refl) (refl, refl)
+    (quit_first start v before hold led) in
+    let heard = far_hears (λ v u. Quitted start (far_done table) before hold [] v u [])
+    (λ octet rest v new at done q. quit_turn start (far_done table) before hold (Heard (octet ∷ [])) tt [] [] [] [] v new (octet ∷ rest) rest done refl q)
+    quit (10 ∷ []) v at refl refl read in
+    let obeys = quit_turn start v before hold (Heard (10 ∷ [])) tt [] [] [] [] last bye (10 ∷ []) []
+    (far_ending last bye (line_of command.Quit) command.Quit there refl refl (λ read reads. reads_stated read command.Quit reads tt tt) refl) refl heard in
+    quit_turn start v before hold (Says bye.owed) tt [] [] [] bye.owed bye (quiet bye) [] [] (far_saying bye [] refl) refl obeys
 
 -- its port is shut once it is done
 shuts : (w : Far) → far.wants w ≡ Want.CloseAll → Done (Other (Left Shut)) (far_in none_yet w []) (far_in none_yet w [])
@@ -253,7 +279,8 @@ module _ (b : Beginning) (first : Far) (op : Op (List ℕ)) (said : Said) (clien
 
   -- or QUIT was written, and heard
   pub both_quit : (w : Far) (down : List ℕ) → far.wants w ≡ Want.CloseAll → (near.data_closed (near.reports n)).standing ≡ Standings.Entered
-      → Quitted (far_in none_yet first []) v (server_deeds p.turns) hold [] w [] down → (server : Stand server_side) × HaveQuit b moments ((op, said) ∷ []) server
+      → Quitted (far_in none_yet first []) v (server_deeds p.turns) hold [] w [] down
+      → (server : Stand server_side) × HaveQuit b moments ((op, said) ∷ []) server
   unfolding all_asked near_answers near_drove near_done quit_drove
   both_quit w down over entered q = (
     far_in none_yet w [],

@@ -13,7 +13,7 @@ use Rattle.ftp_client_model.specs.declared.client.Replied.{Replied}
 use Rattle.ftp_client_model.specs.declared.client.Replied.TheVariants as Replies
 use Rattle.ftp_client_model.specs.declared.client.Standing.TheVariants as Standings
 use Rattle.ftp_control.specs.Asking.{Ended as EndedBy}
-use Rattle.ftp_control.specs.Deeds.{Heard, Other, Read, Said as Says, Stand}
+use Rattle.ftp_control.specs.Deeds.{Other, Stand}
 use Rattle.ftp_control.specs.Machine.{Closed, End, Gave, Got, Left, Received, Wrote}
 use Rattle.ftp_control.specs.declared.whole.Rest.TheVariants as Rests
 use Rattle.ftp_nvt.specs.Lines.{written_line}
@@ -27,8 +27,7 @@ use Rattle.ftp_reply.specs.Values.{extended_value}
 use Rattle.ftp_server_drive.specs.Side.{server_side}
 use Rattle.ftp_settings.specs.Representation.{defaults}
 use Rattle.ftp_server_model.specs.Calls as far
-use Rattle.ftp_server_model.specs.Machine.{heard_line, obeyed}
-use Rattle.ftp_server_model.specs.declared.heard.HeardLine.TheVariants.{Asks}
+use Rattle.ftp_server_model.specs.Machine.{obeyed}
 use Rattle.ftp_server_model.specs.Replies.{fixed_reply, reply_octets}
 use Rattle.ftp_server_model.specs.View.{View as Far}
 use Rattle.ftp_server_model.specs.declared.reply.FixedReply.TheVariants as Texts
@@ -40,14 +39,13 @@ use Rattle.ftp_tree.specs.Tree.{Table, node_at, octets_at, under}
 use Rattle.ftp_tree.proofs.LawLemmas.{under-stands}
 use Rattle.ftp_pair_drives.specs.Between.{Between, Has, Has_ended, server_deeds}
 use Rattle.ftp_pair_drives.specs.Example.{example}
-use Rattle.ftp_pair_drives.specs.Quitting.{quit_octets}
-use Rattle.ftp_pair_drives.proofs.Playing.{Attends, ear_after, far_ending, far_hears, far_reading, far_saying, is_silent, no_events}
+use Rattle.ftp_pair_drives.proofs.Playing.{Attends, ear_after, is_silent, no_events}
 use Rattle.ftp_pair_transfers.specs.Over.{AreOver}
 use Rattle.ftp_pair_transfers.specs.Quitting.{HaveQuit}
 use Rattle.ftp_pair_example.specs.Example.{FetchHasQuit, FetchIsOver, HasFile, example_how, example_name, example_octets, fetch_asked}
-use Rattle.ftp_pair_example.proofs.Calling.{Dials, client_first, far_first, far_ready, near_first, quiet, reaches, starts_so, still}
-use Rattle.ftp_pair_example.proofs.Ending.{IsAnswered, Quitted, both_over, both_quit, quit_first, quit_turn}
-use Rattle.ftp_pair_example.proofs.Moves.{dials, ends, far_closes, far_leaves, gets, gives, near_leaves, one_over, takes_one, writes}
+use Rattle.ftp_pair_example.proofs.Calling.{Dials, client_first, far_bye, far_done, far_first, far_ready, near_first, quiet, reaches, starts_so, still}
+use Rattle.ftp_pair_example.proofs.Ending.{IsAnswered, both_over, both_quit, quits}
+use Rattle.ftp_pair_example.proofs.Moves.{ends, far_closes, far_leaves, gets, gives, near_leaves, one_over, takes_one, writes}
 use Rattle.ftp_pair_example.proofs.Playing.{Played, can_take, far_in, far_obeys, far_says, far_turn, lies, near_in, near_is_told, near_turn, none_yet, one_stands, takes_only}
 
 -- the operation
@@ -62,7 +60,7 @@ fetch_dials = record { logged = refl; called = refl; rest = refl }
 module _ (table : Table) (moments : ℕ → ℕ) where
   -- ---- the server
 
-  -- it has the file to give, has given it, and stands so again
+  -- it has the file to give, and has given it
   abbrev far_sent : Far
   far_sent = record (far_ready table) {
     session = record (far_ready table).session { connection = Data.Transferring (Transfers.Download example_octets) };
@@ -74,13 +72,6 @@ module _ (table : Table) (moments : ℕ → ℕ) where
     session = record (far_ready table).session { connection = Data.Free; closing = true };
     owed = reply_octets (fixed_reply Texts.Complete);
   }
-
-  abbrev far_done : Far
-  far_done = record (far_ready table) { session = record (far_ready table).session { connection = Data.Free } }
-
-  -- it heard QUIT
-  abbrev far_bye : Far
-  far_bye = heard_line (Asks command.Quit) far_done
 
   -- ---- the client
 
@@ -133,7 +124,7 @@ module _ (table : Table) (moments : ℕ → ℕ) where
 
     -- the file is given and written, 150 and 226 are said, and the server ends the data connection
     sends : Leads 1 (lies [] (far_sent.owed ++ far_given.owed) [] example_octets Has Has_ended)
-        (far_in none_yet far_done []) (near_in (one_stands [] []) (still near_open) [])
+        (far_in none_yet (far_done table) []) (near_in (one_stands [] []) (still near_open) [])
     sends =
         let client = near_in (one_stands [] []) (still near_open) [] in
         let down : List ℕ = far_sent.owed in
@@ -143,29 +134,31 @@ module _ (table : Table) (moments : ℕ → ℕ) where
         let said = lies [] all [] example_octets Has Has in
         let over = lies [] all [] example_octets Has Has_ended in
         let opens = far_says moments Starts begun fetch 1 [] [] Has Has [] [] (one_stands [] []) far_sent client refl obeys in
-        let given = far_turn moments Starts begun fetch (Other (Gave 2 example_octets Rests.Nothing)) ((λ before. (refl, λ ports. ports)), λ old new done moment. tt) 1 both both
+        let given = far_turn moments Starts begun fetch (Other (Gave 2 example_octets Rests.Nothing))
+        ((λ before. (refl, λ ports. ports)), λ old new done moment. tt) 1 both both
         (far_in (one_stands [] []) (quiet far_sent) []) (far_in (one_stands example_octets []) far_given []) client (tt, refl)
         (gives Rests.Nothing example_octets (quiet far_sent) far_given refl refl refl refl) refl opens in
-        let written = far_turn moments Starts begun fetch (Other (Wrote example_octets)) ((λ before. (refl, λ ports. ports)), λ old new done moment. tt) 1 both sent
-        (far_in (one_stands example_octets []) far_given []) (far_in (one_stands [] []) far_given []) client (tt, refl)
+        let written = far_turn moments Starts begun fetch (Other (Wrote example_octets)) ((λ before. (refl, λ ports. ports)), λ old new done moment. tt) 1
+        both sent (far_in (one_stands example_octets []) far_given []) (far_in (one_stands [] []) far_given []) client (tt, refl)
         (writes Rests.Nothing example_octets far_given (omega arith)) (refl, refl) given in
         let told = far_says moments Starts begun fetch 1 [] example_octets Has Has [] down (one_stands [] []) far_given client refl written in
-        let left = far_turn moments Starts begun fetch (Other (Left (EndedBy None None))) ((λ before. (refl, λ ports. ports)), λ old new done moment. tt) 1 said over
-        (far_in (one_stands [] []) (quiet far_given) []) (far_in none_yet (quiet far_given) []) client (tt, refl)
+        let left = far_turn moments Starts begun fetch (Other (Left (EndedBy None None))) ((λ before. (refl, λ ports. ports)), λ old new done moment. tt) 1
+        said over (far_in (one_stands [] []) (quiet far_given) []) (far_in none_yet (quiet far_given) []) client (tt, refl)
         (far_leaves (quiet far_given) refl refl) (refl, refl) told in
         far_turn moments Starts begun fetch (Other Closed) ((λ before. (refl, λ ports. ports)), λ old new done moment. tt) 1 over over
-        (far_in none_yet (quiet far_given) []) (far_in none_yet far_done []) client (tt, refl)
-        (far_closes (quiet far_given) far_done refl refl) refl left
+        (far_in none_yet (quiet far_given) []) (far_in none_yet (far_done table) []) client (tt, refl)
+        (far_closes (quiet far_given) (far_done table) refl refl) refl left
 
     -- the client hears both replies, takes the file and is told its end
-    takes : Leads 1 (lies [] [] [] [] Has Has_ended) (far_in none_yet far_done []) (near_in one_over near_over [])
+    takes : Leads 1 (lies [] [] [] [] Has Has_ended) (far_in none_yet (far_done table) []) (near_in one_over near_over [])
     unfolding near.starts near.wants near.data_opened near.data_end answered line_heard extended_value path_on_literals can_take takes_only
     takes =
-        let server = far_in none_yet far_done [] in
+        let server = far_in none_yet (far_done table) [] in
         let all : List ℕ = far_sent.owed ++ far_given.owed in
         let some = lies [] [] [] example_octets Has Has_ended in
         let none = lies [] [] [] [] Has Has_ended in
-        let told = near_is_told moments Starts begun fetch 1 [] example_octets Has Has_ended [] all server (one_stands [] []) (still near_open) refl refl sends in
+        let told = near_is_told moments Starts begun fetch 1 [] example_octets Has Has_ended [] all server (one_stands [] []) (still near_open) refl refl
+        sends in
         let got = near_turn moments Starts begun fetch (Other (Got example_octets)) (tt, tt) 1 some none server (near_in (one_stands [] []) near_heard [])
         (near_in (one_stands [] example_octets) near_heard []) (tt, refl) (gets example_octets near_heard refl) (refl, refl, refl) told in
         let one = near_turn moments Starts begun fetch (Other (Received example_octets 1)) (tt, tt) 1 none none server
@@ -185,7 +178,7 @@ module _ (table : Table) (moments : ℕ → ℕ) where
       first = far_first table;
       client_first = client_first;
       begun = near_first fetch;
-      served = far_done;
+      served = far_done table;
       heard = near_over;
       lane = one_over;
       asked = EndedBy None None;
@@ -205,38 +198,21 @@ module _ (table : Table) (moments : ℕ → ℕ) where
     -- and both are over
     is_over : (server : Stand server_side) × AreOver (example table) moments fetch_asked server
     unfolding near.starts near.data_opened near.data_end far.control_end answered line_heard extended_value path_on_literals
-    is_over = both_over (example table) (far_first table) fetch (Octets example_octets) client_first (near_first fetch) far_done near_over moments one_over
-        (EndedBy None None) Has_ended (lies [] [] [] [] Has Has_ended) (starts_so table moments fetch fetch_dials)
+    is_over = both_over (example table) (far_first table) fetch (Octets example_octets) client_first (near_first fetch) (far_done table) near_over moments
+        one_over (EndedBy None None) Has_ended (lies [] [] [] [] Has Has_ended) (starts_so table moments fetch fetch_dials)
         (((refl, (((λ calm. refl), (λ moved. absurd (moved refl))), inl refl)), refl, tt), refl) (tt, refl) refl refl
         (near_leaves (near.reports near_over) refl) (tt, refl) (refl, refl) takes
         refl (record { wants = refl; running = refl; none_waits = refl }) refl
 
-    -- QUIT is heard and answered
-    quits : Quitted Starts far_done (server_deeds takes.turns) Has_ended [] (quiet far_bye) [] far_bye.owed
-    unfolding obeyed is_silent ear_after no_events
-    quits =
-        let before = server_deeds takes.turns in
-        let last : Far = record far_done { ear = ear_after far_done.ear (81 ∷ 85 ∷ 73 ∷ 84 ∷ 13 ∷ []) } in
-        let at : Attends far_done = record { wants = refl; running = refl; none_waits = refl } in
-        let there : Attends last = record { wants = refl; running = refl; none_waits = refl } in
-        let first = quit_first Starts far_done before Has_ended takes.far_led in
-        let read = quit_turn Starts far_done before Has_ended (Read quit_octets) tt quit_octets [] [] [] far_done far_done [] quit_octets
-        (far_reading far_done quit_octets at refl) (refl, refl) first in
-        let heard = far_hears (λ v u. Quitted Starts far_done before Has_ended [] v u [])
-        (λ octet rest v new at done q. quit_turn Starts far_done before Has_ended (Heard (octet ∷ [])) tt [] [] [] [] v new (octet ∷ rest) rest done refl q)
-        (81 ∷ 85 ∷ 73 ∷ 84 ∷ 13 ∷ []) (10 ∷ []) far_done at refl refl read in
-        let obeys = quit_turn Starts far_done before Has_ended (Heard (10 ∷ [])) tt [] [] [] [] last far_bye (10 ∷ []) []
-        (far_ending last far_bye (line_of command.Quit) command.Quit there refl refl (λ read reads. reads_stated read command.Quit reads tt tt) refl) refl heard in
-        quit_turn Starts far_done before Has_ended (Says far_bye.owed) tt [] [] [] far_bye.owed far_bye (quiet far_bye) [] [] (far_saying far_bye [] refl) refl obeys
-
     -- so both are over
     has_quit : (server : Stand server_side) × HaveQuit (example table) moments fetch_asked server
     unfolding near.starts near.data_opened near.data_end obeyed answered line_heard extended_value path_on_literals
-    has_quit = both_quit (example table) (far_first table) fetch (Octets example_octets) client_first (near_first fetch) far_done near_over moments one_over
-        (EndedBy None None) Has_ended (lies [] [] [] [] Has Has_ended) (starts_so table moments fetch fetch_dials)
+    has_quit = both_quit (example table) (far_first table) fetch (Octets example_octets) client_first (near_first fetch) (far_done table) near_over moments
+        one_over (EndedBy None None) Has_ended (lies [] [] [] [] Has Has_ended) (starts_so table moments fetch fetch_dials)
         (((refl, (((λ calm. refl), (λ moved. absurd (moved refl))), inl refl)), refl, tt), refl) (tt, refl) refl refl
         (near_leaves (near.reports near_over) refl) (tt, refl) (refl, refl) takes
-        (quiet far_bye) far_bye.owed refl refl quits
+        (quiet (far_bye table)) (far_bye table).owed refl refl
+        (quits table Starts (server_deeds takes.turns) Has_ended takes.far_led)
 
 -- the file stands where the login sees it
 pub fetch_is_answered : (table : Table) (stamp : ℕ) (moments : ℕ → ℕ) → HasFile table stamp

@@ -3,5 +3,7 @@ pub mod Moves
 pub mod Ending
 pub mod Calling
 pub mod FetchPlayed
+pub mod Peeking
+pub mod PeekPlayed
 pub mod PutPlayed
 pub mod Fair

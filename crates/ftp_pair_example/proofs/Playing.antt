@@ -299,8 +299,8 @@ module _ (moments : ℕ → ℕ) (start : Stand server_side) (begun : Stand clie
       → Played moments start begun op listened (lies up (down ++ v.owed) go come near_hold far_hold) (far_in lane (record v { owed = [] }) []) client
   far_says up down lane v client none p =
       far_turn moments start begun op (Says v.owed) ((λ before. (refl, λ ports. ports)), λ old new done moment. tt) listened
-      (lies up down go come near_hold far_hold) (lies up (down ++ v.owed) go come near_hold far_hold) (far_in lane v []) (far_in lane (record v { owed = [] }) []) client
-      (tt, refl) (saying lane v [] none) refl p
+      (lies up down go come near_hold far_hold) (lies up (down ++ v.owed) go come near_hold far_hold)
+      (far_in lane v []) (far_in lane (record v { owed = [] }) []) client (tt, refl) (saying lane v [] none) refl p
 
   -- the client says all that it owes
   pub near_says : (up down : List ℕ) (server : Stand server_side) (lane : Lane) (n : Near)

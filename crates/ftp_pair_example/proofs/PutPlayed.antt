@@ -51,7 +51,7 @@ use Rattle.ftp_pair_transfers.specs.Over.{AreOver}
 use Rattle.ftp_pair_example.specs.Example.{HasFile, HasRoom, PutIsOver, example_how, example_name, example_octets, put_asked, put_octets}
 use Rattle.ftp_pair_example.proofs.Calling.{Dials, client_first, far_first, far_ready, near_first, quiet, reaches, starts_so, still}
 use Rattle.ftp_pair_example.proofs.Ending.{IsAnswered, both_over, lies_over}
-use Rattle.ftp_pair_example.proofs.Moves.{dials, ends_then, far_ends, far_gets, far_goes, far_takes, near_ends, near_gives, near_is_closed, near_shuts, near_writes, one_over}
+use Rattle.ftp_pair_example.proofs.Moves.{ends_then, far_ends, far_gets, far_goes, far_takes, near_ends, near_gives, near_is_closed, near_shuts, near_writes, one_over}
 use Rattle.ftp_pair_example.proofs.Playing.{Played, can_take, far_in, far_is_told, far_obeys, far_says, far_turn, lies, near_in, near_is_told, near_turn, none_yet, one_stands, takes_only}
 
 -- the operation
@@ -244,8 +244,9 @@ module _ (table : Table) (moments : ℕ → ℕ) where
     -- and both are over
     is_over_so : (server : Stand server_side) × AreOver (example table) moments put_asked server
     unfolding near.starts near.data_opened far.control_end answered line_heard extended_value path_on_literals
-    is_over_so = both_over (example table) (far_first table) put Done client_first (near_first put) (quiet (far_put (moments 0))) near_over moments none_yet Shut Has_ended (lies_over Has_ended [] [])
-        (starts_so table moments put put_dials) (((refl, (((λ calm. refl), (λ moved. absurd (moved refl))), inl refl)), refl, tt), refl) (tt, refl) refl refl
+    is_over_so = both_over (example table) (far_first table) put Done client_first (near_first put) (quiet (far_put (moments 0))) near_over moments
+        none_yet Shut Has_ended (lies_over Has_ended [] []) (starts_so table moments put put_dials)
+        (((refl, (((λ calm. refl), (λ moved. absurd (moved refl))), inl refl)), refl, tt), refl) (tt, refl) refl refl
         (near_shuts (near.reports near_over) refl) (tt, refl) refl hears refl (record { wants = refl; running = refl; none_waits = refl }) refl
 
 -- the file stands where the login sees it

@@ -1,5 +1,5 @@
--- Sessions of two drives that fetch a file, and that put one, over a passive data connection, as an example: the premises can be met (RFC 959, section 5.4;
--- RFC 2428).
+-- Sessions of two drives that fetch a file, peek into one, and put one, over a passive data connection, as an example: the premises can be met (RFC 959,
+-- section 5.4; RFC 2428).
 use Rattle.std.specs.Prelude.{◌≡◌, ℕ, true, false, List, [], ◌∷◌, Some, nat_le}
 use Rattle.ftp_control.specs.Deeds.{Stand}
 use Rattle.ftp_operation.specs.Answer.{Done, Octets, Said}
@@ -46,6 +46,22 @@ FetchIsOver =
 abbrev pub FetchHasQuit : Type 0
 FetchHasQuit =
     (table : Table) (stamp : ℕ) (moments : ℕ → ℕ) → HasFile table stamp → (server : Stand server_side) × HaveQuit (example table) moments fetch_asked server
+
+-- ---- its first octet is
+
+-- the operation and its answer
+abbrev pub peek_asked : List (Op (List ℕ) × Said)
+peek_asked = (Ops.Peek example_name 1 example_how, Octets (104 ∷ [])) ∷ []
+
+-- of every such map, and at any moment, drives did so by their contracts, and the server's was over since the client left after it
+abbrev pub PeekIsOver : Type 0
+PeekIsOver =
+    (table : Table) (stamp : ℕ) (moments : ℕ → ℕ) → HasFile table stamp → (server : Stand server_side) × AreOver (example table) moments peek_asked server
+
+-- or since it heard QUIT, which was written after it
+abbrev pub PeekHasQuit : Type 0
+PeekHasQuit =
+    (table : Table) (stamp : ℕ) (moments : ℕ → ℕ) → HasFile table stamp → (server : Stand server_side) × HaveQuit (example table) moments peek_asked server
 
 -- ---- another is put in its place
 
