@@ -20,7 +20,7 @@ use Rattle.ftp_pair_turns.proofs.Gathering.{servers_then}
 use Rattle.ftp_pair_asked.specs.Laws.{AskedBy, ExampleIsAsked}
 
 -- what can happen after an operation was begun is an order
-pub went_of : (later : List Turn) (op : Op (List ℕ)) (now : Between) → Happened (later ++ Client (Other (Begun op)) ∷ []) now → Went later nothing_yet now
+went_of : (later : List Turn) (op : Op (List ℕ)) (now : Between) → Happened (later ++ Client (Other (Begun op)) ∷ []) now → Went later nothing_yet now
 went_of [] op now happened = happened.2 ∙ happened.1
 went_of (Server deed ∷ rest) op now happened = (happened.0, went_of rest op happened.0 happened.1, inl happened.2)
 went_of (Client deed ∷ rest) op now happened = (happened.0, went_of rest op happened.0 happened.1, inl happened.2)

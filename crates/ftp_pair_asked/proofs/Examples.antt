@@ -8,10 +8,11 @@ use Rattle.ftp_operation.specs.declared.op.Op.{Op}
 use Rattle.ftp_pair_deeds.specs.Deeds.{AreMidst, ArePorts}
 use Rattle.ftp_pair_deeds.proofs.Along.{Went as Goes}
 use Rattle.ftp_pair_drives.specs.Alone.{ClientIsCalm, ServerIsCalm}
-use Rattle.ftp_pair_drives.specs.Between.{Client, Happened, Server, Turn, client_deeds, nothing_yet, server_deeds}
-use Rattle.ftp_pair_example.proofs.Ending.{IsAnswered, both_ended}
+use Rattle.ftp_pair_drives.specs.Between.{Client, Server, Turn, client_deeds, nothing_yet, server_deeds}
+use Rattle.ftp_pair_example.proofs.Ending.{IsAnswered, lies_over}
 use Rattle.ftp_pair_example.proofs.FetchPlayed.{fetch_is_answered}
 use Rattle.ftp_pair_example.proofs.Moves.{near_closes, says_answer}
+use Rattle.ftp_pair_example.proofs.PeekPlayed.{peek_is_answered}
 use Rattle.ftp_pair_example.proofs.Playing.{far_in, near_in, none_yet}
 use Rattle.ftp_pair_example.proofs.PutPlayed.{put_is_answered}
 use Rattle.ftp_pair_transfers.specs.Deeds.{AreToldAt, ClientTransfers, IsToldAt, ServesAlong, last_of, number_in}
@@ -20,8 +21,8 @@ use Rattle.ftp_server_drive.specs.Side.{server_side}
 use Rattle.ftp_pair_wires.specs.Plain.{quiet}
 use Rattle.ftp_pair_turns.specs.Taking.{Answered, Answers, Ends, Settled, Took, ends}
 use Rattle.ftp_pair_turns.proofs.Gathering.{clients_then}
-use Rattle.ftp_pair_asked.specs.Transfers.{AnsweredByTransfer, AreAllToldAt, AreTransferred, FetchIsAsked, PutIsAsked}
-use Rattle.ftp_pair_asked.proofs.Example.{went_of}
+use Rattle.ftp_pair_asked.specs.Transfers.{AnsweredByTransfer, AreAllToldAt, AreTransferred, FetchIsAsked, PeekIsAsked, PutIsAsked}
+use Rattle.ftp_pair_asked.proofs.Breaking.{HappenedByResets, Resets, resets_of}
 use Rattle.ftp_pair_asked.proofs.Midst.{midst_numbers}
 
 -- the server's deeds after an operation was begun, each such, and told at this moment
@@ -58,6 +59,7 @@ module _ (b : Beginning) (moments : ℕ → ℕ) (op : Op (List ℕ)) (said : Sa
   is_asked : (start : Ends) × (now : Ends) × AreTransferred b moments ((op, said) ∷ []) start now
   is_asked =
       let p = a.played in
+      let over = lies_over a.hold [] [] in
       let server = (far_in none_yet a.first []).owner in
       let served = (far_in none_yet a.served []).owner in
       let client = (near_in none_yet a.client_first []).owner in
@@ -71,14 +73,16 @@ module _ (b : Beginning) (moments : ℕ → ℕ) (op : Op (List ℕ)) (said : Sa
       (apart moments op p.later (quiet server) (quiet served) midst) p.far_led p.gives p.told in
       let asks : Goes ClientTransfers (client_deeds p.later) (quiet begun) (quiet heard) =
       subst (λ d. Goes ClientTransfers d (quiet begun) (quiet heard)) (sym p.later_midst) (p.near_led, p.takes) in
-      let happened : Happened (p.later ++ first ∷ []) a.there = subst (λ t. Happened t a.there) p.turns_are p.happened in
+      let happened : HappenedByResets (p.later ++ first ∷ []) a.there =
+      subst (λ t. HappenedByResets t a.there) p.turns_are (p.happened, p.resets) in
+      let went : Resets p.later nothing_yet a.there = resets_of p.later op a.there happened.0 happened.1 in
       let took : Took (ends server begun nothing_yet) (ends served heard a.there) = record {
         turns = p.later;
         server_led = serves.led;
         client_led = asks.0;
-        went = went_of p.later op a.there happened;
+        went = went.0;
       } in
-      let last : Answers said (ends served heard a.there) (ends served done both_ended) = record {
+      let last : Answers said (ends served heard a.there) (ends served done over) = record {
         asked = a.asked;
         midst = [];
         led = (
@@ -86,12 +90,12 @@ module _ (b : Beginning) (moments : ℕ → ℕ) (op : Op (List ℕ)) (said : Sa
           (near_in a.lane (near.reports a.heard) [], (near_in a.lane a.heard [], refl, says_answer a.lane a.heard said a.some), a.leaves),
           near_closes (near.reports a.heard) a.free,
         );
-        went = (both_ended, (a.there, (a.there, refl, inl refl), inl a.can), inl refl);
+        went = (over, (a.there, (a.there, refl, inl refl), inl a.can), inl refl);
         server = refl;
       } in
-      let settled : Settled said (ends server begun nothing_yet) (ends served done both_ended) =
+      let settled : Settled said (ends server begun nothing_yet) (ends served done over) =
       record { mid = ends served heard a.there; took = took; answers = last } in
-      let answered : Answered op said (ends server client nothing_yet) (ends served done both_ended) =
+      let answered : Answered op said (ends server client nothing_yet) (ends served done over) =
       record { begun = begun; begins = a.does; settled = settled } in
       let by : AnsweredByTransfer ServerIsCalm ClientIsCalm (moments 0) answered = record {
         carried = a.is;
@@ -102,9 +106,11 @@ module _ (b : Beginning) (moments : ℕ → ℕ) (op : Op (List ℕ)) (said : Sa
         midst = midst;
         last_asks = (((tt, (tt, refl)), a.may), (tt, refl));
         last_midst = tt;
+        resets = went.1;
+        last_resets = tt;
       } in (
         ends server client nothing_yet,
-        ends served done both_ended,
+        ends served done over,
         record {
           begins = a.begins;
           nothing = refl;
@@ -119,6 +125,10 @@ module _ (b : Beginning) (moments : ℕ → ℕ) (op : Op (List ℕ)) (said : Sa
 -- a file is fetched
 pub fetch_is_asked : FetchIsAsked
 fetch_is_asked table stamp moments has = is_asked _ moments _ _ (fetch_is_answered table stamp moments has)
+
+-- its first octet is
+pub peek_is_asked : PeekIsAsked
+peek_is_asked table stamp moments has = is_asked _ moments _ _ (peek_is_answered table stamp moments has)
 
 -- another is put in its place
 pub put_is_asked : PutIsAsked

@@ -6,7 +6,7 @@ use Rattle.ftp_pair_wires.specs.Order.{CanGo}
 use Rattle.ftp_pair_asked.specs.Laws.{IsUnbroken, WentHappens}
 
 -- what is no break can happen
-can : (who : Who) (touch : Touch) (old new : Between) → CanGo who touch old new → IsUnbroken touch → Can who touch old new
+pub can : (who : Who) (touch : Touch) (old new : Between) → CanGo who touch old new → IsUnbroken touch → Can who touch old new
 can who touch old new (inl is) unbroken = is
 can who touch old new (inr none) unbroken = absurd (subst IsUnbroken none.0 unbroken)
 

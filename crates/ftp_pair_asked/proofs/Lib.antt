@@ -1,3 +1,4 @@
+pub mod Breaking
 pub mod Concluding
 pub mod Counting
 pub mod Example

@@ -1,7 +1,6 @@
 -- Sessions with transfers, put together: the direct run.
 use Rattle.std.proofs.Common.{◌≡◌, ℕ, suc, ◌^◌, ◌<◌, false, List, [], ◌∷◌, ◌++◌, length, refl, sym, ap, subst, ◌∙◌, append-nil, arith}
 use Rattle.std.specs.Prelude.{⊤}
-use Rattle.ftp_control.specs.Asking.{Asked, Came, Connected, Ended as EndedBy, NotCame, NotConnected, Reset}
 use Rattle.ftp_control.specs.Deeds.{Deed, Led, Other, Stand}
 use Rattle.ftp_control.specs.Side.{Side}
 use Rattle.ftp_control.specs.Machine.{Break, Held, Left, Opened, Refused}
@@ -16,7 +15,7 @@ use Rattle.ftp_pair_drives.specs.Alone.{ClientIsCalm, ServerIsCalm, reports_in}
 use Rattle.ftp_pair_drives.specs.Between.{Client, Server, Turn, client_deeds, nothing_yet, server_deeds}
 use Rattle.ftp_pair_drives.specs.Claims.{Begins}
 use Rattle.ftp_pair_drives.specs.Over.{answers_of}
-use Rattle.ftp_pair_drives.specs.Touches.{had_by, left_by, touch_in}
+use Rattle.ftp_pair_drives.specs.Touches.{touch_in}
 use Rattle.ftp_pair_transfers.specs.Claims.{DidTransfer}
 use Rattle.ftp_pair_transfers.specs.Deeds.{AreMoments, AreToldAt, IsAsking, IsServing, IsToldAt, begun_at, last_of, number_in}
 use Rattle.ftp_pair_transfers.specs.Over.{orders_at}
@@ -25,33 +24,18 @@ use Rattle.ftp_pair_transfers.proofs.Ending.{as_many}
 use Rattle.ftp_pair_world.specs.Agreement.{Order, Single}
 use Rattle.ftp_pair_world.specs.Claims.{AreAnswers, Beginning, IsFair, state_of}
 use Rattle.ftp_server_drive.specs.Side.{Timed, server_side}
-use Rattle.ftp_pair_wires.specs.Order.{Went}
 use Rattle.ftp_pair_wires.specs.Plain.{quiet}
 use Rattle.ftp_pair_turns.specs.Taking.{Answered, Ends, by_client}
 use Rattle.ftp_pair_turns.proofs.Gathering.{clients_then}
-use Rattle.ftp_pair_asked.specs.Laws.{AreUnbroken, IsUnbroken}
+use Rattle.ftp_pair_asked.specs.Laws.{IsUnbroken}
 use Rattle.ftp_pair_asked.specs.Sessions.{AreAsked, deeds_of, turns_of}
 use Rattle.ftp_pair_asked.specs.Transfers.{AnsweredByTransfer, AreAllToldAt, AreAskedByTransfer, Asks, Serves, TransferredBy, TransfersAskedAreTheDirectRun, TransfersByCounts}
+use Rattle.ftp_pair_asked.proofs.Breaking.{Resets, ServerIsUnbroken, had_unbroken, left_unbroken, resets_happen, session_resets}
 use Rattle.ftp_pair_asked.proofs.Counting.{far_calms, near_calms}
-use Rattle.ftp_pair_asked.proofs.Gathering.{far_fewer, near_fewer, answered_closed, answered_free, clients, clients_with, session_went, turns_with}
-use Rattle.ftp_pair_asked.proofs.Happening.{went_happens}
+use Rattle.ftp_pair_asked.proofs.Gathering.{far_fewer, near_fewer, answered_closed, answered_free, clients, clients_with, turns_with}
 use Rattle.ftp_pair_asked.proofs.Midst.{midst_begins, midst_numbers, midst_reports}
 
--- ---- no break of a data connection is told
-
--- having one, or none, tells none
-had_unbroken : (asked : List Asked) → IsUnbroken (had_by asked)
-had_unbroken (Came host left written ∷ []) = tt
-had_unbroken (Connected endpoint left written ∷ []) = tt
-had_unbroken (NotCame ∷ []) = tt
-had_unbroken (NotConnected endpoint ∷ []) = tt
-had_unbroken asked = tt
-
--- nor does leaving one
-left_unbroken : (asked : Asked) → IsUnbroken (left_by asked)
-left_unbroken (EndedBy left written) = tt
-left_unbroken (Reset left written) = tt
-left_unbroken asked = tt
+-- ---- a server is told of no break
 
 serving_unbroken : (deed : Deed server_side) (at : Held Timed) → IsServing deed at → IsUnbroken (touch_in deed)
 serving_unbroken (Other Break) at is = absurd is
@@ -60,21 +44,12 @@ serving_unbroken (Other (Refused asked)) at is = had_unbroken asked
 serving_unbroken (Other (Left asked)) at is = left_unbroken asked
 serving_unbroken deed at is = tt
 
-asking_unbroken : (deed : Deed client_side) (at : Held NearEnd) → IsAsking deed at → IsUnbroken (touch_in deed)
-asking_unbroken (Other Break) at is = absurd is
-asking_unbroken (Other (Opened host asked at_first so_far rest)) at is = had_unbroken asked
-asking_unbroken (Other (Refused asked)) at is = had_unbroken asked
-asking_unbroken (Other (Left asked)) at is = left_unbroken asked
-asking_unbroken deed at is = tt
-
-module _ (KeepsServer : (old new : Held Timed) → Type 0) (KeepsClient : (old new : Held NearEnd) → Type 0) where
-  all_unbroken : (turns : List Turn) (server server_now : Stand server_side) (client client_now : Stand client_side)
-      → Goes (Serves KeepsServer) (server_deeds turns) server server_now → Goes (Asks KeepsClient) (client_deeds turns) client client_now → AreUnbroken turns
-  all_unbroken [] server server_now client client_now serves asks = tt
-  all_unbroken (Server deed ∷ before) server server_now client client_now serves asks =
-      (all_unbroken before server serves.0.0 client client_now (serves.0.1, serves.1.0) asks, serving_unbroken deed serves.0.0.owner serves.1.1.0)
-  all_unbroken (Client deed ∷ before) server server_now client client_now serves asks =
-      (all_unbroken before server server_now client asks.0.0 serves (asks.0.1, asks.1.0), asking_unbroken deed asks.0.0.owner asks.1.1.0)
+module _ (Keeps : (old new : Held Timed) → Type 0) where
+  server_unbroken : (turns : List Turn) (start now : Stand server_side) → Goes (Serves Keeps) (server_deeds turns) start now → ServerIsUnbroken turns
+  server_unbroken [] start now serves = tt
+  server_unbroken (Server deed ∷ before) start now serves =
+      (server_unbroken before start serves.0.0 (serves.0.1, serves.1.0), serving_unbroken deed serves.0.0.owner serves.1.1.0)
+  server_unbroken (Client deed ∷ before) start now serves = server_unbroken before start now serves
 
 -- ---- the deeds of either
 
@@ -219,9 +194,10 @@ module _ (KeepsServer : (old new : Held Timed) → Type 0) (KeepsClient : (old n
       → AreAnswers (state_of b) (orders_at moments asked) (answers_of asked) now.server.end.server.view.session.table
   concludes b fair moments timed asked start now t g =
       let turns = turns_of asked start now t.are in
-      let went : Went turns nothing_yet now.between = subst (λ w. Went turns w now.between) t.nothing (session_went asked start now t.are) in
-      let unbroken = all_unbroken ServerIsCalm ClientIsCalm turns (quiet start.server) (quiet now.server) (quiet start.client) (quiet now.client)
-      (g.serves.led, g.serves.serves) g.asks in
+      let went : Resets turns nothing_yet now.between =
+      subst (λ w. Resets turns w now.between) t.nothing (session_resets KeepsServer KeepsClient moments asked start now t.are t.by) in
+      let happens = resets_happen turns now.between went
+      (server_unbroken ServerIsCalm turns (quiet start.server) (quiet now.server) (g.serves.led, g.serves.serves)) in
       let did : DidTransfer b moments turns now.between (quiet now.server) (quiet now.client) = record {
         server_start = quiet start.server;
         client_start = quiet start.client;
@@ -230,7 +206,8 @@ module _ (KeepsServer : (old new : Held Timed) → Type 0) (KeepsClient : (old n
         unwritten = t.client_bare.0;
         server_unwritten = t.server_bare.0;
         client_untold = t.client_bare.1;
-        happened = went_happens turns now.between went unbroken;
+        happened = happens.0;
+        resets = happens.1;
         server_led = g.serves.led;
         client_led = g.asks.0;
         takes = g.serves.serves;

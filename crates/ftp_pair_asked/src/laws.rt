@@ -1,6 +1,6 @@
 //! Laws of sessions of turns: functions that do nothing, whose contracts are the claims of `specs/`.
 ghost use Rattle.ftp_pair_asked.specs.Laws.{ExampleIsAsked, SessionsAreTheDirectRun, SessionsByCounts, WentHappens};
-ghost use Rattle.ftp_pair_asked.specs.Transfers.{FetchIsAsked, PutIsAsked, TransfersAskedAreTheDirectRun, TransfersByCounts};
+ghost use Rattle.ftp_pair_asked.specs.Transfers.{FetchIsAsked, PeekIsAsked, PutIsAsked, TransfersAskedAreTheDirectRun, TransfersByCounts};
 
 /// Where no break of a data connection is told, an order of deeds as connections in memory have it is one in which each can happen.
 pub fn went_happens()
@@ -18,7 +18,7 @@ pub fn sessions_by_counts()
     ensures { SessionsByCounts }
 {}
 
-/// So it is where whole files were put and fetched, and listings, over passive data connections.
+/// So it is where files were put and fetched, and listings, over passive data connections.
 pub fn transfers_asked_are_the_direct_run()
     ensures { TransfersAskedAreTheDirectRun }
 {}
@@ -33,8 +33,9 @@ pub fn an_example_is_asked()
     ensures { ExampleIsAsked }
 {}
 
-/// So does one in which a file is fetched, and one in which another is put in its place.
+/// So does one in which a file is fetched, one in which its first octet is, and one in which another is put in its place.
 pub fn transfers_are_asked()
     ensures fetched { FetchIsAsked }
+    ensures peeked { PeekIsAsked }
     ensures put { PutIsAsked }
 {}

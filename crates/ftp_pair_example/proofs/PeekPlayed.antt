@@ -45,9 +45,9 @@ use Rattle.ftp_pair_drives.specs.Example.{example}
 use Rattle.ftp_pair_drives.proofs.Playing.{Attends, ear_after, is_silent, no_events}
 use Rattle.ftp_pair_transfers.specs.Over.{AreOver}
 use Rattle.ftp_pair_transfers.specs.Quitting.{HaveQuit}
-use Rattle.ftp_pair_example.specs.Example.{PeekHasQuit, PeekIsOver, example_how, example_name, example_octets, peek_asked}
+use Rattle.ftp_pair_example.specs.Example.{HasFile, PeekHasQuit, PeekIsOver, example_how, example_name, example_octets, peek_asked}
 use Rattle.ftp_pair_example.proofs.Calling.{Dials, client_first, far_bye, far_done, far_first, far_ready, near_first, quiet, reaches, starts_so, still}
-use Rattle.ftp_pair_example.proofs.Ending.{both_over, both_quit, quits}
+use Rattle.ftp_pair_example.proofs.Ending.{IsAnswered, both_over, both_quit, quits}
 use Rattle.ftp_pair_example.proofs.Moves.{far_closes, gets, gives, takes_one, writes}
 use Rattle.ftp_pair_example.proofs.Peeking.{Heeds, far_hears_line, far_resets, more_stands, near_breaks, near_fails, near_resets, one_broken, one_failed}
 use Rattle.ftp_pair_example.proofs.Playing.{Played, can_take, far_in, far_obeys, far_says, far_turn, lies, near_in, near_is_broken, near_is_told, near_says, near_turn, none_yet, one_stands, takes_only}
@@ -194,7 +194,31 @@ module _ (table : Table) (moments : ℕ → ℕ) where
         ((refl, refl, refl), refl) (near_breaks n) refl (refl, refl) fails in
         near_is_told moments Starts begun peek 1 [] [] Has_lost Has_lost [] down server one_broken near_broken refl refl told
 
-    -- so both are over
+    -- so it was answered
+    is_answered : IsAnswered (example table) moments peek (Octets (104 ∷ []))
+    unfolding near.starts near.data_opened answered line_heard extended_value path_on_literals
+    is_answered = record {
+      first = far_first table;
+      client_first = client_first;
+      begun = near_first peek;
+      served = far_done table;
+      heard = near_over;
+      lane = one_broken;
+      asked = Reset None None;
+      hold = Has_lost;
+      there = lies [] [] [] [] Has_lost Has_lost;
+      begins = starts_so table moments peek peek_dials;
+      does = (((refl, (((λ calm. refl), (λ moved. absurd (moved refl))), inl refl)), refl, tt), refl);
+      is = (omega arith, refl);
+      some = refl;
+      free = refl;
+      leaves = near_resets (near.reports near_over);
+      may = ((refl, refl), refl);
+      can = (tt, refl);
+      played = hears;
+    }
+
+    -- and both are over
     is_over : (server : Stand server_side) × AreOver (example table) moments peek_asked server
     unfolding near.starts near.data_opened far.control_end answered line_heard extended_value path_on_literals
     is_over = both_over (example table) (far_first table) peek (Octets (104 ∷ [])) client_first (near_first peek) (far_done table) near_over moments one_broken
@@ -213,6 +237,10 @@ module _ (table : Table) (moments : ℕ → ℕ) where
         (quiet (far_bye table)) (far_bye table).owed refl refl (quits table Starts (server_deeds hears.turns) Has_lost hears.far_led)
 
 -- the file stands where the login sees it
+pub peek_is_answered : (table : Table) (stamp : ℕ) (moments : ℕ → ℕ) → HasFile table stamp
+    → IsAnswered (example table) moments peek (Octets (104 ∷ []))
+peek_is_answered table stamp moments has = is_answered table moments has.root stamp (under-stands table [] (example_name ∷ []) ∙ has.file)
+
 pub peek_is_over : PeekIsOver
 peek_is_over table stamp moments has = is_over table moments has.root stamp (under-stands table [] (example_name ∷ []) ∙ has.file)
 
