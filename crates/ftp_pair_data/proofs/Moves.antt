@@ -189,12 +189,12 @@ module _ (read : Reading) where
       zero_below : (k : ℕ) → k < 1 → 0 ≡ k
       zero_below k less = omega (arith, less)
 
-  -- the client hears the first octets of its queue
-  pub near_hears : (octet : ℕ) (octets rest : List ℕ) (w : World) → Rested w → w.control_to_client ≡ (octet ∷ octets) ++ rest
+  -- the client hears the first octets of its queue, whatever is due then
+  pub near_hears_to : (octet : ℕ) (octets rest : List ℕ) (w new : World) → w.control_to_client ≡ (octet ∷ octets) ++ rest
       → ((k : ℕ) → k < length (octet ∷ octets) → near.may_hear (near.hears w.near (take k w.control_to_client)) ≡ true)
-      → rests (near.wants (near.data_closed (near.hears w.near (octet ∷ octets)))) ≡ true
-      → LeadsOn read [] w (settled (record w { near = near.hears w.near (octet ∷ octets); control_to_client = rest; taken = octet ∷ octets }))
-  near_hears octet octets rest w r queue may wants =
+      → after_event (record w { near = near.hears w.near (octet ∷ octets); control_to_client = rest; taken = octet ∷ octets }) ≡ new
+      → LeadsOn read [] w new
+  near_hears_to octet octets rest w new queue may goes =
       let all : List ℕ = octet ∷ octets in
       let heard : World = record w { near = near.hears w.near all; control_to_client = rest; taken = all } in
       let first : take (length all) w.control_to_client ≡ all = ap (take (length all)) queue ∙ take_front all rest in
@@ -208,33 +208,52 @@ module _ (read : Reading) where
         may = may;
         some = λ room has can. room;
       } in
-      let delivers : Delivers read ControlToClient (length all) (lends_none w) (settled heard) = record {
+      let delivers : Delivers read ControlToClient (length all) (lends_none w) new = record {
         counts = [];
         taken = length all;
         fills = filled_enough w.far.owed w.control_to_client (length all) long;
         takes = takes;
-        is = sym (ap after_event pushes ∙ after_settles heard wants r.runs);
+        is = sym (ap after_event pushes ∙ goes);
       } in
       let can : can_happen (Deliver ControlToClient (length all)) w ≡ true =
       or_right (can_move ControlToClient (length all) w) (can_take ControlToClient (length all) w)
       (ap₂ (λ b q. not b && has_octets q && near.may_hear w.near) (some_there octets) queue ∙ may 0 (omega arith)) in
-      let does = subst (λ b. DeliversBy b read ControlToClient (length all) (lends_none w) (settled heard)) (sym (some_there octets)) delivers in
-      one_leads read (Deliver ControlToClient (length all)) w (settled heard) tt (can, does)
+      let does = subst (λ b. DeliversBy b read ControlToClient (length all) (lends_none w) new) (sym (some_there octets)) delivers in
+      one_leads read (Deliver ControlToClient (length all)) w new tt (can, does)
+
+  -- where it wants a close at most
+  pub near_hears : (octet : ℕ) (octets rest : List ℕ) (w : World) → Rested w → w.control_to_client ≡ (octet ∷ octets) ++ rest
+      → ((k : ℕ) → k < length (octet ∷ octets) → near.may_hear (near.hears w.near (take k w.control_to_client)) ≡ true)
+      → rests (near.wants (near.data_closed (near.hears w.near (octet ∷ octets)))) ≡ true
+      → LeadsOn read [] w (settled (record w { near = near.hears w.near (octet ∷ octets); control_to_client = rest; taken = octet ∷ octets }))
+  near_hears octet octets rest w r queue may wants =
+      let heard : World = record w { near = near.hears w.near (octet ∷ octets); control_to_client = rest; taken = octet ∷ octets } in
+      near_hears_to octet octets rest w (settled heard) queue may (after_settles heard wants r.runs)
 
   -- ---- an operation begins
 
+  -- whatever is due then
+  pub begins_to : (op : Op (List ℕ)) (moment : ℕ) → moment ≤ last_second → (w new : World) → Rested w → w.link ≡ Gone → near.is_busy w.near ≡ false
+      → is_asked_for w ≡ false
+      → after_event (record w { near = near.starts op w.near; far = clock_step moment w.far; marks = w.marks ++ [] ∷ []; taken = [] }) ≡ new
+      → LeadsOn read (Single op moment ∷ []) w new
+  unfolding far.clocked
+  begins_to op moment timed w new r link idle asks goes =
+      let begun : World = record w { near = near.starts op w.near; far = clock_step moment w.far; marks = w.marks ++ [] ∷ []; taken = [] } in
+      let is : operation_begins op moment (lends_none w) ≡ begun =
+      ap (λ waits. record begun { far = waited waits (clock_step moment w.far) }) r.runs.none_waits in
+      let can : can_begin w ≡ true = ap₂ (λ busy gone. not busy && is_gone gone && not (is_asked_for w)) idle link ∙ ap not asks in
+      one_leads read (Next op moment) w new timed (can, sym (ap after_event is ∙ goes))
+
+  -- where the client wants a close at most
   pub begins : (op : Op (List ℕ)) (moment : ℕ) → moment ≤ last_second → (w : World) → Rested w → w.link ≡ Gone → near.is_busy w.near ≡ false
       → is_asked_for w ≡ false → rests (near.wants (near.data_closed (near.starts op w.near))) ≡ true
       → LeadsOn read (Single op moment ∷ []) w
       (settled (record w { near = near.starts op w.near; far = clock_step moment w.far; marks = w.marks ++ [] ∷ []; taken = [] }))
-  unfolding far.clocked
   begins op moment timed w r link idle asks wants =
       let begun : World = record w { near = near.starts op w.near; far = clock_step moment w.far; marks = w.marks ++ [] ∷ []; taken = [] } in
       let runs : Runs begun.far = record { running = r.runs.running; none_waits = r.runs.none_waits } in
-      let is : operation_begins op moment (lends_none w) ≡ begun =
-      ap (λ waits. record begun { far = waited waits (clock_step moment w.far) }) r.runs.none_waits in
-      let can : can_begin w ≡ true = ap₂ (λ busy gone. not busy && is_gone gone && not (is_asked_for w)) idle link ∙ ap not asks in
-      one_leads read (Next op moment) w (settled begun) timed (can, sym (ap after_event is ∙ after_settles begun wants runs))
+      begins_to op moment timed w (settled begun) r link idle asks (after_settles begun wants runs)
 
   -- ---- a link
 

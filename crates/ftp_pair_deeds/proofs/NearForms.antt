@@ -34,12 +34,12 @@ use Rattle.ftp_pair_drives.proofs.Taken.{idle_of, taken}
 use Rattle.ftp_pair_data.specs.Unaborted.{is_unaborted}
 use Rattle.ftp_pair_data.proofs.Known.{is_receive}
 use Rattle.ftp_pair_data.proofs.Served.{rests}
-use Rattle.ftp_pair_deeds.proofs.Stands.{has_port}
+use Rattle.ftp_pair_deeds.proofs.Stands.{wants_port}
 
 -- ---- what it wants
 
--- a client that has not failed, has no port of its own and wants no close wants nothing of a world
-pub wants_rest : (n : Near) → is_sound n.standing ≡ true → has_port n.connection ≡ false → n.closing ≡ false → rests (near.wants n) ≡ true
+-- a client that has not failed, wants no port of its own and no close wants nothing of a world
+pub wants_rest : (n : Near) → is_sound n.standing ≡ true → wants_port n.connection ≡ false → n.closing ≡ false → rests (near.wants n) ≡ true
 unfolding near.wants
 wants_rest n sound dials unclosed =
     ap₂ (λ c s. rests (if c then Want.CloseData else (if s then link_wants n.connection n else Want.CloseAll))) unclosed sound ∙ by_link n.connection dials
@@ -53,12 +53,12 @@ wants_rest n sound dials unclosed =
     by_transfer None = refl
     by_transfer (Some transfer) = by_flow _ _
 
-    by_link : (link : ClientLink) → has_port link ≡ false → rests (link_wants link n) ≡ true
+    by_link : (link : ClientLink) → wants_port link ≡ false → rests (link_wants link n) ≡ true
     by_link Data.Free e = refl
     by_link Data.ListenWanted e = absurd (true≢false e)
-    by_link (Data.Listening port) e = absurd (true≢false e)
+    by_link (Data.Listening port) e = refl
     by_link (Data.Connecting endpoint) e = refl
-    by_link (Data.Accepting port) e = absurd (true≢false e)
+    by_link (Data.Accepting port) e = refl
     by_link Data.Open e = by_transfer (transfer_under_way n)
     by_link (Data.Over ending) e = refl
 

@@ -1,5 +1,5 @@
 -- How both ends stand while data goes.
-use Rattle.std.specs.Prelude.{◌≡◌, Bool, true, false, None}
+use Rattle.std.proofs.Common.{◌≡◌, Bool, true, false, true≢false, None, refl}
 use Rattle.ftp_control.specs.Machine.{Held}
 use Rattle.ftp_client_model.specs.Calls.{is_sound}
 use Rattle.ftp_client_model.specs.Failing.{Client}
@@ -20,7 +20,21 @@ has_port (Data.Listening port) = true
 has_port (Data.Accepting port) = true
 has_port link = false
 
--- it has not failed, and has no port of its own
+-- one that wants a port of its own, and was not told any
+abbrev pub wants_port : ClientLink → Bool
+wants_port Data.ListenWanted = true
+wants_port link = false
+
+pub portless : (link : ClientLink) → has_port link ≡ false → wants_port link ≡ false
+portless Data.ListenWanted e = absurd (true≢false e)
+portless Data.Free e = refl
+portless (Data.Listening port) e = refl
+portless (Data.Connecting endpoint) e = refl
+portless (Data.Accepting port) e = refl
+portless Data.Open e = refl
+portless (Data.Over ending) e = refl
+
+-- it has not failed, and wants no port of its own
 pub record ClientFetches (at : Held Client) : Type 0 where
   pub sound : is_sound at.end.view.standing ≡ true
-  pub dials : has_port at.end.view.connection ≡ false
+  pub dials : wants_port at.end.view.connection ≡ false

@@ -26,7 +26,7 @@ use Rattle.ftp_pair_example.proofs.Playing.{far_in, near_in, none_yet, one_stand
 -- ---- the server, which listens and gives
 
 -- a call that does its step, and is refused nothing
-steps : (Fails : Far → Far → Type 0) (step : Far → Far) (v new : Far) → new ≡ later (step v) → Steps Fails step (server_of v) (server_of new)
+pub steps : (Fails : Far → Far → Type 0) (step : Far → Far) (v new : Far) → new ≡ later (step v) → Steps Fails step (server_of v) (server_of new)
 steps Fails step v new is = record {
   done = λ calm. is;
   failed = λ course moved. absurd (moved refl);

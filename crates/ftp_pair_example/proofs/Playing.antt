@@ -105,7 +105,7 @@ midst_number : (deed : Deed client_side) (before : List (Deed client_side)) → 
 midst_number (Other (Aside (Starting op))) before midst = absurd midst
 midst_number deed before midst = refl
 
-midst_numbers : (deeds before : List (Deed client_side)) → AreMidst deeds → number_in (deeds ++ before) ≡ number_in before
+pub midst_numbers : (deeds before : List (Deed client_side)) → AreMidst deeds → number_in (deeds ++ before) ≡ number_in before
 midst_numbers [] before midst = refl
 midst_numbers (deed ∷ deeds) before midst = midst_number deed (deeds ++ before) midst.1 ∙ midst_numbers deeds before midst.0
 
@@ -216,7 +216,7 @@ module _ (moments : ℕ → ℕ) (start : Stand server_side) (begun : Stand clie
 -- ---- the control connection, of a server beside a data connection
 
 -- it says all that it owes
-saying : (lane : Lane) (v : Far) (u : List ℕ) → v.waiting ≡ None → Done (Says v.owed) (far_in lane v u) (far_in lane (record v { owed = [] }) u)
+pub saying : (lane : Lane) (v : Far) (u : List ℕ) → v.waiting ≡ None → Done (Says v.owed) (far_in lane v u) (far_in lane (record v { owed = [] }) u)
 saying lane v u none =
     let h : SaysNext v.owed (far_at v u) (far_at (record v { owed = [] }) u) = far_saying v u none in
     let says : SaysNext v.owed (far_in lane v u) (far_in lane (record v { owed = [] }) u) = record {
@@ -228,7 +228,7 @@ saying lane v u none =
     says
 
 -- it reads octets
-reading : (lane : Lane) (v : Far) (octets : List ℕ) → Attends v → v.owed ≡ [] → Done (Read octets) (far_in lane v []) (far_in lane v octets)
+pub reading : (lane : Lane) (v : Far) (octets : List ℕ) → Attends v → v.owed ≡ [] → Done (Read octets) (far_in lane v []) (far_in lane v octets)
 reading lane v octets at owed =
     let h : ReadsNext octets (far_at v []) (far_at v octets) = far_reading v octets at owed in
     let reads : ReadsNext octets (far_in lane v []) (far_in lane v octets) = record {
@@ -243,7 +243,7 @@ reading lane v octets at owed =
     reads
 
 -- it hears one
-hearing : (lane : Lane) (octets u w : List ℕ) (v new : Far) → Attends v → Done (Heard octets) (far_at v u) (far_at new w)
+pub hearing : (lane : Lane) (octets u w : List ℕ) (v new : Far) → Attends v → Done (Heard octets) (far_at v u) (far_at new w)
     → Done (Heard octets) (far_in lane v u) (far_in lane new w)
 hearing lane octets u w v new at done =
     let h : HearsNext octets (far_at v u) (far_at new w) = done in
@@ -261,18 +261,18 @@ takes_only Want.Send = false
 takes_only wants = true
 
 -- so it is what it was
-seen_so : (wants : Wants) (lane : Lane) → takes_only wants ≡ true → lane ≡ seen wants lane
+pub seen_so : (wants : Wants) (lane : Lane) → takes_only wants ≡ true → lane ≡ seen wants lane
 unfolding takes_only
 seen_so Want.Send lane e = absurd (true≢false (sym e))
 seen_so wants lane e = refl
 
 -- of two that are true one is
-first_is : (a b : Bool) → (a && b) ≡ true → a ≡ true
+pub first_is : (a b : Bool) → (a && b) ≡ true → a ≡ true
 first_is true b e = refl
 first_is false b e = absurd (true≢false (sym e))
 
 -- and the other
-other_is : (a b : Bool) → (a && b) ≡ true → b ≡ true
+pub other_is : (a b : Bool) → (a && b) ≡ true → b ≡ true
 other_is true b e = e
 other_is false b e = absurd (true≢false (sym e))
 
@@ -282,12 +282,12 @@ can_take n [] = true
 can_take n (octet ∷ octets) = near.may_hear n && (takes_only (near.wants n) && can_take (near.hears_octet n octet) octets)
 
 -- all of them are the first of so many
-take_all : (octets : List ℕ) → octets ≡ take (length octets) octets
+pub take_all : (octets : List ℕ) → octets ≡ take (length octets) octets
 take_all [] = refl
 take_all (octet ∷ octets) = ap (λ l. octet ∷ l) (take_all octets)
 
 -- and none are left
-drop_all : (octets : List ℕ) → [] ≡ drop (length octets) octets
+pub drop_all : (octets : List ℕ) → [] ≡ drop (length octets) octets
 drop_all [] = refl
 drop_all (octet ∷ octets) = drop_all octets
 

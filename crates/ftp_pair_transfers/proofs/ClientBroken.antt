@@ -47,7 +47,7 @@ use Rattle.ftp_pair_deeds.proofs.FarForms.{given_none, told_passive}
 use Rattle.ftp_pair_deeds.proofs.Holding.{both, is_called, is_false, is_had, unclosed}
 use Rattle.ftp_pair_deeds.proofs.NearForms.{Taking, end_closing, taking_of, taking_same, wants_rest}
 use Rattle.ftp_pair_deeds.proofs.Plain.{IsPlainly, Whatever, ended_plain, whatever_kept}
-use Rattle.ftp_pair_deeds.proofs.Stands.{ClientFetches, ServerServes}
+use Rattle.ftp_pair_deeds.proofs.Stands.{ClientFetches, ServerServes, portless}
 use Rattle.ftp_pair_transfers.specs.Ahead.{Ahead, Level, Listened, Listens, Opens, Parted}
 use Rattle.ftp_pair_transfers.proofs.Beside.{Goes, Together, rested}
 use Rattle.ftp_pair_transfers.proofs.Broke.{with_view}
@@ -308,7 +308,8 @@ module _ (read : Reading) (reads : IsReading read) (from : State) (begun : List 
             world = settled over;
             leads = leads_then read [] [] w d.world (settled over) d.leads
                 (ends read d.world again d_link d.falling give
-                (ap (λ n. rests (near.wants (data_closed n))) ended ∙ wants_rest (data_closed (data_end v)) sound plainly.port refl));
+                (ap (λ n. rests (near.wants (data_closed n))) ended
+                ∙ wants_rest (data_closed (data_end v)) sound (portless (data_end v).connection plainly.port) refl));
             moment = moment;
             ahead = ahead;
             together = record {

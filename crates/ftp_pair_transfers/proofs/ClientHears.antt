@@ -33,8 +33,7 @@ use Rattle.ftp_client_model.specs.Calls.{is_sound as is_sound_at}
 use Rattle.ftp_pair_deeds.proofs.Holding.{Takes, is_false, is_sound, unclosed}
 use Rattle.ftp_pair_deeds.proofs.FarForms.{told_passive}
 use Rattle.ftp_pair_deeds.proofs.NearForms.{wants_rest}
-use Rattle.ftp_pair_deeds.proofs.Plain.{IsPlainly}
-use Rattle.ftp_pair_deeds.proofs.Stands.{ClientFetches, ServerServes, has_port}
+use Rattle.ftp_pair_deeds.proofs.Stands.{ClientFetches, ServerServes, wants_port}
 use Rattle.ftp_pair_transfers.proofs.Blind.{hears_blind}
 use Rattle.ftp_pair_transfers.proofs.Beside.{Goes, Keeping, Together, Writes, rested}
 use Rattle.ftp_pair_transfers.proofs.ClientStays.{client_keeps}
@@ -47,7 +46,8 @@ use Rattle.ftp_pair_transfers.proofs.Settling.{NearSettles, near_settles}
 use Rattle.ftp_pair_transfers.proofs.Twins.{near_heard}
 
 module _ (read : Reading) (begun : List Order) (server : Stand server_side) (old new : Stand client_side) (reports : List Said) (w : World)
-    (calm : ClientIsCalm old.owner new.owner) (serves : ServerServes server.owner) (before : ClientFetches old.owner) (plain : IsPlainly new.owner.end.view)
+    (calm : ClientIsCalm old.owner new.owner) (serves : ServerServes server.owner) (before : ClientFetches old.owner)
+    (portless : wants_port new.owner.end.view.connection ≡ false)
     (known : Known w) where
   abbrev v : Near
   v = old.owner.end.view
@@ -144,7 +144,7 @@ module _ (read : Reading) (begun : List Order) (server : Stand server_side) (old
     wants =
         let x : Near = near.hears w.near all in
         wants_rest (data_closed x) (ap (λ (n : Near). is_sound_at n.standing) taken_is ∙ sound)
-        (ap (λ (n : Near). has_port n.connection) taken_is ∙ plain.port) refl
+        (ap (λ (n : Near). wants_port n.connection) taken_is ∙ portless) refl
 
     abbrev now : World
     now = record w { near = near.hears w.near all; control_to_client = rest; taken = all }
@@ -227,7 +227,7 @@ module _ (read : Reading) (begun : List Order) (server : Stand server_side) (old
 
       rested_now : Rested (settled now)
       rested_now = record {
-        near_rests = ap (λ n. rests (near.wants n)) near_now ∙ wants_rest (data_closed (taken u)) sound plain.port refl;
+        near_rests = ap (λ n. rests (near.wants n)) near_now ∙ wants_rest (data_closed (taken u)) sound portless refl;
         near_open = ap (λ (n : Near). n.closing) near_now;
         none = ap report_of near_now ∙ taken_none u;
         runs = record { running = ap (λ (f : Far). f.session.life) s.far ∙ r.runs.running; none_waits = ap (λ (f : Far). f.waiting) s.far ∙ r.runs.none_waits };

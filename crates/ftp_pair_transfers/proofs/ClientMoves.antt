@@ -37,7 +37,7 @@ use Rattle.ftp_pair_transfers.proofs.Settling.{NearSettles, near_settles}
 use Rattle.ftp_pair_transfers.proofs.Twins.{begun_too, near_said}
 
 -- an operation that begins has no mark
-more_unmarked : (marks : List (List Mark)) → AreUnmarked marks → AreUnmarked (marks ++ [] ∷ [])
+pub more_unmarked : (marks : List (List Mark)) → AreUnmarked marks → AreUnmarked (marks ++ [] ∷ [])
 more_unmarked [] unmarked = (refl, tt)
 more_unmarked (mark ∷ marks) unmarked = (unmarked.0, more_unmarked marks unmarked.1)
 

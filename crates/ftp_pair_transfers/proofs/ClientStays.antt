@@ -32,7 +32,6 @@ use Rattle.ftp_pair_deeds.proofs.Holding.{Takes, both, is_false, is_had, is_soun
 use Rattle.ftp_pair_transfers.proofs.Ahead.{Holds}
 use Rattle.ftp_pair_deeds.proofs.NearForms.{idle_free, wants_rest}
 use Rattle.ftp_pair_deeds.proofs.Stands.{ClientFetches}
-use Rattle.ftp_pair_transfers.proofs.NearForms.{is_accept, never_accepts}
 use Rattle.ftp_pair_transfers.proofs.Beside.{Comes, Goes, Keeping, Together, Writes}
 use Rattle.ftp_pair_transfers.proofs.Known.{Known, is_near_held}
 
@@ -102,7 +101,7 @@ module _ (read : Reading) (orders : List Order) (server : Stand server_side) (ol
       climbs falls hold takes gives (record { had = had; shut = λ e. t.keeping.shut (ap (λ (n : Near). n.closing) (sym is) ∙ e); over = over })
 
   -- by a call that moves no control octets
-  client_idle : (moment : ℕ) (ahead : Ahead) (between next : Between) (told : ℕ) → Together read orders moment ahead between told server old reports w → u ≡ v
+  pub client_idle : (moment : ℕ) (ahead : Ahead) (between next : Between) (told : ℕ) → Together read orders moment ahead between told server old reports w → u ≡ v
       → new.unheard ≡ old.unheard → next.control ≡ between.control → Climbs between next → Falls between next → next.far ≡ between.far
       → Takes new.owner.lane → Writes next.near new.owner.lane → (is_near_held w.link ≡ true → is_had next.near ≡ true)
       → (is_sound new.owner.lane.fate ≡ false → is_near_held w.link ≡ false) → Goes read [] orders next told server new (reports ++ []) w
@@ -305,29 +304,30 @@ module _ (read : Reading) (orders : List Order) (server : Stand server_side) (ol
           ]
 
   -- one that leaves what it has holds it no more in a world
-  left_held : (asks : ClientFetches old.owner) (asked : Asked) (moment : ℕ) (ahead : Ahead) (between : Between) (told : ℕ)
+  left_held : (asks : ClientFetches old.owner) (never : near.wants v ≡ Want.Accept → is_near_held w.link ≡ false) (asked : Asked) (moment : ℕ)
+      (ahead : Ahead) (between : Between) (told : ℕ)
       → Together read orders moment ahead between told server old reports w → Calls {side = client_side} (Left asked) old new → is_near_held w.link ≡ false
-  left_held asks asked moment ahead between told t did = by_fate old.owner.lane.fate refl did.0.2.0
+  left_held asks never asked moment ahead between told t did = by_fate old.owner.lane.fate refl did.0.2.0
     where
       idle : is_under_way v.job ≡ false → is_near_held w.link ≡ false
       idle done = ap is_near_held (known.idle (ap is_busy t.beside.near ∙ idle_free v done)).link
 
-      -- one that wants no close, has not failed and has no port of its own goes on without a link only as it dials, so that none stands
-      dials : v.closing ≡ false → (q : Wants) → near.wants v ≡ q → rests q ≡ true → is_accept q ≡ false → leaves q ≡ true → is_near_held w.link ≡ false
-      dials apart (Want.Connect endpoint) is quiet alone e =
+      -- one that wants no close, has not failed and wants no port of its own goes on without a link only as it dials or accepts, so that none stands
+      dials : v.closing ≡ false → (q : Wants) → near.wants v ≡ q → rests q ≡ true → leaves q ≡ true → is_near_held w.link ≡ false
+      dials apart (Want.Connect endpoint) is quiet e =
           ap is_near_held (known.dials endpoint (ap near.wants (t.beside.near ∙ unclosed (taken v) apart) ∙ taken_wants v ∙ is)).link
-      dials apart Want.CloseData is quiet alone e = absurd (true≢false (sym quiet))
-      dials apart Want.Accept is quiet alone e = absurd (true≢false alone)
-      dials apart Want.Nothing is quiet alone e = absurd (true≢false (sym e))
-      dials apart Want.Listen is quiet alone e = absurd (true≢false (sym e))
-      dials apart Want.Receive is quiet alone e = absurd (true≢false (sym e))
-      dials apart Want.Send is quiet alone e = absurd (true≢false (sym e))
-      dials apart Want.CloseAll is quiet alone e = absurd (true≢false (sym e))
+      dials apart Want.CloseData is quiet e = absurd (true≢false (sym quiet))
+      dials apart Want.Accept is quiet e = never is
+      dials apart Want.Nothing is quiet e = absurd (true≢false (sym e))
+      dials apart Want.Listen is quiet e = absurd (true≢false (sym e))
+      dials apart Want.Receive is quiet e = absurd (true≢false (sym e))
+      dials apart Want.Send is quiet e = absurd (true≢false (sym e))
+      dials apart Want.CloseAll is quiet e = absurd (true≢false (sym e))
 
       by : (closing : Bool) → v.closing ≡ closing → (leaves (near.wants v) ≡ true) ⊎ (is_under_way v.job ≡ false) → is_near_held w.link ≡ false
       by true is may = t.keeping.shut is
       by false is may = elim may [
-        | inl leaving ↦ dials is (near.wants v) refl (wants_rest v asks.sound asks.dials is) (never_accepts v asks.sound asks.dials is) leaving
+        | inl leaving ↦ dials is (near.wants v) refl (wants_rest v asks.sound asks.dials is) leaving
         | inr done ↦ idle done
       ]
 
@@ -373,12 +373,13 @@ module _ (read : Reading) (orders : List Order) (server : Stand server_side) (ol
       (record { spare = λ e. lane.unwritten; bare = λ e. lane.unwritten }) (λ e. absurd (both e free)) (λ e. free)
 
   -- a data connection is left by an end
-  pub client_ends : (asks : ClientFetches old.owner) (left written : Option (List ℕ)) (moment : ℕ) (ahead : Ahead) (between next : Between) (told : ℕ)
+  pub client_ends : (asks : ClientFetches old.owner) (never : near.wants v ≡ Want.Accept → is_near_held w.link ≡ false)
+      (left written : Option (List ℕ)) (moment : ℕ) (ahead : Ahead) (between next : Between) (told : ℕ)
       → Together read orders moment ahead between told server old reports w → Calls {side = client_side} (Left (EndedBy left written)) old new
       → Can TheClient Ends between next → Goes read [] orders next told server new (reports ++ []) w
-  client_ends asks left written moment ahead between next told t did can =
+  client_ends asks never left written moment ahead between next told t did can =
       let lane = did.0.1 in
-      let free : is_near_held w.link ≡ false = left_held asks (EndedBy left written) moment ahead between told t did in
+      let free : is_near_held w.link ≡ false = left_held asks never (EndedBy left written) moment ahead between told t did in
       let none : old.owner.lane.untold ≡ [] = none_untold moment ahead between told t (known.ended free) in
       let hold : next.near ≡ Has_ended = ap (λ (m : Between). m.near) can.1 in
       client_idle moment ahead between next told t (ap (λ c. c.view) did.0.0) (ap (λ (s : Stand client_side). s.unheard) did.1)

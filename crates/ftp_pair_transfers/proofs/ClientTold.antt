@@ -33,8 +33,7 @@ use Rattle.ftp_pair_deeds.proofs.Holding.{both, is_called, is_false, is_had}
 use Rattle.ftp_pair_transfers.proofs.Ahead.{Holds}
 use Rattle.ftp_pair_deeds.proofs.FarForms.{given_none, told_passive}
 use Rattle.ftp_pair_deeds.proofs.NearForms.{Taking, end_closing, taking_of, wants_rest}
-use Rattle.ftp_pair_deeds.proofs.Plain.{IsPlainly}
-use Rattle.ftp_pair_deeds.proofs.Stands.{ClientFetches, ServerServes}
+use Rattle.ftp_pair_deeds.proofs.Stands.{ClientFetches, ServerServes, wants_port}
 use Rattle.ftp_pair_transfers.proofs.Beside.{Comes, Goes, Together, Writes, rested}
 use Rattle.ftp_pair_transfers.proofs.ClientTaking.{taking_is}
 use Rattle.ftp_pair_transfers.proofs.Known.{AreCarried, Known, is_near_held}
@@ -42,7 +41,8 @@ use Rattle.ftp_pair_transfers.proofs.Running.{ends_sound}
 use Rattle.ftp_pair_transfers.proofs.Settling.{NearSettles, near_settles}
 
 module _ (read : Reading) (begun : List Order) (server : Stand server_side) (old new : Stand client_side) (reports : List Said) (w : World)
-    (calm : ClientIsCalm old.owner new.owner) (serves : ServerServes server.owner) (before : ClientFetches old.owner) (plain : IsPlainly new.owner.end.view)
+    (calm : ClientIsCalm old.owner new.owner) (serves : ServerServes server.owner) (before : ClientFetches old.owner)
+    (portless : wants_port new.owner.end.view.connection ≡ false)
     (known : Known w) where
   abbrev v : Near
   v = old.owner.end.view
@@ -130,7 +130,7 @@ module _ (read : Reading) (begun : List Order) (server : Stand server_side) (old
           record {
             world = settled now;
             leads = ends read w r link none give
-                (ap (λ n. rests (near.wants (data_closed n))) ended ∙ wants_rest (data_closed u) sound plain.port refl);
+                (ap (λ n. rests (near.wants (data_closed n))) ended ∙ wants_rest (data_closed u) sound portless refl);
             moment = moment;
             ahead = ahead;
             together = record {

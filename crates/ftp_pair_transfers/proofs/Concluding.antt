@@ -42,7 +42,7 @@ both_single (Single op moment ∷ front) given one other = both_single front giv
 both_single (Tries upload moment ∷ front) given one other = absurd one
 
 -- none of all deeds does
-in_single : (moments : ℕ → ℕ) (deeds : List (Deed client_side)) → AreSingle (begun_at moments deeds)
+pub in_single : (moments : ℕ → ℕ) (deeds : List (Deed client_side)) → AreSingle (begun_at moments deeds)
 in_single moments [] = tt
 in_single moments (deed ∷ before) =
     both_single (begun_at moments before) (begun_by (moments (number_in before)) deed) (in_single moments before) (by_single (moments (number_in before)) deed)

@@ -67,17 +67,17 @@ midst_said : (deed : Deed client_side) → IsMidst deed → reported_by deed ≡
 midst_said (Other (Aside (Reporting (Some said)))) midst = absurd midst
 midst_said deed midst = refl
 
-midst_numbers : (deeds before : List (Deed client_side)) → AreMidst deeds → number_in (deeds ++ before) ≡ number_in before
+pub midst_numbers : (deeds before : List (Deed client_side)) → AreMidst deeds → number_in (deeds ++ before) ≡ number_in before
 midst_numbers [] before midst = refl
 midst_numbers (deed ∷ deeds) before midst = midst_number deed (deeds ++ before) midst.1 ∙ midst_numbers deeds before midst.0
 
-midst_begins : (moments : ℕ → ℕ) (deeds before : List (Deed client_side)) → AreMidst deeds → begun_at moments (deeds ++ before) ≡ begun_at moments before
+pub midst_begins : (moments : ℕ → ℕ) (deeds before : List (Deed client_side)) → AreMidst deeds → begun_at moments (deeds ++ before) ≡ begun_at moments before
 midst_begins moments [] before midst = refl
 midst_begins moments (deed ∷ deeds) before midst =
     ap (λ l. begun_at moments (deeds ++ before) ++ l) (midst_none (moments (number_in (deeds ++ before))) deed midst.1)
     ∙ append-nil (begun_at moments (deeds ++ before)) ∙ midst_begins moments deeds before midst.0
 
-midst_reports : (deeds before : List (Deed client_side)) → AreMidst deeds → reports_in (deeds ++ before) ≡ reports_in before
+pub midst_reports : (deeds before : List (Deed client_side)) → AreMidst deeds → reports_in (deeds ++ before) ≡ reports_in before
 midst_reports [] before midst = refl
 midst_reports (deed ∷ deeds) before midst =
     ap (λ l. reports_in (deeds ++ before) ++ l) (midst_said deed midst.1) ∙ append-nil (reports_in (deeds ++ before)) ∙ midst_reports deeds before midst.0

@@ -15,7 +15,7 @@ use Rattle.ftp_client_model.specs.declared.client.Replied.TheVariants as Replies
 use Rattle.ftp_pair_dialogues.specs.Fetches.{busy}
 use Rattle.ftp_pair_dialogues.proofs.Sending.{gives_all, gives_some}
 use Rattle.ftp_pair_agreement.specs.Rising.{sending}
-use Rattle.ftp_pair_deeds.proofs.Stands.{has_port}
+use Rattle.ftp_pair_deeds.proofs.Stands.{has_port, wants_port}
 
 -- ---- what it wants
 
@@ -67,10 +67,10 @@ lifts op all count octet more mark n = by (drop count (octet ∷ more)) refl
     by [] is = gives_all op all n count octet more mark is n.ear n.gathered n.owed
     by (next ∷ left) is = gives_some op all n count octet more next left mark is n.ear n.gathered n.owed
 
--- no port is its own then, it has not failed, and it has no report
+-- it wants no port then, it has not failed, and it has no report
 pub record Sound (n : Near) : Type 0 where
   pub sound : is_sound n.standing ≡ true
-  pub port : has_port n.connection ≡ false
+  pub port : wants_port n.connection ≡ false
   pub none : near.report_of n ≡ None
 
 pub lifted_sound : (op : Op (List ℕ)) (left : List ℕ) (mark : Option ℕ) (n : Near) → Sound (lifted op left mark n)

@@ -56,7 +56,7 @@ leaves_so [] start now led leaves = tt
 leaves_so (deed ∷ before) start now led leaves = (leaves_so before start led.0 led.1 leaves.0, leaves.1.0, leaves.1.1)
 
 -- they keep the map
-finals_keep : (read : Reading) → IsReading read → (table : Table) (deeds : List (Deed server_side)) (start now : Stand server_side) (led : Led deeds start now)
+pub finals_keep : (read : Reading) → IsReading read → (table : Table) (deeds : List (Deed server_side)) (start now : Stand server_side) (led : Led deeds start now)
     → LeavesAlong deeds start now led → (old last : Between) → HappenedAlone deeds old last → Quits table start old → Quits table now last
 finals_keep read reads table deeds start now led leaves old last happened quits =
     let q : AtQuit read reads (length deeds) deeds start now old last =
@@ -66,7 +66,7 @@ finals_keep read reads table deeds start now led leaves old last happened quits 
     q.quits table (subst (λ m. Quits table m old) (sym same) quits)
 
 -- where a world's server is at rest so is the drive's
-rests_now : (ahead : Ahead) (v : Far) → Fits ahead v.session.connection → IsIdle (far_ahead ahead v) → AtRest v
+pub rests_now : (ahead : Ahead) (v : Far) → Fits ahead v.session.connection → IsIdle (far_ahead ahead v) → AtRest v
 rests_now Level v fits idle = rests_so plainly.Level v fits (record { ear = idle.ear; owed = idle.owed; aside = idle.aside })
 rests_now Opens v fits idle = rests_so plainly.Opens v fits (record { ear = idle.ear; owed = idle.owed; aside = idle.aside })
 rests_now (Listens port) v fits idle = rests_so (plainly.Listens port) v fits (record { ear = idle.ear; owed = idle.owed; aside = idle.aside })

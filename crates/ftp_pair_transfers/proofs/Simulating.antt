@@ -1,5 +1,5 @@
 -- Two drives that put and fetch files, as a list of a world's events: deed by deed.
-use Rattle.std.proofs.Common.{◌≡◌, ℕ, true, List, [], ◌∷◌, ◌++◌, take, option_to_list, refl, sym, ap, subst, ◌∙◌, append-nil}
+use Rattle.std.proofs.Common.{◌≡◌, ℕ, true, false, true≢false, List, [], ◌∷◌, ◌++◌, take, option_to_list, refl, sym, ap, subst, ◌∙◌, append-nil}
 use Rattle.ftp_control.specs.Asking.{Came, Connected, Ended as EndedBy, Reset, Shut}
 use Rattle.ftp_control.specs.Deeds.{Deed, Done, Heard, Led, Other, Read, Said as Says, Stand}
 use Rattle.ftp_control.specs.Machine.{Aside, Break, Closed, End, Failed as HasFailed, Gave, Got, Left, LetGo, Listening, Opened, Received, Waited, Wrote}
@@ -15,7 +15,7 @@ use Rattle.ftp_server_drive.specs.Side.{server_side}
 use Rattle.ftp_server_model.specs.Machine.{IsReading, Reading, hears, hears_octet}
 use Rattle.ftp_pair_world.specs.Agreement.{Order, Single}
 use Rattle.ftp_pair_world.specs.Claims.{Beginning, IsFair, state_of, world_of}
-use Rattle.ftp_pair_world.specs.World.{World}
+use Rattle.ftp_pair_world.specs.World.{Link, World}
 use Rattle.ftp_pair_agreement.specs.Over.{OverRuns}
 use Rattle.ftp_pair_drives.specs.Alone.{ClientIsCalm, begun_by, reported_by}
 use Rattle.ftp_pair_drives.specs.Between.{Between, CanTurn, Client, Server}
@@ -32,7 +32,7 @@ use Rattle.ftp_pair_deeds.proofs.NearForms.{no_close, starts_standing}
 use Rattle.ftp_pair_deeds.proofs.Plain.{IsPlainly, Whatever, starts_plain, whatever_kept}
 use Rattle.ftp_pair_deeds.proofs.Plainly.{deed_plain, deed_sound, took_plain}
 use Rattle.ftp_pair_deeds.proofs.Serves.{deed_serves}
-use Rattle.ftp_pair_deeds.proofs.Stands.{ClientFetches, ServerServes}
+use Rattle.ftp_pair_deeds.proofs.Stands.{ClientFetches, ServerServes, portless}
 use Rattle.ftp_pair_transfers.specs.Deeds.{AreMoments, ClientTransfers, AsksAlong, IsToldAt, ServerTransfers, begun_at, last_of, number_in}
 use Rattle.ftp_pair_transfers.proofs.Beside.{Goes, Together}
 use Rattle.ftp_pair_transfers.proofs.Called.{BreaksNone, StaysFresh, called_unaborted, near_fresh, transferred_plain}
@@ -43,7 +43,8 @@ use Rattle.ftp_pair_transfers.proofs.ClientMoves.{client_begins, client_said}
 use Rattle.ftp_pair_transfers.proofs.ClientStays.{client_closed, client_ends, client_fails, client_got, client_lets, client_read, client_reports, client_resets, client_shuts, client_waited, client_wrote}
 use Rattle.ftp_pair_transfers.proofs.ClientTaking.{client_received}
 use Rattle.ftp_pair_transfers.proofs.ClientTold.{client_told_end}
-use Rattle.ftp_pair_transfers.proofs.Known.{AreCarried, Known, both_carried}
+use Rattle.ftp_pair_transfers.proofs.Known.{AreCarried, Known, both_carried, is_near_held}
+use Rattle.ftp_pair_transfers.proofs.NearForms.{is_accept, never_accepts}
 use Rattle.ftp_pair_transfers.proofs.Running.{hears_serving, world_known, world_timed}
 use Rattle.ftp_pair_transfers.proofs.ServerGiving.{server_gave}
 use Rattle.ftp_pair_transfers.proofs.ServerMoves.{server_heard, server_said}
@@ -58,7 +59,7 @@ ResetsNone deed = Unit {0}
 -- ---- what was begun
 
 -- a deed begins such an operation, or nothing
-by_carried : (moment : ℕ) (deed : Deed client_side) (old new : client_side.End) → ClientTransfers deed old new → AreCarried (begun_by moment deed)
+pub by_carried : (moment : ℕ) (deed : Deed client_side) (old new : client_side.End) → ClientTransfers deed old new → AreCarried (begun_by moment deed)
 by_carried moment (Other (Aside (Starting op))) old new is = (is.0.0.0, tt)
 by_carried moment deed old new is = tt
 
@@ -109,7 +110,14 @@ module _ (read : Reading) (reads : IsReading read) (moments : ℕ → ℕ) (time
 
   -- how a client stands
   fetches : (client : Stand client_side) → IsPlainly client.owner.end.view → is_sound client.owner.end.view.standing ≡ true → ClientFetches client.owner
-  fetches client plain sound = record { sound = sound; dials = plain.port }
+  fetches client plain sound = record { sound = sound; dials = portless client.owner.end.view.connection plain.port }
+
+  -- it accepts nobody
+  never : (client : Stand client_side) → IsPlainly client.owner.end.view → is_sound client.owner.end.view.standing ≡ true
+      → (link : Link) → near.wants client.owner.end.view ≡ Want.Accept → is_near_held link ≡ false
+  never client plain sound link e =
+      let n : Near = client.owner.end.view in
+      absurd (true≢false (sym (ap is_accept e) ∙ never_accepts n sound plain.port (no_close n Want.Accept e refl)))
 
   -- what is known of it
   module _ (deeds : List (Deed client_side)) (between : Between) (told : ℕ) (server : Stand server_side) (client : Stand client_side) (reports : List Said)
@@ -268,7 +276,8 @@ module _ (read : Reading) (reads : IsReading read) (moments : ℕ → ℕ) (time
   client_goes (Heard octets) unbroken old new is deeds puts p q can told server reports o plain did =
       subst (λ (m : Between). Goes read [] (begun_at moments deeds) m told server new (reports ++ []) o.world × (is_sound new.owner.end.view.standing ≡ true))
       (sym can)
-      (client_heard read (begun_at moments deeds) server old new reports o.world is.1 o.serves (asks deeds p told server old reports o puts) plain
+      (client_heard read (begun_at moments deeds) server old new reports o.world is.1 o.serves (asks deeds p told server old reports o puts)
+      (portless new.owner.end.view.connection plain.port)
       (known deeds p told server old reports o puts) reads (state_of b) puts
       (runs deeds p told server old reports o puts) octets o.last o.ahead p told
       o.together did)
@@ -335,7 +344,8 @@ module _ (read : Reading) (reads : IsReading read) (moments : ℕ → ℕ) (time
     deed_sound (Other (Received octets count)) tt old new (tt, is.1) did o.sound,
   )
   client_goes (Other End) unbroken old new is deeds puts p q can told server reports o plain did =
-      client_told_end read (begun_at moments deeds) server old new reports o.world is.1 o.serves (asks deeds p told server old reports o puts) plain
+      client_told_end read (begun_at moments deeds) server old new reports o.world is.1 o.serves (asks deeds p told server old reports o puts)
+      (portless new.owner.end.view.connection plain.port)
       (known deeds p told server old reports o puts) o.last o.ahead p q told o.together did can reads (state_of b) puts
       (runs deeds p told server old reports o puts)
   client_goes (Other (Waited lost)) unbroken old new is deeds puts p q can told server reports o plain did = (
@@ -352,7 +362,7 @@ module _ (read : Reading) (reads : IsReading read) (moments : ℕ → ℕ) (time
   )
   client_goes (Other (Left (EndedBy left written))) unbroken old new is deeds puts p q can told server reports o plain did = (
     client_ends read (begun_at moments deeds) server old new reports o.world is.1 (known deeds p told server old reports o puts)
-        (asks deeds p told server old reports o puts) left written o.last o.ahead p q told o.together
+        (asks deeds p told server old reports o puts) (never old o.plain o.sound o.world.link) left written o.last o.ahead p q told o.together
         did can,
     deed_sound (Other (Left (EndedBy left written))) tt old new (tt, is.1) did o.sound,
   )

@@ -84,7 +84,7 @@ gone_settles x link unclosed none =
     by false is = ap (λ c. record x { near = record x.near { closing = c } }) is
 
 -- so it is of the twin
-twin_settles : (x : World) → x.link ≡ Gone → x.far.session.closing ≡ false → is_asked x.far.session.connection ≡ false
+pub twin_settles : (x : World) → x.link ≡ Gone → x.far.session.closing ≡ false → is_asked x.far.session.connection ≡ false
     → settled (twin x) ≡ twin (settled x)
 twin_settles x link unclosed none = gone_settles (twin x) link unclosed refl ∙ sym (ap twin (gone_settles x link unclosed none))
 
@@ -97,7 +97,7 @@ pub gone_far : (x : World) → x.link ≡ Gone → x.far.session.closing ≡ fal
 gone_far x link unclosed none = ap (λ (y : World). y.far.session.connection) (gone_settles x link unclosed none)
 
 -- it rests too
-twin_rested : (w : World) → Rested w → Rested (twin w)
+pub twin_rested : (w : World) → Rested w → Rested (twin w)
 twin_rested w r = record {
   near_rests = r.near_rests;
   near_open = r.near_open;
@@ -120,7 +120,7 @@ pub record HasTwin (read : Reading) (begun : List Order) (w : World) : Type 0 wh
 
 module _ (read : Reading) (reads : IsReading read) (begun : List Order) where
   -- events of both
-  goes_on : (w new : World) (more : List Order) → HasTwin read begun w → AreCarried more → new.link ≡ Gone → new.far.session.connection ≡ Data.Free
+  pub goes_on : (w new : World) (more : List Order) → HasTwin read begun w → AreCarried more → new.link ≡ Gone → new.far.session.connection ≡ Data.Free
       → LeadsOn read more (twin w) (twin new) → HasTwin read (begun ++ more) new
   goes_on w new more k carried link none leads = record {
     from = k.from;
@@ -132,7 +132,7 @@ module _ (read : Reading) (reads : IsReading read) (begun : List Order) where
   }
 
   -- events that begin nothing
-  stays_on : (w new : World) → HasTwin read begun w → new.link ≡ Gone → new.far.session.connection ≡ Data.Free → LeadsOn read [] (twin w) (twin new)
+  pub stays_on : (w new : World) → HasTwin read begun w → new.link ≡ Gone → new.far.session.connection ≡ Data.Free → LeadsOn read [] (twin w) (twin new)
       → HasTwin read begun new
   stays_on w new k link none leads = subst (λ l. HasTwin read l new) (append-nil begun) (goes_on w new [] k tt link none leads)
 
