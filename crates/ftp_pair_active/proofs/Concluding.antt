@@ -1,0 +1,91 @@
+-- What follows of a world that holds what both drives hold: agreement, and the direct run.
+use Rattle.std.proofs.Common.{◌≡◌, ℕ, false, List, [], ◌++◌, length, Option, Some, None, option_to_list, ap, ap₂, subst, ◌∙◌, append_assoc, append-nil}
+use Rattle.ftp_client_model.specs.Calls.{control_end, data_closed, report_of}
+use Rattle.ftp_client_model.specs.View.{View as Near}
+use Rattle.ftp_operation.specs.Answer.{Said}
+use Rattle.ftp_server_model.specs.View.{View as Far}
+use Rattle.ftp_server_model.proofs.LinesDecided.{reading_exists}
+use Rattle.ftp_tree.specs.Tree.{Table}
+use Rattle.ftp_pair_world.specs.Agreement.{Agrees, Order, WorldAgrees}
+use Rattle.ftp_pair_world.specs.Claims.{state_of, world_of}
+use Rattle.ftp_pair_world.specs.Events.{is_parted}
+use Rattle.ftp_pair_world.specs.World.{Mark}
+use Rattle.ftp_pair_world.proofs.AgreementLemmas.{unmarked_is_direct}
+use Rattle.ftp_pair_agreement.proofs.Theorems.{agrees-always}
+use Rattle.ftp_pair_drives.specs.Alone.{reports_in}
+use Rattle.ftp_pair_drives.specs.Between.{client_deeds}
+use Rattle.ftp_pair_drives.proofs.Taken.{cut_alike, free_none, taken}
+use Rattle.ftp_pair_drives.proofs.Worlds.{LeadsOn, leads_then}
+use Rattle.ftp_pair_deeds.proofs.Parting.{cut_report, parts}
+use Rattle.ftp_pair_transfers.proofs.Ahead.{keeps}
+use Rattle.ftp_pair_transfers.proofs.Concluding.{in_single}
+use Rattle.ftp_pair_transfers.specs.Deeds.{begun_at}
+use Rattle.ftp_pair_active.specs.Claims.{EitherAgree, EitherAreTheDirectRun, EitherPartingAgree}
+use Rattle.ftp_pair_active.proofs.Parting.{led_cut}
+use Rattle.ftp_pair_active.proofs.Simulating.{either_are_of_worlds, reaches, view_is}
+use Rattle.ftp_pair_active.specs.Deeds.{listened_in}
+use Rattle.ftp_pair_active.specs.Lead.{led_by}
+
+-- the world agrees, and so do they
+pub either_agree : EitherAgree
+either_agree b fair moments timed turns between server client did =
+    let o = either_are_of_worlds reading_exists.0 reading_exists.1 b fair moments timed turns between server client did in
+    let w = o.world in
+    let s = o.both in
+    let v : Far = server.owner.end.server.view in
+    let begun : List Order = begun_at moments (client_deeds turns) in
+    let agree : WorldAgrees (state_of b) begun w = agrees-always reading_exists.0 reading_exists.1 b fair o.events begun w o.timed o.leads in
+    let said : List Said = reports_in (client_deeds turns) ++ option_to_list (report_of client.owner.end.view) in
+    let table : w.far.session.table ≡ v.session.table = ap (λ (f : Far). f.session.table) s.far ∙ (keeps s.ahead v s.fits).table in (
+      w.marks,
+      s.marks,
+      subst (λ (t : Table). Agrees (state_of b) begun w.marks None said t) table
+          (subst (λ (r : List Said). Agrees (state_of b) begun w.marks None r w.far.session.table) s.reported
+          (subst (λ (c : Option ℕ). Agrees (state_of b) begun w.marks c w.reports w.far.session.table) s.cutoff agree)),
+    )
+
+-- one more event ends the control connection for both
+pub either_parting_agree : EitherPartingAgree
+either_parting_agree b fair moments timed turns between server client did =
+    let read = reading_exists.0 in
+    let o = reaches read reading_exists.1 moments timed b fair turns between did.happened did.server_start server did.client_start client did.begins
+    did.untold did.unwritten did.server_unwritten did.client_untold did.server_led did.client_led did.serves did.asks did.ports did.told in
+    let w = o.world in
+    let s = o.together.beside in
+    let f : Far = server.owner.end.server.view in
+    let v : Near = client.owner.end.view in
+    let u : Near = led_by o.lead v in
+    let begun : List Order = begun_at moments (client_deeds turns) in
+    let reports : List Said = reports_in (client_deeds turns) in
+    let p = parts read w (ap is_parted s.control) in
+    let all = subst (λ (l : List Order). LeadsOn read l (world_of b) p.new) (append-nil begun)
+    (leads_then read begun [] (world_of b) w p.new o.leads p.leads) in
+    let agree : WorldAgrees (state_of b) begun p.new = agrees-always read reading_exists.1 b fair all.events begun p.new all.timed all.leads in
+    let near_is : report_of (control_end w.near) ≡ report_of (control_end (taken u)) =
+    ap (λ n. report_of (control_end n)) (s.near ∙ ap (λ n. data_closed (taken n)) (view_is o.lead client)) ∙ cut_report false (taken u) in
+    let said : w.reports ≡ reports ++ option_to_list (report_of u) =
+    s.reported ∙ ap (λ n. reports ++ option_to_list (report_of n)) (view_is o.lead client) in
+    let told : p.new.reports ≡ reports ++ option_to_list (report_of (control_end v)) =
+    p.reports ∙ ap₂ (λ r n. r ++ option_to_list n) said near_is
+    ∙ append_assoc reports (option_to_list (report_of u)) (option_to_list (report_of (control_end (taken u)))) ∙ ap (λ l. reports ++ l) (cut_alike u)
+    ∙ ap (λ n. reports ++ option_to_list n) (led_cut o.lead o.more between (listened_in turns) server client o.so) in
+    let table : p.new.far.session.table ≡ f.session.table =
+    p.table ∙ ap (λ (x : Far). x.session.table) s.far ∙ (keeps o.ahead f s.fits).table in (
+      w.marks,
+      s.marks,
+      subst (λ (t : Table). Agrees (state_of b) begun w.marks (Some (length w.marks)) (reports ++ option_to_list (report_of (control_end v))) t) table
+          (subst (λ (r : List Said). Agrees (state_of b) begun w.marks (Some (length w.marks)) r p.new.far.session.table) told
+          (subst (λ (c : Option ℕ). Agrees (state_of b) begun w.marks c p.new.reports p.new.far.session.table) p.cutoff
+          (subst (λ (m : List (List Mark)). Agrees (state_of b) begun m p.new.cutoff p.new.reports p.new.far.session.table) p.marks agree))),
+    )
+
+-- agreement without marks is the direct run, where all is reported
+pub either_are_the_direct_run : EitherAreTheDirectRun
+either_are_the_direct_run b fair moments timed turns between server client did free told =
+    let agree = either_agree b fair moments timed turns between server client did in
+    let reports : List Said = reports_in (client_deeds turns) in
+    let none : reports ++ option_to_list (report_of client.owner.end.view) ≡ reports =
+    ap (λ o. reports ++ option_to_list o) (free_none client.owner.end.view free) ∙ append-nil reports in
+    let begun : List Order = begun_at moments (client_deeds turns) in
+    unmarked_is_direct (state_of b) begun agree.0 reports server.owner.end.server.view.session.table (in_single moments (client_deeds turns)) agree.1 told
+    (subst (λ (r : List Said). Agrees (state_of b) begun agree.0 None r server.owner.end.server.view.session.table) none agree.2)

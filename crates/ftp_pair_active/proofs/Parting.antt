@@ -1,0 +1,60 @@
+-- A client that is ahead, told that the control connection ended, reports what the drive's would.
+use Rattle.std.proofs.Common.{◌≡◌, ℕ, true, false, List, [], refl, sym, ap, ◌∙◌}
+use Rattle.ftp_control.specs.Deeds.{Stand}
+use Rattle.ftp_client_drive.specs.Side.{client_side}
+use Rattle.ftp_client_model.specs.Calls as near
+use Rattle.ftp_client_model.specs.Calls.{accepted, data_closed, listening}
+use Rattle.ftp_client_model.specs.View.{Doing, Flow, View as Near}
+use Rattle.ftp_client_model.specs.declared.client.ClientLink.TheVariants as Data
+use Rattle.ftp_client_model.specs.declared.client.Replied.TheVariants as Replies
+use Rattle.ftp_client_model.specs.declared.client.Replied.{Replied}
+use Rattle.ftp_client_model.specs.declared.client.Step.TheVariants as Steps
+use Rattle.ftp_operation.specs.declared.op.Op.{Op}
+use Rattle.ftp_pair_dialogues.specs.Fetches.{busy}
+use Rattle.ftp_pair_drives.specs.Between.{Between}
+use Rattle.ftp_server_drive.specs.Side.{server_side}
+use Rattle.ftp_pair_deeds.proofs.Parting.{cut_report}
+use Rattle.ftp_pair_active.specs.Lead.{Even, Joined, Lead, Told, led_by}
+use Rattle.ftp_pair_active.proofs.Accepting.{awaiting, joining, joins}
+use Rattle.ftp_pair_active.proofs.Calls as calls
+use Rattle.ftp_pair_active.proofs.Joining.{joins_form}
+use Rattle.ftp_pair_active.proofs.Leading.{Comes, Stays, Waits}
+use Rattle.ftp_pair_active.proofs.Leads.{LedSo}
+
+told_cut : (port : ℕ) (op : Op (List ℕ)) (n : Near)
+    → near.report_of (near.control_end (listening port (busy (Doing op Steps.Listen) Data.ListenWanted n)))
+    ≡ near.report_of (near.control_end (busy (Doing op Steps.Listen) Data.ListenWanted n))
+unfolding listening near.control_end
+told_cut port op n = refl
+
+waits_cut : (op : Op (List ℕ)) (one other : Replied) (flow : Flow) (port : ℕ) (n m : Near)
+    → near.report_of (near.control_end (joining op one flow n)) ≡ near.report_of (near.control_end (awaiting op other flow port m))
+unfolding near.control_end
+waits_cut op one other flow port n m = refl
+
+comes_cut : (op : Op (List ℕ)) (one : Replied) (flow : Flow) (port : ℕ) (n m : Near)
+    → near.report_of (near.control_end (joining op one flow n)) ≡ near.report_of (near.control_end (calls.listening op flow port m))
+unfolding near.control_end
+comes_cut op one flow port n m = refl
+
+joined_cut : (v : Near) (octets : List ℕ) → Stays (data_closed v) octets
+    → near.report_of (near.control_end (accepted true (near.hears (data_closed v) octets))) ≡ near.report_of (near.control_end v)
+joined_cut v octets (Comes op all flow port octet more is o) =
+    ap (λ n. near.report_of (near.control_end n))
+    (ap (accepted true) o.whole ∙ joins op all Replies.Begun flow refl port (near.hears (data_closed v) octets))
+    ∙ comes_cut op Replies.Begun flow port (near.hears (data_closed v) octets) (data_closed v)
+    ∙ sym (ap (λ n. near.report_of (near.control_end n)) (o.fronts [] more octet (sym is)).0) ∙ cut_report false v
+joined_cut v octets (Waits is a) =
+    ap (λ n. near.report_of (near.control_end n)) (ap (λ l. accepted true (near.hears (data_closed v) l)) is ∙ joins_form (data_closed v) a)
+    ∙ waits_cut a.op a.replied a.replied a.flow a.port (data_closed v) (data_closed v)
+    ∙ sym (ap (λ n. near.report_of (near.control_end n)) a.is) ∙ cut_report false v
+
+pub led_cut : (lead : Lead) (more : List ℕ) (between : Between) (told : ℕ) (server : Stand server_side) (c : Stand client_side)
+    → LedSo lead more between told server c
+    → near.report_of (near.control_end (led_by lead c.owner.end.view)) ≡ near.report_of (near.control_end c.owner.end.view)
+led_cut Even more between told server c so = refl
+led_cut (Told port) more between told server c so =
+    let v : Near = c.owner.end.view in
+    ap (λ n. near.report_of (near.control_end (listening port n))) so.0.view ∙ told_cut port so.0.op v
+    ∙ sym (ap (λ n. near.report_of (near.control_end n)) so.0.view) ∙ cut_report false v
+led_cut (Joined octets) more between told server c so = joined_cut c.owner.end.view octets so.0.stays.0

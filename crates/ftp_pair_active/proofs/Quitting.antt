@@ -1,0 +1,133 @@
+-- What both did over data connections that either dialled, before QUIT was written, is the direct run, and after it the map stays.
+use Rattle.std.proofs.Common.{◌≡◌, ℕ, true, false, true≢false, List, [], ◌++◌, length, option_to_list, refl, sym, ap, subst, ◌∙◌, append-nil}
+use Rattle.ftp_client_drive.specs.Side.{client_side}
+use Rattle.ftp_client_model.specs.View.{Flow, View as Near}
+use Rattle.ftp_client_model.specs.declared.client.Standing.TheVariants as Standings
+use Rattle.ftp_client_model.specs.Calls.{data_closed, is_busy, report_of}
+use Rattle.ftp_client_model.specs.declared.client.Replied.{Replied}
+use Rattle.ftp_operation.specs.declared.op.Op.{Op}
+use Rattle.ftp_control.specs.Deeds.{Stand}
+use Rattle.ftp_operation.specs.Answer.{Said}
+use Rattle.ftp_server_drive.specs.Side.{Timed, server_side}
+use Rattle.ftp_server_model.proofs.LinesDecided.{reading_exists}
+use Rattle.ftp_server_model.specs.Machine.{IsReading, Reading}
+use Rattle.ftp_server_model.specs.View.{View as Far}
+use Rattle.ftp_tree.specs.Tree.{Table}
+use Rattle.ftp_pair_world.specs.Agreement.{Order}
+use Rattle.ftp_pair_world.specs.Claims.{AreAnswers, Beginning, IsFair, state_of}
+use Rattle.ftp_pair_drives.specs.Alone.{reports_in}
+use Rattle.ftp_pair_drives.specs.Between.{Between, Turn, client_deeds}
+use Rattle.ftp_pair_drives.specs.Over.{answers_of}
+use Rattle.ftp_pair_drives.specs.Quitting.{quitting}
+use Rattle.ftp_pair_drives.proofs.Leaving.{quits_table}
+use Rattle.ftp_pair_drives.proofs.Quitting.{Quits}
+use Rattle.ftp_pair_drives.proofs.Taken.{free_none}
+use Rattle.ftp_pair_data.proofs.Running.{all_runs}
+use Rattle.ftp_pair_deeds.proofs.Along.{Went}
+use Rattle.ftp_pair_deeds.proofs.Closing.{begins_quit}
+use Rattle.ftp_pair_deeds.proofs.Resting.{idle_at}
+use Rattle.ftp_pair_transfers.specs.Deeds.{AreMoments, begun_at}
+use Rattle.ftp_pair_transfers.specs.Over.{orders_at}
+use Rattle.ftp_pair_transfers.proofs.Ending.{as_many}
+use Rattle.ftp_pair_transfers.proofs.Quitting.{finals_keep, rests_now}
+use Rattle.ftp_pair_transfers.proofs.Resting.{idles}
+use Rattle.ftp_pair_active.specs.Claims.{DidEither}
+use Rattle.ftp_pair_active.specs.Deeds.{ClientTransfers, listened_in}
+use Rattle.ftp_pair_active.specs.Lead.{Even, Joined, Lead, Told}
+use Rattle.ftp_pair_active.specs.Quitting.{EitherThatQuitAreTheDirectRun}
+use Rattle.ftp_pair_active.proofs.Accepting.{awaiting}
+use Rattle.ftp_pair_active.proofs.Calls.{listening}
+use Rattle.ftp_pair_active.proofs.Concluding.{either_are_the_direct_run}
+use Rattle.ftp_pair_active.proofs.Ending.{answers_are, answers_go, carried_free, orders_are}
+use Rattle.ftp_pair_active.proofs.Leading.{Comes, Stays, Waits, led_between, led_client}
+use Rattle.ftp_pair_active.proofs.Leads.{LedSo}
+use Rattle.ftp_pair_active.proofs.Simulating.{in_carried, reaches}
+
+-- ---- a client that is not busy is even
+
+listens_busy : (op : Op (List ℕ)) (flow : Flow) (port : ℕ) (n : Near) → is_busy (listening op flow port n) ≡ true
+listens_busy op flow port n = refl
+
+waits_busy : (op : Op (List ℕ)) (replied : Replied) (flow : Flow) (port : ℕ) (n : Near) → is_busy (awaiting op replied flow port n) ≡ true
+waits_busy op replied flow port n = refl
+
+stays_busy : (v : Near) (octets : List ℕ) → Stays (data_closed v) octets → is_busy v ≡ true
+stays_busy v octets (Comes op all flow port octet more is o) =
+    ap is_busy (o.fronts [] more octet (sym is)).0 ∙ listens_busy op flow port (data_closed v)
+stays_busy v octets (Waits is a) = ap is_busy a.is ∙ waits_busy a.op a.replied a.flow a.port (data_closed v)
+
+free_even : (lead : Lead) (more : List ℕ) (between : Between) (told : ℕ) (server : Stand server_side) (c : Stand client_side)
+    → LedSo lead more between told server c → is_busy c.owner.end.view ≡ false → lead ≡ Even
+free_even Even more between told server c so free = refl
+free_even (Told port) more between told server c so free = absurd (true≢false (sym (ap is_busy so.0.view) ∙ free))
+free_even (Joined octets) more between told server c so free =
+    absurd (true≢false (sym (stays_busy c.owner.end.view octets so.0.stays.0) ∙ free))
+
+-- ---- both
+
+-- where each operation has its report and the client is logged in, the server hears QUIT next
+quits_next : (read : Reading) → IsReading read → (b : Beginning) → IsFair b → (moments : ℕ → ℕ) → AreMoments moments
+    → (turns : List Turn) (between : Between) (server : Stand server_side) (client : Stand client_side)
+    → DidEither b moments turns between server client → is_busy client.owner.end.view ≡ false
+    → client.owner.end.view.standing ≡ Standings.Entered
+    → length (reports_in (client_deeds turns)) ≡ length (begun_at moments (client_deeds turns))
+    → Quits server.owner.end.server.view.session.table server (quitting between)
+quits_next read reads b fair moments timed turns between server client did free entered told =
+    let n : Near = client.owner.end.view in
+    let v : Far = server.owner.end.server.view in
+    let o = reaches read reads moments timed b fair turns between did.happened did.server_start server did.client_start client did.begins did.untold
+    did.unwritten did.server_unwritten did.client_untold did.server_led did.client_led did.serves did.asks did.ports did.told in
+    let w = o.world in
+    let s = o.together.beside in
+    let begun : List Order = begun_at moments (client_deeds turns) in
+    let runs = all_runs read reads b fair o.leads.events begun w o.leads.timed o.leads.leads in
+    let none = ap (λ r. reports_in (client_deeds turns) ++ option_to_list r) (free_none n free) ∙ append-nil (reports_in (client_deeds turns)) in
+    let even : o.lead ≡ Even = free_even o.lead o.more between (listened_in turns) server client o.so free in
+    let same : (led_client o.lead client).owner.end.view ≡ n = ap (λ l. (led_client l client).owner.end.view) even in
+    let here : (led_between o.lead o.more between).control.to_server ≡ between.control.to_server =
+    ap (λ l. (led_between l o.more between).control.to_server) even in
+    let said = ap (λ m. reports_in (client_deeds turns) ++ option_to_list (report_of m)) same in
+    let all : length w.reports ≡ length begun = ap length s.reported ∙ ap length said ∙ ap length none ∙ told in
+    let standing : w.near.standing ≡ Standings.Entered = ap (λ (u : Near). u.standing) s.near ∙ ap (λ (u : Near). u.standing) same ∙ entered in
+    let carried = in_carried moments (client_deeds turns) did.client_start client did.client_led did.asks in
+    let idle = idles read reads (state_of b) begun carried w s.unready s.cutoff all runs standing in
+    begins_quit server between o.serves (ap (λ l. server.unheard ++ l) (sym here) ∙ sym s.to_server ∙ idle.to_server)
+    (rests_now o.ahead v s.fits (idle_at o.last w.far _ s.far idle.far))
+
+pub either_that_quit_are_the_direct_run : EitherThatQuitAreTheDirectRun
+either_that_quit_are_the_direct_run b fair moments timed asked server over =
+    let read = reading_exists.0 in
+    let reads = reading_exists.1 in
+    let near = subst (λ d. Went ClientTransfers d over.client_start over.client) (sym over.client_is)
+    (answers_go asked over.client_start over.client over.put (ap (λ v. v.closing) over.begins.client_view)) in
+    let did : DidEither b moments over.turns over.between over.mid over.client = record {
+      server_start = over.server_start;
+      client_start = over.client_start;
+      begins = over.begins;
+      untold = over.untold;
+      unwritten = over.unwritten;
+      server_unwritten = over.server_unwritten;
+      client_untold = over.client_untold;
+      happened = over.happened;
+      server_led = over.server_led;
+      client_led = near.0;
+      serves = over.serves;
+      asks = near.1;
+      ports = over.ports;
+      told = over.told;
+    } in
+    let orders : begun_at moments (client_deeds over.turns) ≡ orders_at moments asked =
+    ap (begun_at moments) over.client_is ∙ orders_are moments asked over.client_start over.client over.put in
+    let answers : reports_in (client_deeds over.turns) ≡ answers_of asked =
+    ap reports_in over.client_is ∙ answers_are asked over.client_start over.client over.put in
+    let told = ap length answers ∙ as_many moments asked ∙ ap length (sym orders) in
+    let free = carried_free b over.server_start asked over.client_start over.client over.begins over.put in
+    let direct = either_are_the_direct_run b fair moments timed over.turns over.between over.mid over.client did free told in
+    let quits = finals_keep read reads over.mid.owner.end.server.view.session.table over.finals over.mid over.off over.final_led over.leaves
+    (quitting over.between) over.last over.happened_last
+    (quits_next read reads b fair moments timed over.turns over.between over.mid over.client did free over.entered told) in
+    let table : server.owner.end.server.view.session.table ≡ over.mid.owner.end.server.view.session.table =
+    ap (λ (at : Timed). at.server.view.session.table) over.left.0.0 ∙ quits_table _ over.off over.last quits in
+    subst (λ (t : Table). AreAnswers (state_of b) (orders_at moments asked) (answers_of asked) t) (sym table)
+    (subst (λ (r : List Said). AreAnswers (state_of b) (orders_at moments asked) r over.mid.owner.end.server.view.session.table) answers
+    (subst (λ (o : List Order). AreAnswers (state_of b) o (reports_in (client_deeds over.turns)) over.mid.owner.end.server.view.session.table) orders direct))

@@ -1,0 +1,147 @@
+-- A deed of a server, in a world whose client is ahead of the drive's or not: all is as in ftp_pair_transfers, of the client that is ahead.
+use Rattle.std.proofs.Common.{◌≡◌, ℕ, List, [], ◌∷◌, take, sym, ap, subst, ◌∙◌, append-nil}
+use Rattle.ftp_control.specs.Asking.{Came, Ended as EndedBy, Reset, Shut}
+use Rattle.ftp_control.specs.Deeds.{Deed, Done, Heard, Other, Read, Said as Says, Stand}
+use Rattle.ftp_control.specs.Machine.{Aside, Closed, End, Gave, Got, Left, LetGo, Listening, Opened, Received, Waited, Wrote}
+use Rattle.ftp_direct.specs.Direct.{State}
+use Rattle.ftp_client_drive.specs.Side.{client_side}
+use Rattle.ftp_operation.specs.Answer.{Said}
+use Rattle.ftp_server_drive.specs.Side.{server_side}
+use Rattle.ftp_server_model.specs.Machine.{IsReading, Reading, hears, hears_octet}
+use Rattle.ftp_pair_world.specs.Agreement.{Order}
+use Rattle.ftp_pair_world.specs.World.{World, next_listen, port_at}
+use Rattle.ftp_pair_agreement.specs.Over.{OverRuns}
+use Rattle.ftp_pair_drives.specs.Between.{Between, CanTurn, Far as TheServer, Has_lost, Server, with_hold}
+use Rattle.ftp_pair_data.proofs.Served.{Runs}
+use Rattle.ftp_pair_deeds.proofs.Serves.{deed_serves}
+use Rattle.ftp_pair_deeds.proofs.Stands.{ServerServes}
+use Rattle.ftp_pair_transfers.specs.Ahead.{Ahead}
+use Rattle.ftp_pair_transfers.specs.Deeds.{IsToldAt, begun_at, last_of, number_in}
+use Rattle.ftp_pair_transfers.proofs.Beside.{Goes, Together}
+use Rattle.ftp_pair_transfers.proofs.Known.{AreCarried, Known}
+use Rattle.ftp_pair_transfers.proofs.Lost.{with_lost}
+use Rattle.ftp_pair_transfers.proofs.Running.{hears_serving, world_known, world_timed}
+use Rattle.ftp_pair_transfers.proofs.ServerGiving.{server_gave}
+use Rattle.ftp_pair_transfers.proofs.ServerMoves.{server_heard, server_said}
+use Rattle.ftp_pair_transfers.proofs.ServerStays.{server_accepts, server_aside, server_closed, server_ends, server_got, server_lets, server_listens, server_read, server_resets, server_shuts, server_waited, server_wrote}
+use Rattle.ftp_pair_transfers.proofs.ServerTaking.{server_received, server_told_end}
+use Rattle.ftp_pair_active.specs.Deeds.{ListenerTransfers}
+use Rattle.ftp_pair_active.proofs.Stands.{ClientFetches, rests_of}
+
+-- so many ports were told then
+abbrev pub told_by : Deed server_side → ℕ → ℕ
+told_by (Other (Listening port)) told = next_listen told
+told_by deed told = told
+
+-- a port that it is told is the next one of a world
+abbrev pub IsNext : Deed server_side → ℕ → Type 0
+IsNext (Other (Listening port)) told = port ≡ port_at told
+IsNext deed told = Unit {0}
+
+module _ (read : Reading) (reads : IsReading read) (from : State) (moments : ℕ → ℕ) (deeds : List (Deed client_side))
+    (puts : AreCarried (begun_at moments deeds))
+    (old new : Stand server_side) (client : Stand client_side) (reports : List Said) (w : World) (serves : ServerServes old.owner)
+    (asks : ClientFetches client.owner) (runs : OverRuns read from (begun_at moments deeds) w) (last : ℕ) (ahead : Ahead) (p q : Between) (told : ℕ)
+    (t : Together read (begun_at moments deeds) last ahead p told old client reports w) where
+  abbrev begun : List Order
+  begun = begun_at moments deeds
+
+  known : Known w
+  known = world_known read reads from begun puts w runs t.beside.control t.beside.unready
+
+  hears_on : (octet : ℕ) (queue : List ℕ) → w.control_to_server ≡ octet ∷ queue → Runs (hears_octet read w.far octet)
+  hears_on octet queue is =
+      subst (λ l. Runs (hears read w.far (take 1 l))) is
+      (hears_serving read reads from begun puts w 1 runs t.beside.control t.beside.unready)
+
+  abbrev Went : Deed server_side → Type 0
+  Went deed = Goes read [] begun q (told_by deed told) new client reports w × ServerServes new.owner
+
+  -- where all was written nothing is lost
+  none_lost : old.owner.lane.unwritten ≡ [] → with_lost old.owner.lane.unwritten (with_hold TheServer Has_lost p) ≡ with_hold TheServer Has_lost p
+  none_lost none =
+      let at : Between = with_hold TheServer Has_lost p in
+      ap (λ o. with_lost o at) none
+      ∙ ap (λ o. record at { data_ways = record at.data_ways { to_client = o } }) (append-nil at.data_ways.to_client)
+
+  -- of any but a dial
+  pub server_goes : (deed : Deed server_side) → ListenerTransfers deed old.owner new.owner → IsNext deed told → CanTurn (Server deed) p q
+      → (did : Done deed old new) → IsToldAt deed old new did (last_of moments (number_in deeds)) → Went deed
+  server_goes (Heard octets) is next can did at =
+      subst (λ (m : Between). Goes read [] begun m told new client reports w × ServerServes new.owner) (sym can)
+      (server_heard read reads begun old new client reports w is.1 serves (rests_of asks) known hears_on octets last ahead p told t (λ e. asks.unaborted) did)
+  server_goes (Says octets) is next can did at = (
+    server_said read reads begun old new client reports w is.1 serves (rests_of asks) known hears_on octets last ahead p q told t did can,
+    deed_serves (Says octets) tt old new (tt, is.1) did serves,
+  )
+  server_goes (Read octets) is next can did at = (
+    server_read read begun old new client reports w is.1 serves known octets last ahead p q told t did can.0
+        (ap (λ (m : Between). m.control.to_client) can.1) (ap (λ (m : Between). m.data_ways) can.1) (ap (λ (m : Between). m.far) can.1)
+        (ap (λ (m : Between). m.near) can.1),
+    deed_serves (Read octets) tt old new (tt, is.1) did serves,
+  )
+  server_goes (Other (Aside tt)) is next can did at = (
+    subst (λ (m : Between). Goes read [] begun m told new client reports w) (sym can)
+        (server_aside read begun old new client reports w is.1 serves known last ahead p told t did),
+    deed_serves (Other (Aside tt)) tt old new (tt, is.1) did serves,
+  )
+  server_goes (Other (Listening port)) is next can did at = (
+    server_listens read begun old new client reports w is.1 serves known port last ahead p q told t did can next,
+    deed_serves (Other (Listening port)) tt old new (tt, is.1) did serves,
+  )
+  server_goes (Other (Opened host (Came other left written ∷ []) at_first so_far rest)) is next can did at = (
+    server_accepts read begun old new client reports w is.1 serves known host other left written at_first so_far rest last ahead p q told t did can is.0,
+    deed_serves (Other (Opened host (Came other left written ∷ []) at_first so_far rest)) tt old new is did serves,
+  )
+  server_goes (Other (Got octets)) is next can did at = (
+    server_got read begun old new client reports w is.1 serves known octets last ahead p q told t did can,
+    record {
+      running = ap (λ x. x.server.view.session.life) did.0.0 ∙ serves.running;
+      none_waits = ap (λ x. x.server.view.waiting) did.0.0 ∙ serves.none_waits;
+    },
+  )
+  server_goes (Other (Received octets count)) is next can did at =
+      subst (λ (m : Between). Goes read [] begun m told new client reports w × ServerServes new.owner) (sym can)
+      (server_received read reads from begun puts old new client reports w is.1 serves (rests_of asks) known runs octets count last ahead p told did t)
+  server_goes (Other End) is next can did at =
+      server_told_end read reads from begun puts old new client reports w is.1 serves (rests_of asks) known runs last ahead p q told did can
+      (λ takes. world_timed read reads from moments deeds puts w runs t.beside.control t.beside.unready takes ∙ sym at) t
+  server_goes (Other (Gave count octets rest)) is next can did at = (
+    subst (λ (m : Between). Goes read [] begun m told new client reports w) (sym can)
+        (server_gave read begun old new client reports w is.1 serves (rests_of asks) known count octets rest last p told did ahead t),
+    deed_serves (Other (Gave count octets rest)) tt old new (tt, is.1) did serves,
+  )
+  server_goes (Other (Wrote octets)) is next can did at = (
+    server_wrote read begun old new client reports w is.1 serves known octets last ahead p q told t did can,
+    deed_serves (Other (Wrote octets)) tt old new (tt, is.1) did serves,
+  )
+  server_goes (Other (Waited lost)) is next can did at = (
+    subst (λ (m : Between). Goes read [] begun m told new client reports w) (sym can)
+        (server_waited read begun old new client reports w is.1 serves known lost last ahead p told t did),
+    deed_serves (Other (Waited lost)) tt old new (tt, is.1) did serves,
+  )
+  server_goes (Other (LetGo octets)) is next can did at = (
+    subst (λ (m : Between). Goes read [] begun m told new client reports w) (sym can)
+        (server_lets read begun old new client reports w is.1 serves known octets last ahead p told t did),
+    deed_serves (Other (LetGo octets)) tt old new (tt, is.1) did serves,
+  )
+  server_goes (Other (Left (EndedBy left written))) is next can did at = (
+    server_ends read begun old new client reports w is.1 serves known left written last ahead p q told t did can,
+    deed_serves (Other (Left (EndedBy left written))) tt old new (tt, is.1) did serves,
+  )
+  server_goes (Other (Left (Reset left written))) is next can did at = (
+    subst (λ (m : Between). Goes read [] begun m told new client reports w) (none_lost is.0 ∙ sym can.1)
+        (server_resets read begun old new client reports w is.1 serves known left written last ahead p told t did can.0),
+    deed_serves (Other (Left (Reset left written))) tt old new (tt, is.1) did serves,
+  )
+  server_goes (Other (Left Shut)) is next can did at = (
+    subst (λ (m : Between). Goes read [] begun m told new client reports w) (sym can)
+        (server_shuts read begun old new client reports w is.1 serves known last ahead p told t did),
+    deed_serves (Other (Left Shut)) tt old new (tt, is.1) did serves,
+  )
+  server_goes (Other Closed) is next can did at = (
+    subst (λ (m : Between). Goes read [] begun m told new client reports w) (sym can)
+        (server_closed read begun old new client reports w is.1 serves known last ahead p told t did),
+    deed_serves (Other Closed) tt old new (tt, is.1) did serves,
+  )
+  server_goes deed is next can did at = absurd is.0

@@ -1,0 +1,351 @@
+-- A deed of a server, whether a world's client is ahead of the drive's or not: it dials, or goes on as where none is ahead.
+use Rattle.std.proofs.Common.{◌≡◌, inl, inr, ℕ, Bool, true, false, true≢false, List, [], ◌∷◌, ◌++◌, drop, Option, refl, sym, ap, subst, ◌∙◌, append-nil, take-append-drop}
+use Rattle.ftp_control.specs.Asking.{Came, Connected, Ended as EndedBy, Reset, Shut}
+use Rattle.ftp_control.specs.Deeds.{Calls, Deed, Done, Heard, Other, Read, Said as Says, Says as SaysNext, Stand}
+use Rattle.ftp_control.specs.Machine.{Aside, Closed, End, Gave, Got, Held, Left, LetGo, Listening, Opened, Received, Waited, Wrote}
+use Rattle.ftp_control.specs.declared.whole.Rest.{Rest}
+use Rattle.ftp_direct.specs.Direct.{State}
+use Rattle.ftp_endpoint.specs.declared.endpoint.Endpoint.{Endpoint}
+use Rattle.ftp_endpoint.specs.declared.host.Host.{Host}
+use Rattle.ftp_ends.specs.Octets.{has_octets}
+use Rattle.ftp_ends.specs.declared.link.Wants.TheVariants as Want
+use Rattle.ftp_client_drive.specs.Side.{client_side}
+use Rattle.ftp_client_model.specs.Calls.{data_closed, listening}
+use Rattle.ftp_client_model.specs.View.{Doing, View as Near}
+use Rattle.ftp_client_model.specs.declared.client.ClientLink.TheVariants as NearData
+use Rattle.ftp_client_model.specs.declared.client.Step.TheVariants as Steps
+use Rattle.ftp_operation.specs.Answer.{Said}
+use Rattle.ftp_operation.specs.declared.op.Op.{Op}
+use Rattle.ftp_server_drive.specs.Side.{Timed, server_side}
+use Rattle.ftp_server_model.specs.Calls as far
+use Rattle.ftp_server_model.specs.Calls.{is_upload}
+use Rattle.ftp_server_model.specs.Machine.{IsReading, Reading, is_transferring}
+use Rattle.ftp_server_model.specs.View.{Transfer, View as Far}
+use Rattle.ftp_server_model.specs.declared.session.ServerLink.{ServerLink}
+use Rattle.ftp_server_model.specs.declared.session.ServerLink.TheVariants as Data
+use Rattle.ftp_pair_world.specs.Agreement.{Order}
+use Rattle.ftp_pair_world.specs.World.{World, next_listen, port_at}
+use Rattle.ftp_pair_dialogues.specs.Fetches.{busy}
+use Rattle.ftp_pair_agreement.specs.Over.{OverRuns}
+use Rattle.ftp_pair_agreement.proofs.Chunks.{both_empty}
+use Rattle.ftp_pair_drives.specs.Alone.{ServerIsCalm}
+use Rattle.ftp_pair_drives.specs.Between.{Between, Can, CanTurn, Far as TheServer, Server}
+use Rattle.ftp_pair_drives.specs.Touches.{Dials, touch_in}
+use Rattle.ftp_pair_data.specs.Ahead.{is_asked}
+use Rattle.ftp_pair_data.specs.Unaborted.{is_unaborted}
+use Rattle.ftp_pair_data.proofs.Served.{far_wants}
+use Rattle.ftp_pair_deeds.proofs.FarForms.{asked_apart, asked_listens, is_listen, no_close, told_speaks}
+use Rattle.ftp_pair_deeds.proofs.Holding.{both, is_called}
+use Rattle.ftp_pair_deeds.proofs.NearForms.{is_unaborted_same}
+use Rattle.ftp_pair_deeds.proofs.Stands.{ClientFetches as ClientRests, ServerServes}
+use Rattle.ftp_pair_transfers.specs.Ahead.{Ahead, Fits, Level, Listens, Opens, Parted, far_ahead}
+use Rattle.ftp_pair_transfers.specs.Deeds.{IsToldAt, begun_at, last_of, number_in}
+use Rattle.ftp_pair_transfers.proofs.Ahead.{left_rests, says_after}
+use Rattle.ftp_pair_transfers.proofs.Beside.{Goes, Together}
+use Rattle.ftp_pair_transfers.proofs.Known.{AreCarried, Known}
+use Rattle.ftp_pair_transfers.proofs.Running.{world_known}
+use Rattle.ftp_pair_active.specs.Deeds.{IsListening, ListenerTransfers, ServerTransfers}
+use Rattle.ftp_pair_active.specs.Lead.{Even, Joined, Lead, Told, led_by}
+use Rattle.ftp_pair_active.proofs.Accepting.{is_transfer}
+use Rattle.ftp_pair_active.proofs.Calls.{AreWhole}
+use Rattle.ftp_pair_active.proofs.Dialling.{dials_on, dials_serves}
+use Rattle.ftp_pair_active.proofs.Joining.{upload_there}
+use Rattle.ftp_pair_active.proofs.Leading.{Comes, Stays, Waits, led_between, led_client, led_told, not_awaiting, server_follows}
+use Rattle.ftp_pair_active.proofs.Leads.{LedSo, far_apart, is_apart, told_owes, world_sides}
+use Rattle.ftp_pair_active.proofs.LedDeeds.{GoesLed}
+use Rattle.ftp_pair_active.proofs.Lifting.{lifts_on}
+use Rattle.ftp_pair_active.proofs.ServerGoes.{IsNext, server_goes, told_by}
+use Rattle.ftp_pair_active.proofs.Telling.{has_any}
+use Rattle.ftp_pair_active.proofs.Stands.{ClientFetches}
+
+-- ---- deeds
+
+-- a port is told
+abbrev is_port : Deed server_side → Bool
+is_port (Other (Listening port)) = true
+is_port deed = false
+
+any_next : (deed : Deed server_side) (told : ℕ) → is_port deed ≡ false → IsNext deed told
+any_next (Other (Listening port)) told e = absurd (true≢false e)
+any_next deed told e = tt
+
+told_so : (deed : Deed server_side) (told : ℕ) → told_by deed (next_listen told) ≡ next_listen (told_by deed told)
+told_so (Other (Listening port)) told = refl
+told_so deed told = refl
+
+-- octets are said
+abbrev is_saying : Deed server_side → Bool
+is_saying (Says octets) = true
+is_saying deed = false
+
+-- any but a dial leaves what the client holds, and has to read unless it says some
+pub quiet_apart : (deed : Deed server_side) (at : Held Timed) → IsListening deed at → is_saying deed ≡ false → is_apart (touch_in deed) ≡ true
+quiet_apart (Says octets) at is e = absurd (true≢false e)
+quiet_apart (Heard octets) at is e = refl
+quiet_apart (Read octets) at is e = refl
+quiet_apart (Other (Aside tt)) at is e = refl
+quiet_apart (Other (Listening port)) at is e = refl
+quiet_apart (Other (Opened host (Came other left written ∷ []) at_first so_far rest)) at is e = refl
+quiet_apart (Other (Got octets)) at is e = refl
+quiet_apart (Other (Received octets count)) at is e = refl
+quiet_apart (Other End) at is e = refl
+quiet_apart (Other (Gave count octets rest)) at is e = refl
+quiet_apart (Other (Wrote octets)) at is e = refl
+quiet_apart (Other (Waited lost)) at is e = refl
+quiet_apart (Other (LetGo octets)) at is e = refl
+quiet_apart (Other (Left (EndedBy left written))) at is e = refl
+quiet_apart (Other (Left (Reset left written))) at is e = refl
+quiet_apart (Other (Left Shut)) at is e = refl
+quiet_apart (Other Closed) at is e = refl
+quiet_apart deed at is e = absurd is
+
+-- ---- in a world
+
+-- a server that takes octets is at a transfer
+lifts_busy : (link : ServerLink Transfer) → is_upload link ≡ true → is_transferring link ≡ true
+lifts_busy (Data.Transferring transfer) e = refl
+lifts_busy Data.Free e = absurd (true≢false (sym e))
+lifts_busy (Data.Asked verb) e = absurd (true≢false (sym e))
+lifts_busy (Data.Active endpoint) e = absurd (true≢false (sym e))
+lifts_busy Data.Passive e = absurd (true≢false (sym e))
+lifts_busy Data.Ready e = absurd (true≢false (sym e))
+lifts_busy (Data.Opening transfer way) e = absurd (true≢false (sym e))
+
+-- one that owes these
+abbrev owing : List ℕ → Far → Far
+owing octets v = record v { owed = octets }
+
+-- a client that was told a port is at no transfer
+told_job : (port : ℕ) (op : Op (List ℕ)) (n : Near) → is_transfer (listening port (busy (Doing op Steps.Listen) NearData.ListenWanted n)).job ≡ false
+unfolding listening
+told_job port op n = refl
+
+stays_job : (d : Near) (octets : List ℕ) → Stays d octets → is_transfer d.job ≡ true
+stays_job d octets (Comes op all flow port octet more is o) = ap (λ (n : Near). is_transfer n.job) (o.fronts [] more octet (sym is)).0
+stays_job d octets (Waits is a) = ap (λ (n : Near). is_transfer n.job) a.is
+
+module _ (read : Reading) (reads : IsReading read) (from : State) (moments : ℕ → ℕ) (deeds : List (Deed client_side))
+    (puts : AreCarried (begun_at moments deeds)) (whole : AreWhole (begun_at moments deeds)) (old new : Stand server_side)
+    (client : Stand client_side) (reports : List Said) (w : World) (serves : ServerServes old.owner)
+    (runs : OverRuns read from (begun_at moments deeds) w) (last : ℕ) (ahead : Ahead) (p q : Between) (told : ℕ) where
+  abbrev begun : List Order
+  begun = begun_at moments deeds
+
+  abbrev x : Far
+  x = old.owner.end.server.view
+
+  abbrev v : Near
+  v = client.owner.end.view
+
+  -- a world is beside both, its client ahead so
+  abbrev At : Lead → List ℕ → Type 0
+  At lead more = Together read begun last ahead (led_between lead more p) (led_told lead told) old (led_client lead client) reports w
+
+  abbrev Went : Deed server_side → Type 0
+  Went deed = GoesLed read [] begun q (told_by deed told) new client reports w × ServerServes new.owner
+
+  -- ---- it dials
+
+  module _ (host : Host) (endpoint : Endpoint) (left written at_first so_far : Option (List ℕ)) (rest : Rest) (calm : ServerIsCalm old.owner new.owner)
+      (did : Calls {side = server_side} (Opened host (Connected endpoint left written ∷ []) at_first so_far rest) old new)
+      (can : Can TheServer (Dials endpoint) p q) where
+    dials_led : (lead : Lead) (more : List ℕ) → LedSo lead more p told old client → At lead more → ClientFetches (led_client lead client).owner
+        → GoesLed read [] begun q told new client reports w × ServerServes new.owner
+    dials_led Even more so t asks =
+        let d = dials_on read reads from begun puts whole old new client reports w calm serves asks runs host endpoint left written at_first so_far rest last p
+        q told did can ahead t in (
+          record { lead = Joined d.0; left = []; so = (d.1, d.2); goes = d.3 },
+          dials_serves read reads from begun puts whole old new client reports w calm serves asks runs host endpoint left written at_first so_far rest last p
+              q told did can,
+        )
+    dials_led (Told port) more so t asks =
+        let d = dials_on read reads from begun puts whole old new (led_client (Told port) client) reports w calm serves asks runs host endpoint left written
+        at_first so_far rest last p q (next_listen told) did can ahead t in
+        let is : led_by (Told port) v ≡ listening port (busy (Doing so.0.op Steps.Listen) NearData.ListenWanted v) = ap (listening port) so.0.view in
+        absurd (true≢false (sym (stays_job (data_closed (led_by (Told port) v)) d.0 d.1.stays.0) ∙ ap (λ (n : Near). is_transfer n.job) is
+        ∙ told_job port so.0.op v))
+    dials_led (Joined octets) more so t asks = absurd (not_awaiting p.near endpoint.port so.0.called can.1)
+
+  -- ---- a client that was told a port there owes
+
+  module _ (port : ℕ) (more : List ℕ) (so : LedSo (Told port) more p told old client) (t : At (Told port) more)
+      (asks : ClientFetches (led_client (Told port) client).owner) where
+    owes_none : w.far.owed ≡ []
+    owes_none =
+        world_sides read reads from begun puts w runs t.beside.control t.beside.unready
+        (ap (λ (n : Near). is_unaborted n.job) t.beside.near ∙ is_unaborted_same (led_by (Told port) v) ∙ asks.unaborted)
+        (ap (λ (n : Near). has_any n.owed) t.beside.near ∙ ap (λ n. has_any (listening port n).owed) so.0.view ∙ told_owes port so.0.op v)
+
+    -- so the server says nothing
+    says_none : (octets : List ℕ) → SaysNext octets old new → octets ≡ []
+    says_none octets says =
+        let rest : List ℕ = drop says.gives.count x.owed in
+        let owed : x.owed ≡ octets ++ rest = sym (take-append-drop says.gives.count x.owed) ∙ ap (λ o. o ++ rest) (sym says.gives.owed) in
+        let there : w.far.owed ≡ octets ++ (far_ahead ahead (owing rest x)).owed =
+        ap (λ (f : Far). f.owed) t.beside.far ∙ ap (λ o. (far_ahead ahead (owing o x)).owed) owed
+        ∙ ap (λ (f : Far). f.owed) (says_after ahead x t.beside.fits octets rest) in
+        (both_empty octets (far_ahead ahead (owing rest x)).owed (sym there ∙ owes_none)).0
+
+    -- nor does it listen
+    listens_never : far.wants x ≡ Want.Listen → ⊥
+    listens_never wants = by ahead refl
+      where
+        unclosed : x.session.closing ≡ false
+        unclosed = no_close x Want.Listen wants refl
+
+        asked : is_asked x.session.connection ≡ true
+        asked = sym (asked_listens x.session.connection) ∙ ap is_listen (sym (far_wants x serves.running unclosed)) ∙ ap is_listen wants
+
+        by : (other : Ahead) → other ≡ ahead → ⊥
+        by Level is = both asked (subst (λ h. Fits h x.session.connection) (sym is) t.beside.fits)
+        by Opens is = both (subst (λ h. Fits h x.session.connection) (sym is) t.beside.fits) (asked_apart x.session.connection asked)
+        by (Parted accepted) is = both asked (left_rests accepted x.session.connection (subst (λ h. Fits h x.session.connection) (sym is) t.beside.fits)).1
+        by (Listens other) is =
+            let says : has_octets w.far.owed ≡ true =
+            ap (λ (f : Far). has_octets f.owed) t.beside.far ∙ ap (λ h. has_octets (far_ahead h x).owed) (sym is)
+            ∙ told_speaks x.session.connection (subst (λ h. Fits h x.session.connection) (sym is) t.beside.fits) other x.session.closing x in
+            both says (ap has_octets owes_none)
+
+  -- ---- any other deed
+
+  module _ (deed : Deed server_side) (is : ListenerTransfers deed old.owner new.owner) (next : IsNext deed told) (can : CanTurn (Server deed) p q)
+      (did : Done deed old new) (at : IsToldAt deed old new did (last_of moments (number_in deeds))) where
+    goes_even : At Even [] → ClientFetches client.owner → q.near ≡ p.near → (is_called p.near ≡ false) × ClientRests client.owner → Went deed
+    goes_even t asks same apart =
+        let g = server_goes read reads from moments deeds puts old new client reports w serves asks runs last ahead p q told t deed is next can did at in
+        (record { lead = Even; left = []; so = (ap is_called same ∙ apart.0, apart.1); goes = g.0 }, g.1)
+
+    goes_told : (port : ℕ) (more : List ℕ) (so : LedSo (Told port) more p told old client) → At (Told port) more
+        → ClientFetches (led_client (Told port) client).owner → is_port deed ≡ false → q.near ≡ p.near → q.control.to_client ≡ p.control.to_client → Went deed
+    goes_told port more so t asks other same queue =
+        let g = server_goes read reads from moments deeds puts old new (led_client (Told port) client) reports w serves asks runs last ahead p q
+        (next_listen told) t deed is (any_next deed (next_listen told) other) can did at in (
+          record {
+            lead = Told port;
+            left = [];
+            so = (
+              record {
+                op = so.0.op;
+                view = so.0.view;
+                owed = so.0.owed;
+                empty = ap (λ o. client.unheard ++ o) queue ∙ so.0.empty;
+                called = ap is_called same ∙ so.0.called;
+              },
+              so.1 ∙ ap port_at (sym (same_told deed other)),
+            );
+            goes = subst (λ n. Goes read [] begun q n new (led_client (Told port) client) reports w) (told_so deed told) g.0;
+          },
+          g.1,
+        )
+      where
+        same_told : (deed : Deed server_side) → is_port deed ≡ false → told_by deed told ≡ told
+        same_told (Other (Listening port)) e = absurd (true≢false e)
+        same_told deed e = refl
+
+    goes_joined : ServerTransfers deed old.owner new.owner → (octets more : List ℕ) (so : LedSo (Joined octets) more p told old client)
+        → At (Joined octets) more
+        → ClientFetches (led_client (Joined octets) client).owner → Went deed
+    goes_joined active octets more so t asks =
+        let f = server_follows octets more p q so.0.called (touch_in deed) can in
+        let g = server_goes read reads from moments deeds puts old new (led_client (Joined octets) client) reports w serves asks runs last ahead
+        (led_between (Joined octets) more p) (led_between (Joined octets) f.rest q) told t deed is next f.can did at in (
+          record {
+            lead = Joined octets;
+            left = f.rest;
+            so = (
+              record {
+                closed = so.0.closed;
+                stays = so.0.stays;
+                owed = so.0.owed;
+                queue = f.queue client.unheard so.0.queue;
+                called = f.called;
+              },
+              λ e. lifts_on read reads old new serves p q (quiet e) so.0.called (so.1 e) deed active can did,
+            );
+            goes = g.0;
+          },
+          g.1,
+        )
+      where
+        known : Known w
+        known =
+            world_known read reads from begun puts w runs t.beside.control t.beside.unready
+
+        -- no ABOR was sent, so at a transfer nothing is on its way to it
+        unsent : is_transferring w.far.session.connection ≡ true → w.control_to_server ≡ []
+        unsent busy = elim (known.lines busy) [
+          | inl none ↦ none
+          | inr halts ↦ absurd (true≢false (sym (ap (λ (n : Near). is_unaborted n.job) t.beside.near ∙ is_unaborted_same (led_by (Joined octets) v)
+              ∙ asks.unaborted) ∙ halts.0))
+        ]
+
+        quiet : so.0.closed ≡ true → old.unheard ++ p.control.to_server ≡ []
+        quiet e =
+            sym t.beside.to_server
+            ∙ unsent (lifts_busy w.far.session.connection (upload_there read reads from begun puts old reports serves last ahead
+            (led_between (Joined octets) more p) told (led_client (Joined octets) client) w t (so.1 e).takes))
+
+  -- whichever lead
+  goes_quiet : (deed : Deed server_side) → ListenerTransfers deed old.owner new.owner → ServerTransfers deed old.owner new.owner → IsNext deed told
+      → CanTurn (Server deed) p q → (did : Done deed old new) → IsToldAt deed old new did (last_of moments (number_in deeds)) → is_saying deed ≡ false
+      → is_port deed ≡ false → (lead : Lead) (more : List ℕ) → LedSo lead more p told old client → At lead more → ClientFetches (led_client lead client).owner
+      → Went deed
+  goes_quiet deed is active next can did at silent other Even more so t asks =
+      goes_even deed is next can did at t asks (far_apart (touch_in deed) p q (quiet_apart deed old.owner is.0 silent) can).0 so
+  goes_quiet deed is active next can did at silent other (Told port) more so t asks =
+      let apart = far_apart (touch_in deed) p q (quiet_apart deed old.owner is.0 silent) can in
+      goes_told deed is next can did at port more so t asks other apart.0 apart.1
+  goes_quiet deed is active next can did at silent other (Joined octets) more so t asks = goes_joined deed is next can did at active octets more so t asks
+
+  goes_says : (octets : List ℕ) → ListenerTransfers (Says octets) old.owner new.owner → ServerTransfers (Says octets) old.owner new.owner
+      → CanTurn (Server (Says octets)) p q → (did : Done (Says octets) old new) → (lead : Lead) (more : List ℕ) → LedSo lead more p told old client
+      → At lead more
+      → ClientFetches (led_client lead client).owner → Went (Says octets)
+  goes_says octets is active can did Even more so t asks = goes_even (Says octets) is tt can did tt t asks (ap (λ (b : Between). b.near) can) so
+  goes_says octets is active can did (Told port) more so t asks =
+      goes_told (Says octets) is tt can did tt port more so t asks refl (ap (λ (b : Between). b.near) can)
+      (ap (λ (b : Between). b.control.to_client) can ∙ ap (λ o. p.control.to_client ++ o) (says_none port more so t asks octets did)
+      ∙ append-nil p.control.to_client)
+  goes_says octets is active can did (Joined front) more so t asks = goes_joined (Says octets) is tt can did tt active front more so t asks
+
+  goes_listens : (port : ℕ) → ListenerTransfers (Other (Listening port)) old.owner new.owner
+      → ServerTransfers (Other (Listening port)) old.owner new.owner
+      → port ≡ port_at told → CanTurn (Server (Other (Listening port))) p q → (did : Done (Other (Listening port)) old new) → (lead : Lead) (more : List ℕ)
+      → LedSo lead more p told old client → At lead more → ClientFetches (led_client lead client).owner → Went (Other (Listening port))
+  goes_listens port is active next can did Even more so t asks =
+      goes_even (Other (Listening port)) is next can did tt t asks (ap (λ (b : Between). b.near) can.1) so
+  goes_listens port is active next can did (Told other) more so t asks = absurd (listens_never other more so t asks did.0.2.0)
+  goes_listens port is active next can did (Joined octets) more so t asks = goes_joined (Other (Listening port)) is next can did tt active octets more so t asks
+
+  -- ---- all deeds
+
+  pub server_led : (deed : Deed server_side) → ServerTransfers deed old.owner new.owner → IsNext deed told → CanTurn (Server deed) p q
+      → (did : Done deed old new) → IsToldAt deed old new did (last_of moments (number_in deeds)) → (lead : Lead) (more : List ℕ)
+      → LedSo lead more p told old client → At lead more → ClientFetches (led_client lead client).owner → Went deed
+  server_led (Says octets) is next can did at lead more so t asks = goes_says octets is is can did lead more so t asks
+  server_led (Other (Listening port)) is next can did at lead more so t asks = goes_listens port is is next can did lead more so t asks
+  server_led (Other (Opened host (Connected endpoint left written ∷ []) at_first so_far rest)) is next can did at lead more so t asks =
+      dials_led host endpoint left written at_first so_far rest is.1 did can lead more so t asks
+  server_led (Heard octets) is next can did at lead more so t asks = goes_quiet (Heard octets) is is next can did at refl refl lead more so t asks
+  server_led (Read octets) is next can did at lead more so t asks = goes_quiet (Read octets) is is next can did at refl refl lead more so t asks
+  server_led (Other (Aside tt)) is next can did at lead more so t asks = goes_quiet (Other (Aside tt)) is is next can did at refl refl lead more so t asks
+  server_led (Other (Opened host (Came other left written ∷ []) at_first so_far rest)) is next can did at lead more so t asks =
+      goes_quiet (Other (Opened host (Came other left written ∷ []) at_first so_far rest)) is is next can did at refl refl lead more so t asks
+  server_led (Other (Got octets)) is next can did at lead more so t asks = goes_quiet (Other (Got octets)) is is next can did at refl refl lead more so t asks
+  server_led (Other (Received octets count)) is next can did at lead more so t asks =
+      goes_quiet (Other (Received octets count)) is is next can did at refl refl lead more so t asks
+  server_led (Other End) is next can did at lead more so t asks = goes_quiet (Other End) is is next can did at refl refl lead more so t asks
+  server_led (Other (Gave count octets rest)) is next can did at lead more so t asks =
+      goes_quiet (Other (Gave count octets rest)) is is next can did at refl refl lead more so t asks
+  server_led (Other (Wrote octets)) is next can did at lead more so t asks =
+      goes_quiet (Other (Wrote octets)) is is next can did at refl refl lead more so t asks
+  server_led (Other (Waited lost)) is next can did at lead more so t asks = goes_quiet (Other (Waited lost)) is is next can did at refl refl lead more so t asks
+  server_led (Other (LetGo octets)) is next can did at lead more so t asks =
+      goes_quiet (Other (LetGo octets)) is is next can did at refl refl lead more so t asks
+  server_led (Other (Left (EndedBy left written))) is next can did at lead more so t asks =
+      goes_quiet (Other (Left (EndedBy left written))) is is next can did at refl refl lead more so t asks
+  server_led (Other (Left (Reset left written))) is next can did at lead more so t asks =
+      goes_quiet (Other (Left (Reset left written))) is is next can did at refl refl lead more so t asks
+  server_led (Other (Left Shut)) is next can did at lead more so t asks = goes_quiet (Other (Left Shut)) is is next can did at refl refl lead more so t asks
+  server_led (Other Closed) is next can did at lead more so t asks = goes_quiet (Other Closed) is is next can did at refl refl lead more so t asks
+  server_led deed is next can did at lead more so t asks = absurd is.0

@@ -1,0 +1,107 @@
+-- What is claimed of two drives by their deeds, in any order in which each can happen, where files were put and fetched, and listings, over data connections
+-- that either dialled: a list of the world's events leads from the beginning to what both ends hold; so there is agreement, and the direct run.
+use Rattle.std.specs.Prelude.{◌≡◌, ℕ, false, List, [], ◌++◌, length, Some, None, option_to_list}
+use Rattle.ftp_control.specs.Deeds.{Led, Stand}
+use Rattle.ftp_client_drive.specs.Side.{client_side}
+use Rattle.ftp_client_model.specs.Calls.{control_end, data_closed, is_busy, report_of, reports}
+use Rattle.ftp_operation.specs.Answer.{Said}
+use Rattle.ftp_pair_drives.specs.Alone.{reports_in}
+use Rattle.ftp_pair_drives.specs.Between.{Between, Happened, Turn, client_deeds, server_deeds}
+use Rattle.ftp_pair_drives.specs.Claims.{Begins}
+use Rattle.ftp_pair_transfers.specs.Ahead.{Ahead, Fits, far_ahead}
+use Rattle.ftp_pair_transfers.specs.Claims.{DidTransfer}
+use Rattle.ftp_pair_transfers.specs.Deeds.{AreMoments, AreToldAt, begun_at}
+use Rattle.ftp_pair_world.specs.Agreement.{Agrees, Leads}
+use Rattle.ftp_pair_world.specs.Claims.{AreAnswers, AreTimed, AreUnmarked, Beginning, IsFair, state_of, world_of}
+use Rattle.ftp_pair_world.specs.Events.{Event}
+use Rattle.ftp_pair_world.specs.World.{Mark, Stands, World}
+use Rattle.ftp_server_drive.specs.Side.{server_side}
+use Rattle.ftp_server_model.specs.Calls.{clock_step}
+use Rattle.ftp_server_model.specs.Machine.{IsReading, Reading}
+use Rattle.ftp_pair_active.specs.Deeds.{ArePorts, AsksAlong, ServesAlong}
+use Rattle.ftp_pair_active.specs.Lead.{Lead, led_by}
+
+-- one server's drive and drives of one client did these deeds in this order, each when it could be done, and at these moments, and the ports of both are those
+-- of a world; as they began no octet of a data connection was on its way or in hand
+pub record DidEither (b : Beginning) (moments : ℕ → ℕ) (turns : List Turn) (between : Between) (server : Stand server_side)
+    (client : Stand client_side) : Type 0 where
+  pub server_start : Stand server_side
+  pub client_start : Stand client_side
+  pub begins : Begins b server_start client_start
+  pub untold : server_start.owner.lane.untold ≡ []
+  pub unwritten : client_start.owner.lane.unwritten ≡ []
+  pub server_unwritten : server_start.owner.lane.unwritten ≡ []
+  pub client_untold : client_start.owner.lane.untold ≡ []
+  pub happened : Happened turns between
+  pub server_led : Led (server_deeds turns) server_start server
+  pub client_led : Led (client_deeds turns) client_start client
+  pub serves : ServesAlong (server_deeds turns) server_start server server_led
+  pub asks : AsksAlong (client_deeds turns) client_start client client_led
+  pub ports : ArePorts turns
+  pub told : AreToldAt moments turns server_start server server_led
+
+-- A world holds what both ends hold: a close, a report, a port and an opening that are due are done there, at either end; the moment that the server was told
+-- last is any. The control connection stands, and no link was refused or broke.
+pub record HoldsBoth (server : Stand server_side) (client : Stand client_side) (told : List Said) (w : World) : Type 0 where
+  pub moment : ℕ
+  pub ahead : Ahead
+  pub lead : Lead
+  pub fits : Fits ahead server.owner.end.server.view.session.connection
+  pub near : w.near ≡ data_closed (reports (led_by lead client.owner.end.view))
+  pub far : w.far ≡ clock_step moment (far_ahead ahead server.owner.end.server.view)
+  pub reported : w.reports ≡ told ++ option_to_list (report_of client.owner.end.view)
+  pub control : w.control ≡ Stands
+  pub marks : AreUnmarked w.marks
+  pub cutoff : w.cutoff ≡ None
+
+-- events of a world lead from the beginning to one that holds what both ends hold, and began the same operations at these moments
+pub record EitherIsOfWorld (read : Reading) (b : Beginning) (moments : ℕ → ℕ) (turns : List Turn) (server : Stand server_side)
+    (client : Stand client_side) : Type 0 where
+  pub events : List Event
+  pub timed : AreTimed events
+  pub world : World
+  pub leads : Leads read (world_of b) events (begun_at moments (client_deeds turns)) world
+  pub both : HoldsBoth server client (reports_in (client_deeds turns)) world
+
+-- so it is of any such deeds
+abbrev pub EitherAreOfWorlds : Type 0
+EitherAreOfWorlds =
+    (read : Reading) → IsReading read → (b : Beginning) → IsFair b → (moments : ℕ → ℕ) → AreMoments moments
+    → (turns : List Turn) (between : Between) (server : Stand server_side) (client : Stand client_side)
+    → DidEither b moments turns between server client → EitherIsOfWorld read b moments turns server client
+
+-- so reports and map agree with what was begun, a report that was not taken yet among them
+abbrev pub EitherAgree : Type 0
+EitherAgree =
+    (b : Beginning) → IsFair b → (moments : ℕ → ℕ) → AreMoments moments
+    → (turns : List Turn) (between : Between) (server : Stand server_side) (client : Stand client_side)
+    → DidEither b moments turns between server client → (marks : List (List Mark)) × AreUnmarked marks
+    × Agrees (state_of b) (begun_at moments (client_deeds turns)) marks None
+    (reports_in (client_deeds turns) ++ option_to_list (report_of client.owner.end.view)) server.owner.end.server.view.session.table
+
+-- so they do where both ends are told then, whatever was on its way, that the control connection ended: an operation that has no report is lost
+abbrev pub EitherPartingAgree : Type 0
+EitherPartingAgree =
+    (b : Beginning) → IsFair b → (moments : ℕ → ℕ) → AreMoments moments
+    → (turns : List Turn) (between : Between) (server : Stand server_side) (client : Stand client_side)
+    → DidEither b moments turns between server client → (marks : List (List Mark)) × AreUnmarked marks
+    × Agrees (state_of b) (begun_at moments (client_deeds turns)) marks (Some (length marks))
+    (reports_in (client_deeds turns) ++ option_to_list (report_of (control_end client.owner.end.view))) server.owner.end.server.view.session.table
+
+-- where each operation has its report, reports and map are those of the operations run directly
+abbrev pub EitherAreTheDirectRun : Type 0
+EitherAreTheDirectRun =
+    (b : Beginning) → IsFair b → (moments : ℕ → ℕ) → AreMoments moments
+    → (turns : List Turn) (between : Between) (server : Stand server_side) (client : Stand client_side)
+    → DidEither b moments turns between server client → is_busy client.owner.end.view ≡ false
+    → length (reports_in (client_deeds turns)) ≡ length (begun_at moments (client_deeds turns))
+    → AreAnswers (state_of b) (begun_at moments (client_deeds turns)) (reports_in (client_deeds turns)) server.owner.end.server.view.session.table
+
+-- deeds of which the client alone dialled, with the ports of a world, are such deeds, where none of them is a Peek, nothing of the client's data connections
+-- failed, and the server reset none with octets unwritten
+abbrev pub PassiveIsEither : Type 0
+PassiveIsEither =
+    (b : Beginning) (moments : ℕ → ℕ) (turns : List Turn) (between : Between) (server : Stand server_side) (client : Stand client_side)
+    → (did : DidTransfer b moments turns between server client)
+    → ServesAlong (server_deeds turns) did.server_start server did.server_led → AsksAlong (client_deeds turns) did.client_start client did.client_led
+    → DidEither b moments turns between server client

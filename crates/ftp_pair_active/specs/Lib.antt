@@ -1,0 +1,5 @@
+pub mod Lead
+pub mod Deeds
+pub mod Claims
+pub mod Over
+pub mod Quitting

@@ -1,0 +1,39 @@
+//! Laws of two drives that put and fetch files over data connections that either dials: functions that do nothing, whose contracts are the claims of `specs/`,
+//! of the deeds that `Drives` of a server's and of a client's drive cites, in any order in which each can happen.
+ghost use Rattle.ftp_pair_active.specs.Claims.{EitherAgree, EitherAreOfWorlds, EitherAreTheDirectRun, EitherPartingAgree, PassiveIsEither};
+ghost use Rattle.ftp_pair_active.specs.Over.{EitherOverAreTheDirectRun};
+ghost use Rattle.ftp_pair_active.specs.Quitting.{EitherThatQuitAreTheDirectRun};
+
+/// One server's drive and drives of one client that put and fetched whole files and listings over passive and active data connections, of which nothing failed,
+/// leave what a list of the world's events leads to from the beginning.
+pub fn either_are_of_worlds()
+    ensures { EitherAreOfWorlds }
+{}
+
+/// At every moment reports and map agree with the operations that were begun, and so they do where the control connection ends then.
+pub fn either_agree()
+    ensures standing { EitherAgree }
+    ensures parting { EitherPartingAgree }
+{}
+
+/// Where each operation has its report, reports and map are those of the operations run directly.
+pub fn either_are_the_direct_run()
+    ensures { EitherAreTheDirectRun }
+{}
+
+/// Where a server's drive is over since the client left, and each drive of the client gave the answer of the operation that was begun before it, these
+/// answers and the map that is left are those of the operations run directly.
+pub fn either_over_are_the_direct_run()
+    ensures { EitherOverAreTheDirectRun }
+{}
+
+/// Where the program of a client that is logged in wrote QUIT after its last drive, and the server's drive is over after that, the answers and the map that is
+/// left are those of the operations run directly.
+pub fn either_that_quit_are_the_direct_run()
+    ensures { EitherThatQuitAreTheDirectRun }
+{}
+
+/// Deeds over data connections that the server alone listens for are such deeds, where none is of a Peek, fails or loses octets in a reset.
+pub fn passive_is_either()
+    ensures { PassiveIsEither }
+{}

@@ -1,0 +1,4 @@
+pub mod Playing
+pub mod Moves
+pub mod Ending
+pub mod CallPlayed

@@ -1,0 +1,198 @@
+-- Deeds of two drives that fetch a file over a data connection that either dials, one after another, each of which can be done.
+use Rattle.std.proofs.Common.{◌≡◌, inl, ℕ, ◌<◌, true, true≢false, List, [], ◌∷◌, ◌++◌, length, take, None, refl, sym, ap, subst, ◌∙◌, append-nil, arith}
+use Rattle.ftp_control.specs.Deeds.{Deed, Done, Heard, HearsNext, Led, Other, Read, ReadsNext, Said as Says, Says as SaysNext, Stand}
+use Rattle.ftp_control.specs.Lane.{Lane}
+use Rattle.ftp_client_drive.specs.Side.{Begun, client_side}
+use Rattle.ftp_client_model.specs.Calls as near
+use Rattle.ftp_client_model.specs.View.{View as Near}
+use Rattle.ftp_command.specs.declared.command.Command.{Command}
+use Rattle.ftp_ends.specs.Ear.{ear_out, ear_step}
+use Rattle.ftp_nvt.specs.Lines.{line}
+use Rattle.ftp_operation.specs.declared.op.Op.{Op}
+use Rattle.ftp_server_drive.specs.Side.{server_side}
+use Rattle.ftp_server_model.specs.Machine.{IsReading, Reading, heard_line, may_hear}
+use Rattle.ftp_server_model.specs.View.{View as Far, line_limit}
+use Rattle.ftp_server_model.specs.declared.heard.HeardLine.TheVariants.{Asks}
+use Rattle.ftp_pair_drives.specs.Between.{Between, CanTurn, Client, Happened, Hold, Server, Turn, client_deeds, server_deeds}
+use Rattle.ftp_pair_drives.proofs.Playing.{Attends, ear_after, far_ending, far_hears, is_silent}
+use Rattle.ftp_pair_deeds.specs.Deeds.{AreMidst, IsMidst}
+use Rattle.ftp_pair_transfers.specs.Deeds.{AreToldAt, last_of, number_in}
+use Rattle.ftp_pair_active.specs.Deeds.{ArePorts, AsksAlong, ClientTransfers, ServerTransfers, ServesAlong, listened_in}
+use Rattle.ftp_pair_example.proofs.Playing.{IsUntimed, can_take, drop_all, far_in, first_is, hearing, lies, near_in, other_is, reading, saying, seen_so, take_all, takes_only}
+
+-- ---- deeds of both
+
+-- the client began an operation, and both did deeds since; so many ports were told to either
+pub record Played (moments : ℕ → ℕ) (start : Stand server_side) (begun : Stand client_side) (op : Op (List ℕ)) (listened : ℕ) (between : Between)
+    (server : Stand server_side) (client : Stand client_side) : Type 0 where
+  pub turns : List Turn
+  pub happened : Happened turns between
+  pub far_led : Led (server_deeds turns) start server
+  pub gives : ServesAlong (server_deeds turns) start server far_led
+  pub midst : List (Deed client_side)
+  pub are : AreMidst midst
+  pub client_is : client_deeds turns ≡ midst ++ Other (Begun op) ∷ []
+  pub near_led : Led midst begun client
+  pub takes : AsksAlong midst begun client near_led
+  pub listened_is : listened_in turns ≡ listened
+  pub ports : ArePorts turns
+  pub told : AreToldAt moments turns start server far_led
+
+-- a deed that tells no port
+abbrev pub TellsNoPort : Turn → Type 0
+TellsNoPort turn = (before : List Turn) → (listened_in (turn ∷ before) ≡ listened_in before) × (ArePorts before → ArePorts (turn ∷ before))
+
+-- and is told at no moment that is asked for
+abbrev pub IsQuiet : Deed server_side → Type 0
+IsQuiet deed = TellsNoPort (Server deed) × IsUntimed deed
+
+module _ (moments : ℕ → ℕ) (start : Stand server_side) (begun : Stand client_side) (op : Op (List ℕ)) where
+  -- a deed of the server
+  pub far_turn : (deed : Deed server_side) → IsQuiet deed → (listened : ℕ) (old new : Between) (at next : Stand server_side) (client : Stand client_side)
+      → ServerTransfers deed at.owner next.owner → Done deed at next → CanTurn (Server deed) old new
+      → Played moments start begun op listened old at client → Played moments start begun op listened new next client
+  far_turn deed quiet listened old new at next client gives done can p = record {
+    turns = Server deed ∷ p.turns;
+    happened = (old, p.happened, can);
+    far_led = (at, p.far_led, done);
+    gives = (p.gives, gives);
+    midst = p.midst;
+    are = p.are;
+    client_is = p.client_is;
+    near_led = p.near_led;
+    takes = p.takes;
+    listened_is = (quiet.0 p.turns).0 ∙ p.listened_is;
+    ports = (quiet.0 p.turns).1 p.ports;
+    told = (p.told, quiet.1 at next done (last_of moments (number_in (client_deeds p.turns))));
+  }
+
+  -- a deed of the client
+  pub near_turn : (deed : Deed client_side) → IsMidst deed → TellsNoPort (Client deed)
+      → (listened : ℕ) (old new : Between) (server : Stand server_side) (at next : Stand client_side)
+      → ClientTransfers deed at.owner next.owner → Done deed at next → CanTurn (Client deed) old new
+      → Played moments start begun op listened old server at → Played moments start begun op listened new server next
+  near_turn deed amid quiet listened old new server at next takes done can p = record {
+    turns = Client deed ∷ p.turns;
+    happened = (old, p.happened, can);
+    far_led = p.far_led;
+    gives = p.gives;
+    midst = deed ∷ p.midst;
+    are = (p.are, amid);
+    client_is = ap (λ l. deed ∷ l) p.client_is;
+    near_led = (at, p.near_led, done);
+    takes = (p.takes, takes);
+    listened_is = (quiet p.turns).0 ∙ p.listened_is;
+    ports = (quiet p.turns).1 p.ports;
+    told = p.told;
+  }
+
+-- ---- the control connection
+
+module _ (moments : ℕ → ℕ) (start : Stand server_side) (begun : Stand client_side) (op : Op (List ℕ)) (listened : ℕ) (go come : List ℕ)
+    (near_hold far_hold : Hold) where
+  -- the server says all that it owes
+  pub far_says : (up down : List ℕ) (lane : Lane) (v : Far) (client : Stand client_side) → v.waiting ≡ None
+      → Played moments start begun op listened (lies up down go come near_hold far_hold) (far_in lane v []) client
+      → Played moments start begun op listened (lies up (down ++ v.owed) go come near_hold far_hold) (far_in lane (record v { owed = [] }) []) client
+  far_says up down lane v client none p =
+      far_turn moments start begun op (Says v.owed) ((λ before. (refl, λ ports. ports)), λ old new done moment. tt) listened
+      (lies up down go come near_hold far_hold) (lies up (down ++ v.owed) go come near_hold far_hold) (far_in lane v [])
+      (far_in lane (record v { owed = [] }) []) client
+      (tt, refl) (saying lane v [] none) refl p
+
+  -- the client says all that it owes
+  pub near_says : (up down : List ℕ) (server : Stand server_side) (lane : Lane) (n : Near)
+      → Played moments start begun op listened (lies up down go come near_hold far_hold) server (near_in lane n [])
+      → Played moments start begun op listened (lies (up ++ n.owed) down go come near_hold far_hold) server (near_in lane (record n { owed = [] }) [])
+  near_says up down server lane n p =
+      let new : Near = record n { owed = [] } in
+      let says : SaysNext n.owed (near_in lane n []) (near_in lane new []) = record {
+        gives = record {
+          count = length n.owed;
+          owed = take_all n.owed;
+          gave = (ap (λ o. record n { owed = o }) (drop_all n.owed), refl);
+          lane = refl;
+        };
+        wrote = tt;
+        left = refl;
+        unheard = refl;
+      } in
+      near_turn moments start begun op (Says n.owed) tt (λ before. (refl, λ ports. ports)) listened (lies up down go come near_hold far_hold)
+      (lies (up ++ n.owed) down go come near_hold far_hold)
+      server (near_in lane n []) (near_in lane new []) (tt, refl) says refl p
+
+  -- the client hears what it has read, octet by octet
+  near_hears : (up down : List ℕ) (server : Stand server_side) (lane : Lane) (octets : List ℕ) (n : Near) → can_take n octets ≡ true
+      → Played moments start begun op listened (lies up down go come near_hold far_hold) server (near_in lane n octets)
+      → Played moments start begun op listened (lies up down go come near_hold far_hold) server (near_in lane (near.hears n octets) [])
+  unfolding can_take
+  near_hears up down server lane [] n can p = p
+  near_hears up down server lane (octet ∷ octets) n can p =
+      let next : Near = near.hears_octet n octet in
+      let more = other_is (near.may_hear n) _ can in
+      let may : (k : ℕ) → k < 1 → near.may_hear (near.hears n (take k (octet ∷ octets))) ≡ true =
+      λ k less. subst (λ i. near.may_hear (near.hears n (take i (octet ∷ octets))) ≡ true) (zero_below k less) (first_is (near.may_hear n) _ can) in
+      let hears : HearsNext (octet ∷ []) (near_in lane n (octet ∷ octets)) (near_in lane next octets) = record {
+        hears = (
+          (((λ calm. (refl, may)), (λ moved. absurd (moved refl))), inl refl),
+          seen_so (near.wants n) lane (first_is (takes_only (near.wants n)) _ more),
+          λ serves. absurd (true≢false (sym serves)),
+        );
+        next = refl;
+        left = refl;
+        written = refl;
+      } in
+      near_hears up down server lane octets next (other_is (takes_only (near.wants n)) _ more)
+      (near_turn moments start begun op (Heard (octet ∷ [])) tt (λ before. (refl, λ ports. ports)) listened (lies up down go come near_hold far_hold)
+      (lies up down go come near_hold far_hold)
+      server (near_in lane n (octet ∷ octets)) (near_in lane next octets) (tt, refl) hears refl p)
+    where
+      zero_below : (k : ℕ) → k < 1 → 0 ≡ k
+      zero_below k less = omega (arith, less)
+
+  -- the client reads all that is on its way, and hears it
+  pub near_is_told : (up down : List ℕ) (server : Stand server_side) (lane : Lane) (n : Near) → n.owed ≡ [] → can_take n down ≡ true
+      → Played moments start begun op listened (lies up down go come near_hold far_hold) server (near_in lane n [])
+      → Played moments start begun op listened (lies up [] go come near_hold far_hold) server (near_in lane (near.hears n down) [])
+  near_is_told up down server lane n owed can p =
+      let reads : ReadsNext down (near_in lane n []) (near_in lane n down) = record {
+        due = (owed, λ serves. absurd (true≢false (sym serves)));
+        owner = refl;
+        heard = refl;
+        read = tt;
+        ended = refl;
+        unheard = refl;
+        written = refl;
+      } in
+      near_hears up [] server lane down n can
+      (near_turn moments start begun op (Read down) tt (λ before. (refl, λ ports. ports)) listened (lies up down go come near_hold far_hold)
+      (lies up [] go come near_hold far_hold)
+      server (near_in lane n []) (near_in lane n down) (tt, refl) reads (sym (append-nil down), refl) p)
+
+  -- the server reads a line that is on its way, and hears it
+  pub far_obeys : (down octets : List ℕ) (lane : Lane) (v new : Far) (text : List ℕ) (asked : Command (List ℕ)) (client : Stand client_side) → Attends v
+      → v.owed ≡ [] → may_hear v ≡ true → is_silent v.ear octets ≡ true → ear_out line_limit (ear_after v.ear octets) 10 ≡ line text ∷ []
+      → ((read : Reading) → IsReading read → read text ≡ Asks asked)
+      → new ≡ heard_line (Asks asked) (record v { ear = ear_step line_limit (ear_after v.ear octets) 10; footing = record v.footing { moment = 0 } })
+      → Played moments start begun op listened (lies (octets ++ 10 ∷ []) down go come near_hold far_hold) (far_in lane v []) client
+      → Played moments start begun op listened (lies [] down go come near_hold far_hold) (far_in lane new []) client
+  far_obeys down octets lane v new text asked client at owed may silent said reads is p =
+      let all : List ℕ = octets ++ 10 ∷ [] in
+      let last : Far = record v { ear = ear_after v.ear octets } in
+      let attends : Attends last = record { wants = at.wants; running = at.running; none_waits = at.none_waits } in
+      let whole = lies all down go come near_hold far_hold in
+      let rest = lies [] down go come near_hold far_hold in
+      let read = far_turn moments start begun op (Read all) ((λ before. (refl, λ ports. ports)), λ old new done moment. tt) listened whole rest
+      (far_in lane v []) (far_in lane v all) client
+      (tt, refl) (reading lane v all at owed) (sym (append-nil all), refl) p in
+      let heard = far_hears (λ v u. Attends v × Played moments start begun op listened rest (far_in lane v u) client)
+      (λ octet more v new at done p. (
+        at,
+        far_turn moments start begun op (Heard (octet ∷ [])) ((λ before. (refl, λ ports. ports)), λ old new done moment. tt) listened rest rest
+            (far_in lane v (octet ∷ more)) (far_in lane new more)
+            client (tt, refl) (hearing lane (octet ∷ []) (octet ∷ more) more v new p.0 done) refl p.1,
+      ))
+      octets (10 ∷ []) v at may silent (at, read) in
+      far_turn moments start begun op (Heard (10 ∷ [])) ((λ before. (refl, λ ports. ports)), λ old new done moment. tt) listened rest rest
+      (far_in lane last (10 ∷ [])) (far_in lane new []) client
+      (tt, refl) (hearing lane (10 ∷ []) (10 ∷ []) [] last new attends (far_ending last new text asked attends may said reads is)) refl heard.1

@@ -1,0 +1,26 @@
+-- A session of two drives that fetch a file over an active data connection, as an example: the premises can be met (RFC 959, section 3.2; RFC 2428).
+use Rattle.std.specs.Prelude.{ℕ, true, false, List, [], ◌∷◌}
+use Rattle.ftp_control.specs.Deeds.{Stand}
+use Rattle.ftp_operation.specs.Answer.{Octets, Said}
+use Rattle.ftp_operation.specs.declared.op.How.{How}
+use Rattle.ftp_operation.specs.declared.op.Op.{Op}
+use Rattle.ftp_operation.specs.declared.op.Op.TheVariants as Ops
+use Rattle.ftp_server_drive.specs.Side.{server_side}
+use Rattle.ftp_settings.specs.Representation.{defaults}
+use Rattle.ftp_tree.specs.Tree.{Table}
+use Rattle.ftp_pair_active.specs.Over.{AreOver}
+use Rattle.ftp_pair_drives.specs.Example.{example}
+use Rattle.ftp_pair_example.specs.Example.{HasFile, example_name, example_octets}
+
+-- as text, over a data connection that the server opens after EPRT
+abbrev pub call_how : How
+call_how = record { representation = defaults; marks = false; active = true; extended = true }
+
+-- the operation and its answer: the whole file
+abbrev pub call_asked : List (Op (List ℕ) × Said)
+call_asked = (Ops.Get example_name call_how, Octets example_octets) ∷ []
+
+-- of every map with that file, and at any moment, drives did so by their contracts, and the server's was over since the client left after it
+abbrev pub CallIsOver : Type 0
+CallIsOver =
+    (table : Table) (stamp : ℕ) (moments : ℕ → ℕ) → HasFile table stamp → (server : Stand server_side) × AreOver (example table) moments call_asked server
