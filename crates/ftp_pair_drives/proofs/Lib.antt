@@ -23,4 +23,3 @@ pub mod Moving
 pub mod Ordering
 pub mod Breaking
 pub mod BothBroken
-pub mod Counting
