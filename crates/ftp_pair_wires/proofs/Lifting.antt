@@ -10,7 +10,7 @@ use Rattle.ftp_pair_drives.specs.Between.{Has, Has_not, Hold}
 use Rattle.ftp_pair_wires.specs.Docking.{hold_at, is_back, is_ended, is_out, left_in, went_in}
 use Rattle.ftp_pair_wires.specs.Plain.{plain_lane}
 use Rattle.ftp_pair_wires.proofs.Noting.{back_has, back_marked}
-use Rattle.ftp_pair_wires.specs.Moored.{Answers, IsFresh, IsKnown, IsStill, Lifts, Lowers, Meets, Prepares, berth_of, came_at, came_in, lane_in, mark_in, octets_of, of_two, plain_in, told_in, went_at}
+use Rattle.ftp_pair_wires.specs.Moored.{AnswersDial, IsFresh, IsKnown, IsStill, Lifts, Lowers, Meets, Prepares, berth_of, came_at, came_in, lane_in, mark_in, octets_of, of_two, plain_in, told_in, went_at}
 use Rattle.ftp_pair_wires.specs.declared.dock.Stay.{Stay}
 use Rattle.ftp_pair_wires.specs.declared.dock.Stay.TheVariants as Stays
 use Rattle.ftp_pair_wires.specs.declared.mooring.Mooring.{Mooring}
@@ -130,7 +130,7 @@ called_went true one other same = refl
 called_went false one other same = same
 
 -- two dials were answered, and octets brought on
-module _ (own peer own_1 peer_1 own_2 peer_2 own_now peer_now : Mooring) (first : Answers own peer own_1 peer_1) (second : Answers peer_1 own_1 peer_2 own_2)
+module _ (own peer own_1 peer_1 own_2 peer_2 own_now peer_now : Mooring) (first : AnswersDial own peer own_1 peer_1) (second : AnswersDial peer_1 own_1 peer_2 own_2)
     (last : Prepares own_2 peer_2 own_now peer_now) where
   -- the end, once its peer's dial was answered
   own_hold : (berth_of own_2).hold ≡ (called_by (berth_of peer).dialled (berth_of own)).hold

@@ -14,7 +14,7 @@ use Rattle.ftp_pair_wires.specs.Berth.{Berth, IsAt, IsSeen, Ran, between_at, bet
 use Rattle.ftp_pair_wires.specs.Claims.{Happening, ways_at}
 use Rattle.ftp_pair_wires.specs.Docked.{asked_of}
 use Rattle.ftp_pair_wires.specs.Docking.{berth_at, header, hold_at, is_ended, is_out, known_by, left_in, noted_in, shown_end, shown_hold, went_in}
-use Rattle.ftp_pair_wires.specs.Moored.{Agrees, Carries, IsKnown, Meets, berth_of, between_both, came_in, mark_in, octets_of, of_two, plain_in, told_in, told_lane}
+use Rattle.ftp_pair_wires.specs.Moored.{KnowsHolder, IsKnown, Meets, berth_of, between_both, came_in, mark_in, octets_of, of_two, plain_in, told_in, told_lane}
 use Rattle.ftp_pair_wires.specs.Order.{WentAlone}
 use Rattle.ftp_pair_wires.specs.Plain.{plain, plain_lane, quiet}
 use Rattle.ftp_pair_wires.specs.declared.dock.Dock.{Dock}
@@ -140,7 +140,7 @@ second_of : {A : Type 0} (is : Bool) → is ≡ false → (one other : A) → of
 second_of is e one other = ap (λ s. of_two s one other) e
 
 -- what ports know, and what is seen beside
-module _ (m : Mooring) (asked : Option (List Asked)) (agrees : Agrees m)
+module _ (m : Mooring) (asked : Option (List Asked)) (agrees : KnowsHolder m)
     (marked : (plain_in m.stream).stands ≡ true → told_in mark_in m.stream ≡ mark (is_ended m.quay.dock.wire.closed)) where
   lane : Lane
   lane = lane_at left_in went_in asked m.stream []

@@ -68,9 +68,9 @@ pub record IsFresh (mooring : Mooring) : Type 0 where
   pub berth : berth_of mooring ≡ no_berth
   pub lane : plain_in mooring.stream ≡ no_lane None
 
--- ports and end agree on who has it
-abbrev pub Agrees : Mooring → Type 0
-Agrees mooring = (plain_in mooring.stream).stands ≡ is_out mooring.quay.dock.stay
+-- its ports know who has it
+abbrev pub KnowsHolder : Mooring → Type 0
+KnowsHolder mooring = (plain_in mooring.stream).stands ≡ is_out mooring.quay.dock.stay
 
 -- the end sees the same but for the octets, and its ports know the same
 pub record IsStill (old new : Mooring) : Type 0 where
@@ -81,7 +81,7 @@ pub record IsStill (old new : Mooring) : Type 0 where
 
 -- this is it, and it is taken; and this one is put there
 pub record Lifts (wire : Wire) (old new : Mooring) : Type 0 where
-  pub agrees : Agrees old
+  pub agrees : KnowsHolder old
   pub came : wire.came.items ≡ came_at old
   pub went : wire.went.items ≡ went_at old
   pub still : IsStill old new
@@ -95,14 +95,14 @@ pub record Lowers (wire : Wire) (old new : Mooring) : Type 0 where
 -- ---- a turn
 
 -- what lies between is the same, though octets were brought on and a dial was answered
-pub record Carries (own peer own_now peer_now : Berth) : Type 0 where
+pub record KeepsBetween (own peer own_now peer_now : Berth) : Type 0 where
   pub own_hold : own_now.hold ≡ (called_by peer.dialled own).hold
   pub peer_hold : peer_now.hold ≡ (called_by own.dialled peer).hold
   pub to_own : own_now.came ++ peer_now.went ≡ (called_by peer.dialled own).came ++ (called_by own.dialled peer).went
   pub to_peer : peer_now.came ++ own_now.went ≡ (called_by own.dialled peer).came ++ (called_by peer.dialled own).went
 
 -- where one dialled, the other was called
-pub record Answers (dialler other dialler_now other_now : Mooring) : Type 0 where
+pub record AnswersDial (dialler other dialler_now other_now : Mooring) : Type 0 where
   pub dialler_berth : berth_of dialler_now ≡ record (berth_of dialler) { dialled = false }
   pub dialler_lane : plain_in dialler_now.stream ≡ plain_in dialler.stream
   pub other_hold : (berth_of other_now).hold ≡ (called_by (berth_of dialler).dialled (berth_of other)).hold
@@ -112,8 +112,8 @@ pub record Answers (dialler other dialler_now other_now : Mooring) : Type 0 wher
   pub other_lane : plain_in other_now.stream ≡ plain_in other.stream
 
 -- a turn of an end can begin: octets were brought on, and its ports know what they are to know
-pub record Begins (own_now peer_now : Mooring) : Type 0 where
-  pub agrees : Agrees own_now
+pub record IsPrepared (own_now peer_now : Mooring) : Type 0 where
+  pub agrees : KnowsHolder own_now
   pub mark : (plain_in own_now.stream).stands ≡ true → told_in mark_in own_now.stream ≡ mark (berth_of own_now).ended
   pub asked : asked_of own_now.quay.dock ≡ header (berth_at own_now.quay.dock.stay own_now.quay.dock.wire own_now.quay.dock.calls false)
   pub known : own_now.quay.dock.spoiled ≡ false
@@ -127,22 +127,22 @@ pub record Prepares (own peer own_now peer_now : Mooring) : Type 0 where
   pub own_lane : plain_in own_now.stream ≡ plain_in own.stream
   pub peer_lane : plain_in peer_now.stream ≡ plain_in peer.stream
   pub peer_dialled : (berth_of peer_now).dialled ≡ (berth_of peer).dialled
-  pub begins : Begins own_now peer_now
+  pub begins : IsPrepared own_now peer_now
 
 -- so it is, and what lies between is the same
 pub record Meets (own peer own_now peer_now : Mooring) : Type 0 where
-  pub carries : Carries (berth_of own) (berth_of peer) (berth_of own_now) (berth_of peer_now)
+  pub carries : KeepsBetween (berth_of own) (berth_of peer) (berth_of own_now) (berth_of peer_now)
   pub own_lane : plain_in own_now.stream ≡ plain_in own.stream
   pub peer_lane : plain_in peer_now.stream ≡ plain_in peer.stream
   pub peer_undialled : (berth_of peer_now).dialled ≡ false
-  pub begins : Begins own_now peer_now
+  pub begins : IsPrepared own_now peer_now
 
 -- after a turn ports know where it is, and the end sees what it saw
 pub record IsKnown (old new : Mooring) : Type 0 where
   pub dock : new.quay.dock ≡ old.quay.dock
   pub lane : (remaining contents : Wire → Option (List ℕ)) (asked : Option (List Asked))
       → lane_at remaining contents asked new.stream [] ≡ lane_at remaining contents asked old.stream []
-  pub agrees : Agrees new
+  pub agrees : KnowsHolder new
   pub mark : (plain_in new.stream).stands ≡ true → told_in mark_in new.stream ≡ mark (is_ended new.quay.dock.wire.closed)
   pub known : new.quay.dock.spoiled ≡ false
 

@@ -1,6 +1,6 @@
 // A data connection in memory, wherever it is: with the end that has it, or with its ports.
 ghost use Rattle.std.specs.Prelude.{◌≡◌, ◌++◌, IfSome, IsTrue};
-ghost use Rattle.ftp_pair_wires.specs.Moored.{Answers, Meets, Prepares};
+ghost use Rattle.ftp_pair_wires.specs.Moored.{AnswersDial, Meets, Prepares};
 
 use crate::quay::Quay;
 use crate::wire::{Closed, Wire};
@@ -110,7 +110,7 @@ fn bring(from: &mut Wire, to: &mut Wire)
 
 /// Where an end dialled, the other one was called; not where that one has a data connection.
 fn answers(dialler: &mut Mooring, other: &mut Mooring) -> bool
-    ensures { IsTrue result → Answers dialler.old other.old dialler.new other.new }
+    ensures { IsTrue result → AnswersDial dialler.old other.old dialler.new other.new }
 {
     if !dialler.quay.dock.dialled {
         return true;
