@@ -1,5 +1,5 @@
 -- A world beside both drives while files are put and fetched: what it holds of both, what is so of each end's data connection, and that it rests.
-use Rattle.std.proofs.Common.{◌≡◌, ℕ, true, false, List, [], ◌++◌, None, option_to_list, refl, ap, ◌∙◌}
+use Rattle.std.proofs.Common.{◌≡◌, ℕ, true, false, List, [], ◌∷◌, ◌++◌, None, option_to_list, refl, ap, ◌∙◌}
 use Rattle.ftp_control.specs.Deeds.{Stand}
 use Rattle.ftp_control.specs.Lane.{Lane}
 use Rattle.ftp_client_drive.specs.Side.{client_side}
@@ -12,9 +12,8 @@ use Rattle.ftp_server_model.specs.Calls.{clock_step}
 use Rattle.ftp_server_model.specs.Machine.{Reading}
 use Rattle.ftp_server_model.specs.View.{Session, View as Far}
 use Rattle.ftp_pair_world.specs.Agreement.{Order}
-use Rattle.ftp_pair_world.specs.Claims.{AreUnmarked}
 use Rattle.ftp_pair_world.specs.Events.{is_closed_by_near}
-use Rattle.ftp_pair_world.specs.World.{Stands, World}
+use Rattle.ftp_pair_world.specs.World.{Mark, Stands, World}
 use Rattle.ftp_pair_drives.specs.Between.{Between, Hold}
 use Rattle.ftp_pair_drives.proofs.Taken.{taken, taken_none}
 use Rattle.ftp_pair_drives.proofs.Worlds.{LeadsOn}
@@ -46,7 +45,6 @@ pub record IsBeside (moment : ℕ) (ahead : Ahead) (between : Between) (told : �
   pub reported : w.reports ≡ reports ++ option_to_list (report_of client.owner.end.view)
   pub control : w.control ≡ Stands
   pub unready : is_closed_by_near w.link ≡ true → is_ready w.far.session.connection ≡ false
-  pub marks : AreUnmarked w.marks
   pub cutoff : w.cutoff ≡ None
 
 -- what came to the server and was not told is of one that stands, is had and is sound; of one that is over none is open
@@ -80,14 +78,25 @@ pub record Together (read : Reading) (begun : List Order) (moment : ℕ) (ahead 
   pub keeping : Keeping between.near client.owner.end.view client.owner.lane w
   pub twin : is_parted ahead ≡ true → HasTwin read begun w
 
--- events that begin these lead on to a world that is so again, when these were begun
-pub record Goes (read : Reading) (more begun : List Order) (between : Between) (told : ℕ) (server : Stand server_side) (client : Stand client_side)
-    (reports : List Said) (w : World) : Type 0 where
+-- events that begin these lead on to a world that is so again, when these were begun, and that has these marks
+pub record GoesTo (read : Reading) (more begun : List Order) (between : Between) (told : ℕ) (server : Stand server_side) (client : Stand client_side)
+    (reports : List Said) (marks : List (List Mark)) (w : World) : Type 0 where
   pub world : World
   pub leads : LeadsOn read more w world
   pub moment : ℕ
   pub ahead : Ahead
+  pub marked : world.marks ≡ marks
   pub together : Together read begun moment ahead between told server client reports world
+
+-- what is begun has no mark yet
+abbrev pub marks_with : List Order → List (List Mark) → List (List Mark)
+marks_with [] marks = marks
+marks_with (order ∷ more) marks = marks_with more (marks ++ [] ∷ [])
+
+-- so they lead on, and make no mark
+abbrev pub Goes : (read : Reading) (more begun : List Order) (between : Between) (told : ℕ) (server : Stand server_side) (client : Stand client_side)
+    (reports : List Said) → World → Type 0
+Goes read more begun between told server client reports w = GoesTo read more begun between told server client reports (marks_with more w.marks) w
 
 -- ---- it rests
 

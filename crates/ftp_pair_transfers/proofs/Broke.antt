@@ -2,10 +2,10 @@
 use Rattle.std.proofs.Common.{◌≡◌, ◌⊎◌, inl, inr, ℕ, ◌<◌, true, false, true≢false, List, [], ◌∷◌, length, take, Option, IsTrue, refl, sym, ap, subst, ◌∙◌}
 use Rattle.ftp_ends.specs.declared.link.Wants.{Wants}
 use Rattle.ftp_ends.specs.declared.link.Wants.TheVariants as Want
-use Rattle.ftp_control.specs.Asking.{Connected, Ended as EndedBy, Reset, Shut}
+use Rattle.ftp_control.specs.Asking.{Connected, Ended as EndedBy, NotConnected, Reset, Shut}
 use Rattle.ftp_control.specs.Deeds.{Calls, Deed, Done, Heard, HearsNext, Other, Read, ReadsNext, Said as Says, Says as SaysNext, Stand}
 use Rattle.ftp_control.specs.Lane.{IsOpen, Lane}
-use Rattle.ftp_control.specs.Machine.{Aside, Break, Closed, End, Failed as HasFailed, Gave, Got, Held, Left, LetGo, MayLeave, Opened, Received, Waited, Wrote, awaits, seen}
+use Rattle.ftp_control.specs.Machine.{Aside, Break, Closed, End, Failed as HasFailed, Gave, Got, Held, Left, LetGo, MayLeave, Opened, Received, Refused, Waited, Wrote, awaits, seen}
 use Rattle.ftp_client_drive.specs.Side.{Reporting, Starting, client_side, is_under_way}
 use Rattle.ftp_client_model.specs.Calls as near
 use Rattle.ftp_client_model.specs.Calls.{data_closed, gives_control, hears, is_sound}
@@ -14,7 +14,7 @@ use Rattle.ftp_client_model.specs.View.{View as Near}
 use Rattle.ftp_operation.specs.Answer.{Said}
 use Rattle.ftp_pair_drives.specs.Between.{Between, CanTurn, Client as ByClient}
 use Rattle.ftp_pair_deeds.proofs.Holding.{both}
-use Rattle.ftp_pair_transfers.specs.Deeds.{ClientTransfers}
+use Rattle.ftp_pair_transfers.specs.Refusals.{ClientTries}
 use Rattle.ftp_pair_transfers.proofs.EitherEnd.{AreAlike, AreApart, Common, both_closed, both_give, common, hears_either, is_wishing, may_either}
 use Rattle.ftp_pair_transfers.proofs.Lost.{is_lost}
 
@@ -36,7 +36,7 @@ IsShown between c shown = (shown ≡ c) ⊎ ((other : Near) × (shown ≡ with_v
 pub record DoneSo (deed : Deed client_side) (next : Between) (new shown : Stand client_side) : Type 0 where
   pub after : Stand client_side
   pub did : Done deed shown after
-  pub is : ClientTransfers deed shown.owner after.owner
+  pub is : ClientTries deed shown.owner after.owner
   pub shows : IsShown next new after
 
 module _ (p q : Between) (old new : Stand client_side) (b : Near) (broke : IsBroke p old b) where
@@ -84,7 +84,7 @@ module _ (p q : Between) (old new : Stand client_side) (b : Near) (broke : IsBro
 
   -- ---- octets of the control connection
 
-  heard_so : (octets : List ℕ) → ClientTransfers (Heard octets) old.owner new.owner → HearsNext octets old new → q ≡ p → DoneSo (Heard octets) q new there
+  heard_so : (octets : List ℕ) → ClientTries (Heard octets) old.owner new.owner → HearsNext octets old new → q ≡ p → DoneSo (Heard octets) q new there
   heard_so octets is did same =
       let all : List ℕ = take (length octets) old.unheard in
       let heard = did.hears.0.0.0 is.1 in
@@ -110,7 +110,7 @@ module _ (p q : Between) (old new : Stand client_side) (b : Near) (broke : IsBro
             (λ o. broke.lane (ap (λ (l : Lane). l.stands) (sym did.hears.1) ∙ o.0, ap (λ (l : Lane). l.fate) (sym did.hears.1) ∙ o.1));
       }
 
-  said_so : (octets : List ℕ) → ClientTransfers (Says octets) old.owner new.owner → SaysNext octets old new → q.near ≡ p.near → DoneSo (Says octets) q new there
+  said_so : (octets : List ℕ) → ClientTries (Says octets) old.owner new.owner → SaysNext octets old new → q.near ≡ p.near → DoneSo (Says octets) q new there
   said_so octets is did near =
       let count : ℕ = did.gives.count in
       let does : SaysNext octets there (with_view (gives_control count b) new) = record {
@@ -133,7 +133,7 @@ module _ (p q : Between) (old new : Stand client_side) (b : Near) (broke : IsBro
             (same_lane did.gives.lane);
       }
 
-  read_so : (octets : List ℕ) → ClientTransfers (Read octets) old.owner new.owner → ReadsNext octets old new → q.near ≡ p.near
+  read_so : (octets : List ℕ) → ClientTries (Read octets) old.owner new.owner → ReadsNext octets old new → q.near ≡ p.near
       → DoneSo (Read octets) q new there
   read_so octets is did near =
       let does : ReadsNext octets there (with_view b new) = record {
@@ -155,7 +155,7 @@ module _ (p q : Between) (old new : Stand client_side) (b : Near) (broke : IsBro
 
   -- ---- calls
 
-  reported_so : (said : Option Said) → ClientTransfers (Other (Aside (Reporting said))) old.owner new.owner
+  reported_so : (said : Option Said) → ClientTries (Other (Aside (Reporting said))) old.owner new.owner
       → Calls {side = client_side} (Aside (Reporting said)) old new
       → q ≡ p → DoneSo (Other (Aside (Reporting said))) q new there
   reported_so said is did same =
@@ -175,7 +175,7 @@ module _ (p q : Between) (old new : Stand client_side) (b : Near) (broke : IsBro
             (same_lane did.0.1);
       }
 
-  let_go_so : (octets : List ℕ) → ClientTransfers (Other (LetGo octets)) old.owner new.owner → Calls {side = client_side} (LetGo octets) old new
+  let_go_so : (octets : List ℕ) → ClientTries (Other (LetGo octets)) old.owner new.owner → Calls {side = client_side} (LetGo octets) old new
       → q ≡ p → DoneSo (Other (LetGo octets)) q new there
   let_go_so octets is did same =
       let does : Calls {side = client_side} (LetGo octets) there (with_view b new) = (
@@ -201,7 +201,7 @@ module _ (p q : Between) (old new : Stand client_side) (b : Near) (broke : IsBro
       subst (λ w. MayLeave (is_under_way b.job ≡ false) w old.owner.lane.fate) (sym both_are.wants)
       (subst (λ j. MayLeave (is_under_way j ≡ false) (near.wants a) old.owner.lane.fate) (sym both_are.job) may)
 
-  reset_so : (left written : Option (List ℕ)) → ClientTransfers (Other (Left (Reset left written))) old.owner new.owner
+  reset_so : (left written : Option (List ℕ)) → ClientTries (Other (Left (Reset left written))) old.owner new.owner
       → Calls {side = client_side} (Left (Reset left written)) old new → is_lost q.near ≡ true → DoneSo (Other (Left (Reset left written))) q new there
   reset_so left written is did near =
       let does : Calls {side = client_side} (Left (Reset left written)) there (with_view b new) = (
@@ -215,7 +215,7 @@ module _ (p q : Between) (old new : Stand client_side) (b : Near) (broke : IsBro
         shows = again b (subst (λ n. AreApart n b) (ap (λ e. e.view) (sym did.0.0)) broke.apart) near (λ o. both o.0 did.0.1.stands);
       }
 
-  shut_so : ClientTransfers (Other (Left Shut)) old.owner new.owner → Calls {side = client_side} (Left Shut) old new → q ≡ p
+  shut_so : ClientTries (Other (Left Shut)) old.owner new.owner → Calls {side = client_side} (Left Shut) old new → q ≡ p
       → DoneSo (Other (Left Shut)) q new there
   shut_so is did same =
       let does : Calls {side = client_side} (Left Shut) there (with_view b new) = (
@@ -230,7 +230,7 @@ module _ (p q : Between) (old new : Stand client_side) (b : Near) (broke : IsBro
             (λ o. both o.0 did.0.1.stands);
       }
 
-  closed_so : ClientTransfers (Other Closed) old.owner new.owner → Calls {side = client_side} Closed old new → q ≡ p → DoneSo (Other Closed) q new there
+  closed_so : ClientTries (Other Closed) old.owner new.owner → Calls {side = client_side} Closed old new → q ≡ p → DoneSo (Other Closed) q new there
   closed_so is did same =
       let does : Calls {side = client_side} Closed there (with_view (data_closed b) new) = (
         (
@@ -254,7 +254,7 @@ module _ (p q : Between) (old new : Stand client_side) (b : Near) (broke : IsBro
 
   -- ---- any deed
 
-  pub broke_does : (deed : Deed client_side) → ClientTransfers deed old.owner new.owner → Done deed old new → CanTurn (ByClient deed) p q
+  pub broke_does : (deed : Deed client_side) → ClientTries deed old.owner new.owner → Done deed old new → CanTurn (ByClient deed) p q
       → DoneSo deed q new there
   broke_does (Heard octets) is did can = heard_so octets is did can
   broke_does (Says octets) is did can = said_so octets is did (ap (λ (m : Between). m.near) can)
@@ -267,6 +267,7 @@ module _ (p q : Between) (old new : Stand client_side) (b : Near) (broke : IsBro
   broke_does (Other (Aside (Starting op))) is did can = absurd (both both_are.busy did.0.0.0)
   broke_does (Other (Opened host (Connected endpoint left written ∷ []) at_first so_far rest)) is did can =
       absurd (unwished (Want.Connect endpoint) did.0.2.0 refl)
+  broke_does (Other (Refused (NotConnected endpoint ∷ []))) is did can = absurd (unwished (Want.Connect endpoint) did.0.2.0 refl)
   broke_does (Other (Gave count octets rest)) is did can = absurd (unwished Want.Send did.0.2 refl)
   broke_does (Other (Waited lost)) is did can = absurd (never_awaits did.0.2)
   broke_does (Other (Received octets count)) is did can = absurd (broke.lane did.0.2.0)

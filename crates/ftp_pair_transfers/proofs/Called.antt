@@ -2,11 +2,11 @@
 use Rattle.std.proofs.Common.{◌≡◌, ℕ, true, false, true≢false, List, [], ◌∷◌, take, Some, None, refl, sym, ap, subst, ◌∙◌}
 use Rattle.ftp_endpoint.specs.declared.endpoint.Endpoint.{Endpoint}
 use Rattle.ftp_ends.specs.declared.link.Wants.TheVariants as Want
-use Rattle.ftp_control.specs.Asking.{Connected, Ended as EndedBy, Reset, Shut}
+use Rattle.ftp_control.specs.Asking.{Connected, Ended as EndedBy, NotConnected, Reset, Shut}
 use Rattle.ftp_control.specs.Deeds.{Deed, Done, Heard, Other, Read, Said as Says, Stand}
 use Rattle.ftp_control.specs.Lane.{Lane}
 use Rattle.ftp_control.specs.declared.whole.Rest.{Rest}
-use Rattle.ftp_control.specs.Machine.{Aside, Break, Closed, End, Failed, Gave, Got, Left, LetGo, Opened, Received, Waited, Wrote}
+use Rattle.ftp_control.specs.Machine.{Aside, Break, Closed, End, Failed, Gave, Got, Left, LetGo, Opened, Received, Refused, Waited, Wrote}
 use Rattle.ftp_client_drive.specs.Side.{Reporting, Starting, client_side}
 use Rattle.ftp_client_model.specs.Calls as near
 use Rattle.ftp_client_model.specs.Calls.{receives, starts}
@@ -22,7 +22,8 @@ use Rattle.ftp_pair_deeds.proofs.Fresh.{Fresh, fresh_kept, fresh_unaborted}
 use Rattle.ftp_pair_deeds.proofs.Holding.{both, is_called}
 use Rattle.ftp_pair_deeds.proofs.Plain.{IsPlain, IsPlainBy, IsPlainJob, IsPlainly, IsSome, Whatever, starts_plain}
 use Rattle.ftp_pair_deeds.proofs.Plainly.{deed_plain}
-use Rattle.ftp_pair_transfers.specs.Deeds.{ClientTransfers, IsCarried, IsTransferred}
+use Rattle.ftp_pair_transfers.specs.Deeds.{IsCarried, IsTransferred}
+use Rattle.ftp_pair_transfers.specs.Refusals.{ClientTries}
 use Rattle.ftp_pair_data.proofs.Known.{is_doing}
 
 -- none came, and none is on its way
@@ -113,35 +114,38 @@ module _ (p q : Between) (old new : Stand client_side) (fresh : StaysFresh p old
       by (Told said) is e = absurd (true≢false (sym e))
       by (Transferring op transfer) is e = absurd (true≢false (sym e))
 
-  pub near_fresh : (deed : Deed client_side) → BreaksNone deed → ClientTransfers deed old.owner new.owner → IsPlainly v
+  pub near_fresh : (deed : Deed client_side) → BreaksNone deed → ClientTries deed old.owner new.owner → IsPlainly v
       → ((endpoint : Endpoint) → near.wants v ≡ Want.Connect endpoint → is_doing v.job ≡ true) → (IsPlainBy Fresh v → (count : ℕ) (octets : List ℕ)
       (rest : Rest) → Done (Other (Gave count octets rest)) old new → IsPlainBy Fresh u)
+      → ((endpoint : Endpoint) → Done (Other (Refused (NotConnected endpoint ∷ []))) old new → IsPlainBy Fresh u)
       → Done deed old new → CanTurn (Client deed) p q → StaysFresh q new
-  near_fresh (Heard octets) unbroken is plain doing gave did can =
+  near_fresh (Heard octets) unbroken is plain doing gave refused did can =
       takes_on (deed_plain Fresh fresh_kept old new (Heard octets) tt (tt, is.1) did) can (ap (λ (l : Lane). l.untold) did.hears.1)
-  near_fresh (Says octets) unbroken is plain doing gave did can =
+  near_fresh (Says octets) unbroken is plain doing gave refused did can =
       takes_same (deed_plain Fresh fresh_kept old new (Says octets) tt (tt, is.1) did) (ap (λ (m : Between). m.far) can)
       (ap (λ (m : Between). m.data_ways.to_client) can) (ap (λ (l : Lane). l.untold) did.gives.lane)
-  near_fresh (Read octets) unbroken is plain doing gave did can =
+  near_fresh (Read octets) unbroken is plain doing gave refused did can =
       takes_same (deed_plain Fresh fresh_kept old new (Read octets) tt (tt, is.1) did) (ap (λ (m : Between). m.far) can.1)
       (ap (λ (m : Between). m.data_ways.to_client) can.1) (ap (λ o. o.lane.untold) did.owner)
-  near_fresh (Other (Aside (Reporting said))) unbroken is plain doing gave did can =
+  near_fresh (Other (Aside (Reporting said))) unbroken is plain doing gave refused did can =
       takes_on (deed_plain Fresh fresh_kept old new (Other (Aside (Reporting said))) tt (tt, is.1) did) can (ap (λ (l : Lane). l.untold) did.0.1)
-  near_fresh (Other (Aside (Starting op))) unbroken is plain doing gave did can =
+  near_fresh (Other (Aside (Starting op))) unbroken is plain doing gave refused did can =
       takes_on (λ f. subst (IsPlainBy Fresh) (sym (did.0.0.1.0.0 is.1)) (starts_plain Fresh fresh_kept op v (transferred_plain op is.0.0) f)) can
       (ap (λ (l : Lane). l.untold) did.0.1)
-  near_fresh (Other (Opened host (Connected endpoint left written ∷ []) at_first so_far rest)) unbroken is plain doing gave did can = λ called. record {
+  near_fresh (Other (Opened host (Connected endpoint left written ∷ []) at_first so_far rest)) unbroken is plain doing gave refused did can = λ called. record {
     plain = deed_plain Fresh fresh_kept old new (Other (Opened host (Connected endpoint left written ∷ []) at_first so_far rest)) tt (tt, is.1) did
         (dialled_fresh plain (doing endpoint did.0.2.0));
     untold = did.0.1.untold;
     none = ap (λ (m : Between). m.data_ways.to_client) can.2;
   }
-  near_fresh (Other (Gave count octets rest)) unbroken is plain doing gave did can =
+  near_fresh (Other (Refused (NotConnected endpoint ∷ []))) unbroken is plain doing gave refused did can =
+      takes_on (λ f. refused endpoint did) can (ap (λ (l : Lane). l.untold) did.0.1.1)
+  near_fresh (Other (Gave count octets rest)) unbroken is plain doing gave refused did can =
       takes_on (λ f. gave f count octets rest did) can (ap (λ (l : Lane). l.untold) did.0.1.0)
-  near_fresh (Other (Wrote octets)) unbroken is plain doing gave did can =
+  near_fresh (Other (Wrote octets)) unbroken is plain doing gave refused did can =
       takes_same (subst (λ c. IsPlainBy Fresh c.view) (sym did.0.0)) (ap (λ (m : Between). m.far) can.1) (ap (λ (m : Between). m.data_ways.to_client) can.1)
       did.0.1.untold
-  near_fresh (Other (Got octets)) unbroken is plain doing gave did can = λ called.
+  near_fresh (Other (Got octets)) unbroken is plain doing gave refused did can = λ called.
       let f = fresh (ap is_called (sym (ap (λ (m : Between). m.far) can.2)) ∙ called) in
       let none = both_empty octets q.data_ways.to_client (sym can.1 ∙ f.none) in
       record {
@@ -149,7 +153,7 @@ module _ (p q : Between) (old new : Stand client_side) (fresh : StaysFresh p old
         untold = did.0.1.untold ∙ none.0;
         none = none.1;
       }
-  near_fresh (Other (Received octets count)) unbroken is plain doing gave did can = λ called.
+  near_fresh (Other (Received octets count)) unbroken is plain doing gave refused did can = λ called.
       let f = fresh (ap is_called (sym (ap (λ (m : Between). m.far) can)) ∙ called) in
       let none = both_empty (take count octets) new.owner.lane.untold (sym did.0.1.0 ∙ f.untold) in
       let same : u ≡ v = (did.0.0.0.0 is.1).0 ∙ ap (receives v) none.0 in
@@ -158,41 +162,41 @@ module _ (p q : Between) (old new : Stand client_side) (fresh : StaysFresh p old
         untold = none.1;
         none = ap (λ (m : Between). m.data_ways.to_client) can ∙ f.none;
       }
-  near_fresh (Other End) unbroken is plain doing gave did can =
+  near_fresh (Other End) unbroken is plain doing gave refused did can =
       takes_on (deed_plain Fresh fresh_kept old new (Other End) tt (tt, is.1) did) can.2 (ap (λ (l : Lane). l.untold) did.0.1.0)
-  near_fresh (Other (Waited lost)) unbroken is plain doing gave did can =
+  near_fresh (Other (Waited lost)) unbroken is plain doing gave refused did can =
       takes_on (deed_plain Fresh fresh_kept old new (Other (Waited lost)) tt (tt, is.1) did) can did.0.1.holds.untold
-  near_fresh (Other (LetGo octets)) unbroken is plain doing gave did can = λ called.
+  near_fresh (Other (LetGo octets)) unbroken is plain doing gave refused did can = λ called.
       let f = fresh (ap is_called (sym (ap (λ (m : Between). m.far) can)) ∙ called) in
       record {
         plain = deed_plain Fresh fresh_kept old new (Other (LetGo octets)) tt (tt, is.1) did f.plain;
         untold = (both_empty octets new.owner.lane.untold (sym did.0.1.0 ∙ f.untold)).1;
         none = ap (λ (m : Between). m.data_ways.to_client) can ∙ f.none;
       }
-  near_fresh (Other (Left (EndedBy left written))) unbroken is plain doing gave did can = λ called.
+  near_fresh (Other (Left (EndedBy left written))) unbroken is plain doing gave refused did can = λ called.
       let f = fresh (ap is_called (sym (ap (λ (m : Between). m.far) can.1)) ∙ called) in
       record {
         plain = deed_plain Fresh fresh_kept old new (Other (Left (EndedBy left written))) tt (tt, is.1) did f.plain;
         untold = did.0.1.untold;
         none = ap (λ (m : Between). m.data_ways.to_client) can.1 ∙ f.none;
       }
-  near_fresh (Other Failed) unbroken is plain doing gave did can =
+  near_fresh (Other Failed) unbroken is plain doing gave refused did can =
       takes_on (subst (λ c. IsPlainBy Fresh c.view) (sym did.0.0)) can (ap (λ (l : Lane). l.untold) did.0.1.0)
-  near_fresh (Other (Left (Reset left written))) unbroken is plain doing gave did can = λ called.
+  near_fresh (Other (Left (Reset left written))) unbroken is plain doing gave refused did can = λ called.
       let f = fresh (ap is_called (sym (ap (λ (m : Between). m.far) can.1)) ∙ called) in
       record {
         plain = subst (λ c. IsPlainBy Fresh c.view) (sym did.0.0) f.plain;
         untold = did.0.1.untold;
         none = ap (λ (m : Between). m.data_ways.to_client) can.1 ∙ f.none;
       }
-  near_fresh (Other Break) unbroken is plain doing gave did can = absurd unbroken
-  near_fresh (Other (Left Shut)) unbroken is plain doing gave did can = λ called.
+  near_fresh (Other Break) unbroken is plain doing gave refused did can = absurd unbroken
+  near_fresh (Other (Left Shut)) unbroken is plain doing gave refused did can = λ called.
       let f = fresh (ap is_called (sym (ap (λ (m : Between). m.far) can)) ∙ called) in
       record {
         plain = deed_plain Fresh fresh_kept old new (Other (Left Shut)) tt (tt, is.1) did f.plain;
         untold = did.0.1.untold;
         none = ap (λ (m : Between). m.data_ways.to_client) can ∙ f.none;
       }
-  near_fresh (Other Closed) unbroken is plain doing gave did can =
+  near_fresh (Other Closed) unbroken is plain doing gave refused did can =
       takes_on (deed_plain Fresh fresh_kept old new (Other Closed) tt (tt, is.1) did) can (ap (λ (l : Lane). l.untold) did.0.1.0)
-  near_fresh deed unbroken is plain doing gave did can = absurd is.0
+  near_fresh deed unbroken is plain doing gave refused did can = absurd is.0

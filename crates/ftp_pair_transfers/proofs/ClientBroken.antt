@@ -23,7 +23,6 @@ use Rattle.ftp_server_model.specs.Machine.{IsReading, Reading}
 use Rattle.ftp_server_model.specs.View.{View as Far}
 use Rattle.ftp_server_model.specs.declared.session.ServerLink.TheVariants as Data
 use Rattle.ftp_pair_world.specs.Agreement.{Order}
-use Rattle.ftp_pair_world.specs.Claims.{AreUnmarked}
 use Rattle.ftp_pair_world.specs.Events.{DataToClient, is_closed_by_far, is_closed_by_near, pushed}
 use Rattle.ftp_pair_world.specs.World.{ClosedByFar, Gone, World, gone}
 use Rattle.ftp_pair_dialogues.specs.Fetches.{busy, flow_after}
@@ -312,6 +311,7 @@ module _ (read : Reading) (reads : IsReading read) (from : State) (begun : List 
                 ∙ wants_rest (data_closed (data_end v)) sound (portless (data_end v).connection plainly.port) refl));
             moment = moment;
             ahead = ahead;
+            marked = s.same.marks ∙ d.marks;
             together = record {
               beside = record {
                 fits = b.fits;
@@ -328,7 +328,6 @@ module _ (read : Reading) (reads : IsReading read) (from : State) (begun : List 
                     ∙ ap₂ (λ r n. r ++ option_to_list (report_of n)) (d.said ∙ b.reported ∙ ap (λ o. reports ++ o) none_said) ended;
                 control = s.same.control ∙ d.control ∙ b.control;
                 unready = λ e. absurd (true≢false (sym e ∙ ap is_closed_by_near link_then));
-                marks = subst AreUnmarked (sym (s.same.marks ∙ d.marks)) b.marks;
                 cutoff = s.same.cutoff ∙ d.cutoff ∙ b.cutoff;
               };
               holds = t.holds;

@@ -1,5 +1,5 @@
 -- A client that puts files dials, as an event of a world: its server has it open at once.
-use Rattle.std.proofs.Common.{◌≡◌, ℕ, true, false, true≢false, ◌&&◌, List, [], ◌∷◌, ◌++◌, Option, None, option_to_list, refl, sym, ap, ap₂, subst, ◌∙◌}
+use Rattle.std.proofs.Common.{◌≡◌, ℕ, true, false, true≢false, ◌&&◌, List, [], ◌∷◌, ◌++◌, Option, None, option_to_list, refl, sym, ap, ap₂, ◌∙◌}
 use Rattle.ftp_endpoint.specs.declared.endpoint.Endpoint.{Endpoint}
 use Rattle.ftp_endpoint.specs.declared.host.Host.{Host}
 use Rattle.ftp_control.specs.Asking.{Connected}
@@ -22,7 +22,6 @@ use Rattle.ftp_server_model.specs.Machine.{Reading, completed, waited}
 use Rattle.ftp_server_model.specs.View.{View as Far}
 use Rattle.ftp_server_model.specs.declared.session.ServerLink.TheVariants as Data
 use Rattle.ftp_pair_world.specs.Agreement.{Order}
-use Rattle.ftp_pair_world.specs.Claims.{AreUnmarked}
 use Rattle.ftp_pair_world.specs.Events.{is_asked_for, is_closed_by_near, is_gone, lends_none, link_opens}
 use Rattle.ftp_pair_world.specs.World.{Opened as LinkOpened, World}
 use Rattle.ftp_pair_drives.specs.Alone.{ClientIsCalm}
@@ -102,6 +101,7 @@ module _ (read : Reading) (orders : List Order) (server : Stand server_side) (ol
       leads = opens read w asked (ap (λ n. rests (near.wants (data_closed n))) (opened Level t) ∙ wants_rest (data_closed u) after.sound after.dials refl) runs;
       moment = moment;
       ahead = Opens;
+      marked = s.same.marks;
       together = record {
         beside = record {
           fits = ap accepts passive;
@@ -116,7 +116,6 @@ module _ (read : Reading) (orders : List Order) (server : Stand server_side) (ol
           reported = s.reports ∙ ap₂ (λ r n. r ++ option_to_list (report_of n)) (b.reported ∙ ap (λ o. reports ++ o) none_said) (opened Level t);
           control = s.same.control ∙ b.control;
           unready = λ e. absurd (true≢false (sym e ∙ ap is_closed_by_near opened_now));
-          marks = subst AreUnmarked (sym s.same.marks) b.marks;
           cutoff = s.same.cutoff ∙ b.cutoff;
         };
         holds = record {

@@ -16,7 +16,6 @@ use Rattle.ftp_server_drive.specs.Side.{server_side}
 use Rattle.ftp_server_model.specs.Machine.{Reading}
 use Rattle.ftp_server_model.specs.View.{View as Far}
 use Rattle.ftp_pair_world.specs.Agreement.{Order}
-use Rattle.ftp_pair_world.specs.Claims.{AreUnmarked}
 use Rattle.ftp_pair_world.specs.Events.{is_closed_by_far}
 use Rattle.ftp_pair_world.specs.World.{Opened, World}
 use Rattle.ftp_pair_drives.specs.Alone.{ClientIsCalm}
@@ -263,6 +262,7 @@ module _ (read : Reading) (orders : List Order) (server : Stand server_side) (ol
           leads = g.leads;
           moment = moment;
           ahead = ahead;
+          marked = e.marks;
           together = record {
             beside = record {
               fits = b.fits;
@@ -278,7 +278,6 @@ module _ (read : Reading) (orders : List Order) (server : Stand server_side) (ol
               reported = e.reports ∙ b.reported ∙ ap₂ (λ o r. r ++ o) (none_before ∙ sym none_then) (sym (append-nil reports));
               control = e.control ∙ b.control;
               unready = λ c. ap (λ (f : Far). is_ready f.session.connection) e.far ∙ (upload_takes w.far.session.connection l.far).begun;
-              marks = subst AreUnmarked (sym e.marks) b.marks;
               cutoff = e.cutoff ∙ b.cutoff;
             };
             holds = t.holds;

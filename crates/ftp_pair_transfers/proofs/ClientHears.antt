@@ -15,7 +15,6 @@ use Rattle.ftp_server_model.specs.Machine.{IsReading, Reading}
 use Rattle.ftp_server_model.specs.View.{View as Far}
 use Rattle.ftp_server_model.specs.declared.session.ServerLink.TheVariants as Data
 use Rattle.ftp_pair_world.specs.Agreement.{Order}
-use Rattle.ftp_pair_world.specs.Claims.{AreUnmarked}
 use Rattle.ftp_pair_world.specs.Events.{is_closed_by_near}
 use Rattle.ftp_pair_world.specs.World.{World}
 use Rattle.ftp_pair_agreement.specs.Over.{OverRuns}
@@ -191,6 +190,7 @@ module _ (read : Reading) (begun : List Order) (server : Stand server_side) (old
             leads = leads;
             moment = moment;
             ahead = ahead;
+            marked = s.same.marks;
             together = record {
               beside = record {
                 fits = b.fits;
@@ -205,7 +205,6 @@ module _ (read : Reading) (begun : List Order) (server : Stand server_side) (old
                 reported = reported;
                 control = s.same.control ∙ b.control;
                 unready = λ e. ap (λ (f : Far). is_ready f.session.connection) s.far ∙ unready e;
-                marks = subst AreUnmarked (sym s.same.marks) b.marks;
                 cutoff = s.same.cutoff ∙ b.cutoff;
               };
               holds = t.holds;
@@ -303,6 +302,7 @@ module _ (read : Reading) (begun : List Order) (server : Stand server_side) (old
               leads = leads_then read [] [] w (settled now) p.new leads p.leads;
               moment = moment;
               ahead = Parted h.accepted;
+              marked = p.marks ∙ s.same.marks;
               together = record {
                 beside = record {
                   fits = h.fits;
@@ -317,7 +317,6 @@ module _ (read : Reading) (begun : List Order) (server : Stand server_side) (old
                   reported = p.reports ∙ reported;
                   control = p.control ∙ s.same.control ∙ b.control;
                   unready = λ e. absurd (true≢false (sym e ∙ p.unclosed));
-                  marks = subst AreUnmarked (sym (p.marks ∙ s.same.marks)) b.marks;
                   cutoff = p.cutoff ∙ s.same.cutoff ∙ b.cutoff;
                 };
                 holds = h.holds;

@@ -17,9 +17,8 @@ use Rattle.ftp_server_model.specs.Calls.{clock_step}
 use Rattle.ftp_server_model.specs.Machine.{IsReading, Reading}
 use Rattle.ftp_tree.specs.Sound.{last_second}
 use Rattle.ftp_pair_world.specs.Agreement.{Order, Single}
-use Rattle.ftp_pair_world.specs.Claims.{AreUnmarked}
 use Rattle.ftp_pair_world.specs.Events.{is_asked_for, is_closed_by_far, is_closed_by_near, is_gone}
-use Rattle.ftp_pair_world.specs.World.{Gone, Mark, World}
+use Rattle.ftp_pair_world.specs.World.{Gone, World}
 use Rattle.ftp_pair_drives.specs.Alone.{ClientIsCalm}
 use Rattle.ftp_pair_drives.specs.Between.{Between, Near as TheClient, sent}
 use Rattle.ftp_pair_drives.proofs.Taken.{free_none, free_same, taken}
@@ -35,11 +34,6 @@ use Rattle.ftp_pair_transfers.specs.Deeds.{IsCarried}
 use Rattle.ftp_pair_transfers.proofs.Known.{Known, is_near_held}
 use Rattle.ftp_pair_transfers.proofs.Settling.{NearSettles, near_settles}
 use Rattle.ftp_pair_transfers.proofs.Twins.{begun_too, near_said}
-
--- an operation that begins has no mark
-pub more_unmarked : (marks : List (List Mark)) → AreUnmarked marks → AreUnmarked (marks ++ [] ∷ [])
-more_unmarked [] unmarked = (refl, tt)
-more_unmarked (mark ∷ marks) unmarked = (unmarked.0, more_unmarked marks unmarked.1)
 
 module _ (read : Reading) (reads : IsReading read) (orders : List Order) (server : Stand server_side) (old new : Stand client_side) (reports : List Said)
     (w : World)
@@ -69,6 +63,7 @@ module _ (read : Reading) (reads : IsReading read) (orders : List Order) (server
         leads = near_says read octets rest w (rested moment ahead between told server old reports w b serves before) owed;
         moment = moment;
         ahead = ahead;
+        marked = refl;
         together = record {
           beside = record {
             fits = b.fits;
@@ -84,7 +79,6 @@ module _ (read : Reading) (reads : IsReading read) (orders : List Order) (server
                 ∙ ap (λ r. r ++ option_to_list (report_of u)) (sym (append-nil reports));
             control = b.control;
             unready = b.unready;
-            marks = b.marks;
             cutoff = b.cutoff;
           };
           holds = subst (λ (m : Between). Holds ahead m.far server.owner.end.server.view.session) (sym can) t.holds;
@@ -129,6 +123,7 @@ module _ (read : Reading) (reads : IsReading read) (orders : List Order) (server
         leads = begins read op at timed w r idle.link (ap is_busy near_is ∙ free) asks wants;
         moment = at;
         ahead = ahead;
+        marked = s.same.marks;
         together = record {
           beside = record {
             fits = b.fits;
@@ -143,7 +138,6 @@ module _ (read : Reading) (reads : IsReading read) (orders : List Order) (server
             reported = s.reports ∙ ap₂ (λ r n. r ++ option_to_list (report_of n)) (b.reported ∙ ap (λ o. reports ++ option_to_list o) (free_none v free)) begun;
             control = s.same.control ∙ b.control;
             unready = λ e. absurd (true≢false (sym e ∙ ap is_closed_by_near link));
-            marks = subst AreUnmarked (sym s.same.marks) (more_unmarked w.marks b.marks);
             cutoff = s.same.cutoff ∙ b.cutoff;
           };
           holds = t.holds;

@@ -63,6 +63,7 @@ module _ (read : Reading) (orders : List Order) (server : Stand server_side) (ol
     leads = leads_none read w;
     moment = moment;
     ahead = ahead;
+    marked = refl;
     together = record {
       beside = record {
         fits = t.beside.fits;
@@ -76,7 +77,6 @@ module _ (read : Reading) (orders : List Order) (server : Stand server_side) (ol
         reported = t.beside.reported ∙ ap (λ l. reports ++ l) said ∙ sym (append_assoc reports more (option_to_list (report_of u)));
         control = t.beside.control;
         unready = t.beside.unready;
-        marks = t.beside.marks;
         cutoff = t.beside.cutoff;
       };
       holds = subst (λ (h : Hold). Holds ahead h server.owner.end.server.view.session) (sym hold) t.holds;

@@ -13,7 +13,6 @@ use Rattle.ftp_server_drive.specs.Side.{server_side}
 use Rattle.ftp_server_model.specs.Machine.{Reading}
 use Rattle.ftp_server_model.specs.View.{View as Far}
 use Rattle.ftp_pair_world.specs.Agreement.{Order}
-use Rattle.ftp_pair_world.specs.Claims.{AreUnmarked}
 use Rattle.ftp_pair_world.specs.Events.{DataToClient, is_closed_by_far, is_closed_by_near, pushed}
 use Rattle.ftp_pair_world.specs.World.{World}
 use Rattle.ftp_pair_drives.specs.Alone.{ClientIsCalm}
@@ -154,6 +153,7 @@ module _ (read : Reading) (orders : List Order) (server : Stand server_side) (ol
             leads = near_takes read octet more rest w r queue may wants (pushed read DataToClient (length all) w).came refl;
             moment = moment;
             ahead = ahead;
+            marked = s.same.marks;
             together = record {
               beside = record {
                 fits = b.fits;
@@ -168,7 +168,6 @@ module _ (read : Reading) (orders : List Order) (server : Stand server_side) (ol
                 reported = s.reports ∙ ap₂ (λ r n. r ++ option_to_list (report_of n)) (b.reported ∙ ap (λ o. reports ++ o) none_said) got;
                 control = s.same.control ∙ b.control;
                 unready = λ e. ap (λ (f : Far). is_ready f.session.connection) s.far ∙ b.unready (ap is_closed_by_near (sym link) ∙ e);
-                marks = subst AreUnmarked (sym s.same.marks) b.marks;
                 cutoff = s.same.cutoff ∙ b.cutoff;
               };
               holds = t.holds;

@@ -16,7 +16,6 @@ use Rattle.ftp_direct.specs.Direct.{State}
 use Rattle.ftp_server_model.specs.Machine.{IsReading, Reading}
 use Rattle.ftp_server_model.specs.View.{View as Far}
 use Rattle.ftp_server_model.specs.declared.session.ServerLink.TheVariants as Data
-use Rattle.ftp_pair_world.specs.Claims.{AreUnmarked}
 use Rattle.ftp_pair_world.specs.Agreement.{Order}
 use Rattle.ftp_pair_world.specs.Events.{is_closed_by_far, is_closed_by_near}
 use Rattle.ftp_pair_world.specs.World.{ClosedByFar, Gone, World, gone}
@@ -133,6 +132,7 @@ module _ (read : Reading) (begun : List Order) (server : Stand server_side) (old
                 (ap (λ n. rests (near.wants (data_closed n))) ended ∙ wants_rest (data_closed u) sound portless refl);
             moment = moment;
             ahead = ahead;
+            marked = s.same.marks;
             together = record {
               beside = record {
                 fits = b.fits;
@@ -149,7 +149,6 @@ module _ (read : Reading) (begun : List Order) (server : Stand server_side) (old
                 reported = s.reports ∙ ap₂ (λ r n. r ++ option_to_list (report_of n)) (b.reported ∙ ap (λ o. reports ++ o) none_said) ended;
                 control = s.same.control ∙ b.control;
                 unready = λ e. absurd (true≢false (sym e ∙ ap is_closed_by_near link_then));
-                marks = subst AreUnmarked (sym s.same.marks) b.marks;
                 cutoff = s.same.cutoff ∙ b.cutoff;
               };
               holds = subst (λ (m : Between). Holds ahead m.far x.session) (sym can.2) t.holds;

@@ -28,7 +28,9 @@ use Rattle.ftp_pair_transfers.proofs.Ahead.{keeps}
 use Rattle.ftp_pair_transfers.specs.Deeds.{begun_at, number_in}
 use Rattle.ftp_pair_transfers.specs.Claims.{IsNear, TransfersAgree, TransfersAreTheDirectRun, TransfersPartingAgree}
 use Rattle.ftp_pair_deeds.proofs.Parting.{cut_report, parts}
-use Rattle.ftp_pair_transfers.proofs.Reaching.{transfers_are_of_worlds}
+use Rattle.ftp_pair_transfers.specs.Refusals.{TriesAgree, TriesPartingAgree, marks_in}
+use Rattle.ftp_pair_transfers.proofs.Reaching.{tries_are_of_worlds}
+use Rattle.ftp_pair_transfers.proofs.Trying.{asks_unmarked, did_try}
 
 -- no deed begins an upload over breaks as an order of its own
 by_single : (moment : ℕ) (deed : Deed client_side) → AreSingle (begun_by moment deed)
@@ -48,22 +50,20 @@ in_single moments (deed ∷ before) =
     both_single (begun_at moments before) (begun_by (moments (number_in before)) deed) (in_single moments before) (by_single (moments (number_in before)) deed)
 
 -- the world agrees, and so do they
-pub transfers_agree : TransfersAgree
-transfers_agree b fair moments timed turns between server client did =
-    let o = transfers_are_of_worlds reading_exists.0 reading_exists.1 b fair moments timed turns between server client did in
+pub tries_agree : TriesAgree
+tries_agree b fair moments timed turns between server client did =
+    let o = tries_are_of_worlds reading_exists.0 reading_exists.1 b fair moments timed turns between server client did in
     let w = o.world in
     let s = o.both in
     let v : Far = server.owner.end.server.view in
     let begun : List Order = begun_at moments (client_deeds turns) in
     let agree : WorldAgrees (state_of b) begun w = agrees-always reading_exists.0 reading_exists.1 b fair o.events begun w o.timed o.leads in
     let said : List Said = reports_in (client_deeds turns) ++ option_to_list (report_of client.owner.end.view) in
-    let table : w.far.session.table ≡ v.session.table = ap (λ (f : Far). f.session.table) s.far ∙ (keeps s.ahead v s.fits).table in (
-      w.marks,
-      s.marks,
-      subst (λ (t : Table). Agrees (state_of b) begun w.marks None said t) table
-          (subst (λ (r : List Said). Agrees (state_of b) begun w.marks None r w.far.session.table) s.reported
-          (subst (λ (c : Option ℕ). Agrees (state_of b) begun w.marks c w.reports w.far.session.table) s.cutoff agree)),
-    )
+    let table : w.far.session.table ≡ v.session.table = ap (λ (f : Far). f.session.table) s.far ∙ (keeps s.ahead v s.fits).table in
+    subst (λ (t : Table). Agrees (state_of b) begun (marks_in (client_deeds turns)) None said t) table
+    (subst (λ (m : List (List Mark)). Agrees (state_of b) begun m None said w.far.session.table) s.marked
+    (subst (λ (r : List Said). Agrees (state_of b) begun w.marks None r w.far.session.table) s.reported
+    (subst (λ (c : Option ℕ). Agrees (state_of b) begun w.marks c w.reports w.far.session.table) s.cutoff agree)))
 
 -- how a link is over is all the same to the report of a client that is told that the control connection ended
 near_cut : (there here : Near) → IsNear there here → report_of (control_end there) ≡ report_of (control_end here)
@@ -81,10 +81,10 @@ near_cut there here (inr told) = ap (λ n. report_of (control_end n)) told.is �
     by Stands.Entered job = refl
 
 -- one more event ends the control connection for both
-pub transfers_parting_agree : TransfersPartingAgree
-transfers_parting_agree b fair moments timed turns between server client did =
+pub tries_parting_agree : TriesPartingAgree
+tries_parting_agree b fair moments timed turns between server client did =
     let read = reading_exists.0 in
-    let o = transfers_are_of_worlds read reading_exists.1 b fair moments timed turns between server client did in
+    let o = tries_are_of_worlds read reading_exists.1 b fair moments timed turns between server client did in
     let w = o.world in
     let s = o.both in
     let f : Far = server.owner.end.server.view in
@@ -99,18 +99,32 @@ transfers_parting_agree b fair moments timed turns between server client did =
     let near_is : report_of (control_end w.near) ≡ report_of (control_end (taken v)) =
     near_cut w.near (data_closed (reports_now v)) s.near
     ∙ ap (λ n. report_of (control_end n)) (ap data_closed (reports_is v)) ∙ cut_report false (taken v) in
-    let told : p.new.reports ≡ reports ++ option_to_list (report_of (control_end v)) =
+    let said : List Said = reports ++ option_to_list (report_of (control_end v)) in
+    let told : p.new.reports ≡ said =
     p.reports ∙ ap₂ (λ r n. r ++ option_to_list n) s.reported near_is
     ∙ append_assoc reports (option_to_list (report_of v)) (option_to_list (report_of (control_end (taken v)))) ∙ ap (λ l. reports ++ l) (cut_alike v) in
     let table : p.new.far.session.table ≡ f.session.table =
-    p.table ∙ ap (λ (x : Far). x.session.table) s.far ∙ (keeps s.ahead f s.fits).table in (
-      w.marks,
-      s.marks,
-      subst (λ (t : Table). Agrees (state_of b) begun w.marks (Some (length w.marks)) (reports ++ option_to_list (report_of (control_end v))) t) table
-          (subst (λ (r : List Said). Agrees (state_of b) begun w.marks (Some (length w.marks)) r p.new.far.session.table) told
-          (subst (λ (c : Option ℕ). Agrees (state_of b) begun w.marks c p.new.reports p.new.far.session.table) p.cutoff
-          (subst (λ (m : List (List Mark)). Agrees (state_of b) begun m p.new.cutoff p.new.reports p.new.far.session.table) p.marks agree))),
-    )
+    p.table ∙ ap (λ (x : Far). x.session.table) s.far ∙ (keeps s.ahead f s.fits).table in
+    subst (λ (t : Table). Agrees (state_of b) begun (marks_in (client_deeds turns)) (Some (length (marks_in (client_deeds turns)))) said t) table
+    (subst (λ (m : List (List Mark)). Agrees (state_of b) begun m (Some (length m)) said p.new.far.session.table) s.marked
+    (subst (λ (r : List Said). Agrees (state_of b) begun w.marks (Some (length w.marks)) r p.new.far.session.table) told
+    (subst (λ (c : Option ℕ). Agrees (state_of b) begun w.marks c p.new.reports p.new.far.session.table) p.cutoff
+    (subst (λ (m : List (List Mark)). Agrees (state_of b) begun m p.new.cutoff p.new.reports p.new.far.session.table) p.marks agree))))
+
+-- so it is where no dial fails, without marks
+pub transfers_agree : TransfersAgree
+transfers_agree b fair moments timed turns between server client did = (
+  marks_in (client_deeds turns),
+  asks_unmarked (client_deeds turns) did.client_start client did.client_led did.gives,
+  tries_agree b fair moments timed turns between server client (did_try b moments turns between server client did),
+)
+
+pub transfers_parting_agree : TransfersPartingAgree
+transfers_parting_agree b fair moments timed turns between server client did = (
+  marks_in (client_deeds turns),
+  asks_unmarked (client_deeds turns) did.client_start client did.client_led did.gives,
+  tries_parting_agree b fair moments timed turns between server client (did_try b moments turns between server client did),
+)
 
 -- agreement without marks is the direct run, where all is reported
 pub transfers_are_the_direct_run : TransfersAreTheDirectRun

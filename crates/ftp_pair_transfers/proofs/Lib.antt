@@ -23,10 +23,12 @@ pub mod ClientStays
 pub mod ClientMoves
 pub mod ClientHears
 pub mod ClientDials
+pub mod ClientRefused
 pub mod ClientGiving
 pub mod Called
 pub mod Simulating
 pub mod Reaching
+pub mod Trying
 pub mod Concluding
 pub mod Ending
 pub mod ServerGiving

@@ -37,6 +37,7 @@ use Rattle.ftp_pair_transfers.proofs.Ending.{answers_are, answers_go, as_many, o
 use Rattle.ftp_pair_transfers.proofs.Resting.{idles}
 use Rattle.ftp_pair_transfers.proofs.Reaching.{reaches, shown_itself}
 use Rattle.ftp_pair_transfers.proofs.Simulating.{Reached, in_carried}
+use Rattle.ftp_pair_transfers.proofs.Trying.{asks_try}
 
 -- ---- the last deeds
 
@@ -89,8 +90,9 @@ quits_next : (read : Reading) → IsReading read → (b : Beginning) → IsFair 
 quits_next read reads b fair moments timed turns between server client did free entered told =
     let n : Near = client.owner.end.view in
     let v : Far = server.owner.end.server.view in
+    let tries = asks_try (client_deeds turns) did.client_start client did.client_led did.gives in
     let at = reaches read reads moments timed b fair turns between did.happened did.resets did.server_start server did.client_start client did.begins did.untold
-    did.unwritten did.server_unwritten did.client_untold did.server_led did.client_led did.takes did.gives did.ports did.told in
+    did.unwritten did.server_unwritten did.client_untold did.server_led did.client_led did.takes tries did.ports did.told in
     let o = subst (λ c. Reached read reads moments timed b fair (begun_at moments (client_deeds turns)) at.seen (listened_in (server_deeds turns)) server c
     (reports_in (client_deeds turns))) (shown_itself between client at.shown at.shows free) at.reached in
     let w = o.world in
@@ -100,7 +102,7 @@ quits_next read reads b fair moments timed turns between server client did free 
     let none = ap (λ r. reports_in (client_deeds turns) ++ option_to_list r) (free_none n free) ∙ append-nil (reports_in (client_deeds turns)) in
     let all : length w.reports ≡ length begun = ap length s.reported ∙ ap length none ∙ told in
     let standing : w.near.standing ≡ Standings.Entered = ap (λ (u : Near). u.standing) s.near ∙ entered in
-    let carried = in_carried moments (client_deeds turns) did.client_start client did.client_led did.gives in
+    let carried = in_carried moments (client_deeds turns) did.client_start client did.client_led tries in
     let idle = idles read reads (state_of b) begun carried w s.unready s.cutoff all runs standing in
     begins_quit server between o.serves (ap (λ c. server.unheard ++ c.to_server) (sym at.is_seen.control) ∙ sym s.to_server ∙ idle.to_server)
     (rests_now o.ahead v s.fits (idle_at o.last w.far _ s.far idle.far))

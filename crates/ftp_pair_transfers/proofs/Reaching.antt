@@ -17,7 +17,7 @@ use Rattle.ftp_server_model.specs.Calls as far
 use Rattle.ftp_server_model.specs.Machine.{IsReading, Reading}
 use Rattle.ftp_pair_world.specs.Agreement.{Order}
 use Rattle.ftp_pair_world.specs.Claims.{Beginning, IsFair, state_of, world_of}
-use Rattle.ftp_pair_world.specs.World.{World}
+use Rattle.ftp_pair_world.specs.World.{Mark, World}
 use Rattle.ftp_pair_drives.specs.Alone.{begun_by, reported_by, reports_in}
 use Rattle.ftp_pair_drives.specs.Between.{Between, CanTurn, Client, Far as TheServer, Happened, Has_lost, IsStanding, Near as TheClient, Server, Turn, client_deeds, nothing_yet, server_deeds, with_hold}
 use Rattle.ftp_pair_drives.specs.Claims.{Begins}
@@ -32,8 +32,9 @@ use Rattle.ftp_pair_deeds.proofs.Plain.{IsPlainly}
 use Rattle.ftp_pair_deeds.proofs.Serves.{deed_serves}
 use Rattle.ftp_pair_deeds.proofs.Stands.{ServerServes}
 use Rattle.ftp_pair_transfers.specs.Ahead.{Level, far_ahead, is_parted}
-use Rattle.ftp_pair_transfers.specs.Claims.{IsNear, TransfersAreOfWorlds}
-use Rattle.ftp_pair_transfers.specs.Deeds.{AreMoments, AreResets, AreToldAt, AsksAlong, ClientTransfers, IsServing, IsToldAt, ServerTransfers, ServesAlong, begun_at, last_of, number_in}
+use Rattle.ftp_pair_transfers.specs.Claims.{IsNear}
+use Rattle.ftp_pair_transfers.specs.Deeds.{AreMoments, AreResets, AreToldAt, IsServing, IsToldAt, ServerTransfers, ServesAlong, begun_at, last_of, number_in}
+use Rattle.ftp_pair_transfers.specs.Refusals.{ClientTries, TriesAlong, TriesAreOfWorlds, marked_by, marks_in}
 use Rattle.ftp_pair_transfers.proofs.Beside.{Goes, Together}
 use Rattle.ftp_pair_transfers.proofs.Broke.{IsShown, broke_does, with_view}
 use Rattle.ftp_pair_transfers.proofs.Called.{BreaksNone, StaysFresh, far_fresh}
@@ -166,115 +167,126 @@ module _ (read : Reading) (reads : IsReading read) (moments : ℕ → ℕ) (time
 
   -- as a session begins
   starts_so : (server : Stand server_side) (client : Stand client_side) → Begins b server client → server.owner.lane.untold ≡ []
-      → client.owner.lane.unwritten ≡ [] → server.owner.lane.unwritten ≡ [] → client.owner.lane.untold ≡ [] → At [] nothing_yet 0 server client []
-  starts_so server client begins untold unwritten far_unwritten near_untold = record {
-    world = world_of b;
-    leads = leads_none read (world_of b);
-    last = 0;
-    ahead = Level;
-    together = record {
-      beside = record {
-        fits = ap (λ f. is_asked f.session.connection) begins.server_view;
-        near = ap (λ n. near.data_closed (taken n)) (sym begins.client_view);
-        far = ap (λ f. far.clock_step 0 (far_ahead Level f)) (sym begins.server_view);
-        to_server = ap (λ q. q ++ []) (sym begins.server_unheard);
-        to_client = ap (λ q. q ++ []) (sym begins.client_unheard);
-        rising = ap₂ (λ q r. q ++ ([] ++ r)) (sym untold) (sym unwritten);
-        falling = ap₂ (λ q r. q ++ ([] ++ r)) (sym near_untold) (sym far_unwritten);
-        listens = refl;
-        reported = ap (λ n. option_to_list (near.report_of n)) (sym begins.client_view);
-        control = refl;
-        unready = λ e. absurd (true≢false (sym e));
-        marks = tt;
-        cutoff = refl;
+      → client.owner.lane.unwritten ≡ [] → server.owner.lane.unwritten ≡ [] → client.owner.lane.untold ≡ []
+      → (o : At [] nothing_yet 0 server client []) × (o.world.marks ≡ [])
+  starts_so server client begins untold unwritten far_unwritten near_untold = (
+    record {
+      world = world_of b;
+      leads = leads_none read (world_of b);
+      last = 0;
+      ahead = Level;
+      together = record {
+        beside = record {
+          fits = ap (λ f. is_asked f.session.connection) begins.server_view;
+          near = ap (λ n. near.data_closed (taken n)) (sym begins.client_view);
+          far = ap (λ f. far.clock_step 0 (far_ahead Level f)) (sym begins.server_view);
+          to_server = ap (λ q. q ++ []) (sym begins.server_unheard);
+          to_client = ap (λ q. q ++ []) (sym begins.client_unheard);
+          rising = ap₂ (λ q r. q ++ ([] ++ r)) (sym untold) (sym unwritten);
+          falling = ap₂ (λ q r. q ++ ([] ++ r)) (sym near_untold) (sym far_unwritten);
+          listens = refl;
+          reported = ap (λ n. option_to_list (near.report_of n)) (sym begins.client_view);
+          control = refl;
+          unready = λ e. absurd (true≢false (sym e));
+          cutoff = refl;
+        };
+        holds = record {
+          shut = λ e. ap (λ f. is_open f.session.connection) begins.server_view;
+          had = λ e. absurd (both e (ap (λ f. is_open f.session.connection) begins.server_view));
+          called = λ c e. absurd (true≢false (sym c));
+          opened = λ e. absurd (true≢false (sym e));
+        };
+        comes = record {
+          bare = λ e. untold;
+          spare = λ e. untold;
+          over = λ e. untold;
+          shut = λ e. ap (λ f. is_open f.session.connection) begins.server_view;
+        };
+        serves = record { spare = λ e. far_unwritten; bare = λ e. far_unwritten };
+        takes = record { bare = λ e. near_untold; over = λ e. near_untold };
+        gives = record { spare = λ e. unwritten; bare = λ e. unwritten };
+        keeping = record {
+          had = λ e. absurd (true≢false (sym e));
+          shut = λ e. absurd (both e (ap (λ n. n.closing) begins.client_view));
+          over = λ e. refl;
+        };
+        twin = λ e. absurd (true≢false (sym e));
       };
-      holds = record {
-        shut = λ e. ap (λ f. is_open f.session.connection) begins.server_view;
-        had = λ e. absurd (both e (ap (λ f. is_open f.session.connection) begins.server_view));
-        called = λ c e. absurd (true≢false (sym c));
-        opened = λ e. absurd (true≢false (sym e));
-      };
-      comes = record {
-        bare = λ e. untold;
-        spare = λ e. untold;
-        over = λ e. untold;
-        shut = λ e. ap (λ f. is_open f.session.connection) begins.server_view;
-      };
-      serves = record { spare = λ e. far_unwritten; bare = λ e. far_unwritten };
-      takes = record { bare = λ e. near_untold; over = λ e. near_untold };
-      gives = record { spare = λ e. unwritten; bare = λ e. unwritten };
-      keeping = record {
-        had = λ e. absurd (true≢false (sym e));
-        shut = λ e. absurd (both e (ap (λ n. n.closing) begins.client_view));
-        over = λ e. refl;
-      };
-      twin = λ e. absurd (true≢false (sym e));
-    };
-    serves = record { running = ap (λ f. f.session.life) begins.server_view; none_waits = ap (λ f. f.waiting) begins.server_view };
-    plain = subst IsPlainly (sym begins.client_view) (record { job = tt; port = refl; run = refl });
-    sound = ap (λ n. is_sound_at n.standing) begins.client_view;
-    fresh = λ e. absurd (true≢false (sym e));
-  }
+      serves = record { running = ap (λ f. f.session.life) begins.server_view; none_waits = ap (λ f. f.waiting) begins.server_view };
+      plain = subst IsPlainly (sym begins.client_view) (record { job = tt; port = refl; run = refl });
+      sound = ap (λ n. is_sound_at n.standing) begins.client_view;
+      fresh = λ e. absurd (true≢false (sym e));
+    },
+    refl,
+  )
 
-  -- after deeds, a world is beside both drives, as it sees what lies between
-  pub record Seen (begun : List Order) (between : Between) (told : ℕ) (server : Stand server_side) (client : Stand client_side)
+  -- after deeds, a world is beside both drives, as it sees what lies between, and has these marks
+  pub record Seen (marks : List (List Mark)) (begun : List Order) (between : Between) (told : ℕ) (server : Stand server_side) (client : Stand client_side)
       (reports : List Said) : Type 0 where
     pub seen : Between
     pub is_seen : IsSeen between seen
     pub shown : Stand client_side
     pub shows : IsShown between client shown
     pub reached : At begun seen told server shown reports
+    pub marked : reached.world.marks ≡ marks
 
-  -- a deed of a client as a world sees it, but that it is told of a break
-  client_goes_on : (deed : Deed client_side) → BreaksNone deed → (old new : Stand client_side) → ClientTransfers deed old.owner new.owner
+  -- a deed of a client as a world sees it, but that it is told of a break: what becomes of the marks is by the deed
+  client_goes_on : (deed : Deed client_side) → BreaksNone deed → (old new : Stand client_side) → ClientTries deed old.owner new.owner
       → (deeds : List (Deed client_side)) → AreCarried (begun_at moments deeds) → (s q : Between) → CanTurn (Client deed) s q
-      → (told : ℕ) (server : Stand server_side) (reports : List Said) → At (begun_at moments deeds) s told server old reports → Done deed old new
-      → At (begun_at moments (deed ∷ deeds)) q told server new (reports ++ reported_by deed)
+      → (told : ℕ) (server : Stand server_side) (reports : List Said) → (o : At (begun_at moments deeds) s told server old reports) → Done deed old new
+      → (next : At (begun_at moments (deed ∷ deeds)) q told server new (reports ++ reported_by deed)) × (next.world.marks ≡ marked_by deed o.world.marks)
   client_goes_on deed unbroken old new is deeds puts s q can told server reports o did =
       let begun : List Order = begun_at moments deeds in
       let plain = client_plain read reads moments timed b fair deed unbroken old new is deeds puts s told server reports o did in
-      let went = client_goes read reads moments timed b fair deed unbroken old new is deeds puts s q can told server reports o plain did in
-      record {
-        world = went.0.world;
-        leads = leads_then read begun (begun_by (moments (number_in deeds)) deed) (world_of b) o.world went.0.world o.leads went.0.leads;
-        last = went.0.moment;
-        ahead = went.0.ahead;
-        together = subst (λ l. Together read l went.0.moment went.0.ahead q told server new (reports ++ reported_by deed) went.0.world)
-            (orders_are (moments (number_in deeds)) deed begun) went.0.together;
-        serves = o.serves;
-        plain = plain;
-        sound = went.1;
-        fresh = client_fresh read reads moments timed b fair deed unbroken old new is deeds puts s q can told server reports o did;
-      }
+      let went = client_goes read reads moments timed b fair deed unbroken old new is deeds puts s q can told server reports o plain did in (
+        record {
+          world = went.0.world;
+          leads = leads_then read begun (begun_by (moments (number_in deeds)) deed) (world_of b) o.world went.0.world o.leads went.0.leads;
+          last = went.0.moment;
+          ahead = went.0.ahead;
+          together = subst (λ l. Together read l went.0.moment went.0.ahead q told server new (reports ++ reported_by deed) went.0.world)
+              (orders_are (moments (number_in deeds)) deed begun) went.0.together;
+          serves = o.serves;
+          plain = plain;
+          sound = went.1;
+          fresh = client_fresh read reads moments timed b fair deed unbroken old new is deeds puts s q can told server reports o did;
+        },
+        went.0.marked,
+      )
 
   -- one but that it is told of a break
-  client_sees_on : (deed : Deed client_side) → BreaksNone deed → (old new : Stand client_side) → ClientTransfers deed old.owner new.owner
+  client_sees_on : (deed : Deed client_side) → BreaksNone deed → (old new : Stand client_side) → ClientTries deed old.owner new.owner
       → (deeds : List (Deed client_side)) → AreCarried (begun_at moments deeds) → (p q : Between) → CanTurn (Client deed) p q → (told : ℕ)
-      (server : Stand server_side) (reports : List Said) → Seen (begun_at moments deeds) p told server old reports → Done deed old new
-      → Seen (begun_at moments (deed ∷ deeds)) q told server new (reports ++ reported_by deed)
-  client_sees_on deed unbroken old new is deeds puts p q can told server reports at did = by at.shows
+      (server : Stand server_side) (reports : List Said) (marks : List (List Mark)) → Seen marks (begun_at moments deeds) p told server old reports
+      → Done deed old new → Seen (marked_by deed marks) (begun_at moments (deed ∷ deeds)) q told server new (reports ++ reported_by deed)
+  client_sees_on deed unbroken old new is deeds puts p q can told server reports marks at did = by at.shows
     where
-      by : IsShown p old at.shown → Seen (begun_at moments (deed ∷ deeds)) q told server new (reports ++ reported_by deed)
+      by : IsShown p old at.shown → Seen (marked_by deed marks) (begun_at moments (deed ∷ deeds)) q told server new (reports ++ reported_by deed)
       by (inl same) =
           let there = near_done p q at.seen at.is_seen (touch_in deed) can in
-          let o = subst (λ c. At (begun_at moments deeds) at.seen told server c reports) same at.reached in
+          let o = subst (λ c. (o : At (begun_at moments deeds) at.seen told server c reports) × (o.world.marks ≡ marks)) same (at.reached, at.marked) in
+          let went = client_goes_on deed unbroken old new is deeds puts at.seen there.after there.can told server reports o.0 did in
           record {
             seen = there.after;
             is_seen = there.is_seen;
             shown = new;
             shows = inl refl;
-            reached = client_goes_on deed unbroken old new is deeds puts at.seen there.after there.can told server reports o did;
+            reached = went.0;
+            marked = went.1 ∙ ap (marked_by deed) o.1;
           }
       by (inr broke) =
           let there = near_done p q at.seen at.is_seen (touch_in deed) can in
           let so = broke_does p q old new broke.0 broke.2 deed is did can in
-          let o = subst (λ c. At (begun_at moments deeds) at.seen told server c reports) broke.1 at.reached in
+          let o = subst (λ c. (o : At (begun_at moments deeds) at.seen told server c reports) × (o.world.marks ≡ marks)) broke.1 (at.reached, at.marked) in
+          let went = client_goes_on deed unbroken (with_view broke.0 old) so.after so.is deeds puts at.seen there.after there.can told server reports o.0
+          so.did in
           record {
             seen = there.after;
             is_seen = there.is_seen;
             shown = so.after;
             shows = so.shows;
-            reached = client_goes_on deed unbroken (with_view broke.0 old) so.after so.is deeds puts at.seen there.after there.can told server reports o so.did;
+            reached = went.0;
+            marked = went.1 ∙ ap (marked_by deed) o.1;
           }
 
   -- where the server reset it, no octets of it come
@@ -289,17 +301,17 @@ module _ (read : Reading) (reads : IsReading read) (moments : ℕ → ℕ) (time
   }
 
   -- a deed of the client
-  client_sees : (deed : Deed client_side) (old new : Stand client_side) → ClientTransfers deed old.owner new.owner → (deeds : List (Deed client_side))
+  client_sees : (deed : Deed client_side) (old new : Stand client_side) → ClientTries deed old.owner new.owner → (deeds : List (Deed client_side))
       → AreCarried (begun_at moments deeds) → (p q : Between) → CanTurn (Client deed) p q → IsResetFor deed p → (told : ℕ) (server : Stand server_side)
-      (reports : List Said) → Seen (begun_at moments deeds) p told server old reports → Done deed old new
-      → Seen (begun_at moments (deed ∷ deeds)) q told server new (reports ++ reported_by deed)
-  client_sees (Other Break) old new is deeds puts p q can reset told server reports at did = by at.shows
+      (reports : List Said) (marks : List (List Mark)) → Seen marks (begun_at moments deeds) p told server old reports → Done deed old new
+      → Seen (marked_by deed marks) (begun_at moments (deed ∷ deeds)) q told server new (reports ++ reported_by deed)
+  client_sees (Other Break) old new is deeds puts p q can reset told server reports marks at did = by at.shows
     where
-      by : IsShown p old at.shown → Seen (begun_at moments (Other Break ∷ deeds)) q told server new (reports ++ [])
+      by : IsShown p old at.shown → Seen marks (begun_at moments (Other Break ∷ deeds)) q told server new (reports ++ [])
       by (inr broke) = absurd (both broke.2.near (ap is_lost can.0))
       by (inl same) =
-          let o : At (begun_at moments deeds) at.seen told server old reports =
-          subst (λ c. At (begun_at moments deeds) at.seen told server c reports) same at.reached in
+          let so = subst (λ c. (o : At (begun_at moments deeds) at.seen told server c reports) × (o.world.marks ≡ marks)) same (at.reached, at.marked) in
+          let o : At (begun_at moments deeds) at.seen told server old reports = so.0 in
           let begun : List Order = begun_at moments deeds in
           let lost : at.seen.far ≡ Has_lost = at.is_seen.far ∙ reset in
           let k = client_breaks read reads (state_of b) begun puts server old new reports o.world is.1 o.serves
@@ -325,6 +337,7 @@ module _ (read : Reading) (reads : IsReading read) (moments : ℕ → ℕ) (time
               sound = k.sound;
               fresh = λ e. absurd (both e (ap is_called lost));
             };
+            marked = k.goes.marked ∙ so.1;
           }
         where
           shows : AreAlike new.owner.end.view (near.data_end old.owner.end.view) → IsShown q new (with_view (near.data_end old.owner.end.view) new)
@@ -338,8 +351,8 @@ module _ (read : Reading) (reads : IsReading read) (moments : ℕ → ℕ) (time
               lane = λ o. both (ap is_sound o.1) (ap (λ (l : Lane). is_sound l.fate) did.0.1);
             },
           )
-  client_sees deed old new is deeds puts p q can reset told server reports at did =
-      client_sees_on deed tt old new is deeds puts p q can told server reports at did
+  client_sees deed old new is deeds puts p q can reset told server reports marks at did =
+      client_sees_on deed tt old new is deeds puts p q can told server reports marks at did
 
   -- deed by deed
   pub reaches : (turns : List Turn) (between : Between) → (happened : Happened turns between) → AreResets turns between happened
@@ -347,19 +360,23 @@ module _ (read : Reading) (reads : IsReading read) (moments : ℕ → ℕ) (time
       → server_start.owner.lane.untold ≡ [] → client_start.owner.lane.unwritten ≡ []
       → server_start.owner.lane.unwritten ≡ [] → client_start.owner.lane.untold ≡ []
       → (server_led : Led (server_deeds turns) server_start server) (client_led : Led (client_deeds turns) client_start client)
-      → ServesAlong (server_deeds turns) server_start server server_led → AsksAlong (client_deeds turns) client_start client client_led
+      → ServesAlong (server_deeds turns) server_start server server_led → TriesAlong (client_deeds turns) client_start client client_led
       → ArePorts (server_deeds turns) → AreToldAt moments turns server_start server server_led
-      → Seen (begun_at moments (client_deeds turns)) between (listened_in (server_deeds turns)) server client (reports_in (client_deeds turns))
+      → Seen (marks_in (client_deeds turns)) (begun_at moments (client_deeds turns)) between (listened_in (server_deeds turns)) server client
+      (reports_in (client_deeds turns))
   reaches [] between happened resets server_start server client_start client begins untold unwritten far_unwritten near_untold server_led client_led takes gives
       ports told =
-      subst (λ (m : Between). Seen [] m 0 server client []) (sym happened)
-      (subst (λ (s : Stand server_side). Seen [] nothing_yet 0 s client []) (sym server_led)
-      (subst (λ (c : Stand client_side). Seen [] nothing_yet 0 server_start c []) (sym client_led) (record {
+      subst (λ (m : Between). Seen [] [] m 0 server client []) (sym happened)
+      (subst (λ (s : Stand server_side). Seen [] [] nothing_yet 0 s client []) (sym server_led)
+      (subst (λ (c : Stand client_side). Seen [] [] nothing_yet 0 server_start c []) (sym client_led) (
+      let start = starts_so server_start client_start begins untold unwritten far_unwritten near_untold in
+      record {
         seen = nothing_yet;
         is_seen = seen_itself nothing_yet;
         shown = client_start;
         shows = inl refl;
-        reached = starts_so server_start client_start begins untold unwritten far_unwritten near_untold;
+        reached = start.0;
+        marked = start.1;
       })))
   reaches (Server deed ∷ before) between happened resets server_start server client_start client begins untold unwritten far_unwritten near_untold server_led
       client_led takes gives ports
@@ -389,6 +406,7 @@ module _ (read : Reading) (reads : IsReading read) (moments : ℕ → ℕ) (time
           sound = o.sound;
           fresh = went.fresh;
         };
+        marked = went.goes.marked ∙ at.marked;
       }
   reaches (Client deed ∷ before) between happened resets server_start server client_start client begins untold unwritten far_unwritten near_untold server_led
       client_led takes gives ports
@@ -399,13 +417,13 @@ module _ (read : Reading) (reads : IsReading read) (moments : ℕ → ℕ) (time
       ports told in
       client_sees deed client_led.0 client gives.1 (client_deeds before) (in_carried moments (client_deeds before) client_start client_led.0 client_led.1
       gives.0) happened.0 between happened.2 (reset_for deed before between happened resets) (listened_in (server_deeds before)) server
-      (reports_in (client_deeds before)) at client_led.2
+      (reports_in (client_deeds before)) (marks_in (client_deeds before)) at client_led.2
 
 -- events of a world lead to what both drives hold
-pub transfers_are_of_worlds : TransfersAreOfWorlds
-transfers_are_of_worlds read reads b fair moments timed turns between server client did =
+pub tries_are_of_worlds : TriesAreOfWorlds
+tries_are_of_worlds read reads b fair moments timed turns between server client did =
     let at = reaches read reads moments timed b fair turns between did.happened did.resets did.server_start server did.client_start client did.begins did.untold
-    did.unwritten did.server_unwritten did.client_untold did.server_led did.client_led did.takes did.gives did.ports did.told in
+    did.unwritten did.server_unwritten did.client_untold did.server_led did.client_led did.takes did.tries did.ports did.told in
     let o = at.reached in
     let s = o.together.beside in
     record {
@@ -421,7 +439,7 @@ transfers_are_of_worlds read reads b fair moments timed turns between server cli
         far = s.far;
         reported = s.reported ∙ ap (λ r. reports_in (client_deeds turns) ++ option_to_list r) (shown_said between client at.shown at.shows);
         control = s.control;
-        marks = s.marks;
+        marked = at.marked;
         cutoff = s.cutoff;
       };
       granted = λ g. is_false (is_parted o.ahead) (λ e. (o.together.twin e).refused g);

@@ -18,7 +18,6 @@ use Rattle.ftp_server_model.specs.View.{View as Far}
 use Rattle.ftp_server_model.specs.declared.session.Life.TheVariants as Lives
 use Rattle.ftp_server_model.specs.declared.session.ServerLink.TheVariants as Data
 use Rattle.ftp_pair_world.specs.Agreement.{Order}
-use Rattle.ftp_pair_world.specs.Claims.{AreUnmarked}
 use Rattle.ftp_pair_world.specs.Events.{is_closed_by_near}
 use Rattle.ftp_pair_world.specs.World.{World, port_at}
 use Rattle.ftp_pair_dialogues.specs.Fetches.{giving_of}
@@ -290,6 +289,7 @@ module _ (read : Reading) (orders : List Order) (old new : Stand server_side) (c
             leads = g.leads;
             moment = moment;
             ahead = Level;
+            marked = e.marks;
             together = record {
               beside = record {
                 fits = fits;
@@ -304,7 +304,6 @@ module _ (read : Reading) (orders : List Order) (old new : Stand server_side) (c
                 reported = e.reports ∙ b.reported;
                 control = e.control ∙ b.control;
                 unready = λ x. absurd (both x e.link);
-                marks = subst AreUnmarked (sym e.marks) b.marks;
                 cutoff = e.cutoff ∙ b.cutoff;
               };
               holds = holds;

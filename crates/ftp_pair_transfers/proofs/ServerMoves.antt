@@ -17,7 +17,6 @@ use Rattle.ftp_server_model.specs.declared.session.ServerLink.{ServerLink}
 use Rattle.ftp_server_model.specs.declared.session.ServerLink.TheVariants as Data
 use Rattle.ftp_server_model.specs.declared.session.Way.TheVariants as Ways
 use Rattle.ftp_pair_world.specs.Agreement.{Order}
-use Rattle.ftp_pair_world.specs.Claims.{AreUnmarked}
 use Rattle.ftp_pair_world.specs.World.{World, port_at}
 use Rattle.ftp_pair_world.specs.Events.{is_closed_by_near}
 use Rattle.ftp_pair_drives.specs.Alone.{ServerIsCalm}
@@ -90,6 +89,7 @@ module _ (read : Reading) (reads : IsReading read) (orders : List Order) (old ne
         leads = far_says read octets g.owed w (rested moment ahead between told old client reports w b before asks) more;
         moment = moment;
         ahead = ahead;
+        marked = refl;
         together = record {
           beside = record {
             fits = subst (λ (s : Session). Fits ahead s.connection) (sym link) b.fits;
@@ -104,7 +104,6 @@ module _ (read : Reading) (reads : IsReading read) (orders : List Order) (old ne
             reported = b.reported;
             control = b.control;
             unready = b.unready;
-            marks = b.marks;
             cutoff = b.cutoff;
           };
           holds = subst (λ (m : Between). Holds ahead m.far u.session) (sym can) (subst (Holds ahead between.far) (sym link) t.holds);
@@ -186,6 +185,7 @@ module _ (read : Reading) (reads : IsReading read) (orders : List Order) (old ne
           leads = far_hears read octet (new.unheard ++ between.control.to_server) w r queue may runs;
           moment = moment;
           ahead = onward;
+          marked = f.same.marks;
           together = record {
             beside = record {
               fits = fits;
@@ -200,7 +200,6 @@ module _ (read : Reading) (reads : IsReading read) (orders : List Order) (old ne
               reported = f.reports ∙ b.reported;
               control = f.same.control ∙ b.control;
               unready = λ e. absurd (both e f.same.link);
-              marks = subst AreUnmarked (sym f.same.marks) b.marks;
               cutoff = f.same.cutoff ∙ b.cutoff;
             };
             holds = record {

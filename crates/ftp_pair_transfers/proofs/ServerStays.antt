@@ -83,6 +83,7 @@ module _ (read : Reading) (orders : List Order) (old new : Stand server_side) (c
     leads = leads_none read w;
     moment = moment;
     ahead = onward;
+    marked = refl;
     together = record {
       beside = record {
         fits = fits;
@@ -96,7 +97,6 @@ module _ (read : Reading) (orders : List Order) (old new : Stand server_side) (c
         reported = t.beside.reported;
         control = t.beside.control;
         unready = t.beside.unready;
-        marks = t.beside.marks;
         cutoff = t.beside.cutoff;
       };
       holds = holds;

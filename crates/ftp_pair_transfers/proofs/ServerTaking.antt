@@ -17,7 +17,6 @@ use Rattle.ftp_server_model.specs.Machine.{IsReading, Reading, later}
 use Rattle.ftp_server_model.specs.View.{View as Far}
 use Rattle.ftp_server_model.specs.declared.session.ServerLink.TheVariants as Data
 use Rattle.ftp_pair_world.specs.Agreement.{Order}
-use Rattle.ftp_pair_world.specs.Claims.{AreUnmarked}
 use Rattle.ftp_pair_world.specs.Events.{DataToServer, pushed}
 use Rattle.ftp_pair_world.specs.World.{ClosedByNear, World, gone, port_at}
 use Rattle.ftp_pair_agreement.specs.Over.{OverRuns}
@@ -190,6 +189,7 @@ module _ (read : Reading) (reads : IsReading read) (from : State) (begun : List 
                   (far_takes read octet more rest w rest_here queue may on.runs (pushed read DataToServer (length all) w).came refl);
               moment = moment;
               ahead = Level;
+              marked = refl;
               together = record {
                 beside = record {
                   fits = ap is_asked link ∙ takes_still.unasked;
@@ -203,7 +203,6 @@ module _ (read : Reading) (reads : IsReading read) (from : State) (begun : List 
                   reported = b.reported;
                   control = b.control;
                   unready = λ e. takes_still.begun;
-                  marks = b.marks;
                   cutoff = b.cutoff;
                 };
                 holds = record {
@@ -332,6 +331,7 @@ module _ (read : Reading) (reads : IsReading read) (from : State) (begun : List 
             leads = far_ends read w end_rested link_closed empty over.1 over.0;
             moment = u.footing.moment;
             ahead = Level;
+            marked = f.same.marks;
             together = record {
               beside = record {
                 fits = ap is_asked freed;
@@ -348,7 +348,6 @@ module _ (read : Reading) (reads : IsReading read) (from : State) (begun : List 
                 reported = f.reports ∙ b.reported;
                 control = f.same.control ∙ b.control;
                 unready = λ e. absurd (both e f.same.link);
-                marks = subst AreUnmarked (sym f.same.marks) b.marks;
                 cutoff = f.same.cutoff ∙ b.cutoff;
               };
               holds = record {

@@ -1,8 +1,8 @@
 -- Two drives that put and fetch files, as a list of a world's events: deed by deed.
 use Rattle.std.proofs.Common.{◌≡◌, ℕ, true, false, true≢false, List, [], ◌∷◌, ◌++◌, take, option_to_list, refl, sym, ap, subst, ◌∙◌, append-nil}
-use Rattle.ftp_control.specs.Asking.{Came, Connected, Ended as EndedBy, Reset, Shut}
+use Rattle.ftp_control.specs.Asking.{Came, Connected, Ended as EndedBy, NotConnected, Reset, Shut}
 use Rattle.ftp_control.specs.Deeds.{Deed, Done, Heard, Led, Other, Read, Said as Says, Stand}
-use Rattle.ftp_control.specs.Machine.{Aside, Break, Closed, End, Failed as HasFailed, Gave, Got, Left, LetGo, Listening, Opened, Received, Waited, Wrote}
+use Rattle.ftp_control.specs.Machine.{Aside, Break, Closed, End, Failed as HasFailed, Gave, Got, Left, LetGo, Listening, Opened, Received, Refused, Waited, Wrote}
 use Rattle.ftp_client_drive.specs.Side.{Reporting, Starting, client_side}
 use Rattle.ftp_client_model.specs.Calls as near
 use Rattle.ftp_client_model.specs.Calls.{is_sound}
@@ -15,7 +15,7 @@ use Rattle.ftp_server_drive.specs.Side.{server_side}
 use Rattle.ftp_server_model.specs.Machine.{IsReading, Reading, hears, hears_octet}
 use Rattle.ftp_pair_world.specs.Agreement.{Order, Single}
 use Rattle.ftp_pair_world.specs.Claims.{Beginning, IsFair, state_of, world_of}
-use Rattle.ftp_pair_world.specs.World.{Link, World}
+use Rattle.ftp_pair_world.specs.World.{Link, Refused as WasRefused, World, marked_last}
 use Rattle.ftp_pair_agreement.specs.Over.{OverRuns}
 use Rattle.ftp_pair_drives.specs.Alone.{ClientIsCalm, begun_by, reported_by}
 use Rattle.ftp_pair_drives.specs.Between.{Between, CanTurn, Client, Server}
@@ -27,19 +27,22 @@ use Rattle.ftp_pair_data.proofs.Known.{is_doing}
 use Rattle.ftp_pair_data.proofs.Running.{all_runs}
 use Rattle.ftp_pair_data.proofs.Served.{Runs}
 use Rattle.ftp_pair_deeds.specs.Deeds.{ArePorts, listened_in}
+use Rattle.ftp_pair_deeds.proofs.Fresh.{Fresh}
 use Rattle.ftp_pair_deeds.proofs.Holding.{unclosed}
 use Rattle.ftp_pair_deeds.proofs.NearForms.{no_close, starts_standing}
 use Rattle.ftp_pair_deeds.proofs.Plain.{IsPlainly, Whatever, starts_plain, whatever_kept}
 use Rattle.ftp_pair_deeds.proofs.Plainly.{deed_plain, deed_sound, took_plain}
 use Rattle.ftp_pair_deeds.proofs.Serves.{deed_serves}
 use Rattle.ftp_pair_deeds.proofs.Stands.{ClientFetches, ServerServes, portless}
-use Rattle.ftp_pair_transfers.specs.Deeds.{AreMoments, ClientTransfers, AsksAlong, IsToldAt, ServerTransfers, begun_at, last_of, number_in}
-use Rattle.ftp_pair_transfers.proofs.Beside.{Goes, Together}
+use Rattle.ftp_pair_transfers.specs.Deeds.{AreMoments, IsToldAt, ServerTransfers, begun_at, last_of, number_in}
+use Rattle.ftp_pair_transfers.specs.Refusals.{ClientTries, TriesAlong, marked_by}
+use Rattle.ftp_pair_transfers.proofs.Beside.{Goes, GoesTo, Together}
 use Rattle.ftp_pair_transfers.proofs.Called.{BreaksNone, StaysFresh, called_unaborted, near_fresh, transferred_plain}
 use Rattle.ftp_pair_transfers.proofs.ClientDials.{client_dials}
 use Rattle.ftp_pair_transfers.proofs.ClientGiving.{client_gave, gave_fresh, gave_plain, gave_sound}
 use Rattle.ftp_pair_transfers.proofs.ClientHears.{client_heard}
 use Rattle.ftp_pair_transfers.proofs.ClientMoves.{client_begins, client_said}
+use Rattle.ftp_pair_transfers.proofs.ClientRefused.{client_refused, refused_plain, refused_sound}
 use Rattle.ftp_pair_transfers.proofs.ClientStays.{client_closed, client_ends, client_fails, client_got, client_lets, client_read, client_reports, client_resets, client_shuts, client_waited, client_wrote}
 use Rattle.ftp_pair_transfers.proofs.ClientTaking.{client_received}
 use Rattle.ftp_pair_transfers.proofs.ClientTold.{client_told_end}
@@ -59,13 +62,13 @@ ResetsNone deed = Unit {0}
 -- ---- what was begun
 
 -- a deed begins such an operation, or nothing
-pub by_carried : (moment : ℕ) (deed : Deed client_side) (old new : client_side.End) → ClientTransfers deed old new → AreCarried (begun_by moment deed)
+pub by_carried : (moment : ℕ) (deed : Deed client_side) (old new : client_side.End) → ClientTries deed old new → AreCarried (begun_by moment deed)
 by_carried moment (Other (Aside (Starting op))) old new is = (is.0.0.0, tt)
 by_carried moment deed old new is = tt
 
 -- so all deeds do
-pub in_carried : (moments : ℕ → ℕ) (deeds : List (Deed client_side)) (start now : Stand client_side) (led : Led deeds start now) → AsksAlong deeds start now led
-    → AreCarried (begun_at moments deeds)
+pub in_carried : (moments : ℕ → ℕ) (deeds : List (Deed client_side)) (start now : Stand client_side) (led : Led deeds start now)
+    → TriesAlong deeds start now led → AreCarried (begun_at moments deeds)
 in_carried moments [] start now led gives = tt
 in_carried moments (deed ∷ before) start now led gives =
     both_carried (begun_at moments before) (begun_by (moments (number_in before)) deed) (in_carried moments before start led.0 led.1 gives.0)
@@ -266,12 +269,12 @@ module _ (read : Reading) (reads : IsReading read) (moments : ℕ → ℕ) (time
   server_goes deed kept old new is deeds puts before ports p q can client reports o did told = absurd is.0
 
   -- of the client
-  pub client_goes : (deed : Deed client_side) → BreaksNone deed → (old new : Stand client_side) → ClientTransfers deed old.owner new.owner
+  pub client_goes : (deed : Deed client_side) → BreaksNone deed → (old new : Stand client_side) → ClientTries deed old.owner new.owner
       → (deeds : List (Deed client_side))
       → AreCarried (begun_at moments deeds) → (p q : Between) → CanTurn (Client deed) p q → (told : ℕ) (server : Stand server_side) (reports : List Said)
       → (o : Reached (begun_at moments deeds) p told server old reports) → IsPlainly new.owner.end.view → Done deed old new
-      → Goes read (begun_by (moments (number_in deeds)) deed) (orders_after (moments (number_in deeds)) deed (begun_at moments deeds)) q told server new
-      (reports ++ reported_by deed) o.world
+      → GoesTo read (begun_by (moments (number_in deeds)) deed) (orders_after (moments (number_in deeds)) deed (begun_at moments deeds)) q told server new
+      (reports ++ reported_by deed) (marked_by deed o.world.marks) o.world
       × (is_sound new.owner.end.view.standing ≡ true)
   client_goes (Heard octets) unbroken old new is deeds puts p q can told server reports o plain did =
       subst (λ (m : Between). Goes read [] (begun_at moments deeds) m told server new (reports ++ []) o.world × (is_sound new.owner.end.view.standing ≡ true))
@@ -319,6 +322,13 @@ module _ (read : Reading) (reads : IsReading read) (moments : ℕ → ℕ) (time
             at_first so_far rest o.last p q told did can o.ahead o.together,
         deed_sound (Other (Opened host (Connected endpoint left written ∷ []) at_first so_far rest)) tt old new (tt, is.1) did o.sound,
       )
+  client_goes (Other (Refused (NotConnected endpoint ∷ []))) unbroken old new is deeds puts p q can told server reports o plain did = (
+    subst (λ (m : Between). GoesTo read [] (begun_at moments deeds) m told server new (reports ++ []) (marked_last WasRefused o.world.marks) o.world) (sym can)
+        (client_refused read (begun_at moments deeds) server old new reports o.world is.1 o.serves (asks deeds p told server old reports o puts) o.plain
+        (known deeds p told server old reports o puts) endpoint o.last o.ahead p told did o.together),
+    refused_sound read (begun_at moments deeds) server old new reports o.world is.1 o.serves (asks deeds p told server old reports o puts) o.plain
+        (known deeds p told server old reports o puts) endpoint o.last o.ahead p told did,
+  )
   client_goes (Other (Gave count octets rest)) unbroken old new is deeds puts p q can told server reports o plain did = (
     subst (λ (m : Between). Goes read [] (begun_at moments deeds) m told server new (reports ++ []) o.world) (sym can)
         (client_gave read (begun_at moments deeds) server old new reports o.world is.1 o.serves (asks deeds p told server old reports o puts)
@@ -393,7 +403,7 @@ module _ (read : Reading) (reads : IsReading read) (moments : ℕ → ℕ) (time
   client_goes deed unbroken old new is deeds puts p q can told server reports o plain did = absurd is.0
 
   -- the client stays plain
-  pub client_plain : (deed : Deed client_side) → BreaksNone deed → (old new : Stand client_side) → ClientTransfers deed old.owner new.owner
+  pub client_plain : (deed : Deed client_side) → BreaksNone deed → (old new : Stand client_side) → ClientTries deed old.owner new.owner
       → (deeds : List (Deed client_side))
       → AreCarried (begun_at moments deeds) → (p : Between) (told : ℕ) (server : Stand server_side) (reports : List Said)
       → Reached (begun_at moments deeds) p told server old reports → Done deed old new → IsPlainly new.owner.end.view
@@ -409,6 +419,9 @@ module _ (read : Reading) (reads : IsReading read) (moments : ℕ → ℕ) (time
       subst IsPlainly (sym (did.0.0.1.0.0 is.1)) (starts_plain Whatever whatever_kept op old.owner.end.view (transferred_plain op is.0.0) o.plain)
   client_plain (Other (Opened host (Connected endpoint left written ∷ []) at_first so_far rest)) unbroken old new is deeds puts p told server reports o did =
       deed_plain Whatever whatever_kept old new (Other (Opened host (Connected endpoint left written ∷ []) at_first so_far rest)) tt (tt, is.1) did o.plain
+  client_plain (Other (Refused (NotConnected endpoint ∷ []))) unbroken old new is deeds puts p told server reports o did =
+      refused_plain read (begun_at moments deeds) server old new reports o.world is.1 o.serves (asks deeds p told server old reports o puts) o.plain
+      (known deeds p told server old reports o puts) endpoint o.last o.ahead p told did Whatever
   client_plain (Other (Gave count octets rest)) unbroken old new is deeds puts p told server reports o did =
       gave_plain read (begun_at moments deeds) server old new reports o.world is.1 o.serves (asks deeds p told server old reports o puts)
       (known deeds p told server old reports o puts) count octets rest o.last o.ahead p told did o.together o.plain
@@ -436,7 +449,7 @@ module _ (read : Reading) (reads : IsReading read) (moments : ℕ → ℕ) (time
   client_plain deed unbroken old new is deeds puts p told server reports o did = absurd is.0
 
   -- while the server was dialled nothing came to it
-  pub client_fresh : (deed : Deed client_side) → BreaksNone deed → (old new : Stand client_side) → ClientTransfers deed old.owner new.owner
+  pub client_fresh : (deed : Deed client_side) → BreaksNone deed → (old new : Stand client_side) → ClientTries deed old.owner new.owner
       → (deeds : List (Deed client_side))
       → AreCarried (begun_at moments deeds) → (p q : Between) → CanTurn (Client deed) p q → (told : ℕ) (server : Stand server_side) (reports : List Said)
       → Reached (begun_at moments deeds) p told server old reports → Done deed old new → StaysFresh q new
@@ -444,4 +457,6 @@ module _ (read : Reading) (reads : IsReading read) (moments : ℕ → ℕ) (time
       near_fresh p q old new o.fresh deed unbroken is o.plain (doing deeds p told server old reports o puts)
       (λ f count octets rest gave. gave_fresh read (begun_at moments deeds) server old new reports o.world is.1 o.serves
       (asks deeds p told server old reports o puts) (known deeds p told server old reports o puts) count octets rest o.last o.ahead p told gave o.together f)
+      (λ endpoint refused. refused_plain read (begun_at moments deeds) server old new reports o.world is.1 o.serves
+      (asks deeds p told server old reports o puts) o.plain (known deeds p told server old reports o puts) endpoint o.last o.ahead p told refused Fresh)
       did can

@@ -3,6 +3,7 @@
 ghost use Rattle.ftp_pair_transfers.specs.Claims.{TransfersAgree, TransfersAreOfWorlds, TransfersAreTheDirectRun, TransfersPartingAgree};
 ghost use Rattle.ftp_pair_transfers.specs.Over.{TransfersOverAreTheDirectRun};
 ghost use Rattle.ftp_pair_transfers.specs.Quitting.{TransfersThatQuitAreTheDirectRun};
+ghost use Rattle.ftp_pair_transfers.specs.Refusals.{TriesAgree, TriesAreOfWorlds, TriesPartingAgree};
 
 /// One server's drive and drives of one client that put and fetched whole files and listings over passive data connections, of which nothing failed, leave what
 /// a list of the world's events leads to from the beginning.
@@ -31,4 +32,16 @@ pub fn transfers_over_are_the_direct_run()
 /// left are those of the operations run directly.
 pub fn transfers_that_quit_are_the_direct_run()
     ensures { TransfersThatQuitAreTheDirectRun }
+{}
+
+/// So it is where dials of the client fail: the world has a mark of each operation whose dial failed, and no other.
+pub fn transfers_of_which_dials_fail_are_of_worlds()
+    ensures { TriesAreOfWorlds }
+{}
+
+/// At every moment reports and map agree with the operations that were begun, with these marks: an operation is not opened only where its dial failed. So they
+/// do where the control connection ends then.
+pub fn transfers_of_which_dials_fail_agree()
+    ensures standing { TriesAgree }
+    ensures parting { TriesPartingAgree }
 {}
