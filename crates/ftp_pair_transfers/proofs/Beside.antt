@@ -1,7 +1,7 @@
 -- A world beside both drives while files are put and fetched: what it holds of both, what is so of each end's data connection, and that it rests.
-use Rattle.std.proofs.Common.{◌≡◌, ℕ, true, false, List, [], ◌∷◌, ◌++◌, None, option_to_list, refl, ap, ◌∙◌}
+use Rattle.std.proofs.Common.{◌≡◌, ℕ, Bool, true, false, ◌&&◌, List, [], ◌∷◌, ◌++◌, None, option_to_list, refl, ap, ap₂, ◌∙◌}
 use Rattle.ftp_control.specs.Deeds.{Stand}
-use Rattle.ftp_control.specs.Lane.{Lane}
+use Rattle.ftp_control.specs.Lane.{IsOpen, Lane}
 use Rattle.ftp_client_drive.specs.Side.{client_side}
 use Rattle.ftp_client_model.specs.Calls as near
 use Rattle.ftp_client_model.specs.Calls.{data_closed, report_of}
@@ -22,16 +22,25 @@ use Rattle.ftp_pair_transfers.specs.Ahead.{Ahead, Fits, Listened, far_ahead, is_
 use Rattle.ftp_pair_transfers.proofs.Ahead.{Holds, Keeps, keeps}
 use Rattle.ftp_pair_data.proofs.Moves.{Rested}
 use Rattle.ftp_pair_data.proofs.Served.{rests}
-use Rattle.ftp_pair_deeds.proofs.Holding.{Takes, is_had, is_sound}
+use Rattle.ftp_pair_deeds.proofs.Holding.{is_had, is_sound}
 use Rattle.ftp_pair_deeds.proofs.NearForms.{wants_rest}
 use Rattle.ftp_pair_deeds.proofs.Stands.{ClientFetches, ServerServes}
 use Rattle.ftp_pair_transfers.proofs.Known.{is_near_held, is_ready}
 use Rattle.ftp_pair_transfers.proofs.Twins.{HasTwin}
 
+-- ---- a data connection
+
+-- octets may come and go: it stands, and the end was not told that it ended or broke
+abbrev pub is_taking : Lane → Bool
+is_taking lane = lane.stands && is_sound lane.fate
+
+pub open_takes : (lane : Lane) → IsOpen lane → is_taking lane ≡ true
+open_takes lane open_now = ap₂ (λ s f. s && is_sound f) open_now.0 open_now.1
+
 -- ---- the relation
 
--- it holds what both ends hold and what lies between them, its server ahead of the drive's by what is due; so many ports were told by the drive; and one that
--- the client alone has closed is one of which the server made something
+-- it holds what both ends hold and what lies between them, of what goes to the client as long as that may take it, its server ahead of the drive's by what is
+-- due; so many ports were told by the drive; and one that the client alone has closed is one of which the server made something
 pub record IsBeside (moment : ℕ) (ahead : Ahead) (between : Between) (told : ℕ) (server : Stand server_side) (client : Stand client_side) (reports : List Said)
     (w : World) : Type 0 where
   pub fits : Fits ahead server.owner.end.server.view.session.connection
@@ -40,7 +49,8 @@ pub record IsBeside (moment : ℕ) (ahead : Ahead) (between : Between) (told : �
   pub to_server : w.control_to_server ≡ server.unheard ++ between.control.to_server
   pub to_client : w.control_to_client ≡ client.unheard ++ between.control.to_client
   pub rising : w.data_to_server ≡ server.owner.lane.untold ++ (between.data_ways.to_server ++ client.owner.lane.unwritten)
-  pub falling : w.data_to_client ≡ client.owner.lane.untold ++ (between.data_ways.to_client ++ server.owner.lane.unwritten)
+  pub falling : is_taking client.owner.lane ≡ true
+      → w.data_to_client ≡ client.owner.lane.untold ++ (between.data_ways.to_client ++ server.owner.lane.unwritten)
   pub listens : Listened ahead told w.listens
   pub reported : w.reports ≡ reports ++ option_to_list (report_of client.owner.end.view)
   pub control : w.control ≡ Stands
@@ -59,7 +69,11 @@ pub record Writes (hold : Hold) (lane : Lane) : Type 0 where
   pub spare : is_had hold ≡ false → lane.unwritten ≡ []
   pub bare : lane.stands ≡ false → lane.unwritten ≡ []
 
--- the client has what it holds of the link; one that is to close, or was told of its end, holds none
+-- what came to the client and was not told is of one that stands
+pub record Takes (lane : Lane) : Type 0 where
+  pub bare : lane.stands ≡ false → lane.untold ≡ []
+
+-- the client has what it holds of the link; one that is to close, or was told of its end or of a break, holds none
 pub record Keeping (hold : Hold) (n : Near) (lane : Lane) (w : World) : Type 0 where
   pub had : is_near_held w.link ≡ true → is_had hold ≡ true
   pub shut : n.closing ≡ true → is_near_held w.link ≡ false

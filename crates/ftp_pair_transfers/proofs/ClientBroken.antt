@@ -322,7 +322,7 @@ module _ (read : Reading) (reads : IsReading read) (from : State) (begun : List 
                     ∙ ap (λ (y : Stand client_side). y.unheard ++ between.control.to_client) (sym did.1);
                 rising = s.same.rising ∙ sym none_rises ∙ b.rising
                     ∙ ap (λ (l : Lane). server.owner.lane.untold ++ (between.data_ways.to_server ++ l.unwritten)) (sym lane);
-                falling = s.same.falling ∙ ap₂ (λ a o. a ++ ([] ++ o)) (sym untold_then) (sym (t.serves.spare unheld));
+                falling = λ e. s.same.falling ∙ ap₂ (λ a o. a ++ ([] ++ o)) (sym untold_then) (sym (t.serves.spare unheld));
                 listens = subst (Listened ahead told) (sym (s.same.listens ∙ d.listens)) b.listens;
                 reported = s.reports
                     ∙ ap₂ (λ r n. r ++ option_to_list (report_of n)) (d.said ∙ b.reported ∙ ap (λ o. reports ++ o) none_said) ended;
@@ -333,7 +333,7 @@ module _ (read : Reading) (reads : IsReading read) (from : State) (begun : List 
               holds = t.holds;
               comes = t.comes;
               serves = t.serves;
-              takes = record { bare = λ e. untold_then; over = λ e. untold_then };
+              takes = record { bare = λ e. untold_then };
               gives = record { spare = λ e. unwritten; bare = λ e. unwritten };
               keeping = record {
                 had = λ e. absurd (true≢false (sym e ∙ ap is_near_held link_then));

@@ -111,7 +111,7 @@ module _ (read : Reading) (orders : List Order) (server : Stand server_side) (ol
           to_client = s.same.to_client ∙ b.to_client
               ∙ ap₂ (λ (y : Stand client_side) (m : Between). y.unheard ++ m.control.to_client) (sym did.1) (sym can.2);
           rising = s.same.rising ∙ none_rises ∙ sym climbs;
-          falling = s.same.falling ∙ (there Level t).to_client ∙ sym falls;
+          falling = λ e. s.same.falling ∙ (there Level t).to_client ∙ sym falls;
           listens = s.same.listens ∙ b.listens;
           reported = s.reports ∙ ap₂ (λ r n. r ++ option_to_list (report_of n)) (b.reported ∙ ap (λ o. reports ++ o) none_said) (opened Level t);
           control = s.same.control ∙ b.control;
@@ -131,7 +131,7 @@ module _ (read : Reading) (orders : List Order) (server : Stand server_side) (ol
           shut = t.comes.shut;
         };
         serves = record { spare = λ e. t.serves.spare (awaits between.far can.1).0; bare = t.serves.bare };
-        takes = record { bare = λ e. had.untold; over = λ e. had.untold };
+        takes = record { bare = λ e. had.untold };
         gives = record { spare = λ e. had.unwritten; bare = λ e. had.unwritten };
         keeping = record { had = λ e. has_now; shut = λ e. absurd (both e closing); over = λ e. absurd (both (ap is_sound had.fate) e) };
         twin = λ e. absurd (true≢false (sym e));

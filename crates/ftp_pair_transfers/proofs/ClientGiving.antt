@@ -29,12 +29,12 @@ use Rattle.ftp_pair_data.proofs.Moves.{Rested}
 use Rattle.ftp_pair_data.proofs.Rising.{near_gives_one}
 use Rattle.ftp_pair_data.proofs.Served.{rests, settled}
 use Rattle.ftp_pair_data.proofs.Settling.{none_taken}
-use Rattle.ftp_pair_deeds.proofs.Holding.{Takes, both, is_had, is_sound, unclosed}
+use Rattle.ftp_pair_deeds.proofs.Holding.{both, is_had, is_sound, unclosed}
 use Rattle.ftp_pair_deeds.proofs.NearForms.{busy_same, no_close, wants_rest}
 use Rattle.ftp_pair_deeds.proofs.Fresh.{Fresh}
 use Rattle.ftp_pair_deeds.proofs.Plain.{IsPlainBy, IsPlainly}
 use Rattle.ftp_pair_deeds.proofs.Stands.{ClientFetches, ServerServes}
-use Rattle.ftp_pair_transfers.proofs.Beside.{Goes, Together, Writes, rested}
+use Rattle.ftp_pair_transfers.proofs.Beside.{Goes, Takes, Together, Writes, is_taking, rested}
 use Rattle.ftp_pair_transfers.proofs.ClientStays.{client_stays}
 use Rattle.ftp_pair_transfers.proofs.FarForms.{upload_takes}
 use Rattle.ftp_pair_transfers.proofs.Known.{Known, Lifting, is_near_held, is_ready}
@@ -220,11 +220,14 @@ module _ (read : Reading) (orders : List Order) (server : Stand server_side) (ol
     takes : Takes new.owner.lane
     takes = record {
       bare = λ e. absurd (both (ap (λ (l : Lane). l.stands) lane ∙ did.0.1.1.0) e);
-      over = λ e. absurd (both (ap (λ (l : Lane). is_sound l.fate) lane ∙ ap is_sound did.0.1.1.1) e);
     }
 
     over : is_sound new.owner.lane.fate ≡ false → is_near_held w.link ≡ false
     over e = t.keeping.over (ap (λ (l : Lane). is_sound l.fate) (sym lane) ∙ e)
+
+    -- octets may come as before
+    taking : is_taking new.owner.lane ≡ true → is_taking old.owner.lane ≡ true
+    taking e = ap is_taking (sym lane) ∙ e
 
     -- nothing goes to the client
     flat : w.data_to_client ≡ []
@@ -244,7 +247,7 @@ module _ (read : Reading) (orders : List Order) (server : Stand server_side) (ol
         (ap (λ n. option_to_list (report_of n)) (sym same)) refl (ap (λ (s : Stand client_side). s.unheard ++ between.control.to_client) (sym did.1))
         (ap (λ o. server.owner.lane.untold ++ (between.data_ways.to_server ++ o))
         (sym (unwritten ∙ ap (λ o. old.owner.lane.unwritten ++ o) none ∙ append-nil old.owner.lane.unwritten)))
-        (ap (λ (l : Lane). l.untold ++ (between.data_ways.to_client ++ server.owner.lane.unwritten)) (sym lane)) refl takes gives
+        (λ e. (taking e, ap (λ (l : Lane). l.untold ++ (between.data_ways.to_client ++ server.owner.lane.unwritten)) (sym lane))) refl takes gives
         (record { had = t.keeping.had; shut = λ e. absurd (both e (ap (λ (n : Near). n.closing) same ∙ open_now)); over = over })
     by_octets (octet ∷ more) some =
         let b = t.beside in
@@ -273,7 +276,8 @@ module _ (read : Reading) (orders : List Order) (server : Stand server_side) (ol
               to_client = e.to_client ∙ b.to_client ∙ ap (λ (y : Stand client_side). y.unheard ++ between.control.to_client) (sym did.1);
               rising = e.rising ∙ ap₂ (λ q o. q ++ o) b.rising (sym some) ∙ lanes
                   ∙ ap (λ o. server.owner.lane.untold ++ (between.data_ways.to_server ++ o)) (sym unwritten);
-              falling = e.falling ∙ b.falling ∙ ap (λ (l : Lane). l.untold ++ (between.data_ways.to_client ++ server.owner.lane.unwritten)) (sym lane);
+              falling = λ c. e.falling ∙ b.falling (taking c)
+                  ∙ ap (λ (l : Lane). l.untold ++ (between.data_ways.to_client ++ server.owner.lane.unwritten)) (sym lane);
               listens = subst (Listened ahead told) (sym e.listens) b.listens;
               reported = e.reports ∙ b.reported ∙ ap₂ (λ o r. r ++ o) (none_before ∙ sym none_then) (sym (append-nil reports));
               control = e.control ∙ b.control;

@@ -29,12 +29,12 @@ use Rattle.ftp_pair_data.specs.Ahead.{is_asked}
 use Rattle.ftp_pair_data.proofs.Moves.{Rested, drop_front, near_hears, take_front}
 use Rattle.ftp_pair_data.proofs.Served.{rests, settled}
 use Rattle.ftp_client_model.specs.Calls.{is_sound as is_sound_at}
-use Rattle.ftp_pair_deeds.proofs.Holding.{Takes, is_false, is_sound, unclosed}
+use Rattle.ftp_pair_deeds.proofs.Holding.{is_false, is_sound, unclosed}
 use Rattle.ftp_pair_deeds.proofs.FarForms.{told_passive}
 use Rattle.ftp_pair_deeds.proofs.NearForms.{wants_rest}
 use Rattle.ftp_pair_deeds.proofs.Stands.{ClientFetches, ServerServes, wants_port}
 use Rattle.ftp_pair_transfers.proofs.Blind.{hears_blind}
-use Rattle.ftp_pair_transfers.proofs.Beside.{Goes, Keeping, Together, Writes, rested}
+use Rattle.ftp_pair_transfers.proofs.Beside.{Goes, Keeping, Takes, Together, Writes, is_taking, rested}
 use Rattle.ftp_pair_transfers.proofs.ClientStays.{client_keeps}
 use Rattle.ftp_pair_transfers.proofs.Known.{AreCarried, Known, is_near_held, is_ready}
 use Rattle.ftp_pair_transfers.specs.Deeds.{AreGranted}
@@ -75,12 +75,14 @@ module _ (read : Reading) (begun : List Order) (server : Stand server_side) (old
   heard_takes : (octets : List ℕ) → HearsNext octets old new → Takes old.owner.lane → Takes new.owner.lane
   heard_takes octets did takes = record {
     bare = λ e. ap (λ (l : Lane). l.untold) did.hears.1 ∙ takes.bare (ap (λ (l : Lane). l.stands) (sym did.hears.1) ∙ e);
-    over = λ e. ap (λ (l : Lane). l.untold) did.hears.1 ∙ takes.over (ap (λ (l : Lane). is_sound l.fate) (sym did.hears.1) ∙ e);
   }
 
   heard_over : (octets : List ℕ) → HearsNext octets old new → (is_sound old.owner.lane.fate ≡ false → is_near_held w.link ≡ false)
       → is_sound new.owner.lane.fate ≡ false → is_near_held w.link ≡ false
   heard_over octets did over e = over (ap (λ (l : Lane). is_sound l.fate) (sym did.hears.1) ∙ e)
+
+  heard_taking : (octets : List ℕ) → HearsNext octets old new → is_taking new.owner.lane ≡ true → is_taking old.owner.lane ≡ true
+  heard_taking octets did e = ap is_taking (sym did.hears.1) ∙ e
 
   module _ (reads : IsReading read) (from : State) (puts : AreCarried begun) (runs : OverRuns read from begun w) (octet : ℕ)
       (octets : List ℕ) (moment : ℕ) (ahead : Ahead) (between : Between) (told : ℕ) (t : Together read begun moment ahead between told server old reports w)
@@ -199,7 +201,7 @@ module _ (read : Reading) (begun : List Order) (server : Stand server_side) (old
                 to_server = s.same.to_server ∙ b.to_server;
                 to_client = s.same.to_client;
                 rising = s.same.rising ∙ b.rising ∙ ap (λ o. server.owner.lane.untold ++ (between.data_ways.to_server ++ o)) (sym unwritten);
-                falling = s.same.falling ∙ b.falling
+                falling = λ e. s.same.falling ∙ b.falling (heard_taking all did e)
                     ∙ ap (λ (l : Lane). l.untold ++ (between.data_ways.to_client ++ server.owner.lane.unwritten)) (sym did.hears.1);
                 listens = subst (Listened ahead told) (sym s.same.listens) b.listens;
                 reported = reported;
@@ -311,7 +313,7 @@ module _ (read : Reading) (begun : List Order) (server : Stand server_side) (old
                   to_server = p.to_server ∙ s.same.to_server ∙ b.to_server;
                   to_client = p.to_client ∙ s.same.to_client;
                   rising = p.rising ∙ sym none_rises ∙ b.rising ∙ ap (λ o. server.owner.lane.untold ++ (between.data_ways.to_server ++ o)) (sym unwritten);
-                  falling = p.falling ∙ sym p.none_fell ∙ s.same.falling ∙ b.falling
+                  falling = λ e. p.falling ∙ sym p.none_fell ∙ s.same.falling ∙ b.falling (heard_taking all did e)
                       ∙ ap (λ (l : Lane). l.untold ++ (between.data_ways.to_client ++ server.owner.lane.unwritten)) (sym did.hears.1);
                   listens = p.listens ∙ s.same.listens ∙ h.listens;
                   reported = p.reports ∙ reported;
@@ -351,7 +353,7 @@ module _ (read : Reading) (begun : List Order) (server : Stand server_side) (old
     client_keeps read begun server old new reports w calm known moment ahead between between told t (heard_is [] did) refl
         (ap (λ a. a ++ between.control.to_client) did.next)
         (ap (λ (l : Lane). server.owner.lane.untold ++ (between.data_ways.to_server ++ l.unwritten)) (sym did.hears.1))
-        (ap (λ (l : Lane). l.untold ++ (between.data_ways.to_client ++ server.owner.lane.unwritten)) (sym did.hears.1)) refl
+        (λ e. (heard_taking [] did e, ap (λ (l : Lane). l.untold ++ (between.data_ways.to_client ++ server.owner.lane.unwritten)) (sym did.hears.1))) refl
         (heard_takes [] did t.takes) (heard_gives [] between.near did t.gives) t.keeping.had (heard_over [] did t.keeping.over),
     ap (λ (n : Near). is_sound_at n.standing) (heard_is [] did) ∙ before.sound,
   )

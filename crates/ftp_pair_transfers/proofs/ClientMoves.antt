@@ -25,11 +25,11 @@ use Rattle.ftp_pair_drives.proofs.Taken.{free_none, free_same, taken}
 use Rattle.ftp_pair_transfers.specs.Ahead.{Ahead, Listened}
 use Rattle.ftp_pair_data.proofs.Moves.{Rested, begins, near_says, near_saying}
 use Rattle.ftp_pair_data.proofs.Served.{rests, settled}
-use Rattle.ftp_pair_deeds.proofs.Holding.{Takes, both, is_had, is_sound, unclosed}
+use Rattle.ftp_pair_deeds.proofs.Holding.{both, is_had, is_sound, unclosed}
 use Rattle.ftp_pair_transfers.proofs.Ahead.{Holds}
 use Rattle.ftp_pair_deeds.proofs.NearForms.{starts_closing, wants_rest}
 use Rattle.ftp_pair_deeds.proofs.Stands.{ClientFetches, ServerServes}
-use Rattle.ftp_pair_transfers.proofs.Beside.{Comes, Goes, Together, Writes, rested}
+use Rattle.ftp_pair_transfers.proofs.Beside.{Comes, Goes, Takes, Together, Writes, is_taking, rested}
 use Rattle.ftp_pair_transfers.specs.Deeds.{IsCarried}
 use Rattle.ftp_pair_transfers.proofs.Known.{Known, is_near_held}
 use Rattle.ftp_pair_transfers.proofs.Settling.{NearSettles, near_settles}
@@ -73,7 +73,8 @@ module _ (read : Reading) (reads : IsReading read) (orders : List Order) (server
                 ∙ ap (λ (m : Between). server.unheard ++ m.control.to_server) (sym can);
             to_client = b.to_client ∙ ap₂ (λ a (m : Between). a ++ m.control.to_client) (sym says.unheard) (sym can);
             rising = b.rising ∙ ap₂ (λ (m : Between) (l : Lane). server.owner.lane.untold ++ (m.data_ways.to_server ++ l.unwritten)) (sym can) (sym lane);
-            falling = b.falling ∙ ap₂ (λ (m : Between) (l : Lane). l.untold ++ (m.data_ways.to_client ++ server.owner.lane.unwritten)) (sym can) (sym lane);
+            falling = λ e. b.falling (ap is_taking (sym lane) ∙ e)
+                ∙ ap₂ (λ (m : Between) (l : Lane). l.untold ++ (m.data_ways.to_client ++ server.owner.lane.unwritten)) (sym can) (sym lane);
             listens = b.listens;
             reported = b.reported ∙ ap (λ n. reports ++ option_to_list (report_of n)) (sym is)
                 ∙ ap (λ r. r ++ option_to_list (report_of u)) (sym (append-nil reports));
@@ -132,7 +133,7 @@ module _ (read : Reading) (reads : IsReading read) (orders : List Order) (server
             to_server = s.same.to_server ∙ b.to_server;
             to_client = s.same.to_client ∙ b.to_client ∙ ap (λ (x : Stand client_side). x.unheard ++ between.control.to_client) (sym did.1);
             rising = s.same.rising ∙ b.rising ∙ ap (λ (l : Lane). server.owner.lane.untold ++ (between.data_ways.to_server ++ l.unwritten)) (sym lane);
-            falling = s.same.falling ∙ b.falling
+            falling = λ e. s.same.falling ∙ b.falling (ap is_taking (sym lane) ∙ e)
                 ∙ ap (λ (l : Lane). l.untold ++ (between.data_ways.to_client ++ server.owner.lane.unwritten)) (sym lane);
             listens = subst (Listened ahead told) (sym s.same.listens) b.listens;
             reported = s.reports ∙ ap₂ (λ r n. r ++ option_to_list (report_of n)) (b.reported ∙ ap (λ o. reports ++ option_to_list o) (free_none v free)) begun;

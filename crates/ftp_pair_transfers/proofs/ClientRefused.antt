@@ -30,12 +30,12 @@ use Rattle.ftp_pair_data.specs.Ahead.{accepts}
 use Rattle.ftp_pair_data.proofs.Known.{Dialling as IsDialling}
 use Rattle.ftp_pair_data.proofs.Moves.{Rested}
 use Rattle.ftp_pair_data.proofs.Served.{after_settles, far_wants, rests, settled}
-use Rattle.ftp_pair_deeds.proofs.Holding.{Takes, unclosed}
+use Rattle.ftp_pair_deeds.proofs.Holding.{unclosed}
 use Rattle.ftp_pair_deeds.proofs.NearForms.{Dialling, busy_same, dialling_of, wants_rest}
 use Rattle.ftp_pair_deeds.proofs.Plain.{IsPlainBy, IsPlainly}
 use Rattle.ftp_pair_deeds.proofs.Stands.{ClientFetches, ServerServes}
 use Rattle.ftp_pair_transfers.specs.Ahead.{Ahead, Listened}
-use Rattle.ftp_pair_transfers.proofs.Beside.{GoesTo, Together, Writes, rested}
+use Rattle.ftp_pair_transfers.proofs.Beside.{GoesTo, Takes, Together, Writes, is_taking, rested}
 use Rattle.ftp_pair_transfers.proofs.Known.{Known, is_near_held}
 use Rattle.ftp_pair_transfers.proofs.Settling.{NearSettles, near_settles}
 use Rattle.ftp_pair_transfers.proofs.Twins.{HasTwin}
@@ -110,7 +110,7 @@ module _ (read : Reading) (orders : List Order) (server : Stand server_side) (ol
           to_client = s.same.to_client ∙ t.beside.to_client ∙ ap (λ (y : Stand client_side). y.unheard ++ between.control.to_client) (sym did.1);
           rising = s.same.rising ∙ t.beside.rising
               ∙ ap (λ (l : Lane). server.owner.lane.untold ++ (between.data_ways.to_server ++ l.unwritten)) (sym lane);
-          falling = s.same.falling ∙ t.beside.falling
+          falling = λ e. s.same.falling ∙ t.beside.falling (ap is_taking (sym lane) ∙ e)
               ∙ ap (λ (l : Lane). l.untold ++ (between.data_ways.to_client ++ server.owner.lane.unwritten)) (sym lane);
           listens = subst (Listened ahead told) (sym s.same.listens) t.beside.listens;
           reported = s.reports ∙ ap₂ (λ r n. r ++ option_to_list (report_of n)) (t.beside.reported ∙ ap (λ o. reports ++ o) none_said) then_is;
@@ -121,7 +121,7 @@ module _ (read : Reading) (orders : List Order) (server : Stand server_side) (ol
         holds = t.holds;
         comes = t.comes;
         serves = t.serves;
-        takes = subst Takes (sym lane) (record { bare = t.takes.bare; over = t.takes.over });
+        takes = subst Takes (sym lane) (record { bare = t.takes.bare });
         gives = subst (Writes between.near) (sym lane) (record { spare = t.gives.spare; bare = t.gives.bare });
         keeping = record {
           had = λ e. absurd (true≢false (sym e ∙ ap is_near_held link_now));

@@ -1,6 +1,6 @@
 -- Deeds of a client that puts files for which nothing happens in a world: octets are read or written, its report is taken, it is looked at or waited for, a
 -- data connection is left, and a close is told.
-use Rattle.std.proofs.Common.{◌≡◌, ◌⊎◌, inl, inr, ℕ, Bool, true, false, true≢false, List, [], ◌++◌, Option, option_to_list, refl, sym, ap, ap₂, subst, ◌∙◌, append_assoc, append-nil}
+use Rattle.std.proofs.Common.{◌≡◌, ◌⊎◌, inl, inr, ℕ, Bool, true, false, true≢false, ◌&&◌, List, [], ◌++◌, Option, option_to_list, refl, sym, ap, ap₂, subst, ◌∙◌, append_assoc, append-nil}
 use Rattle.std.specs.Prelude.{◌≢◌}
 use Rattle.ftp_ends.specs.declared.link.Wants.{Wants}
 use Rattle.ftp_ends.specs.declared.link.Wants.TheVariants as Want
@@ -28,11 +28,11 @@ use Rattle.ftp_pair_drives.proofs.Worlds.{leads_none}
 use Rattle.ftp_pair_transfers.specs.Ahead.{Ahead}
 use Rattle.ftp_pair_data.proofs.Known.{is_receive}
 use Rattle.ftp_pair_data.proofs.Served.{rests}
-use Rattle.ftp_pair_deeds.proofs.Holding.{Takes, both, is_false, is_had, is_sound, unclosed}
+use Rattle.ftp_pair_deeds.proofs.Holding.{both, is_false, is_had, is_sound, unclosed}
 use Rattle.ftp_pair_transfers.proofs.Ahead.{Holds}
 use Rattle.ftp_pair_deeds.proofs.NearForms.{idle_free, wants_rest}
 use Rattle.ftp_pair_deeds.proofs.Stands.{ClientFetches}
-use Rattle.ftp_pair_transfers.proofs.Beside.{Comes, Goes, Keeping, Together, Writes}
+use Rattle.ftp_pair_transfers.proofs.Beside.{Comes, Goes, Keeping, Takes, Together, Writes, is_taking, open_takes}
 use Rattle.ftp_pair_transfers.proofs.Known.{Known, is_near_held}
 
 module _ (read : Reading) (orders : List Order) (server : Stand server_side) (old new : Stand client_side) (reports : List Said) (w : World)
@@ -47,9 +47,11 @@ module _ (read : Reading) (orders : List Order) (server : Stand server_side) (ol
   Climbs between next = server.owner.lane.untold ++ (between.data_ways.to_server ++ old.owner.lane.unwritten)
       ≡ server.owner.lane.untold ++ (next.data_ways.to_server ++ new.owner.lane.unwritten)
 
+  -- and of what goes to the client, where it may come to it as before
   abbrev Falls : Between → Between → Type 0
-  Falls between next = old.owner.lane.untold ++ (between.data_ways.to_client ++ server.owner.lane.unwritten)
-      ≡ new.owner.lane.untold ++ (next.data_ways.to_client ++ server.owner.lane.unwritten)
+  Falls between next = is_taking new.owner.lane ≡ true → (is_taking old.owner.lane ≡ true)
+      × (old.owner.lane.untold ++ (between.data_ways.to_client ++ server.owner.lane.unwritten)
+      ≡ new.owner.lane.untold ++ (next.data_ways.to_client ++ server.owner.lane.unwritten))
 
   -- a world stays beside
   pub client_stays : (moment : ℕ) (ahead : Ahead) (between next : Between) (told : ℕ) (more : List Said)
@@ -72,7 +74,7 @@ module _ (read : Reading) (orders : List Order) (server : Stand server_side) (ol
         to_server = t.beside.to_server ∙ ap (λ q. server.unheard ++ q) (sym other);
         to_client = t.beside.to_client ∙ queue;
         rising = t.beside.rising ∙ climbs;
-        falling = t.beside.falling ∙ falls;
+        falling = λ e. t.beside.falling (falls e).0 ∙ (falls e).1;
         listens = t.beside.listens;
         reported = t.beside.reported ∙ ap (λ l. reports ++ l) said ∙ sym (append_assoc reports more (option_to_list (report_of u)));
         control = t.beside.control;
@@ -113,11 +115,17 @@ module _ (read : Reading) (orders : List Order) (server : Stand server_side) (ol
   same_lane between lane = ap (λ (l : Lane). server.owner.lane.untold ++ (between.data_ways.to_server ++ l.unwritten)) (sym lane)
 
   same_falls : (between : Between) → new.owner.lane ≡ old.owner.lane → Falls between between
-  same_falls between lane = ap (λ (l : Lane). l.untold ++ (between.data_ways.to_client ++ server.owner.lane.unwritten)) (sym lane)
+  same_falls between lane e =
+      (ap is_taking (sym lane) ∙ e, ap (λ (l : Lane). l.untold ++ (between.data_ways.to_client ++ server.owner.lane.unwritten)) (sym lane))
 
   same_over : new.owner.lane.fate ≡ old.owner.lane.fate → (is_sound old.owner.lane.fate ≡ false → is_near_held w.link ≡ false)
       → is_sound new.owner.lane.fate ≡ false → is_near_held w.link ≡ false
   same_over fate over e = over (ap is_sound (sym fate) ∙ e)
+
+  -- octets may come as before
+  held_taking : new.owner.lane.stands ≡ old.owner.lane.stands → new.owner.lane.fate ≡ old.owner.lane.fate
+      → is_taking new.owner.lane ≡ is_taking old.owner.lane
+  held_taking stands fate = ap₂ (λ s f. s && is_sound f) stands fate
 
   -- ---- a client that takes no octets
 
@@ -132,11 +140,11 @@ module _ (read : Reading) (orders : List Order) (server : Stand server_side) (ol
           let n : w.near ≡ taken v = t.beside.near ∙ unclosed (taken v) is in
           known.falls (ap (λ x. is_receive (near.wants x)) n ∙ ap is_receive (taken_wants v) ∙ none)
 
-  -- so nothing came that it was not told
+  -- so nothing came that it was not told, where it may take octets
   none_untold : (moment : ℕ) (ahead : Ahead) (between : Between) (told : ℕ) → Together read orders moment ahead between told server old reports w
-      → w.data_to_client ≡ [] → old.owner.lane.untold ≡ []
-  none_untold moment ahead between told t none =
-      (both_empty old.owner.lane.untold (between.data_ways.to_client ++ server.owner.lane.unwritten) (sym t.beside.falling ∙ none)).0
+      → is_taking old.owner.lane ≡ true → w.data_to_client ≡ [] → old.owner.lane.untold ≡ []
+  none_untold moment ahead between told t taking none =
+      (both_empty old.owner.lane.untold (between.data_ways.to_client ++ server.owner.lane.unwritten) (sym (t.beside.falling taking) ∙ none)).0
 
   -- ---- the deeds
 
@@ -150,7 +158,10 @@ module _ (read : Reading) (orders : List Order) (server : Stand server_side) (ol
       client_keeps moment ahead between next told t (ap (λ o. o.end.view) did.owner) other
       (ap₂ (λ a b. a ++ b) did.heard front ∙ ap (λ a. a ++ next.control.to_client) (sym did.unheard))
       (same_lane between lane ∙ ap (λ d. server.owner.lane.untold ++ (d.to_server ++ new.owner.lane.unwritten)) (sym ways))
-      (same_falls between lane ∙ ap (λ d. new.owner.lane.untold ++ (d.to_client ++ server.owner.lane.unwritten)) (sym ways)) hold
+      (λ e. (
+        (same_falls between lane e).0,
+        (same_falls between lane e).1 ∙ ap (λ d. new.owner.lane.untold ++ (d.to_client ++ server.owner.lane.unwritten)) (sym ways),
+      )) hold
       (subst Takes (sym lane) t.takes) (subst (λ (h : Hold). Writes h new.owner.lane) (sym near) (subst (Writes between.near) (sym lane) t.gives))
       (λ e. ap is_had near ∙ t.keeping.had e) (same_over (ap (λ (l : Lane). l.fate) lane) t.keeping.over)
 
@@ -180,8 +191,8 @@ module _ (read : Reading) (orders : List Order) (server : Stand server_side) (ol
       let held = did.0.1.holds in
       client_idle moment ahead between between told t (ap (λ c. c.view) did.0.0) (ap (λ (s : Stand client_side). s.unheard) did.1) refl
       (ap (λ o. server.owner.lane.untold ++ (between.data_ways.to_server ++ o)) (sym held.unwritten))
-      (ap (λ o. o ++ (between.data_ways.to_client ++ server.owner.lane.unwritten)) (sym held.untold)) refl
-      (record { bare = λ e. held.untold ∙ t.takes.bare (sym held.stands ∙ e); over = λ e. held.untold ∙ t.takes.over (ap is_sound (sym held.fate) ∙ e) })
+      (λ e. (sym (held_taking held.stands held.fate) ∙ e, ap (λ o. o ++ (between.data_ways.to_client ++ server.owner.lane.unwritten)) (sym held.untold))) refl
+      (record { bare = λ e. held.untold ∙ t.takes.bare (sym held.stands ∙ e) })
       (record { spare = λ e. held.unwritten ∙ t.gives.spare e; bare = λ e. held.unwritten ∙ t.gives.bare (sym held.stands ∙ e) })
       t.keeping.had (same_over held.fate t.keeping.over)
 
@@ -195,34 +206,37 @@ module _ (read : Reading) (orders : List Order) (server : Stand server_side) (ol
       let near : next.near ≡ between.near = ap (λ (m : Between). m.near) can.2 in
       let has : is_had next.near ≡ true = ap is_had near ∙ ap is_had can.0 in
       let falls : Falls between next =
-      ap₂ (λ a b. a ++ (b ++ server.owner.lane.unwritten)) got.told can.1
-      ∙ append_assoc octets next.data_ways.to_client server.owner.lane.unwritten
-      ∙ ap (λ a. a ++ (next.data_ways.to_client ++ server.owner.lane.unwritten)) (sym got.untold) in
+      λ e. (
+        open_takes old.owner.lane got.is_open,
+        ap₂ (λ a b. a ++ (b ++ server.owner.lane.unwritten)) got.told can.1
+            ∙ append_assoc octets next.data_ways.to_client server.owner.lane.unwritten
+            ∙ ap (λ a. a ++ (next.data_ways.to_client ++ server.owner.lane.unwritten)) (sym got.untold),
+      ) in
       client_idle moment ahead between next told t (ap (λ c. c.view) did.0.0) (ap (λ (s : Stand client_side). s.unheard) did.1)
       (ap (λ (m : Between). m.control) can.2)
       (ap₂ (λ (m : Between) o. server.owner.lane.untold ++ (m.data_ways.to_server ++ o)) (sym can.2) (sym got.unwritten)) falls
       (ap (λ (m : Between). m.far) can.2)
-      (record {
-        bare = λ e. absurd (both (got.stands ∙ got.is_open.0) e);
-        over = λ e. absurd (both (ap is_sound (got.fate ∙ got.is_open.1)) e);
-      })
+      (record { bare = λ e. absurd (both (got.stands ∙ got.is_open.0) e) })
       (record { spare = λ e. absurd (both has e); bare = λ e. absurd (both (got.stands ∙ got.is_open.0) e) })
       (λ e. has) (same_over got.fate t.keeping.over)
 
-  -- octets that came are let go: there are none
+  -- octets that came are let go: there are none where it may take octets
   pub client_lets : (octets : List ℕ) (moment : ℕ) (ahead : Ahead) (between : Between) (told : ℕ)
       → Together read orders moment ahead between told server old reports w
       → Calls {side = client_side} (LetGo octets) old new → Goes read [] orders between told server new (reports ++ []) w
   client_lets octets moment ahead between told t did =
       let lane = did.0.1.1 in
-      let none : old.owner.lane.untold ≡ [] =
-      none_untold moment ahead between told t (none_falls moment ahead between told t (not_receive (near.wants v) did.0.0.1)) in
-      let octets_none : new.owner.lane.untold ≡ [] = (both_empty octets new.owner.lane.untold (sym did.0.1.0 ∙ none)).1 in
+      let left : old.owner.lane.untold ≡ [] → new.owner.lane.untold ≡ [] =
+      λ none. (both_empty octets new.owner.lane.untold (sym did.0.1.0 ∙ none)).1 in
+      let flat : w.data_to_client ≡ [] = none_falls moment ahead between told t (not_receive (near.wants v) did.0.0.1) in
       let unwritten : new.owner.lane.unwritten ≡ old.owner.lane.unwritten = ap (λ (l : Lane). l.unwritten) lane in
       client_idle moment ahead between between told t (ap (λ c. c.view) did.0.0.0) (ap (λ (s : Stand client_side). s.unheard) did.1) refl
       (ap (λ o. server.owner.lane.untold ++ (between.data_ways.to_server ++ o)) (sym unwritten))
-      (ap (λ o. o ++ (between.data_ways.to_client ++ server.owner.lane.unwritten)) (none ∙ sym octets_none)) refl
-      (record { bare = λ e. octets_none; over = λ e. octets_none })
+      (λ e.
+      let taking : is_taking old.owner.lane ≡ true = ap is_taking (sym lane) ∙ e in
+      let none : old.owner.lane.untold ≡ [] = none_untold moment ahead between told t taking flat in
+      (taking, ap (λ o. o ++ (between.data_ways.to_client ++ server.owner.lane.unwritten)) (none ∙ sym (left none)))) refl
+      (record { bare = λ e. left (t.takes.bare (ap (λ (l : Lane). l.stands) (sym lane) ∙ e)) })
       (record { spare = λ e. unwritten ∙ t.gives.spare e; bare = λ e. unwritten ∙ t.gives.bare (ap (λ (l : Lane). l.stands) (sym lane) ∙ e) })
       t.keeping.had (same_over (ap (λ (l : Lane). l.fate) lane) t.keeping.over)
     where
@@ -251,12 +265,11 @@ module _ (read : Reading) (orders : List Order) (server : Stand server_side) (ol
       ∙ ap (λ (m : Between). server.owner.lane.untold ++ (m.data_ways.to_server ++ new.owner.lane.unwritten)) (sym can.1) in
       client_idle moment ahead between next told t (ap (λ c. c.view) did.0.0) (ap (λ (s : Stand client_side). s.unheard) did.1)
       (ap (λ (m : Between). m.control) can.1) climbs
-      (ap₂ (λ (m : Between) o. o ++ (m.data_ways.to_client ++ server.owner.lane.unwritten)) (sym can.1) (sym wrote.untold))
-      (ap (λ (m : Between). m.far) can.1)
-      (record {
-        bare = λ e. absurd (both (wrote.stands ∙ wrote.is_open.0) e);
-        over = λ e. wrote.untold ∙ t.takes.over (ap is_sound (sym wrote.fate) ∙ e);
-      })
+      (λ e. (
+        open_takes old.owner.lane wrote.is_open,
+        ap₂ (λ (m : Between) o. o ++ (m.data_ways.to_client ++ server.owner.lane.unwritten)) (sym can.1) (sym wrote.untold),
+      ))
+      (ap (λ (m : Between). m.far) can.1) (record { bare = λ e. absurd (both (wrote.stands ∙ wrote.is_open.0) e) })
       (record {
         spare = λ e. absurd (both has e);
         bare = λ e. absurd (both (wrote.stands ∙ wrote.is_open.0) e);
@@ -285,12 +298,10 @@ module _ (read : Reading) (orders : List Order) (server : Stand server_side) (ol
       let left = did.0.1 in
       let fallen : old.owner.lane.stands ≡ false = is_false old.owner.lane.stands (λ e. absurd (stood e left.ended)) in
       let empty : old.owner.lane.unwritten ≡ [] = t.gives.bare fallen in
-      let none : old.owner.lane.untold ≡ [] = t.takes.bare fallen in
       client_idle moment ahead between between told t (ap (λ c. c.view) did.0.0) (ap (λ (s : Stand client_side). s.unheard) did.1) refl
       (ap (λ o. server.owner.lane.untold ++ (between.data_ways.to_server ++ o)) (empty ∙ sym left.unwritten))
-      (ap (λ o. o ++ (between.data_ways.to_client ++ server.owner.lane.unwritten)) (none ∙ sym left.untold)) refl
-      (record { bare = λ e. left.untold; over = λ e. left.untold }) (record { spare = λ e. left.unwritten; bare = λ e. left.unwritten }) t.keeping.had
-      (λ e. absurd (both (ap is_sound left.fate) e))
+      (λ e. absurd (both e (ap (λ s. s && is_sound new.owner.lane.fate) left.stands))) refl (record { bare = λ e. left.untold })
+      (record { spare = λ e. left.unwritten; bare = λ e. left.unwritten }) t.keeping.had (λ e. absurd (both (ap is_sound left.fate) e))
     where
       is_shut : Asked → Bool
       is_shut Shut = true
@@ -345,32 +356,16 @@ module _ (read : Reading) (orders : List Order) (server : Stand server_side) (ol
       let sound : is_sound new.owner.lane.fate ≡ true = ap (λ (l : Lane). is_sound l.fate) lane in
       client_idle moment ahead between between told t (ap (λ c. c.view) did.0.0) (ap (λ (s : Stand client_side). s.unheard) did.1) refl
       (ap (λ (l : Lane). server.owner.lane.untold ++ (between.data_ways.to_server ++ l.unwritten)) (sym lane))
-      (ap (λ (l : Lane). l.untold ++ (between.data_ways.to_client ++ server.owner.lane.unwritten)) (sym lane)) refl
-      (record {
-        bare = λ e. ap (λ (l : Lane). l.untold) lane ∙ t.takes.bare (ap (λ (l : Lane). l.stands) (sym lane) ∙ e);
-        over = λ e. absurd (both sound e);
-      })
+      (λ e. (
+        open_takes old.owner.lane did.0.1.1,
+        ap (λ (l : Lane). l.untold ++ (between.data_ways.to_client ++ server.owner.lane.unwritten)) (sym lane),
+      )) refl
+      (record { bare = λ e. ap (λ (l : Lane). l.untold) lane ∙ t.takes.bare (ap (λ (l : Lane). l.stands) (sym lane) ∙ e) })
       (record {
         spare = λ e. ap (λ (l : Lane). l.unwritten) lane ∙ t.gives.spare e;
         bare = λ e. ap (λ (l : Lane). l.unwritten) lane ∙ t.gives.bare (ap (λ (l : Lane). l.stands) (sym lane) ∙ e);
       })
       t.keeping.had (λ e. absurd (both sound e))
-
-  -- one that broke, and of which none are unwritten, is left by a reset
-  pub client_resets : (left written : Option (List ℕ)) (moment : ℕ) (ahead : Ahead) (between next : Between) (told : ℕ)
-      → Together read orders moment ahead between told server old reports w → Calls {side = client_side} (Left (Reset left written)) old new
-      → old.owner.lane.fate ≡ Broken → old.owner.lane.unwritten ≡ [] → Can TheClient Resets between next
-      → Goes read [] orders next told server new (reports ++ []) w
-  client_resets left written moment ahead between next told t did broke empty can =
-      let lane = did.0.1 in
-      let free : is_near_held w.link ≡ false = t.keeping.over (ap is_sound broke) in
-      let none : old.owner.lane.untold ≡ [] = t.takes.over (ap is_sound broke) in
-      client_idle moment ahead between next told t (ap (λ c. c.view) did.0.0) (ap (λ (s : Stand client_side). s.unheard) did.1)
-      (ap (λ (m : Between). m.control) can.1)
-      (ap₂ (λ (m : Between) o. server.owner.lane.untold ++ (m.data_ways.to_server ++ o)) (sym can.1) (empty ∙ sym lane.unwritten))
-      (ap₂ (λ (m : Between) o. o ++ (m.data_ways.to_client ++ server.owner.lane.unwritten)) (sym can.1) (none ∙ sym lane.untold))
-      (ap (λ (m : Between). m.far) can.1) (record { bare = λ e. lane.untold; over = λ e. lane.untold })
-      (record { spare = λ e. lane.unwritten; bare = λ e. lane.unwritten }) (λ e. absurd (both e free)) (λ e. free)
 
   -- a data connection is left by an end
   pub client_ends : (asks : ClientFetches old.owner) (never : near.wants v ≡ Want.Accept → is_near_held w.link ≡ false)
@@ -380,11 +375,24 @@ module _ (read : Reading) (orders : List Order) (server : Stand server_side) (ol
   client_ends asks never left written moment ahead between next told t did can =
       let lane = did.0.1 in
       let free : is_near_held w.link ≡ false = left_held asks never (EndedBy left written) moment ahead between told t did in
-      let none : old.owner.lane.untold ≡ [] = none_untold moment ahead between told t (known.ended free) in
       let hold : next.near ≡ Has_ended = ap (λ (m : Between). m.near) can.1 in
       client_idle moment ahead between next told t (ap (λ c. c.view) did.0.0) (ap (λ (s : Stand client_side). s.unheard) did.1)
       (ap (λ (m : Between). m.control) can.1)
       (ap₂ (λ (m : Between) o. server.owner.lane.untold ++ (m.data_ways.to_server ++ o)) (sym can.1) (did.0.2.1.0 ∙ sym lane.unwritten))
-      (ap₂ (λ (m : Between) o. o ++ (m.data_ways.to_client ++ server.owner.lane.unwritten)) (sym can.1) (none ∙ sym lane.untold))
-      (ap (λ (m : Between). m.far) can.1) (record { bare = λ e. lane.untold; over = λ e. lane.untold })
+      (λ e. absurd (both e (ap (λ s. s && is_sound new.owner.lane.fate) lane.stands)))
+      (ap (λ (m : Between). m.far) can.1) (record { bare = λ e. lane.untold })
+      (record { spare = λ e. lane.unwritten; bare = λ e. lane.unwritten }) (λ e. absurd (both e free)) (λ e. free)
+
+  -- or by a reset, where none is unwritten
+  pub client_resets : (asks : ClientFetches old.owner) (left written : Option (List ℕ)) (moment : ℕ) (ahead : Ahead) (between next : Between) (told : ℕ)
+      → Together read orders moment ahead between told server old reports w → Calls {side = client_side} (Left (Reset left written)) old new
+      → old.owner.lane.unwritten ≡ [] → Can TheClient Resets between next → Goes read [] orders next told server new (reports ++ []) w
+  client_resets asks left written moment ahead between next told t did none can =
+      let lane = did.0.1 in
+      let free : is_near_held w.link ≡ false = left_held asks (Reset left written) moment ahead between told t did in
+      client_idle moment ahead between next told t (ap (λ c. c.view) did.0.0) (ap (λ (s : Stand client_side). s.unheard) did.1)
+      (ap (λ (m : Between). m.control) can.1)
+      (ap₂ (λ (m : Between) o. server.owner.lane.untold ++ (m.data_ways.to_server ++ o)) (sym can.1) (none ∙ sym lane.unwritten))
+      (λ e. absurd (both e (ap (λ s. s && is_sound new.owner.lane.fate) lane.stands)))
+      (ap (λ (m : Between). m.far) can.1) (record { bare = λ e. lane.untold })
       (record { spare = λ e. lane.unwritten; bare = λ e. lane.unwritten }) (λ e. absurd (both e free)) (λ e. free)

@@ -22,10 +22,10 @@ use Rattle.ftp_pair_data.specs.Ahead.{is_open}
 use Rattle.ftp_pair_transfers.specs.Ahead.{Ahead, Listened}
 use Rattle.ftp_pair_data.proofs.Moves.{Rested, near_takes}
 use Rattle.ftp_pair_data.proofs.Served.{rests, settled}
-use Rattle.ftp_pair_deeds.proofs.Holding.{Takes, both, is_sound, unclosed}
+use Rattle.ftp_pair_deeds.proofs.Holding.{both, is_sound, unclosed}
 use Rattle.ftp_pair_deeds.proofs.NearForms.{Taking, receives_closing, taking_of, taking_same, wants_rest}
 use Rattle.ftp_pair_deeds.proofs.Stands.{ClientFetches, ServerServes}
-use Rattle.ftp_pair_transfers.proofs.Beside.{Goes, Together, Writes, rested}
+use Rattle.ftp_pair_transfers.proofs.Beside.{Goes, Takes, Together, Writes, is_taking, open_takes, rested}
 use Rattle.ftp_pair_transfers.proofs.ClientStays.{client_stays}
 use Rattle.ftp_pair_transfers.proofs.Known.{Known, is_near_held, is_ready}
 use Rattle.ftp_pair_transfers.proofs.Settling.{NearSettles, near_settles}
@@ -70,7 +70,6 @@ module _ (read : Reading) (orders : List Order) (server : Stand server_side) (ol
     takes : Takes new.owner.lane
     takes = record {
       bare = λ e. absurd (both (ap (λ (l : Lane). l.stands) lane ∙ did.0.2.0.0) e);
-      over = λ e. absurd (both (ap (λ (l : Lane). is_sound l.fate) lane ∙ ap is_sound did.0.2.0.1) e);
     }
 
     gives : Writes between.near new.owner.lane
@@ -81,6 +80,10 @@ module _ (read : Reading) (orders : List Order) (server : Stand server_side) (ol
 
     over : is_sound new.owner.lane.fate ≡ false → is_near_held w.link ≡ false
     over e = absurd (both (ap (λ (l : Lane). is_sound l.fate) lane ∙ ap is_sound did.0.2.0.1) e)
+
+    -- octets may come
+    taking_now : is_taking old.owner.lane ≡ true
+    taking_now = open_takes old.owner.lane did.0.2.0
 
     closing : u.closing ≡ false
     closing = ap (λ (n : Near). n.closing) is ∙ receives_closing (take count octets) v ∙ taking.closing
@@ -98,7 +101,7 @@ module _ (read : Reading) (orders : List Order) (server : Stand server_side) (ol
         client_stays read orders server old new reports w calm known moment ahead between between told [] t (ap (λ n. data_closed (taken n)) (sym same))
         (ap (λ n. option_to_list (report_of n)) (sym same)) refl (ap (λ (s : Stand client_side). s.unheard ++ between.control.to_client) (sym did.1))
         (ap (λ (l : Lane). server.owner.lane.untold ++ (between.data_ways.to_server ++ l.unwritten)) (sym lane))
-        (ap (λ o. o ++ ways) (did.0.1.0 ∙ ap (λ o. o ++ new.owner.lane.untold) none)) refl takes gives
+        (λ e. (taking_now, ap (λ o. o ++ ways) (did.0.1.0 ∙ ap (λ o. o ++ new.owner.lane.untold) none))) refl takes gives
         (record { had = t.keeping.had; shut = λ e. absurd (both e closing); over = over })
 
     module _ (octet : ℕ) (more : List ℕ) (some : take count octets ≡ octet ∷ more) where
@@ -112,7 +115,8 @@ module _ (read : Reading) (orders : List Order) (server : Stand server_side) (ol
       r = rested moment ahead between told server old reports w t.beside serves before
 
       queue : w.data_to_client ≡ all ++ rest
-      queue = t.beside.falling ∙ ap (λ o. o ++ ways) (did.0.1.0 ∙ ap (λ o. o ++ new.owner.lane.untold) some) ∙ append_assoc all new.owner.lane.untold ways
+      queue = t.beside.falling taking_now ∙ ap (λ o. o ++ ways) (did.0.1.0 ∙ ap (λ o. o ++ new.owner.lane.untold) some)
+          ∙ append_assoc all new.owner.lane.untold ways
 
       got : receives w.near all ≡ u
       got = ap (λ n. receives n all) near_is ∙ ap (receives v) (sym some) ∙ sym is
@@ -163,7 +167,7 @@ module _ (read : Reading) (orders : List Order) (server : Stand server_side) (ol
                 to_client = s.same.to_client ∙ b.to_client ∙ ap (λ (y : Stand client_side). y.unheard ++ between.control.to_client) (sym did.1);
                 rising = s.same.rising ∙ b.rising
                     ∙ ap (λ (l : Lane). server.owner.lane.untold ++ (between.data_ways.to_server ++ l.unwritten)) (sym lane);
-                falling = s.same.falling;
+                falling = λ e. s.same.falling;
                 listens = subst (Listened ahead told) (sym s.same.listens) b.listens;
                 reported = s.reports ∙ ap₂ (λ r n. r ++ option_to_list (report_of n)) (b.reported ∙ ap (λ o. reports ++ o) none_said) got;
                 control = s.same.control ∙ b.control;

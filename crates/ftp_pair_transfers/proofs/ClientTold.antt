@@ -32,8 +32,9 @@ use Rattle.ftp_pair_deeds.proofs.Holding.{both, is_called, is_false, is_had}
 use Rattle.ftp_pair_transfers.proofs.Ahead.{Holds}
 use Rattle.ftp_pair_deeds.proofs.FarForms.{given_none, told_passive}
 use Rattle.ftp_pair_deeds.proofs.NearForms.{Taking, end_closing, taking_of, wants_rest}
+use Rattle.ftp_pair_deeds.proofs.Plain.{IsPlainly}
 use Rattle.ftp_pair_deeds.proofs.Stands.{ClientFetches, ServerServes, wants_port}
-use Rattle.ftp_pair_transfers.proofs.Beside.{Comes, Goes, Together, Writes, rested}
+use Rattle.ftp_pair_transfers.proofs.Beside.{Comes, Goes, Together, Writes, open_takes, rested}
 use Rattle.ftp_pair_transfers.proofs.ClientTaking.{taking_is}
 use Rattle.ftp_pair_transfers.proofs.Known.{AreCarried, Known, is_near_held}
 use Rattle.ftp_pair_transfers.proofs.Running.{ends_sound}
@@ -82,7 +83,7 @@ module _ (read : Reading) (begun : List Order) (server : Stand server_side) (old
 
     none : w.data_to_client ≡ []
     none =
-        t.beside.falling ∙ ap (λ o. o ++ (between.data_ways.to_client ++ server.owner.lane.unwritten)) did.0.1.3
+        t.beside.falling (open_takes old.owner.lane did.0.1.1) ∙ ap (λ o. o ++ (between.data_ways.to_client ++ server.owner.lane.unwritten)) did.0.1.3
         ∙ ap₂ (λ a o. a ++ o) can.1 (t.serves.spare (ap is_had can.0))
 
     r : Rested w
@@ -143,7 +144,7 @@ module _ (read : Reading) (begun : List Order) (server : Stand server_side) (old
                     ∙ ap₂ (λ (y : Stand client_side) (m : Between). y.unheard ++ m.control.to_client) (sym did.1) (sym can.2);
                 rising = s.same.rising ∙ sym none_rises ∙ b.rising
                     ∙ ap₂ (λ (l : Lane) (m : Between). server.owner.lane.untold ++ (m.data_ways.to_server ++ l.unwritten)) (sym lane) (sym can.2);
-                falling = s.same.falling ∙ sym none ∙ b.falling
+                falling = λ e. s.same.falling ∙ sym none ∙ b.falling (open_takes old.owner.lane did.0.1.1)
                     ∙ ap₂ (λ (l : Lane) (m : Between). l.untold ++ (m.data_ways.to_client ++ server.owner.lane.unwritten)) (sym lane) (sym can.2);
                 listens = subst (Listened ahead told) (sym s.same.listens) b.listens;
                 reported = s.reports ∙ ap₂ (λ r n. r ++ option_to_list (report_of n)) (b.reported ∙ ap (λ o. reports ++ o) none_said) ended;
@@ -156,7 +157,6 @@ module _ (read : Reading) (begun : List Order) (server : Stand server_side) (old
               serves = subst (λ (m : Between). Writes m.far server.owner.lane) (sym can.2) t.serves;
               takes = record {
                 bare = λ e. ap (λ (l : Lane). l.untold) lane ∙ did.0.1.3;
-                over = λ e. ap (λ (l : Lane). l.untold) lane ∙ did.0.1.3;
               };
               gives = subst (λ (m : Between). Writes m.near new.owner.lane) (sym can.2) (record {
                 spare = λ e. ap (λ (l : Lane). l.unwritten) lane ∙ t.gives.spare e;

@@ -46,7 +46,7 @@ use Rattle.ftp_pair_transfers.proofs.ServerStays.{server_resets}
 use Rattle.ftp_pair_transfers.proofs.Simulating.{Reached, asks, client_fresh, client_goes, client_plain, in_carried, known, orders_are, runs, server_goes}
 
 -- the ports of the deeds before one are those of a world too
-earlier : (deed : Deed server_side) (before : List (Deed server_side)) → ArePorts (deed ∷ before) → ArePorts before
+pub earlier : (deed : Deed server_side) (before : List (Deed server_side)) → ArePorts (deed ∷ before) → ArePorts before
 earlier (Other (Listening port)) before ports = ports.0
 earlier deed before ports = ports
 
@@ -166,7 +166,7 @@ module _ (read : Reading) (reads : IsReading read) (moments : ℕ → ℕ) (time
   -- ---- one after another
 
   -- as a session begins
-  starts_so : (server : Stand server_side) (client : Stand client_side) → Begins b server client → server.owner.lane.untold ≡ []
+  pub starts_so : (server : Stand server_side) (client : Stand client_side) → Begins b server client → server.owner.lane.untold ≡ []
       → client.owner.lane.unwritten ≡ [] → server.owner.lane.unwritten ≡ [] → client.owner.lane.untold ≡ []
       → (o : At [] nothing_yet 0 server client []) × (o.world.marks ≡ [])
   starts_so server client begins untold unwritten far_unwritten near_untold = (
@@ -183,7 +183,7 @@ module _ (read : Reading) (reads : IsReading read) (moments : ℕ → ℕ) (time
           to_server = ap (λ q. q ++ []) (sym begins.server_unheard);
           to_client = ap (λ q. q ++ []) (sym begins.client_unheard);
           rising = ap₂ (λ q r. q ++ ([] ++ r)) (sym untold) (sym unwritten);
-          falling = ap₂ (λ q r. q ++ ([] ++ r)) (sym near_untold) (sym far_unwritten);
+          falling = λ e. ap₂ (λ q r. q ++ ([] ++ r)) (sym near_untold) (sym far_unwritten);
           listens = refl;
           reported = ap (λ n. option_to_list (near.report_of n)) (sym begins.client_view);
           control = refl;
@@ -203,7 +203,7 @@ module _ (read : Reading) (reads : IsReading read) (moments : ℕ → ℕ) (time
           shut = λ e. ap (λ f. is_open f.session.connection) begins.server_view;
         };
         serves = record { spare = λ e. far_unwritten; bare = λ e. far_unwritten };
-        takes = record { bare = λ e. near_untold; over = λ e. near_untold };
+        takes = record { bare = λ e. near_untold };
         gives = record { spare = λ e. unwritten; bare = λ e. unwritten };
         keeping = record {
           had = λ e. absurd (true≢false (sym e));

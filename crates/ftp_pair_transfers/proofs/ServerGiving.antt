@@ -297,7 +297,7 @@ module _ (read : Reading) (orders : List Order) (old new : Stand server_side) (c
                 far = e.far ∙ ap (far_ahead Level) (given_clock s.listed left moment v) ∙ ap (λ f. clock_step moment (far_ahead Level f)) (sym is);
                 to_server = e.to_server ∙ b.to_server ∙ ap (λ (s : Stand server_side). s.unheard ++ between.control.to_server) (sym did.1);
                 to_client = e.to_client ∙ b.to_client;
-                falling = e.falling ∙ ap₂ (λ q o. q ++ o) b.falling (sym some_given) ∙ lanes
+                falling = λ x. e.falling ∙ ap₂ (λ q o. q ++ o) (b.falling x) (sym some_given) ∙ lanes
                     ∙ ap (λ o. client.owner.lane.untold ++ (between.data_ways.to_client ++ o)) (sym unwritten);
                 rising = e.rising ∙ b.rising ∙ ap (λ (l : Lane). l.untold ++ (between.data_ways.to_server ++ client.owner.lane.unwritten)) (sym lane);
                 listens = e.listens ∙ b.listens;

@@ -99,7 +99,8 @@ module _ (read : Reading) (reads : IsReading read) (orders : List Order) (old ne
             to_client = ap (λ q. q ++ octets) b.to_client ∙ append_assoc client.unheard between.control.to_client octets
                 ∙ ap (λ (m : Between). client.unheard ++ m.control.to_client) (sym can);
             rising = b.rising ∙ ap₂ (λ (m : Between) (l : Lane). l.untold ++ (m.data_ways.to_server ++ client.owner.lane.unwritten)) (sym can) (sym lane);
-            falling = b.falling ∙ ap₂ (λ (m : Between) (l : Lane). client.owner.lane.untold ++ (m.data_ways.to_client ++ l.unwritten)) (sym can) (sym lane);
+            falling = λ e. b.falling e
+                ∙ ap₂ (λ (m : Between) (l : Lane). client.owner.lane.untold ++ (m.data_ways.to_client ++ l.unwritten)) (sym can) (sym lane);
             listens = b.listens;
             reported = b.reported;
             control = b.control;
@@ -194,7 +195,7 @@ module _ (read : Reading) (reads : IsReading read) (orders : List Order) (old ne
               to_server = f.same.to_server;
               to_client = f.same.to_client ∙ b.to_client;
               rising = f.same.data_to_server ∙ b.rising ∙ ap (λ o. o ++ (between.data_ways.to_server ++ client.owner.lane.unwritten)) (sym h.lane);
-              falling = f.same.data_to_client ∙ b.falling
+              falling = λ e. f.same.data_to_client ∙ b.falling e
                   ∙ ap (λ o. client.owner.lane.untold ++ (between.data_ways.to_client ++ o)) (sym h.unwritten);
               listens = listens f;
               reported = f.reports ∙ b.reported;

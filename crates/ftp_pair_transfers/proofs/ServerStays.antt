@@ -92,7 +92,7 @@ module _ (read : Reading) (orders : List Order) (old new : Stand server_side) (c
         to_server = t.beside.to_server ∙ queue;
         to_client = t.beside.to_client ∙ ap (λ q. client.unheard ++ q) (sym other);
         rising = t.beside.rising ∙ climbs;
-        falling = t.beside.falling ∙ falls;
+        falling = λ e. t.beside.falling e ∙ falls;
         listens = listens t.beside.listens;
         reported = t.beside.reported;
         control = t.beside.control;

@@ -198,7 +198,7 @@ module _ (read : Reading) (reads : IsReading read) (from : State) (begun : List 
                   to_server = b.to_server ∙ ap (λ (y : Stand server_side). y.unheard ++ between.control.to_server) (sym did.1);
                   to_client = b.to_client;
                   rising = refl;
-                  falling = b.falling ∙ ap (λ (l : Lane). client.owner.lane.untold ++ (between.data_ways.to_client ++ l.unwritten)) (sym lane);
+                  falling = λ e. b.falling e ∙ ap (λ (l : Lane). client.owner.lane.untold ++ (between.data_ways.to_client ++ l.unwritten)) (sym lane);
                   listens = b.listens;
                   reported = b.reported;
                   control = b.control;
@@ -342,7 +342,7 @@ module _ (read : Reading) (reads : IsReading read) (from : State) (begun : List 
                 to_client = f.same.to_client ∙ b.to_client ∙ ap (λ (m : Between). client.unheard ++ m.control.to_client) (sym can.2);
                 rising = f.same.data_to_server ∙ sym empty ∙ b.rising
                     ∙ ap₂ (λ (l : Lane) (m : Between). l.untold ++ (m.data_ways.to_server ++ client.owner.lane.unwritten)) (sym lane_then) (sym can.2);
-                falling = f.same.data_to_client ∙ sym nothing_falls ∙ b.falling
+                falling = λ e. f.same.data_to_client ∙ sym nothing_falls ∙ b.falling e
                     ∙ ap₂ (λ (l : Lane) (m : Between). client.owner.lane.untold ++ (m.data_ways.to_client ++ l.unwritten)) (sym lane_then) (sym can.2);
                 listens = subst (λ a. Listened (next_ahead a port) w.listens (settled end_now).listens) unasked f.listens ∙ b.listens;
                 reported = f.reports ∙ b.reported;

@@ -112,7 +112,7 @@ module _ (read : Reading) (reads : IsReading read) (moments : ℕ → ℕ) (time
     pub fresh : StaysFresh between client
 
   -- how a client stands
-  fetches : (client : Stand client_side) → IsPlainly client.owner.end.view → is_sound client.owner.end.view.standing ≡ true → ClientFetches client.owner
+  pub fetches : (client : Stand client_side) → IsPlainly client.owner.end.view → is_sound client.owner.end.view.standing ≡ true → ClientFetches client.owner
   fetches client plain sound = record { sound = sound; dials = portless client.owner.end.view.connection plain.port }
 
   -- it accepts nobody
@@ -383,8 +383,8 @@ module _ (read : Reading) (reads : IsReading read) (moments : ℕ → ℕ) (time
     ap (λ c. is_sound c.view.standing) did.0.0 ∙ o.sound,
   )
   client_goes (Other (Left (Reset left written))) unbroken old new is deeds puts p q can told server reports o plain did = (
-    client_resets read (begun_at moments deeds) server old new reports o.world is.1 (known deeds p told server old reports o puts) left written o.last o.ahead
-        p q told o.together did is.0.0 is.0.1 can,
+    client_resets read (begun_at moments deeds) server old new reports o.world is.1 (known deeds p told server old reports o puts)
+        (asks deeds p told server old reports o puts) left written o.last o.ahead p q told o.together did is.0.1 can,
     ap (λ c. is_sound c.view.standing) did.0.0 ∙ o.sound,
   )
   client_goes (Other Break) unbroken old new is deeds puts p q can told server reports o plain did = absurd unbroken
