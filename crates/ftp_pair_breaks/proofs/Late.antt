@@ -35,19 +35,19 @@ use Rattle.ftp_pair_breaks.specs.Late.{BreaksLate, HearsLate, downloading}
 
 -- ---- a client that has its answer
 
-abbrev is_told : Job → Bool
+abbrev pub is_told : Job → Bool
 is_told (Told answer) = true
 is_told job = false
 
 -- it is logged in, or has failed
-abbrev is_late : Standing → Bool
+abbrev pub is_late : Standing → Bool
 is_late Stands.Entered = true
 is_late (Stands.Failed failure) = true
 is_late standing = false
 
-record IsOver (v : View) : Type 0 where
-  told : is_told v.job ≡ true
-  late : is_late v.standing ≡ true
+pub record IsOver (v : View) : Type 0 where
+  pub told : is_told v.job ≡ true
+  pub late : is_late v.standing ≡ true
 
 -- so it stays
 fails_over : (failure : Failure) (v : View) → IsOver v → IsOver (fails failure v)
@@ -106,7 +106,7 @@ events_over : (events : List NvtEvent) (v : View) → IsOver v → IsOver (event
 events_over [] v o = o
 events_over (event ∷ events) v o = events_over events (event_taken event v) (event_over event v o)
 
-hears_over : (octets : List ℕ) (v : View) → IsOver v → IsOver (hears v octets)
+pub hears_over : (octets : List ℕ) (v : View) → IsOver v → IsOver (hears v octets)
 hears_over [] v o = o
 hears_over (octet ∷ octets) v o =
     hears_over octets (hears_octet v octet)
@@ -141,11 +141,11 @@ over_takes v o e = by v.closing (is_sound v.standing) v.connection v.job o.told 
 -- ---- under a download
 
 module _ (op : Op (List ℕ)) (all : count_of op ≡ None) where
-  abbrev down : Replied → Decoder → Option ℕ → View → View
+  abbrev pub down : Replied → Decoder → Option ℕ → View → View
   down replied d mark n = downloading op replied d mark n
 
   -- once it was told of the break
-  abbrev lost : Replied → Decoder → Option ℕ → View → View
+  abbrev pub lost : Replied → Decoder → Option ℕ → View → View
   lost replied d mark n = carries_on (record (down replied d mark n) { connection = Data.Over Endings.Broken })
 
   abbrev so_far : Replied → Decoder → Option ℕ → Transfer
@@ -187,7 +187,7 @@ module _ (op : Op (List ℕ)) (all : count_of op ≡ None) where
 
   -- ---- a break after the final reply is its answer
 
-  judges : (code : ℕ) (flow : Flow) → (answer : Said) × (judged Endings.Broken Aborts.Unsent code op flow ≡ Some answer)
+  pub judges : (code : ℕ) (flow : Flow) → (answer : Said) × (judged Endings.Broken Aborts.Unsent code op flow ≡ Some answer)
   judges code flow = by (is_refusal code) (code == NO_CONNECTION) (code == BROKEN)
     where
       cut : Option ℕ → Option Said
@@ -200,10 +200,10 @@ module _ (op : Op (List ℕ)) (all : count_of op ≡ None) where
       by true false true = (broken_answer flow, ap cut all)
       by true false false = (Refused code, refl)
 
-  abbrev over : Said → View → View
+  abbrev pub over : Said → View → View
   over answer n = record n { standing = Stands.Entered; job = Told answer; run = None; connection = Data.Free; closing = false }
 
-  final_lost : (code : ℕ) (d : Decoder) (mark : Option ℕ) (n : View)
+  pub final_lost : (code : ℕ) (d : Decoder) (mark : Option ℕ) (n : View)
       → lost (Replies.Final code) d mark n ≡ over (judges code (Receiving d mark)).0 n
   final_lost code d mark n =
       ap (λ j. finishes_read j (record (down (Replies.Final code) d mark n) { connection = Data.Over Endings.Broken })) (judges code (Receiving d mark)).1
@@ -243,14 +243,14 @@ module _ (op : Op (List ℕ)) (all : count_of op ≡ None) where
   -- ---- what is heard
 
   -- by what came it goes on alike, and so it does once it was told of the break
-  record Goes (does : View → View) (replied : Replied) (n : View) : Type 0 where
-    next : Replied
-    last : View
-    stays : (d : Decoder) (mark : Option ℕ) → does (down replied d mark n) ≡ down next d mark last
-    breaks : (d : Decoder) (mark : Option ℕ) → does (lost replied d mark n) ≡ lost next d mark last
+  pub record Goes (does : View → View) (replied : Replied) (n : View) : Type 0 where
+    pub next : Replied
+    pub last : View
+    pub stays : (d : Decoder) (mark : Option ℕ) → does (down replied d mark n) ≡ down next d mark last
+    pub breaks : (d : Decoder) (mark : Option ℕ) → does (lost replied d mark n) ≡ lost next d mark last
 
   -- or it has its answer
-  abbrev Turns : (View → View) → Replied → View → Type 0
+  abbrev pub Turns : (View → View) → Replied → View → Type 0
   Turns does replied n = ((d : Decoder) (mark : Option ℕ) → IsOver (does (down replied d mark n))) ⊎ Goes does replied n
 
   -- one that has its answer, whatever was read
@@ -391,7 +391,8 @@ module _ (op : Op (List ℕ)) (all : count_of op ≡ None) where
       ear_lost : (d : Decoder) (mark : Option ℕ)
           → hears_octet (lost replied d mark n) octet ≡ events_taken (ear_out reply_limit n.ear octet) (lost replied d mark m)
       ear_lost d mark =
-          ap (λ e. events_taken (ear_out reply_limit e octet) (record (lost replied d mark n) { ear = ear_step reply_limit e octet })) (lost_ear replied d mark n)
+          ap (λ e. events_taken (ear_out reply_limit e octet) (record (lost replied d mark n) { ear = ear_step reply_limit e octet }))
+          (lost_ear replied d mark n)
           ∙ ap (events_taken (ear_out reply_limit n.ear octet)) (listens_lost (ear_step reply_limit n.ear octet) replied d mark n)
 
       one : (event : NvtEvent) → ear_out reply_limit n.ear octet ≡ event ∷ [] → Turns (event_taken event) replied m → Turns (λ v. hears_octet v octet) replied n
@@ -403,7 +404,7 @@ module _ (op : Op (List ℕ)) (all : count_of op ≡ None) where
         breaks = λ d mark. ear_lost d mark ∙ ap (λ es. events_taken es (lost replied d mark m)) f ∙ g.breaks d mark;
       })
 
-  hears_turns : (octets : List ℕ) (replied : Replied) (n : View) → Turns (λ v. hears v octets) replied n
+  pub hears_turns : (octets : List ℕ) (replied : Replied) (n : View) → Turns (λ v. hears v octets) replied n
   hears_turns [] replied n = inr (record { next = replied; last = n; stays = λ d mark. refl; breaks = λ d mark. refl })
   hears_turns (octet ∷ octets) replied n =
       elim (octet_turns octet replied n) [

@@ -1,1 +1,12 @@
 pub mod Late
+pub mod Faults
+pub mod Unsent
+pub mod ClientBroken
+pub mod Feeding
+pub mod Untold
+pub mod Steps
+pub mod Lagging
+pub mod Unbroken
+pub mod Simulating
+pub mod Concluding
+pub mod Ending

@@ -8,7 +8,9 @@ use Rattle.ftp_client_drive.specs.Side.{client_side}
 use Rattle.ftp_client_model.specs.Calls as near
 use Rattle.ftp_client_model.specs.Calls.{data_closed, is_busy, is_sound as is_sound_at, report_of}
 use Rattle.ftp_client_model.specs.Plan.{count_of}
-use Rattle.ftp_client_model.specs.View.{View as Near}
+use Rattle.ftp_client_model.specs.View.{View as Near, Transfer}
+use Rattle.ftp_client_model.specs.Octets.{settled_of}
+use Rattle.ftp_client_model.specs.declared.client.Abort.TheVariants as Aborts
 use Rattle.ftp_ends.specs.declared.link.Wants.TheVariants as Want
 use Rattle.ftp_operation.specs.Answer.{Said}
 use Rattle.ftp_operation.specs.declared.op.Op.{Op}
@@ -194,13 +196,18 @@ module _ (read : Reading) (orders : List Order) (server : Stand server_side) (ol
         by [] q = record { job = (q.job.0, tt); port = refl; run = refl }
         by (octet ∷ rest) q = record { job = (q.job.0, tt); port = refl; run = refl }
 
-    -- it took none
-    pub gave_fresh : IsPlainBy Fresh v → IsPlainBy Fresh u
-    gave_fresh p = subst (IsPlainBy Fresh) (sym is) (by left (subst (IsPlainBy Fresh) form p))
+    -- it sent no ABOR, and took none: what is kept where that is so is kept
+    pub gave_by : (Kept : Op (List ℕ) → Transfer → Type 0)
+        → ((op : Op (List ℕ)) (transfer : Transfer) → transfer.abort ≡ Aborts.Unsent → settled_of transfer.flow ≡ [] → Kept op transfer)
+        → IsPlainBy Kept v → IsPlainBy Kept u
+    gave_by Kept so p = subst (IsPlainBy Kept) (sym is) (by left (subst (IsPlainBy Kept) form p))
       where
-        by : (rest : List ℕ) → IsPlainBy Fresh (lifting l.op whole l.mark v) → IsPlainBy Fresh (lifted l.op rest l.mark v)
-        by [] q = record { job = (q.job.0, (refl, refl)); port = refl; run = refl }
-        by (octet ∷ rest) q = record { job = (q.job.0, (refl, refl)); port = refl; run = refl }
+        by : (rest : List ℕ) → IsPlainBy Kept (lifting l.op whole l.mark v) → IsPlainBy Kept (lifted l.op rest l.mark v)
+        by [] q = record { job = (q.job.0, so _ _ refl refl); port = refl; run = refl }
+        by (octet ∷ rest) q = record { job = (q.job.0, so _ _ refl refl); port = refl; run = refl }
+
+    pub gave_fresh : IsPlainBy Fresh v → IsPlainBy Fresh u
+    gave_fresh p = gave_by Fresh (λ op transfer unsent none. (unsent, none)) p
 
     had : is_had between.near ≡ true
     had = t.keeping.had (ap is_near_held l.link)

@@ -1,0 +1,134 @@
+-- The deeds of drives that are over, of which downloads broke for the client, put together.
+use Rattle.std.proofs.Common.{◌≡◌, ℕ, suc, false, List, [], ◌∷◌, ◌++◌, length, None, refl, sym, ap, subst, ◌∙◌, append-nil, option_to_list}
+use Rattle.ftp_control.specs.Deeds.{Deed, Other, Stand}
+use Rattle.ftp_client_drive.specs.Side.{Begun, client_side}
+use Rattle.ftp_client_model.specs.Calls.{is_busy, report_of}
+use Rattle.ftp_operation.specs.Answer.{Said}
+use Rattle.ftp_operation.specs.declared.op.Op.{Op}
+use Rattle.ftp_server_drive.specs.Side.{server_side}
+use Rattle.ftp_tree.specs.Tree.{Table}
+use Rattle.ftp_pair_world.specs.Agreement.{Agrees, Order, Single}
+use Rattle.ftp_pair_world.specs.Claims.{Beginning, state_of}
+use Rattle.ftp_pair_drives.specs.Alone.{reports_in}
+use Rattle.ftp_pair_drives.specs.Between.{client_deeds}
+use Rattle.ftp_pair_drives.specs.Claims.{Begins}
+use Rattle.ftp_pair_drives.specs.Over.{answers_of, deeds_of_drive}
+use Rattle.ftp_pair_drives.proofs.Concluding.{ends_keep_the_map}
+use Rattle.ftp_pair_drives.proofs.Ending.{reported_free}
+use Rattle.ftp_pair_drives.proofs.Taken.{free_none}
+use Rattle.ftp_pair_deeds.proofs.Along.{Went}
+use Rattle.ftp_pair_transfers.specs.Deeds.{begun_at, number_in}
+use Rattle.ftp_pair_transfers.specs.Over.{orders_at}
+use Rattle.ftp_pair_transfers.proofs.Ending.{midst_begins, midst_numbers, midst_reports}
+use Rattle.ftp_pair_breaks.specs.Claims.{DidSuffer}
+use Rattle.ftp_pair_breaks.specs.Deeds.{ClientSuffers}
+use Rattle.ftp_pair_breaks.specs.Over.{AreSuffered, OverDrivesAgree, deeds_in}
+use Rattle.ftp_pair_breaks.proofs.Concluding.{breaks_agree}
+
+-- one list of a client's deeds after another
+went_then : (more before : List (Deed client_side)) (start mid now : Stand client_side) → Went ClientSuffers more mid now
+    → Went ClientSuffers before start mid
+    → Went ClientSuffers (more ++ before) start now
+went_then [] before start mid now second first = subst (λ n. Went ClientSuffers before start n) (sym second.0) first
+went_then (deed ∷ more) before start mid now second first =
+    let rest = went_then more before start mid second.0.0 (second.0.1, second.1.0) first in
+    ((second.0.0, rest.0, second.0.2), (rest.1, second.1.1))
+
+-- after its drives a client is to close nothing
+none_to_close : (asked : List (Op (List ℕ) × Said)) (start now : Stand client_side) → AreSuffered asked start now → start.owner.end.view.closing ≡ false
+    → now.owner.end.view.closing ≡ false
+none_to_close [] start now put none = ap (λ (s : Stand client_side). s.owner.end.view.closing) put ∙ none
+none_to_close (asked ∷ before) start now put none = ap (λ v. v.closing) put.2.drove.did.sums.led.2.0.0.0
+
+-- the deeds of a client's drives
+answers_go : (asked : List (Op (List ℕ) × Said)) (start now : Stand client_side) (put : AreSuffered asked start now) → start.owner.end.view.closing ≡ false
+    → Went ClientSuffers (deeds_in asked start now put) start now
+answers_go [] start now put none = (put, tt)
+answers_go (asked ∷ before) start now put none =
+    let a = put.2 in
+    let by = put.3 in
+    let first = answers_go before start put.0 put.1 none in
+    let drive : Went ClientSuffers (deeds_of_drive a.drove) a.begun now = (a.drove.did.sums.led, by.suffers) in
+    let begun : Went ClientSuffers (Other (Begun asked.0) ∷ deeds_in before start put.0 put.1) start a.begun =
+    ((put.0, first.0, a.begins), (first.1, (((by.raised, none_to_close before start put.0 put.1 none), by.all), by.calm))) in
+    went_then (deeds_of_drive a.drove) (Other (Begun asked.0) ∷ deeds_in before start put.0 put.1) start a.begun now drive begun
+
+-- ---- what they began and reported
+
+-- so many operations
+numbers_are : (asked : List (Op (List ℕ) × Said)) (start now : Stand client_side) (put : AreSuffered asked start now)
+    → number_in (deeds_in asked start now put) ≡ length asked
+numbers_are [] start now put = refl
+numbers_are (asked ∷ before) start now put =
+    midst_numbers put.2.drove.did.deeds (Other (Begun asked.0) ∷ deeds_in before start put.0 put.1) put.3.midst
+    ∙ ap suc (numbers_are before start put.0 put.1)
+
+-- and these, at their moments
+orders_are : (moments : ℕ → ℕ) (asked : List (Op (List ℕ) × Said)) (start now : Stand client_side) (put : AreSuffered asked start now)
+    → begun_at moments (deeds_in asked start now put) ≡ orders_at moments asked
+orders_are moments [] start now put = refl
+orders_are moments (asked ∷ before) start now put =
+    let rest = Other (Begun asked.0) ∷ deeds_in before start put.0 put.1 in
+    append-nil _ ∙ append-nil _ ∙ append-nil _ ∙ midst_begins moments put.2.drove.did.deeds rest put.3.midst
+    ∙ ap (λ n. begun_at moments (deeds_in before start put.0 put.1) ++ Single asked.0 (moments n) ∷ []) (numbers_are before start put.0 put.1)
+    ∙ ap (λ l. l ++ Single asked.0 (moments (length before)) ∷ []) (orders_are moments before start put.0 put.1)
+
+-- and report their answers
+answers_are : (asked : List (Op (List ℕ) × Said)) (start now : Stand client_side) (put : AreSuffered asked start now)
+    → reports_in (deeds_in asked start now put) ≡ answers_of asked
+answers_are [] start now put = refl
+answers_are (asked ∷ before) start now put =
+    let rest = Other (Begun asked.0) ∷ deeds_in before start put.0 put.1 in
+    append-nil _ ∙ append-nil _ ∙ ap (λ l. l ++ asked.1 ∷ []) (midst_reports put.2.drove.did.deeds rest put.3.midst ∙ append-nil _)
+    ∙ ap (λ l. l ++ asked.1 ∷ []) (answers_are before start put.0 put.1)
+
+-- a client whose drives are over is not busy
+over_free : (b : Beginning) (server : Stand server_side) (asked : List (Op (List ℕ) × Said)) (start now : Stand client_side) → Begins b server start
+    → AreSuffered asked start now → is_busy now.owner.end.view ≡ false
+over_free b server [] start now begins put = ap (λ (s : Stand client_side). is_busy s.owner.end.view) put ∙ ap is_busy begins.client_view
+over_free b server (asked ∷ before) start now begins put =
+    let led = put.2.drove.did.sums.led in
+    let report = led.1.1.2 in
+    ap is_busy led.2.0.0.0 ∙ ap (λ c. is_busy c.view) led.1.2.0.0 ∙ ap is_busy report.0.0.1.0
+    ∙ reported_free led.1.1.0.owner.end.view asked.1 report.0.0.0
+
+-- ---- both
+
+-- what both did before the end agrees
+pub over_drives_agree : OverDrivesAgree
+over_drives_agree b fair moments timed asked server over =
+    let client = subst (λ d. Went ClientSuffers d over.client_start over.client) (sym over.client_is)
+    (answers_go asked over.client_start over.client over.put (ap (λ v. v.closing) over.begins.client_view)) in
+    let did : DidSuffer b moments over.turns over.between over.last over.client = record {
+      server_start = over.server_start;
+      client_start = over.client_start;
+      begins = over.begins;
+      untold = over.untold;
+      unwritten = over.unwritten;
+      server_unwritten = over.server_unwritten;
+      client_untold = over.client_untold;
+      happened = over.happened;
+      server_led = over.server_led;
+      client_led = client.0;
+      takes = over.takes;
+      suffers = client.1;
+      ports = over.ports;
+      told = over.told;
+    } in
+    let agree = breaks_agree b fair moments timed over.turns over.between over.last over.client did in
+    let orders : begun_at moments (client_deeds over.turns) ≡ orders_at moments asked =
+    ap (begun_at moments) over.client_is ∙ orders_are moments asked over.client_start over.client over.put in
+    let free = over_free b over.server_start asked over.client_start over.client over.begins over.put in
+    let answers : reports_in (client_deeds over.turns) ++ option_to_list (report_of over.client.owner.end.view) ≡ answers_of asked =
+    ap (λ o. reports_in (client_deeds over.turns) ++ option_to_list o) (free_none over.client.owner.end.view free)
+    ∙ append-nil (reports_in (client_deeds over.turns)) ∙ ap reports_in over.client_is ∙ answers_are asked over.client_start over.client over.put in
+    let table : server.owner.end.server.view.session.table ≡ over.last.owner.end.server.view.session.table =
+    ends_keep_the_map over.closed over.last server over.server_end in (
+      agree.0,
+      agree.1,
+      subst (λ (t : Table). Agrees (state_of b) (orders_at moments asked) agree.0 None (answers_of asked) t) (sym table)
+          (subst (λ (r : List Said). Agrees (state_of b) (orders_at moments asked) agree.0 None r over.last.owner.end.server.view.session.table) answers
+          (subst (λ (o : List Order). Agrees (state_of b) o agree.0 None
+          (reports_in (client_deeds over.turns) ++ option_to_list (report_of over.client.owner.end.view)) over.last.owner.end.server.view.session.table) orders
+          agree.2)),
+    )

@@ -1,0 +1,331 @@
+-- What is so of a world whose client takes octets of a download: its server has let the link go, or waits for the command, or gives; and while it gives the
+-- client has no final reply.
+use Rattle.std.proofs.Common.{◌≡◌, ◌⊎◌, inl, inr, ℕ, Bool, true, false, true≢false, List, [], ◌∷◌, ◌++◌, None, refl, ap, ◌∙◌}
+use Rattle.ftp_client_model.specs.Calls as near
+use Rattle.ftp_client_model.specs.Plan.{count_of}
+use Rattle.ftp_client_model.specs.View.{Job, Transferring}
+use Rattle.ftp_client_model.specs.declared.client.Abort.TheVariants as Aborts
+use Rattle.ftp_client_model.specs.declared.client.ClientLink.{ClientLink as NearConnection}
+use Rattle.ftp_client_model.specs.declared.client.ClientLink.TheVariants as NearData
+use Rattle.ftp_client_model.specs.declared.client.Replied.{Replied}
+use Rattle.ftp_client_model.specs.declared.client.Replied.TheVariants as Replies
+use Rattle.ftp_direct.specs.Direct.{State}
+use Rattle.ftp_ends.specs.declared.link.Wants.TheVariants as Want
+use Rattle.ftp_operation.specs.Answer.{Said}
+use Rattle.ftp_path.specs.Path.{Names}
+use Rattle.ftp_server_model.specs.Machine.{IsReading, Reading}
+use Rattle.ftp_server_model.specs.View.{Transfer}
+use Rattle.ftp_server_model.specs.declared.session.Keep.{Keep}
+use Rattle.ftp_server_model.specs.declared.session.Pending.{Pending}
+use Rattle.ftp_server_model.specs.declared.session.Pending.TheVariants as Pendings
+use Rattle.ftp_server_model.specs.declared.session.ServerLink.{ServerLink}
+use Rattle.ftp_server_model.specs.declared.session.ServerLink.TheVariants as Data
+use Rattle.ftp_wire.specs.Decoder.{Decoder}
+use Rattle.ftp_endpoint.specs.declared.host.Host.{Host}
+use Rattle.ftp_pair_world.specs.Agreement.{Order, Single}
+use Rattle.ftp_pair_world.specs.Events.{ControlToClient, is_closed_by_near, pushed}
+use Rattle.ftp_pair_world.specs.World.{Mark, Stands, World}
+use Rattle.ftp_pair_dialogues.specs.Fetches.{Ask, Direction, Down, IsAsk, Rise, Up, busy, carrying, linked}
+use Rattle.ftp_pair_dialogues.specs.Stage.{Way}
+use Rattle.ftp_pair_agreement.specs.Cut.{PlacedAt, world_at}
+use Rattle.ftp_pair_agreement.specs.Follows.{Phase}
+use Rattle.ftp_pair_agreement.specs.Over.{OverRuns}
+use Rattle.ftp_pair_agreement.specs.Rising.{Closing, Declined, Lift, Offered, Risen, Rising, Settled, Shut, Unjoined, Vanished, held, lift_passes}
+use Rattle.ftp_pair_agreement.specs.Runs.{IsFetching}
+use Rattle.ftp_pair_agreement.specs.Stages.{Answers, Aside as LeavesAside, AtFetch, Awaits, Carries, Closed, Course, Dialled, Dials, Dismissed, Early, Ended, Given, Giving, Holds, IsLasting, Leaving, LinkLeft, LinkOpen, LinkParting, Lost, PortAsked, PortDenied, PortSaid, PortTaken, PortTold, PortWanted, Ported, Refusing, Restarts, Retrieves, Rises, Severed, Tells, Unaccepted, Unclosed, Unopened, early_far, far_link, gives_on, heard_by, is_passing, replied_of, tie_of}
+use Rattle.ftp_pair_agreement.proofs.FetchRuns.{pushed_client, serving_first}
+use Rattle.ftp_pair_agreement.proofs.FetchServed.{leads_still}
+use Rattle.ftp_pair_agreement.proofs.Rests.{near_form}
+use Rattle.ftp_pair_agreement.proofs.Still.{IsSeen, IsStill, near_wants, seen_placed}
+use Rattle.ftp_pair_data.proofs.Known.{is_receive}
+use Rattle.ftp_pair_data.proofs.Running.{free_still, not_lost, under_still}
+use Rattle.ftp_pair_deeds.proofs.Holding.{both}
+use Rattle.ftp_pair_transfers.proofs.Known.{AreCarried, aside_rests, is_giving, is_ready, last_carried}
+use Rattle.ftp_pair_transfers.proofs.Running.{not_trailing}
+use Rattle.ftp_pair_deeds.proofs.Plain.{IsPlainJob}
+use Rattle.ftp_pair_breaks.proofs.Faults.{Loads}
+use Rattle.ftp_pair_breaks.proofs.Unsent.{AskAll, Unsent, all_carried, last_all, not_halting}
+
+-- ---- the client
+
+-- its final reply is in
+abbrev pub is_final : Replied → Bool
+is_final (Replies.Final code) = true
+is_final replied = false
+
+-- a client takes octets of a download, and the server has let the link go, or has not heard the command, or gives
+pub record Feeding (w : World) : Type 0 where
+  pub loads : Loads w.near
+  pub far : (w.far.session.connection ≡ Data.Free) ⊎ ((is_final loads.replied ≡ false)
+      × ((is_giving w.far.session.connection ≡ true) ⊎ ((w.far.session.connection ≡ Data.Ready) × (w.control_to_client ≡ []))))
+
+-- ---- by stages
+
+begun_unfinal : (begun : Bool) → is_final (replied_of (heard_by begun)) ≡ false
+begun_unfinal true = refl
+begun_unfinal false = refl
+
+early_gives : (host : Host) (early : Early) → is_giving (early_far host early) ≡ false
+early_gives host (Dialled true) = refl
+early_gives host (Dialled false) = refl
+early_gives host (Ported port) = refl
+
+held_gives : (past : Bool) (path : Names) (keep : Keep) (d : Decoder) → is_giving (held past path keep d) ≡ false
+held_gives false path keep d = refl
+held_gives true path keep d = refl
+
+gives_giving : (listed : Bool) (course : Course) (begun : Bool) (octet : ℕ) (more : List ℕ) → course ≡ Giving begun octet more
+    → is_giving (far_link (gives_on listed course) (tie_of course)) ≡ true
+gives_giving true course begun octet more is = ap (λ c. is_giving (far_link (gives_on true c) (tie_of c))) is
+gives_giving false course begun octet more is = ap (λ c. is_giving (far_link (gives_on false c) (tie_of c))) is
+
+module _ (read : Reading) (state : State) (ask : Ask) (good : IsAsk ask) (all : count_of ask.op ≡ None) (own : List Mark) where
+  abbrev At : Way → World → Type 0
+  At way b = AtFetch state ask read own way b
+
+  module _ (w : World) (s : PlacedAt At w) where
+    of : IsSeen s.base w
+    of = seen_placed At w s
+
+    link_is : (link : ServerLink Transfer) (closing : Bool) (pending : Pending Names) → s.base.far.session ≡ linked link closing pending s.base.far.session
+        → w.far.session.connection ≡ link
+    link_is link closing pending is = ap (λ v. v.connection) (of.session ∙ is)
+
+    -- a client that takes octets feeds so
+    stage_feeds : IsLasting state ask read own s.way s.base s.here → near.wants w.near ≡ Want.Receive → Feeding w
+    unfolding near.wants
+    stage_feeds lasts wants = by_here s.here lasts
+      where
+        -- it takes none
+        never : (job : Job) (connection : NearConnection) → s.base.near ≡ busy job connection s.base.near
+            → is_receive (near.wants (busy job connection w.near)) ≡ false → Feeding w
+        never job connection near_is none =
+            absurd (both (ap is_receive wants) (ap (λ v. is_receive (near.wants v)) (near_form s.base w of job connection near_is) ∙ none))
+
+        by_course : (course : Course) (came queue : List ℕ)
+            → Holds state ask own (Carries (record { course = course; came = came; queue = queue })) s.way s.base
+            → is_passing (Carries (record { course = course; came = came; queue = queue })) ≡ false → Feeding w
+        by_course (Giving begun octet more) came queue h lasts = record {
+          loads = record {
+            op = ask.op;
+            all = all;
+            replied = replied_of (heard_by begun);
+            decoder = _;
+            mark = _;
+            near = near_form s.base w of _ _ h.near;
+          };
+          far = inr (
+            begun_unfinal begun,
+            inl (ap is_giving (link_is _ _ _ h.session) ∙ gives_giving ask.listed (Giving begun octet more) begun octet more refl),
+          );
+        }
+        by_course (Given heard true) came queue h lasts = record {
+          loads = record { op = ask.op; all = all; replied = replied_of heard; decoder = _; mark = _; near = near_form s.base w of _ _ h.near };
+          far = inl (link_is _ _ _ h.session);
+        }
+        by_course (Given heard false) came queue h lasts = absurd (true≢false lasts)
+        by_course (Ended begun clean) came queue h lasts = never _ _ h.near refl
+        by_course (Severed begun) came queue h lasts = never _ _ h.near refl
+        by_course (Refusing why Unclosed) came queue h lasts = absurd (true≢false lasts)
+        by_course (Refusing why Closed) came queue h lasts = record {
+          loads = record { op = ask.op; all = all; replied = Replies.Nothing; decoder = _; mark = _; near = near_form s.base w of _ _ h.near };
+          far = inl (link_is _ _ _ h.session);
+        }
+        by_course (Refusing why (Lost clean)) came queue h lasts = never _ _ h.near refl
+        by_course Unopened came queue h lasts = never _ _ h.near refl
+
+        by_lift : (rise : Rise) (lift : Lift) → Holds state ask own (Rises rise lift) s.way s.base → lift_passes lift ≡ false → Feeding w
+        by_lift rise Offered h lasts = never _ _ h.near refl
+        by_lift rise (Rising past octet more came queue mark notes) h lasts = never _ _ h.near refl
+        by_lift rise (Risen past true came queue mark notes) h lasts = never _ _ h.near refl
+        by_lift rise (Risen past false came queue mark notes) h lasts = absurd (true≢false lasts)
+        by_lift rise (Settled begun mark notes fate left after) h lasts = never _ _ h.near refl
+        by_lift rise (Declined why Shut) h lasts = never _ _ h.near refl
+        by_lift rise (Declined why (Vanished broken)) h lasts = never _ _ h.near refl
+        by_lift rise (Declined why Closing) h lasts = absurd (true≢false lasts)
+        by_lift rise Unjoined h lasts = never _ _ h.near refl
+
+        -- its command is on its way
+        retrieves : Holds state ask own (Retrieves (Dialled true)) s.way s.base → Feeding w
+        retrieves h = of_sends ask.sends refl
+          where
+            job_by : Direction → Job
+            job_by d = Transferring ask.op (record { replied = Replies.Nothing; abort = Aborts.Unsent; flow = carrying d ask.settings })
+
+            of_sends : (d : Direction) → ask.sends ≡ d → Feeding w
+            of_sends Down is = record {
+              loads = record {
+                op = ask.op;
+                all = all;
+                replied = Replies.Nothing;
+                decoder = _;
+                mark = _;
+                near = near_form s.base w of (job_by Down) NearData.Open (h.near ∙ ap (λ d. busy (job_by d) NearData.Open s.base.near) is);
+              };
+              far = inr (
+                refl,
+                inr (
+                  link_is _ _ _ h.session,
+                  ap (λ (u : World). u.control_to_client) s.is ∙ ap (λ v. (world_at s.base v s.cut).control_to_client) h.way_is,
+                ),
+              );
+            }
+            of_sends (Up rise) is = never (job_by (Up rise)) NearData.Open (h.near ∙ ap (λ d. busy (job_by d) NearData.Open s.base.near) is) refl
+
+        by_here : (here : At s.way s.base) → IsLasting state ask read own s.way s.base here → Feeding w
+        by_here (inl l) lasts =
+            absurd (both (ap is_receive wants) (ap is_receive (near_wants w.near (leads_still read state ask good.plan own s.base w s.way of l).0.near)))
+        by_here (inr (PortAsked closing, h)) lasts = never _ _ h.near refl
+        by_here (inr (PortTold port, h)) lasts = never _ _ h.near refl
+        by_here (inr (Dials port, h)) lasts = never _ _ h.near refl
+        by_here (inr (PortWanted connection pending, h)) lasts = never _ _ h.near refl
+        by_here (inr (PortSaid port connection pending, h)) lasts = never _ _ h.near refl
+        by_here (inr (PortTaken port closing, h)) lasts = never _ _ h.near refl
+        by_here (inr (PortDenied port connection, h)) lasts = never _ _ h.near refl
+        by_here (inr (Restarts at restart (Dialled true), h)) lasts = never _ _ h.near refl
+        by_here (inr (Restarts at restart (Dialled false), h)) lasts = never _ _ h.near refl
+        by_here (inr (Restarts at restart (Ported port), h)) lasts = never _ _ h.near refl
+        by_here (inr (Retrieves (Dialled true), h)) lasts = retrieves h
+        by_here (inr (Retrieves (Dialled false), h)) lasts = never _ _ h.near refl
+        by_here (inr (Retrieves (Ported port), h)) lasts = never _ _ h.near refl
+        by_here (inr (Awaits port false, h)) lasts = never _ _ h.near refl
+        by_here (inr (Awaits port true, h)) lasts = never _ _ h.near refl
+        by_here (inr (Unaccepted port, h)) lasts = never _ _ h.near refl
+        by_here (inr (Dismissed port why, h)) lasts = never _ _ h.near refl
+        by_here (inr (Carries c, h)) lasts = by_course c.course c.came c.queue h lasts
+        by_here (inr (Rises rise lift, h)) lasts = by_lift rise lift h lasts
+        by_here (inr (Tells rise said after, h)) lasts = absurd (true≢false lasts)
+        by_here (inr (Answers said leaves, h)) lasts = absurd (true≢false lasts)
+
+    -- where the server gives, the client takes, and has no final reply
+    stage_gives : is_giving w.far.session.connection ≡ true → (l : Loads w.near) × (is_final l.replied ≡ false)
+    stage_gives gives = by_here s.here
+      where
+        none : (link : ServerLink Transfer) (closing : Bool) (pending : Pending Names) → s.base.far.session ≡ linked link closing pending s.base.far.session
+            → is_giving link ≡ false → (l : Loads w.near) × (is_final l.replied ≡ false)
+        none link closing pending is not = absurd (both gives (ap is_giving (link_is link closing pending is) ∙ not))
+
+        none_held : (past : Bool) (path : Names) (keep : Keep) (d : Decoder)
+            → s.base.far.session ≡ linked (held past path keep d) false Pendings.Nothing s.base.far.session → (l : Loads w.near) × (is_final l.replied ≡ false)
+        none_held past path keep d is = none (held past path keep d) false Pendings.Nothing is (held_gives past path keep d)
+
+        by_course : (course : Course) (came queue : List ℕ)
+            → Holds state ask own (Carries (record { course = course; came = came; queue = queue })) s.way s.base
+            → (l : Loads w.near) × (is_final l.replied ≡ false)
+        by_course (Giving begun octet more) came queue h = (
+          record { op = ask.op; all = all; replied = replied_of (heard_by begun); decoder = _; mark = _; near = near_form s.base w of _ _ h.near },
+          begun_unfinal begun,
+        )
+        by_course (Given heard true) came queue h = none _ _ _ h.session refl
+        by_course (Given heard false) came queue h = none _ _ _ h.session refl
+        by_course (Ended begun clean) came queue h = none _ _ _ h.session refl
+        by_course (Severed begun) came queue h = none _ _ _ h.session refl
+        by_course (Refusing why Unclosed) came queue h = none _ _ _ h.session refl
+        by_course (Refusing why Closed) came queue h = none _ _ _ h.session refl
+        by_course (Refusing why (Lost clean)) came queue h = none _ _ _ h.session refl
+        by_course Unopened came queue h = none _ _ _ h.session refl
+
+        by_lift : (rise : Rise) (lift : Lift) → Holds state ask own (Rises rise lift) s.way s.base → (l : Loads w.near) × (is_final l.replied ≡ false)
+        by_lift rise Offered h = none_held false _ _ _ h.session
+        by_lift rise (Rising past octet more came queue mark notes) h = none_held past _ _ _ h.session
+        by_lift rise (Risen past closed came queue mark notes) h = none_held past _ _ _ h.session
+        by_lift rise (Settled begun mark notes fate left after) h = none _ _ _ h.session refl
+        by_lift rise (Declined why door) h = none _ _ _ h.session refl
+        by_lift rise Unjoined h = none _ _ _ h.session refl
+
+        by_leaving : (leaves : Leaving) (said : Said) → Holds state ask own (Answers said leaves) s.way s.base
+            → (l : Loads w.near) × (is_final l.replied ≡ false)
+        by_leaving (LeavesAside closes connection pending) said h = none connection _ _ h.session (aside_rests connection h.fine.1).2
+        by_leaving LinkOpen said h = none _ _ _ h.session refl
+        by_leaving LinkLeft said h = none _ _ _ h.session refl
+        by_leaving LinkParting said h = none _ _ _ h.session refl
+
+        by_here : At s.way s.base → (l : Loads w.near) × (is_final l.replied ≡ false)
+        by_here (inl l) =
+            absurd (both gives (aside_rests w.far.session.connection (leads_still read state ask good.plan own s.base w s.way of l).0.far.aside).2)
+        by_here (inr (PortAsked closing, h)) = none _ _ _ h.session refl
+        by_here (inr (PortTold port, h)) = none _ _ _ h.session refl
+        by_here (inr (Dials port, h)) = none _ _ _ h.session refl
+        by_here (inr (PortWanted connection pending, h)) = none connection _ _ h.session (aside_rests connection h.fine).2
+        by_here (inr (PortSaid port connection pending, h)) = none connection _ _ h.session (aside_rests connection h.fine.0).2
+        by_here (inr (PortTaken port closing, h)) = none _ _ _ h.session refl
+        by_here (inr (PortDenied port connection, h)) = none connection _ _ h.session (aside_rests connection h.fine.0).2
+        by_here (inr (Restarts at restart early, h)) = none _ _ _ h.session (early_gives s.base.near.here early)
+        by_here (inr (Retrieves early, h)) = none _ _ _ h.session (early_gives s.base.near.here early)
+        by_here (inr (Awaits port begun, h)) = none _ _ _ h.session refl
+        by_here (inr (Unaccepted port, h)) = none _ _ _ h.session refl
+        by_here (inr (Dismissed port why, h)) = none _ _ _ h.session refl
+        by_here (inr (Carries c, h)) = by_course c.course c.came c.queue h
+        by_here (inr (Rises rise lift, h)) = by_lift rise lift h
+        by_here (inr (Tells rise said after, h)) = none _ _ _ h.session refl
+        by_here (inr (Answers said leaves, h)) = by_leaving leaves said h
+
+-- ---- in a world
+
+module _ (read : Reading) (reads : IsReading read) (from : State) (begun : List Order) (puts : AskAll begun) (w : World)
+    (runs : OverRuns read from begun w) (control : w.control ≡ Stands)
+    (unready : is_closed_by_near w.link ≡ true → is_ready w.far.session.connection ≡ false) (unsent : IsPlainJob Unsent w.near.job) where
+  carried : AreCarried begun
+  carried = all_carried begun puts
+
+  -- of an operation that is under way all is asked for
+  under_all : (done : List Order) (ask : Ask) (moment : ℕ) → begun ≡ done ++ Single ask.op moment ∷ [] → count_of ask.op ≡ None
+  under_all done ask moment is = (last_all done (Single ask.op moment) begun is puts).0.1
+
+  -- one whose client takes octets
+  pub world_feeds : near.wants w.near ≡ Want.Receive → Feeding w
+  world_feeds wants = by runs
+    where
+      still : IsStill w → Feeding w
+      still is = absurd (both (ap is_receive wants) (ap is_receive (near_wants w.near is.near)))
+
+      by_phase : Phase read from begun w → Feeding w
+      by_phase (inl (linked, inl free)) = still (free_still read from begun w free)
+      by_phase (inl (linked, inr under)) = still (under_still read from begun w under)
+      by_phase (inr lost) = absurd (not_lost read from begun w control lost)
+
+      by : OverRuns read from begun w → Feeding w
+      by (inl (inl f)) = by_phase f.phase
+      by (inl (inr (inl on))) =
+          let f = on.fetching in
+          stage_feeds read f.now f.ask f.is_ask (under_all f.done f.ask f.moment f.begun_is) f.own w f.stands on.lasts wants
+      by (inl (inr (inr (inl trailing)))) = absurd (not_trailing read reads from begun carried w unready trailing)
+      by (inl (inr (inr (inr halting)))) =
+          let h = halting.halting in
+          absurd (not_halting h.now h.ask h.own w (under_all h.done h.ask h.moment h.begun_is) h.stands unsent)
+      by (inr (inl trying)) = absurd (last_carried trying.going.done _ begun trying.going.begun_is carried)
+      by (inr (inr tailing)) = absurd (last_carried tailing.going.done _ begun tailing.going.begun_is carried)
+
+  -- one whose client hears octets while the server gives
+  module _ (count : ℕ) (gives : is_giving w.far.session.connection ≡ true) where
+    abbrev new : World
+    new = pushed read ControlToClient count w
+
+    fetching_gives : IsFetching read from begun new → (l : Loads new.near) × (is_final l.replied ≡ false)
+    fetching_gives f = stage_gives read f.now f.ask f.is_ask (under_all f.done f.ask f.moment f.begun_is) f.own new f.stands gives
+
+    pub pushed_gives : IsPlainJob Unsent new.near.job → (l : Loads new.near) × (is_final l.replied ≡ false)
+    pushed_gives then_unsent = by runs
+      where
+        still : IsStill w → (l : Loads new.near) × (is_final l.replied ≡ false)
+        still is = absurd (both gives (aside_rests w.far.session.connection is.far.aside).2)
+
+        by_phase : Phase read from begun w → (l : Loads new.near) × (is_final l.replied ≡ false)
+        by_phase (inl (linked, inl free)) = still (free_still read from begun w free)
+        by_phase (inl (linked, inr under)) = still (under_still read from begun w under)
+        by_phase (inr lost) = absurd (not_lost read from begun w control lost)
+
+        by : OverRuns read from begun w → (l : Loads new.near) × (is_final l.replied ≡ false)
+        by (inl (inl f)) = by_phase f.phase
+        by (inl (inr (inl on))) =
+            elim (pushed_client read reads from begun count w on.fetching w (serving_first read reads from begun w on)) [
+              | inl f ↦ fetching_gives f
+              | inr halts ↦
+                  let f = on.fetching in absurd (not_halting f.now f.ask f.own new (under_all f.done f.ask f.moment f.begun_is) halts then_unsent)
+            ]
+        by (inl (inr (inr (inl trailing)))) = absurd (not_trailing read reads from begun carried w unready trailing)
+        by (inl (inr (inr (inr halting)))) =
+            let h = halting.halting in
+            absurd (not_halting h.now h.ask h.own w (under_all h.done h.ask h.moment h.begun_is) h.stands unsent)
+        by (inr (inl trying)) = absurd (last_carried trying.going.done _ begun trying.going.begun_is carried)
+        by (inr (inr tailing)) = absurd (last_carried tailing.going.done _ begun tailing.going.begun_is carried)

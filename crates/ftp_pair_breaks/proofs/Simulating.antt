@@ -1,0 +1,362 @@
+-- Two drives of which a download's data connection breaks for the client, as a list of a world's events: deed by deed.
+use Rattle.std.proofs.Common.{◌≡◌, ◌⊎◌, inl, inr, ℕ, true, false, List, [], ◌∷◌, Option, refl, sym, ap, subst, ◌∙◌}
+use Rattle.ftp_control.specs.Asking.{Reset}
+use Rattle.ftp_control.specs.Deeds.{Calls, Deed, Done, Led, Other, Stand}
+use Rattle.ftp_control.specs.Lane.{Lane, with_fate}
+use Rattle.ftp_control.specs.Machine.{Aside, Break, Left}
+use Rattle.ftp_control.specs.declared.whole.Fate.TheVariants as Fates
+use Rattle.ftp_client_drive.specs.Side.{Starting, client_side}
+use Rattle.ftp_client_model.specs.Calls as near
+use Rattle.ftp_client_model.specs.Calls.{data_fault, is_sound}
+use Rattle.ftp_client_model.specs.View.{Transfer, View as Near}
+use Rattle.ftp_ends.specs.declared.link.Wants.TheVariants as Want
+use Rattle.ftp_operation.specs.declared.op.Op.{Op}
+use Rattle.ftp_server_drive.specs.Side.{server_side}
+use Rattle.ftp_server_model.specs.Machine.{IsReading, Reading}
+use Rattle.ftp_pair_world.specs.Claims.{Beginning, IsFair}
+use Rattle.ftp_pair_world.specs.World.{Broken, Mark, World, marked_last}
+use Rattle.ftp_pair_drives.specs.Alone.{begun_by, reports_in}
+use Rattle.ftp_pair_drives.specs.Between.{Between, Can, CanTurn, Client, Happened, Near as TheClient, Server, Turn, client_deeds, nothing_yet, server_deeds, with_hold}
+use Rattle.ftp_pair_drives.specs.Claims.{Begins}
+use Rattle.ftp_pair_drives.specs.Touches.{ToldBreak, touch_in}
+use Rattle.ftp_pair_drives.proofs.Taken.{reports_is}
+use Rattle.ftp_pair_deeds.specs.Deeds.{ArePorts, listened_in}
+use Rattle.ftp_pair_deeds.proofs.Fresh.{Fresh}
+use Rattle.ftp_pair_deeds.proofs.Holding.{is_called}
+use Rattle.ftp_pair_deeds.proofs.Plain.{IsPlainBy, IsPlainly}
+use Rattle.ftp_pair_deeds.proofs.Stands.{ClientFetches}
+use Rattle.ftp_pair_transfers.specs.Deeds.{AreMoments, AreToldAt, IsToldAt, begun_at, last_of, number_in}
+use Rattle.ftp_pair_transfers.specs.Refusals.{ClientTries, marked_by}
+use Rattle.ftp_pair_transfers.proofs.Called.{BreaksNone, StaysFresh, far_fresh}
+use Rattle.ftp_pair_transfers.proofs.ClientGiving.{gave_by}
+use Rattle.ftp_pair_transfers.proofs.ClientRefused.{refused_plain}
+use Rattle.ftp_pair_transfers.proofs.ClientStays.{client_resets}
+use Rattle.ftp_pair_transfers.proofs.Known.{AreCarried, Known}
+use Rattle.ftp_pair_transfers.proofs.Reaching.{earlier, starts_so}
+use Rattle.ftp_pair_transfers.proofs.Simulating.{asks, known}
+use Rattle.ftp_pair_breaks.specs.Claims.{BreaksAreOfWorlds, ReportAlike, SufferingIsOfWorld}
+use Rattle.ftp_server_model.specs.declared.session.ServerLink.TheVariants as Data
+use Rattle.ftp_pair_breaks.specs.Deeds.{AreMarks, ClientSuffers, Marks, ServerYields, SuffersAlong, YieldsAlong}
+use Rattle.ftp_pair_breaks.proofs.ClientBroken.{broken_closing, broken_lane, broken_plain, broken_sound, client_broken, closing_by, closing_plain, closing_sound}
+use Rattle.ftp_pair_breaks.proofs.Faults.{Loads, faulted_plain}
+use Rattle.ftp_pair_breaks.proofs.Feeding.{Feeding, is_final}
+use Rattle.ftp_pair_breaks.proofs.Lagging.{Lags, Leftover, Whole, beside, feeding_at, feeds, is_failed, lag_step, leaves, unbroken}
+use Rattle.ftp_pair_breaks.proofs.Steps.{Again, At, again, client_step, idle_again, server_step}
+use Rattle.ftp_pair_breaks.proofs.Unbroken.{can_unbroken, serving_dials}
+use Rattle.ftp_pair_breaks.proofs.Unsent.{AskAll, Unsent, all_carried, both_all, near_unsent, reset_fresh}
+use Rattle.ftp_pair_breaks.proofs.Untold.{Loading, fault_told, loading_of, loads_of, told_alike}
+
+-- ---- what was begun
+
+-- a deed begins an operation that asks for all, as where none breaks, or nothing
+by_all : (moment : ℕ) (deed : Deed client_side) (old new : client_side.End) → ClientSuffers deed old new → AskAll (begun_by moment deed)
+by_all moment (Other (Aside (Starting op))) old new is = ((is.0.0.0.0, is.0.1), tt)
+by_all moment deed old new is = tt
+
+-- so all deeds do
+pub in_all : (moments : ℕ → ℕ) (deeds : List (Deed client_side)) (start now : Stand client_side) (led : Led deeds start now)
+    → SuffersAlong deeds start now led → AskAll (begun_at moments deeds)
+in_all moments [] start now led gives = tt
+in_all moments (deed ∷ before) start now led gives =
+    both_all (begun_at moments before) (begun_by (moments (number_in before)) deed) (in_all moments before start led.0 led.1 gives.0)
+    (by_all (moments (number_in before)) deed led.0.owner now.owner gives.1)
+
+module _ (read : Reading) (reads : IsReading read) (moments : ℕ → ℕ) (timed : AreMoments moments) (b : Beginning) (fair : IsFair b) where
+  abbrev W : (deeds : List (Deed client_side)) (between : Between) (count : ℕ) (server : Stand server_side) (client : Stand client_side) → Type 0
+  W deeds between count server client = Whole read reads moments timed b fair deeds between count server client
+
+  abbrev L : (deeds : List (Deed client_side)) (between : Between) (count : ℕ) (server : Stand server_side) (client : Stand client_side) → Type 0
+  L deeds between count server client = Lags read reads moments timed b fair deeds between count server client
+
+  -- a world is beside both drives, or beside the server's and a client that was not told of a break
+  abbrev Suffered : (deeds : List (Deed client_side)) (between : Between) (count : ℕ) (server : Stand server_side) (client : Stand client_side) → Type 0
+  Suffered deeds between count server client = W deeds between count server client ⊎ L deeds between count server client
+
+  -- ---- a deed of the client, where a world is beside both
+
+  module _ (deeds : List (Deed client_side)) (puts : AskAll (begun_at moments deeds)) (p q : Between) (count : ℕ) (server : Stand server_side)
+      (old new : Stand client_side) (o : W deeds p count server old) where
+    abbrev w : World
+    w = o.at.world
+
+    abbrev v : Near
+    v = old.owner.end.view
+
+    carried : AreCarried (begun_at moments deeds)
+    carried = all_carried (begun_at moments deeds) puts
+
+    old_asks : ClientFetches old.owner
+    old_asks = asks read reads moments timed b fair deeds p count server old _ o.at carried
+
+    old_known : Known w
+    old_known = known read reads moments timed b fair deeds p count server old _ o.at carried
+
+    -- it goes on beside both
+    on : (deed : Deed client_side) (marks : List (List Mark)) → Marks deed o.marks marks → (m : List (List Mark)) → m ≡ marks
+        → Again read reads moments timed b fair (deed ∷ deeds) q count server new m → IsPlainBy Unsent new.owner.end.view → W (deed ∷ deeds) q count server new
+    on deed marks marked m same got unsent =
+        record { at = got.0; marks = marks; are_marks = (o.marks, o.are_marks, marked); marked = got.1 ∙ same; unsent = unsent }
+
+    -- it sends no ABOR, where it is told of no break
+    stays_unsent : (deed : Deed client_side) → BreaksNone deed → ClientSuffers deed old.owner new.owner → Done deed old new
+        → IsPlainBy Unsent new.owner.end.view
+    stays_unsent deed unbroken is did =
+        near_unsent old new deed unbroken is o.unsent
+        (λ some octets rest gave. gave_by read (begun_at moments deeds) server old new (reports_in deeds) w is.1 o.at.serves old_asks old_known some octets rest
+        o.at.last o.at.ahead p count gave o.at.together Unsent (λ op transfer unsent none all. unsent) o.unsent)
+        (λ endpoint refused. refused_plain read (begun_at moments deeds) server old new (reports_in deeds) w is.1 o.at.serves old_asks o.at.plain old_known
+        endpoint o.at.last o.at.ahead p count refused Unsent) did
+
+    -- it resets what it has
+    resets_on : (left written : Option (List ℕ)) → ClientSuffers (Other (Left (Reset left written))) old.owner new.owner
+        → CanTurn (Client (Other (Left (Reset left written)))) p q
+        → Done (Other (Left (Reset left written))) old new → W (Other (Left (Reset left written)) ∷ deeds) q count server new
+    resets_on left written is can did =
+        on (Other (Left (Reset left written))) o.marks refl w.marks o.marked
+        (again read reads moments timed b fair (Other (Left (Reset left written))) deeds o.at w.marks q new
+        (client_resets read (begun_at moments deeds) server old new (reports_in deeds) w is.1 old_known old_asks left written o.at.last o.at.ahead p q count
+        o.at.together did is.0 can)
+        (ap (λ c. is_sound c.view.standing) did.0.0 ∙ o.at.sound) (subst (λ c. IsPlainly c.view) (sym did.0.0) o.at.plain)
+        (reset_fresh old new p q left written o.at.fresh did can)) (stays_unsent (Other (Left (Reset left written))) tt is did)
+
+    -- it is told of a break
+    module _ (is : ClientSuffers (Other Break) old.owner new.owner) (can : Can TheClient ToldBreak p q) (did : Calls {side = client_side} Break old new) where
+      lane : new.owner.lane ≡ with_fate Fates.Broken old.owner.lane
+      lane = did.0.1
+
+      left : Leftover new.owner.lane
+      left = record {
+        dry = broken_lane old.owner.lane new.owner.lane lane;
+        takes = record { bare = λ e. ap (λ (l : Lane). l.untold) lane ∙ o.at.together.takes.bare (ap (λ (l : Lane). l.stands) (sym lane) ∙ e) };
+        written = ap (λ (l : Lane). l.unwritten) lane ∙ is.0.1;
+        known = ap (λ (l : Lane). is_failed l.fate) lane;
+      }
+
+      now_is : new.owner.end.view ≡ data_fault v
+      now_is = did.0.0.0.0 is.1
+
+      -- nothing comes to it while its server was only dialled
+      broken_fresh : (IsPlainBy Fresh v → IsPlainBy Fresh new.owner.end.view) → StaysFresh q new
+      broken_fresh plain called =
+          let f = o.at.fresh (ap is_called (sym (ap (λ (m : Between). m.far) can.1)) ∙ called) in
+          record {
+            plain = plain f.plain;
+            untold = ap (λ (l : Lane). l.untold) lane ∙ f.untold;
+            none = ap (λ (m : Between). m.data_ways.to_client) can.1 ∙ f.none;
+          }
+
+      -- it keeps what it keeps of its transfer
+      faulted_now : (Kept : Op (List ℕ) → Transfer → Type 0) → Loads v → IsPlainBy Kept v → IsPlainBy Kept new.owner.end.view
+      faulted_now Kept loads p = subst (IsPlainBy Kept) (sym now_is) (faulted_plain Kept v loads p)
+
+      -- as it is to close anyway
+      breaks_closing : v.closing ≡ true → W (Other Break ∷ deeds) q count server new
+      breaks_closing closing =
+          on (Other Break) o.marks (inl refl) w.marks o.marked
+          (again read reads moments timed b fair (Other Break) deeds o.at w.marks q new
+          (broken_closing read (begun_at moments deeds) server old new (reports_in deeds) w o.at.serves old_asks o.at.plain old_known is.1 did closing o.at.last
+          o.at.ahead p q count o.at.together can is.0.1)
+          (closing_sound read (begun_at moments deeds) server old new (reports_in deeds) w o.at.serves old_asks o.at.plain old_known is.1 did closing)
+          (closing_plain read (begun_at moments deeds) server old new (reports_in deeds) w o.at.serves old_asks o.at.plain old_known is.1 did closing)
+          (broken_fresh (closing_by read (begun_at moments deeds) server old new (reports_in deeds) w o.at.serves old_asks o.at.plain old_known is.1 did closing
+          Fresh)))
+          (closing_by read (begun_at moments deeds) server old new (reports_in deeds) w o.at.serves old_asks o.at.plain old_known is.1 did closing Unsent
+          o.unsent)
+
+      -- as the server has let it go
+      breaks_late : near.wants v ≡ Want.Receive → Loads v → w.far.session.connection ≡ Data.Free → W (Other Break ∷ deeds) q count server new
+      breaks_late wants loads free =
+          let unheard = ap (λ (y : Stand client_side). y.unheard) did.1 in
+          let control = ap (λ (m : Between). m.control) can.1 in
+          let hold = ap (λ (m : Between). m.far) can.1 in
+          let ways = ap (λ (m : Between). m.data_ways.to_server) can.1 in
+          on (Other Break) (marked_last (Broken w.came) o.marks) (inr (w.came, refl)) (marked_last (Broken w.came) w.marks)
+          (ap (marked_last (Broken w.came)) o.marked)
+          (again read reads moments timed b fair (Other Break) deeds o.at (marked_last (Broken w.came) w.marks) q new
+          (client_broken read (begun_at moments deeds) server old new (reports_in deeds) w o.at.serves old_asks o.at.plain old_known o.at.last o.at.ahead p q
+          count o.at.together now_is unheard control hold ways left.dry left.takes left.written free wants loads)
+          (broken_sound read (begun_at moments deeds) server old new (reports_in deeds) w o.at.serves old_asks o.at.plain old_known o.at.last o.at.ahead p q
+          count o.at.together now_is unheard control hold ways left.dry left.takes left.written free wants loads)
+          (broken_plain read (begun_at moments deeds) server old new (reports_in deeds) w o.at.serves old_asks o.at.plain old_known o.at.last o.at.ahead p q
+          count o.at.together now_is unheard control hold ways left.dry left.takes left.written free wants loads)
+          (broken_fresh (faulted_now Fresh loads))) (faulted_now Unsent loads o.unsent)
+
+      -- while the server has not: a world tells its client later
+      breaks_early : Loading v → L (Other Break ∷ deeds) q count server new
+      breaks_early loads =
+          let whole : unbroken q ≡ p = ap unbroken can.1 ∙ ap (λ h. with_hold TheClient h p) (sym can.0) in
+          let same : beside old.owner new ≡ old = ap (beside old.owner) did.1 in
+          let got : Again read reads moments timed b fair (Other Break ∷ deeds) (unbroken q) count server (beside old.owner new) w.marks =
+          subst (λ (c : Stand client_side). Again read reads moments timed b fair (Other Break ∷ deeds) (unbroken q) count server c w.marks) (sym same)
+          (subst (λ (m : Between). Again read reads moments timed b fair (Other Break ∷ deeds) m count server old w.marks) (sym whole)
+          (idle_again read reads moments timed b fair (Other Break) deeds o.at refl refl)) in
+          record {
+            was = old.owner;
+            at = got.0;
+            loads = loads;
+            view = now_is ∙ fault_told v loads;
+            hold = ap (λ (m : Between). m.near) can.1;
+            lane = left;
+            marks = o.marks;
+            are_marks = (o.marks, o.are_marks, inl refl);
+            are_broken = λ came. (o.marks, o.are_marks, inr (came, refl));
+            marked = got.1 ∙ o.marked;
+            unsent = o.unsent;
+            fresh = broken_fresh (faulted_now Fresh (loads_of v loads));
+          }
+
+      breaks_on : Suffered (Other Break ∷ deeds) q count server new
+      breaks_on = elim is.0.2 [
+        | inl wants ↦ by wants (feeding_at read reads moments timed b fair deeds puts p count server old o.at o.unsent wants)
+        | inr closing ↦ inl (breaks_closing closing)
+      ]
+        where
+          by : near.wants v ≡ Want.Receive → (w.near ≡ v) × Feeding w → Suffered (Other Break ∷ deeds) q count server new
+          by wants f =
+              let there = subst Loads f.0 f.1.loads in
+              elim f.1.far [
+                | inl free ↦ inl (breaks_late wants there free)
+                | inr going ↦
+                    let loads = subst (λ (n : Near). (l : Loads n) × (is_final l.replied ≡ false)) f.0 (f.1.loads, going.0) in
+                    inr (breaks_early (loading_of v loads.0 loads.1))
+              ]
+
+    -- as where none breaks
+    steps_on : (deed : Deed client_side) → BreaksNone deed → ClientSuffers deed old.owner new.owner → ClientTries deed old.owner new.owner
+        → Marks deed o.marks (marked_by deed o.marks) → CanTurn (Client deed) p q → Done deed old new → Suffered (deed ∷ deeds) q count server new
+    steps_on deed unbroken is tries marks can did =
+        inl (on deed (marked_by deed o.marks) marks (marked_by deed w.marks) (ap (marked_by deed) o.marked)
+        (client_step read reads moments timed b fair deed unbroken old new tries deeds carried p q can count server o.at did)
+        (stays_unsent deed unbroken is did))
+
+    whole_step : (deed : Deed client_side) → ClientSuffers deed old.owner new.owner → CanTurn (Client deed) p q → Done deed old new
+        → Suffered (deed ∷ deeds) q count server new
+    whole_step (Other (Left (Reset left written))) is can did = inl (resets_on left written is can did)
+    whole_step (Other Break) is can did = breaks_on is can did
+    whole_step (Other (Aside (Starting op))) is can did = steps_on (Other (Aside (Starting op))) tt is (is.0.0, is.1) refl can did
+    whole_step deed is can did = steps_on deed tt is (is.0, is.1) refl can did
+
+  -- ---- one after another
+
+  -- a deed of the client
+  client_turn : (deed : Deed client_side) (deeds : List (Deed client_side)) → AskAll (begun_at moments deeds) → (p q : Between) (count : ℕ)
+      (server : Stand server_side) (old new : Stand client_side) → Suffered deeds p count server old → ClientSuffers deed old.owner new.owner
+      → CanTurn (Client deed) p q → Done deed old new → Suffered (deed ∷ deeds) q count server new
+  client_turn deed deeds puts p q count server old new (inl o) is can did = whole_step deeds puts p q count server old new o deed is can did
+  client_turn deed deeds puts p q count server old new (inr l) is can did =
+      elim (feeds read reads moments timed b fair deeds puts p count server old l).far [
+        | inl free ↦
+            whole_step deeds puts p q count server old new (leaves read reads moments timed b fair deeds puts p count server old l free) deed is can did
+        | inr going ↦ inr (lag_step read reads moments timed b fair deeds puts p count server old l deed q new is can did going.1)
+      ]
+
+  -- a deed of the server
+  server_turn : (deed : Deed server_side) (deeds : List (Deed client_side)) → AskAll (begun_at moments deeds) → (before : List (Deed server_side))
+      → ArePorts (deed ∷ before) → (p q : Between) (old new : Stand server_side) (client : Stand client_side) → Suffered deeds p (listened_in before) old client
+      → ServerYields deed old.owner new.owner → CanTurn (Server deed) p q → (did : Done deed old new)
+      → IsToldAt deed old new did (last_of moments (number_in deeds)) → Suffered deeds q (listened_in (deed ∷ before)) new client
+  server_turn deed deeds puts before ports p q old new client (inl o) is can did told =
+      let got = server_step read reads moments timed b fair deed old new is deeds (all_carried (begun_at moments deeds) puts) before ports p q can client o.at
+      did told in
+      inl (record { at = got.0; marks = o.marks; are_marks = o.are_marks; marked = got.1 ∙ o.marked; unsent = o.unsent })
+  server_turn deed deeds puts before ports p q old new client (inr l) is can did told =
+      let there = can_unbroken (touch_in deed) p q (serving_dials deed old.owner is.0) l.hold can in
+      let got = server_step read reads moments timed b fair deed old new is deeds (all_carried (begun_at moments deeds) puts) before ports (unbroken p)
+      (unbroken q) there.0 (beside l.was client) l.at did told in
+      by (record {
+        was = l.was;
+        at = got.0;
+        loads = l.loads;
+        view = l.view;
+        hold = there.1;
+        lane = l.lane;
+        marks = l.marks;
+        are_marks = l.are_marks;
+        are_broken = l.are_broken;
+        marked = got.1 ∙ l.marked;
+        unsent = l.unsent;
+        fresh = far_fresh p q client l.fresh (touch_in deed) can;
+      })
+    where
+      by : L deeds q (listened_in (deed ∷ before)) new client → Suffered deeds q (listened_in (deed ∷ before)) new client
+      by l = elim (feeds read reads moments timed b fair deeds puts q (listened_in (deed ∷ before)) new client l).far [
+        | inl free ↦ inl (leaves read reads moments timed b fair deeds puts q (listened_in (deed ∷ before)) new client l free)
+        | inr going ↦ inr l
+      ]
+
+  reaches : (turns : List Turn) (between : Between) → Happened turns between
+      → (server_start server : Stand server_side) (client_start client : Stand client_side) → Begins b server_start client_start
+      → server_start.owner.lane.untold ≡ [] → client_start.owner.lane.unwritten ≡ []
+      → server_start.owner.lane.unwritten ≡ [] → client_start.owner.lane.untold ≡ []
+      → (server_led : Led (server_deeds turns) server_start server) (client_led : Led (client_deeds turns) client_start client)
+      → YieldsAlong (server_deeds turns) server_start server server_led → SuffersAlong (client_deeds turns) client_start client client_led
+      → ArePorts (server_deeds turns) → AreToldAt moments turns server_start server server_led
+      → Suffered (client_deeds turns) between (listened_in (server_deeds turns)) server client
+  reaches [] between happened server_start server client_start client begins untold unwritten far_unwritten near_untold server_led client_led takes gives
+      ports told =
+      let start = starts_so read reads moments timed b fair server_start client_start begins untold unwritten far_unwritten near_untold in
+      subst (λ (m : Between). Suffered [] m 0 server client) (sym happened)
+      (subst (λ (s : Stand server_side). Suffered [] nothing_yet 0 s client) (sym server_led)
+      (subst (λ (c : Stand client_side). Suffered [] nothing_yet 0 server_start c) (sym client_led)
+      (inl (record {
+        at = start.0;
+        marks = [];
+        are_marks = refl;
+        marked = start.1;
+        unsent = subst (IsPlainBy Unsent) (sym begins.client_view) (record { job = tt; port = refl; run = refl });
+      }))))
+  reaches (Server deed ∷ before) between happened server_start server client_start client begins untold unwritten far_unwritten near_untold server_led
+      client_led takes gives ports told =
+      let reached = reaches before happened.0 happened.1 server_start server_led.0 client_start client begins untold unwritten far_unwritten near_untold
+      server_led.1 client_led takes.0 gives (earlier deed (server_deeds before) ports) told.0 in
+      server_turn deed (client_deeds before) (in_all moments (client_deeds before) client_start client client_led gives) (server_deeds before) ports
+      happened.0 between server_led.0 server client reached takes.1 happened.2 server_led.2 told.1
+  reaches (Client deed ∷ before) between happened server_start server client_start client begins untold unwritten far_unwritten near_untold server_led
+      client_led takes gives ports told =
+      let reached = reaches before happened.0 happened.1 server_start server client_start client_led.0 begins untold unwritten far_unwritten near_untold
+      server_led client_led.1 takes gives.0 ports told in
+      client_turn deed (client_deeds before) (in_all moments (client_deeds before) client_start client_led.0 client_led.1 gives.0) happened.0 between
+      (listened_in (server_deeds before)) server client_led.0 client reached gives.1 happened.2 client_led.2
+
+-- events of a world lead to what both drives hold, or to what the client held before it was told
+pub breaks_are_of_worlds : BreaksAreOfWorlds
+breaks_are_of_worlds read reads b fair moments timed turns between server client did =
+    by (reaches read reads moments timed b fair turns between did.happened did.server_start server did.client_start client did.begins did.untold
+    did.unwritten did.server_unwritten did.client_untold did.server_led did.client_led did.takes did.suffers did.ports did.told)
+  where
+    of_world : (was : Stand client_side) (m : Between) → (was ≡ client) ⊎ (client.owner.end.view ≡ data_fault was.owner.end.view)
+        → ReportAlike client.owner.end.view was.owner.end.view
+        → (o : At read reads moments timed b fair (client_deeds turns) m (listened_in (server_deeds turns)) server was) (marks : List (List Mark))
+        → AreMarks (client_deeds turns) marks → o.world.marks ≡ marks → SufferingIsOfWorld read b moments turns server client
+    of_world was m is alike o marks are marked =
+        let s = o.together.beside in
+        record {
+          events = o.leads.events;
+          timed = o.leads.timed;
+          world = o.world;
+          leads = o.leads.leads;
+          marks = marks;
+          are_marks = are;
+          was = was;
+          is = is;
+          alike = alike;
+          both = record {
+            moment = o.last;
+            ahead = o.ahead;
+            fits = s.fits;
+            near = inl (s.near ∙ ap near.data_closed (sym (reports_is was.owner.end.view)));
+            far = s.far;
+            reported = s.reported;
+            control = s.control;
+            marked = marked;
+            cutoff = s.cutoff;
+          };
+          near = s.near ∙ ap near.data_closed (sym (reports_is was.owner.end.view));
+        }
+
+    by : Suffered read reads moments timed b fair (client_deeds turns) between (listened_in (server_deeds turns)) server client
+        → SufferingIsOfWorld read b moments turns server client
+    by (inl o) = of_world client between (inl refl) (refl, refl) o.at o.marks o.are_marks o.marked
+    by (inr l) =
+        of_world (beside l.was client) (unbroken between) (inr (l.view ∙ sym (fault_told l.was.end.view l.loads)))
+        (subst (λ (v : Near). ReportAlike v l.was.end.view) (sym l.view) (told_alike l.was.end.view l.loads)) l.at l.marks l.are_marks l.marked

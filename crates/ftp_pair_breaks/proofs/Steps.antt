@@ -1,0 +1,159 @@
+-- A deed of either end, as where none breaks, and the world that it leads to.
+use Rattle.std.proofs.Common.{◌≡◌, ℕ, true, List, [], ◌∷◌, ◌++◌, refl, sym, ap, subst, ◌∙◌, append-nil}
+use Rattle.ftp_control.specs.Asking.{Reset}
+use Rattle.ftp_control.specs.Deeds.{Deed, Done, Other, Stand}
+use Rattle.ftp_control.specs.Machine.{Left}
+use Rattle.ftp_client_drive.specs.Side.{client_side}
+use Rattle.ftp_client_model.specs.Calls.{is_sound}
+use Rattle.ftp_operation.specs.Answer.{Said}
+use Rattle.ftp_server_drive.specs.Side.{server_side}
+use Rattle.ftp_server_model.specs.Machine.{IsReading, Reading}
+use Rattle.ftp_pair_world.specs.Agreement.{Order}
+use Rattle.ftp_pair_world.specs.Claims.{Beginning, IsFair, world_of}
+use Rattle.ftp_pair_world.specs.World.{Mark}
+use Rattle.ftp_pair_drives.specs.Alone.{begun_by, reported_by, reports_in}
+use Rattle.ftp_pair_drives.specs.Between.{Between, CanTurn, Client, Far as TheServer, Has_lost, Server, with_hold}
+use Rattle.ftp_pair_drives.specs.Touches.{touch_in}
+use Rattle.ftp_pair_drives.proofs.Worlds.{LeadsOn, leads_then}
+use Rattle.ftp_pair_deeds.specs.Deeds.{ArePorts, listened_in}
+use Rattle.ftp_pair_deeds.proofs.Plain.{IsPlainly}
+use Rattle.ftp_pair_deeds.proofs.Serves.{deed_serves}
+use Rattle.ftp_pair_deeds.proofs.Stands.{ServerServes}
+use Rattle.ftp_pair_transfers.specs.Deeds.{AreMoments, IsToldAt, ServerTransfers, begun_at, last_of, number_in}
+use Rattle.ftp_pair_transfers.specs.Refusals.{ClientTries, marked_by}
+use Rattle.ftp_pair_transfers.proofs.Beside.{Goes, GoesTo, Together}
+use Rattle.ftp_pair_transfers.proofs.Called.{BreaksNone, StaysFresh, far_fresh}
+use Rattle.ftp_pair_transfers.proofs.Known.{AreCarried}
+use Rattle.ftp_pair_transfers.proofs.Lost.{with_lost}
+use Rattle.ftp_pair_transfers.proofs.ServerStays.{server_resets}
+use Rattle.ftp_pair_transfers.proofs.Simulating.{Reached, client_fresh, client_goes, client_plain, known, orders_after, orders_are, server_goes}
+use Rattle.ftp_pair_breaks.specs.Deeds.{ServerYields}
+
+module _ (read : Reading) (reads : IsReading read) (moments : ℕ → ℕ) (timed : AreMoments moments) (b : Beginning) (fair : IsFair b) where
+  -- after deeds of a client, a world is beside these ends
+  abbrev pub At : (deeds : List (Deed client_side)) (between : Between) (count : ℕ) (server : Stand server_side) (client : Stand client_side) → Type 0
+  At deeds between count server client = Reached read reads moments timed b fair (begun_at moments deeds) between count server client (reports_in deeds)
+
+  -- what a deed of the client leads to
+  abbrev pub Went : (deed : Deed client_side) (deeds : List (Deed client_side)) {between : Between} {count : ℕ} {server : Stand server_side}
+      {old : Stand client_side} (o : At deeds between count server old) (marks : List (List Mark)) (next : Between) (new : Stand client_side) → Type 0
+  Went deed deeds {between} {count} {server} {old} o marks next new =
+      GoesTo read (begun_by (moments (number_in deeds)) deed) (orders_after (moments (number_in deeds)) deed (begun_at moments deeds)) next count server new
+      (reports_in deeds ++ reported_by deed) marks o.world
+
+  -- a world is beside both again, with these marks
+  abbrev pub Again : (deeds : List (Deed client_side)) (between : Between) (count : ℕ) (server : Stand server_side) (client : Stand client_side)
+      (marks : List (List Mark)) → Type 0
+  Again deeds between count server client marks = (n : At deeds between count server client) × (n.world.marks ≡ marks)
+
+  pub again : (deed : Deed client_side) (deeds : List (Deed client_side)) {between : Between} {count : ℕ} {server : Stand server_side} {old : Stand client_side}
+      (o : At deeds between count server old) (marks : List (List Mark)) (next : Between) (new : Stand client_side) → Went deed deeds o marks next new
+      → is_sound new.owner.end.view.standing ≡ true → IsPlainly new.owner.end.view → StaysFresh next new → Again (deed ∷ deeds) next count server new marks
+  again deed deeds {between} {count} {server} {old} o marks next new went sound plain fresh =
+      let begun : List Order = begun_at moments deeds in (
+        record {
+          world = went.world;
+          leads = leads_then read begun (begun_by (moments (number_in deeds)) deed) (world_of b) o.world went.world o.leads went.leads;
+          last = went.moment;
+          ahead = went.ahead;
+          together = subst (λ l. Together read l went.moment went.ahead next count server new (reports_in deeds ++ reported_by deed) went.world)
+              (orders_are (moments (number_in deeds)) deed begun) went.together;
+          serves = o.serves;
+          plain = plain;
+          sound = sound;
+          fresh = fresh;
+        },
+        went.marked,
+      )
+
+  -- where it begins and reports nothing
+  pub same_again : (deeds : List (Deed client_side)) {between : Between} {count : ℕ} {server : Stand server_side} {old : Stand client_side}
+      (o : At deeds between count server old) (marks : List (List Mark)) (next : Between) (new : Stand client_side)
+      → GoesTo read [] (begun_at moments deeds) next count server new (reports_in deeds ++ []) marks o.world
+      → is_sound new.owner.end.view.standing ≡ true → IsPlainly new.owner.end.view → StaysFresh next new → Again deeds next count server new marks
+  same_again deeds {between} {count} {server} {old} o marks next new went sound plain fresh =
+      let begun : List Order = begun_at moments deeds in (
+        record {
+          world = went.world;
+          leads = subst (λ l. LeadsOn read l (world_of b) went.world) (append-nil begun)
+              (leads_then read begun [] (world_of b) o.world went.world o.leads went.leads);
+          last = went.moment;
+          ahead = went.ahead;
+          together = subst (λ (r : List Said). Together read begun went.moment went.ahead next count server new r went.world) (append-nil (reports_in deeds))
+              went.together;
+          serves = o.serves;
+          plain = plain;
+          sound = sound;
+          fresh = fresh;
+        },
+        went.marked,
+      )
+
+  -- a deed that begins and reports nothing, and does nothing
+  pub idle_again : (deed : Deed client_side) (deeds : List (Deed client_side)) {between : Between} {count : ℕ} {server : Stand server_side}
+      {client : Stand client_side} (o : At deeds between count server client) → begun_by (moments (number_in deeds)) deed ≡ [] → reported_by deed ≡ []
+      → Again (deed ∷ deeds) between count server client o.world.marks
+  idle_again deed deeds {between} {count} {server} {client} o begins reports =
+      let begun : begun_at moments (deed ∷ deeds) ≡ begun_at moments deeds =
+      ap (λ l. begun_at moments deeds ++ l) begins ∙ append-nil (begun_at moments deeds) in
+      let said : reports_in (deed ∷ deeds) ≡ reports_in deeds = ap (λ l. reports_in deeds ++ l) reports ∙ append-nil (reports_in deeds) in
+      subst (λ (r : List Said). (n : Reached read reads moments timed b fair (begun_at moments (deed ∷ deeds)) between count server client r)
+      × (n.world.marks ≡ o.world.marks)) (sym said)
+      (subst (λ (g : List Order). (n : Reached read reads moments timed b fair g between count server client (reports_in deeds))
+      × (n.world.marks ≡ o.world.marks)) (sym begun) (o, refl))
+
+  -- a deed of the client as where none breaks
+  pub client_step : (deed : Deed client_side) → BreaksNone deed → (old new : Stand client_side) → ClientTries deed old.owner new.owner
+      → (deeds : List (Deed client_side))
+      → AreCarried (begun_at moments deeds) → (p q : Between) → CanTurn (Client deed) p q → (count : ℕ) (server : Stand server_side)
+      → (o : At deeds p count server old) → Done deed old new → Again (deed ∷ deeds) q count server new (marked_by deed o.world.marks)
+  client_step deed unbroken old new is deeds puts p q can count server o did =
+      let plain = client_plain read reads moments timed b fair deed unbroken old new is deeds puts p count server (reports_in deeds) o did in
+      let went = client_goes read reads moments timed b fair deed unbroken old new is deeds puts p q can count server (reports_in deeds) o plain did in
+      again deed deeds o (marked_by deed o.world.marks) q new went.0 went.1 plain
+      (client_fresh read reads moments timed b fair deed unbroken old new is deeds puts p q can count server (reports_in deeds) o did)
+
+  -- what a deed of the server leads to
+  served : (deed : Deed server_side) (old new : Stand server_side) (deeds : List (Deed client_side)) (before : List (Deed server_side)) (p q : Between)
+      → CanTurn (Server deed) p q → (client : Stand client_side) → (o : At deeds p (listened_in before) old client)
+      → Goes read [] (begun_at moments deeds) q (listened_in (deed ∷ before)) new client (reports_in deeds) o.world → ServerServes new.owner
+      → Again deeds q (listened_in (deed ∷ before)) new client o.world.marks
+  served deed old new deeds before p q can client o went serves =
+      let begun : List Order = begun_at moments deeds in (
+        record {
+          world = went.world;
+          leads = subst (λ l. LeadsOn read l (world_of b) went.world) (append-nil begun)
+              (leads_then read begun [] (world_of b) o.world went.world o.leads went.leads);
+          last = went.moment;
+          ahead = went.ahead;
+          together = went.together;
+          serves = serves;
+          plain = o.plain;
+          sound = o.sound;
+          fresh = far_fresh p q client o.fresh (touch_in deed) can;
+        },
+        went.marked,
+      )
+
+  -- a deed of the server
+  pub server_step : (deed : Deed server_side) (old new : Stand server_side) → ServerYields deed old.owner new.owner → (deeds : List (Deed client_side))
+      → AreCarried (begun_at moments deeds) → (before : List (Deed server_side)) → ArePorts (deed ∷ before) → (p q : Between) → CanTurn (Server deed) p q
+      → (client : Stand client_side) → (o : At deeds p (listened_in before) old client)
+      → (did : Done deed old new) → IsToldAt deed old new did (last_of moments (number_in deeds))
+      → Again deeds q (listened_in (deed ∷ before)) new client o.world.marks
+  server_step (Other (Left (Reset left written))) old new is deeds puts before ports p q can client o did told =
+      let there : Between = with_hold TheServer Has_lost p in
+      let same : q ≡ with_lost old.owner.lane.unwritten there =
+      can.1 ∙ sym (ap (λ o. with_lost o there) is.0 ∙ ap (λ t. record there { data_ways = record there.data_ways { to_client = t } })
+      (append-nil there.data_ways.to_client)) in
+      served (Other (Left (Reset left written))) old new deeds before p q can client o
+      (subst (λ (m : Between). Goes read [] (begun_at moments deeds) m (listened_in before) new client (reports_in deeds) o.world) (sym same)
+      (server_resets read (begun_at moments deeds) old new client (reports_in deeds) o.world is.1 o.serves
+      (known read reads moments timed b fair deeds p (listened_in before) old client (reports_in deeds) o puts) left written o.last o.ahead p
+      (listened_in before) o.together did can.0))
+      (deed_serves (Other (Left (Reset left written))) tt old new (tt, is.1) did o.serves)
+  server_step deed old new is deeds puts before ports p q can client o did told =
+      let serves : ServerTransfers deed old.owner new.owner = (is.0, is.1) in
+      let went =
+      server_goes read reads moments timed b fair deed tt old new serves deeds puts before ports p q can client (reports_in deeds) o did told in
+      served deed old new deeds before p q can client o went.0 went.1

@@ -1,0 +1,60 @@
+-- What a server does between can be done where the client was not told of a break.
+use Rattle.std.proofs.Common.{◌≡◌, Bool, true, false, true≢false, [], ◌∷◌, Some, None, refl, sym, ap, ◌∙◌}
+use Rattle.ftp_control.specs.Asking.{Came, Ended as EndedBy, Reset, Shut}
+use Rattle.ftp_control.specs.Deeds.{Deed, Heard, Other, Read, Said as SaysDeed}
+use Rattle.ftp_control.specs.Machine.{Aside, Closed, End, Gave, Got, Held, Left, LetGo, Listening, Opened, Received, Waited, Wrote}
+use Rattle.ftp_server_drive.specs.Side.{Timed, server_side}
+use Rattle.ftp_pair_drives.specs.Between.{Between, Can, Far as TheServer, Has_ended, Has_lost, Hold}
+use Rattle.ftp_pair_drives.specs.Touches.{Accepts, Dials, Ends, IsDenied, IsMissed, Listens, None_of_it, Parts, Reads, Resets, Says, Takes, ToldBreak, ToldEnd, Touch, Writes, touch_in}
+use Rattle.ftp_pair_breaks.specs.Deeds.{IsYielding}
+use Rattle.ftp_pair_breaks.proofs.Lagging.{unbroken}
+
+-- it dials
+abbrev is_dialled : Touch → Bool
+is_dialled (Dials endpoint) = true
+is_dialled touch = false
+
+abbrev is_ended : Hold → Bool
+is_ended Has_ended = true
+is_ended hold = false
+
+-- no deed of such a server dials
+pub serving_dials : (deed : Deed server_side) (at : Held Timed) → IsYielding deed at → is_dialled (touch_in deed) ≡ false
+serving_dials (Heard octets) at is = refl
+serving_dials (SaysDeed octets) at is = refl
+serving_dials (Read octets) at is = refl
+serving_dials (Other (Aside asked)) at is = refl
+serving_dials (Other (Listening port)) at is = refl
+serving_dials (Other (Opened host (Came from left written ∷ []) at_first so_far rest)) at is = refl
+serving_dials (Other (Got octets)) at is = refl
+serving_dials (Other (Received octets count)) at is = refl
+serving_dials (Other End) at is = refl
+serving_dials (Other (Gave count octets rest)) at is = refl
+serving_dials (Other (Wrote octets)) at is = refl
+serving_dials (Other (Waited lost)) at is = refl
+serving_dials (Other (LetGo octets)) at is = refl
+serving_dials (Other (Left (EndedBy left written))) at is = refl
+serving_dials (Other (Left (Reset left written))) at is = refl
+serving_dials (Other (Left Shut)) at is = refl
+serving_dials (Other Closed) at is = refl
+serving_dials deed at is = absurd is
+
+-- what it does can be done there, and the client has lost it still
+pub can_unbroken : (touch : Touch) (p q : Between) → is_dialled touch ≡ false → p.near ≡ Has_lost → Can TheServer touch p q
+    → Can TheServer touch (unbroken p) (unbroken q) × (q.near ≡ Has_lost)
+can_unbroken None_of_it p q dials lost can = (ap unbroken can, ap (λ (m : Between). m.near) can ∙ lost)
+can_unbroken (Says octets) p q dials lost can = (ap unbroken can, ap (λ (m : Between). m.near) can ∙ lost)
+can_unbroken (Reads octets) p q dials lost can = ((can.0, ap unbroken can.1), ap (λ (m : Between). m.near) can.1 ∙ lost)
+can_unbroken Parts p q dials lost can = (ap unbroken can, ap (λ (m : Between). m.near) can ∙ lost)
+can_unbroken (Listens None) p q dials lost can = (ap unbroken can, ap (λ (m : Between). m.near) can ∙ lost)
+can_unbroken (Listens (Some port)) p q dials lost can = ((can.0, ap unbroken can.1), ap (λ (m : Between). m.near) can.1 ∙ lost)
+can_unbroken (Dials endpoint) p q dials lost can = absurd (true≢false dials)
+can_unbroken (Accepts host) p q dials lost can = ((can.0, ap unbroken can.1), ap (λ (m : Between). m.near) can.1 ∙ lost)
+can_unbroken (IsDenied endpoint) p q dials lost can = (ap unbroken can, ap (λ (m : Between). m.near) can ∙ lost)
+can_unbroken IsMissed p q dials lost can = (ap unbroken can, ap (λ (m : Between). m.near) can ∙ lost)
+can_unbroken (Writes octets) p q dials lost can = ((can.0, ap unbroken can.1), ap (λ (m : Between). m.near) can.1 ∙ lost)
+can_unbroken (Takes octets) p q dials lost can = ((can.0, can.1, ap unbroken can.2), ap (λ (m : Between). m.near) can.2 ∙ lost)
+can_unbroken Ends p q dials lost can = ((can.0, ap unbroken can.1), ap (λ (m : Between). m.near) can.1 ∙ lost)
+can_unbroken Resets p q dials lost can = ((can.0, ap unbroken can.1), ap (λ (m : Between). m.near) can.1 ∙ lost)
+can_unbroken ToldEnd p q dials lost can = absurd (true≢false (sym (ap is_ended (sym lost ∙ can.0))))
+can_unbroken ToldBreak p q dials lost can = ((can.0, ap unbroken can.1), ap (λ (m : Between). m.near) can.1 ∙ lost)

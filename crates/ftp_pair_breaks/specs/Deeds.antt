@@ -1,0 +1,63 @@
+-- The deeds of one server's drive and of drives of one client of which a download's data connection breaks for the client, at any time: it is told so (RFC 959,
+-- section 3.3).
+use Rattle.std.specs.Prelude.{◌≡◌, ◌⊎◌, ⊤, ℕ, true, List, [], ◌∷◌, None}
+use Rattle.ftp_control.specs.Asking.{Reset}
+use Rattle.ftp_control.specs.Deeds.{Deed, Led, Other, Stand}
+use Rattle.ftp_control.specs.Machine.{Aside, Break, Failed, Held, Left}
+use Rattle.ftp_control.specs.declared.whole.Fate.TheVariants as Fates
+use Rattle.ftp_client_drive.specs.Side.{Starting, client_side}
+use Rattle.ftp_client_model.specs.Calls.{wants}
+use Rattle.ftp_client_model.specs.Failing.{Client}
+use Rattle.ftp_client_model.specs.Plan.{count_of}
+use Rattle.ftp_ends.specs.declared.link.Wants.TheVariants as Want
+use Rattle.ftp_pair_deeds.specs.Deeds.{Along}
+use Rattle.ftp_pair_drives.specs.Alone.{ClientIsCalm, ServerIsCalm}
+use Rattle.ftp_pair_transfers.specs.Deeds.{IsServing}
+use Rattle.ftp_pair_transfers.specs.Refusals.{IsTrying, marked_by}
+use Rattle.ftp_pair_world.specs.World.{Broken, Mark, marked_last}
+use Rattle.ftp_server_drive.specs.Side.{Timed, server_side}
+
+-- ---- the server
+
+-- it resets only what it has written; else it does what it does where none breaks
+abbrev pub IsYielding : Deed server_side → Held Timed → Type 0
+IsYielding (Other (Left (Reset left written))) at = at.lane.unwritten ≡ []
+IsYielding deed at = IsServing deed at
+
+-- so it does, and it was not refused memory, and no device of it failed or strayed
+abbrev pub ServerYields : Deed server_side → (old new : Held Timed) → Type 0
+ServerYields deed old new = IsYielding deed old × ServerIsCalm old new
+
+abbrev pub YieldsAlong : (deeds : List (Deed server_side)) (start now : Stand server_side) → Led deeds start now → Type 0
+YieldsAlong deeds start now led = Along ServerYields deeds start now led
+
+-- ---- the client
+
+-- what it begins asks for all, so that none is a Peek; a read of its data connection fails; it is told of the break of one that failed, of which no octet is
+-- unwritten, where it wants octets or is to close it; it resets one of which none is unwritten; else it does what it does where none breaks
+abbrev pub IsSuffering : Deed client_side → Held Client → Type 0
+IsSuffering (Other (Aside (Starting op))) at = IsTrying (Other (Aside (Starting op))) at × (count_of op ≡ None)
+IsSuffering (Other Failed) at = ⊤
+IsSuffering (Other Break) at =
+    (at.lane.fate ≡ Fates.Failed) × (at.lane.unwritten ≡ []) × ((wants at.end.view ≡ Want.Receive) ⊎ (at.end.view.closing ≡ true))
+IsSuffering (Other (Left (Reset left written))) at = at.lane.unwritten ≡ []
+IsSuffering deed at = IsTrying deed at
+
+-- so it does, and it was not refused memory
+abbrev pub ClientSuffers : Deed client_side → (old new : Held Client) → Type 0
+ClientSuffers deed old new = IsSuffering deed old × ClientIsCalm old new
+
+abbrev pub SuffersAlong : (deeds : List (Deed client_side)) (start now : Stand client_side) → Led deeds start now → Type 0
+SuffersAlong deeds start now led = Along ClientSuffers deeds start now led
+
+-- ---- the marks
+
+-- a break marks the operation that was begun last, unless it came as the client was to close anyway; it says how many octets had come
+abbrev pub Marks : Deed client_side → (old new : List (List Mark)) → Type 0
+Marks (Other Break) old new = (new ≡ old) ⊎ ((came : ℕ) × (new ≡ marked_last (Broken came) old))
+Marks deed old new = new ≡ marked_by deed old
+
+-- those of deeds, the last one first
+abbrev pub AreMarks : List (Deed client_side) → List (List Mark) → Type 0
+AreMarks [] marks = marks ≡ []
+AreMarks (deed ∷ before) marks = (old : List (List Mark)) × AreMarks before old × Marks deed old marks
