@@ -33,7 +33,7 @@ use Rattle.ftp_pair_data.proofs.Served.{after_settles, rests, settled}
 use Rattle.ftp_pair_deeds.proofs.Holding.{both}
 use Rattle.ftp_pair_deeds.proofs.NearForms.{Taking, taking_of, wants_rest}
 use Rattle.ftp_pair_deeds.proofs.Plain.{IsPlainBy, IsPlainly, Whatever}
-use Rattle.ftp_pair_deeds.proofs.Stands.{ClientFetches, ServerServes}
+use Rattle.ftp_pair_deeds.proofs.Stands.{ClientFetches, ServerServes, portless}
 use Rattle.ftp_pair_transfers.specs.Ahead.{Ahead, Listened}
 use Rattle.ftp_pair_transfers.proofs.Ahead.{Holds}
 use Rattle.ftp_pair_transfers.proofs.Beside.{Comes, Goes, GoesTo, Takes, Together, Writes, is_taking, rested}
@@ -116,7 +116,7 @@ module _ (read : Reading) (begun : List Order) (server : Stand server_side) (old
         one_leads read Breaks w (settled now) tt (
           ap (λ l. not (is_gone l)) link,
           sym (ap after_event breaks ∙ after_settles now (ap (λ n. rests (near.wants (data_closed n))) then_is
-              ∙ wants_rest (data_closed u) broken_sound broken_plain.port refl) r.runs),
+              ∙ wants_rest (data_closed u) broken_sound (portless u.connection broken_plain.port) refl) r.runs),
         )
 
     s : NearSettles now (settled now)

@@ -33,7 +33,7 @@ use Rattle.ftp_pair_transfers.proofs.ClientRefused.{refused_plain}
 use Rattle.ftp_pair_transfers.proofs.ClientStays.{client_resets}
 use Rattle.ftp_pair_transfers.proofs.Known.{AreCarried, Known}
 use Rattle.ftp_pair_transfers.proofs.Reaching.{earlier, starts_so}
-use Rattle.ftp_pair_transfers.proofs.Simulating.{asks, known}
+use Rattle.ftp_pair_transfers.proofs.Simulating.{asks, known, never}
 use Rattle.ftp_pair_breaks.specs.Claims.{BreaksAreOfWorlds, ReportAlike, SufferingIsOfWorld}
 use Rattle.ftp_server_model.specs.declared.session.ServerLink.TheVariants as Data
 use Rattle.ftp_pair_breaks.specs.Deeds.{AreMarks, ClientSuffers, Marks, ServerYields, SuffersAlong, YieldsAlong}
@@ -114,8 +114,8 @@ module _ (read : Reading) (reads : IsReading read) (moments : ℕ → ℕ) (time
     resets_on left written is can did =
         on (Other (Left (Reset left written))) o.marks refl w.marks o.marked
         (again read reads moments timed b fair (Other (Left (Reset left written))) deeds o.at w.marks q new
-        (client_resets read (begun_at moments deeds) server old new (reports_in deeds) w is.1 old_known old_asks left written o.at.last o.at.ahead p q count
-        o.at.together did is.0 can)
+        (client_resets read (begun_at moments deeds) server old new (reports_in deeds) w is.1 old_known old_asks
+        (never read reads moments timed b fair old o.at.plain o.at.sound w.link) left written o.at.last o.at.ahead p q count o.at.together did is.0 can)
         (ap (λ c. is_sound c.view.standing) did.0.0 ∙ o.at.sound) (subst (λ c. IsPlainly c.view) (sym did.0.0) o.at.plain)
         (reset_fresh old new p q left written o.at.fresh did can)) (stays_unsent (Other (Left (Reset left written))) tt is did)
 

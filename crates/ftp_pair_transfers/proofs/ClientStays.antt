@@ -384,12 +384,13 @@ module _ (read : Reading) (orders : List Order) (server : Stand server_side) (ol
       (record { spare = λ e. lane.unwritten; bare = λ e. lane.unwritten }) (λ e. absurd (both e free)) (λ e. free)
 
   -- or by a reset, where none is unwritten
-  pub client_resets : (asks : ClientFetches old.owner) (left written : Option (List ℕ)) (moment : ℕ) (ahead : Ahead) (between next : Between) (told : ℕ)
+  pub client_resets : (asks : ClientFetches old.owner) (never : near.wants v ≡ Want.Accept → is_near_held w.link ≡ false)
+      (left written : Option (List ℕ)) (moment : ℕ) (ahead : Ahead) (between next : Between) (told : ℕ)
       → Together read orders moment ahead between told server old reports w → Calls {side = client_side} (Left (Reset left written)) old new
       → old.owner.lane.unwritten ≡ [] → Can TheClient Resets between next → Goes read [] orders next told server new (reports ++ []) w
-  client_resets asks left written moment ahead between next told t did none can =
+  client_resets asks never left written moment ahead between next told t did none can =
       let lane = did.0.1 in
-      let free : is_near_held w.link ≡ false = left_held asks (Reset left written) moment ahead between told t did in
+      let free : is_near_held w.link ≡ false = left_held asks never (Reset left written) moment ahead between told t did in
       client_idle moment ahead between next told t (ap (λ c. c.view) did.0.0) (ap (λ (s : Stand client_side). s.unheard) did.1)
       (ap (λ (m : Between). m.control) can.1)
       (ap₂ (λ (m : Between) o. server.owner.lane.untold ++ (m.data_ways.to_server ++ o)) (sym can.1) (none ∙ sym lane.unwritten))

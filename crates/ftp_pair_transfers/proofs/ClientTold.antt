@@ -32,7 +32,6 @@ use Rattle.ftp_pair_deeds.proofs.Holding.{both, is_called, is_false, is_had}
 use Rattle.ftp_pair_transfers.proofs.Ahead.{Holds}
 use Rattle.ftp_pair_deeds.proofs.FarForms.{given_none, told_passive}
 use Rattle.ftp_pair_deeds.proofs.NearForms.{Taking, end_closing, taking_of, wants_rest}
-use Rattle.ftp_pair_deeds.proofs.Plain.{IsPlainly}
 use Rattle.ftp_pair_deeds.proofs.Stands.{ClientFetches, ServerServes, wants_port}
 use Rattle.ftp_pair_transfers.proofs.Beside.{Comes, Goes, Together, Writes, open_takes, rested}
 use Rattle.ftp_pair_transfers.proofs.ClientTaking.{taking_is}

@@ -116,7 +116,7 @@ module _ (read : Reading) (reads : IsReading read) (moments : ℕ → ℕ) (time
   fetches client plain sound = record { sound = sound; dials = portless client.owner.end.view.connection plain.port }
 
   -- it accepts nobody
-  never : (client : Stand client_side) → IsPlainly client.owner.end.view → is_sound client.owner.end.view.standing ≡ true
+  pub never : (client : Stand client_side) → IsPlainly client.owner.end.view → is_sound client.owner.end.view.standing ≡ true
       → (link : Link) → near.wants client.owner.end.view ≡ Want.Accept → is_near_held link ≡ false
   never client plain sound link e =
       let n : Near = client.owner.end.view in
@@ -384,7 +384,8 @@ module _ (read : Reading) (reads : IsReading read) (moments : ℕ → ℕ) (time
   )
   client_goes (Other (Left (Reset left written))) unbroken old new is deeds puts p q can told server reports o plain did = (
     client_resets read (begun_at moments deeds) server old new reports o.world is.1 (known deeds p told server old reports o puts)
-        (asks deeds p told server old reports o puts) left written o.last o.ahead p q told o.together did is.0.1 can,
+        (asks deeds p told server old reports o puts) (never old o.plain o.sound o.world.link) left written o.last o.ahead p q told o.together did
+        is.0.1 can,
     ap (λ c. is_sound c.view.standing) did.0.0 ∙ o.sound,
   )
   client_goes (Other Break) unbroken old new is deeds puts p q can told server reports o plain did = absurd unbroken
