@@ -147,7 +147,7 @@ given_of true all = refl
 given_of false all = refl
 
 -- who gives them takes none
-gives_octets : (listed : Bool) (octets : List ℕ) → is_giving (Data.Transferring (giving_of listed octets)) ≡ true
+pub gives_octets : (listed : Bool) (octets : List ℕ) → is_giving (Data.Transferring (giving_of listed octets)) ≡ true
 gives_octets true octets = refl
 gives_octets false octets = refl
 
