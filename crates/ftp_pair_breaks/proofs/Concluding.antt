@@ -75,18 +75,22 @@ breaks_agree b fair moments timed turns between server client did =
     let said : List Said = reports_in (client_deeds turns) in (
       o.marks,
       o.are_marks,
-      subst (λ r. Agrees (state_of b) begun o.marks None (said ++ option_to_list r) server.owner.end.server.view.session.table) (sym o.alike.0)
-          (marked_agree b fair begun o.marks server o.was said o.world (record { events = o.events; timed = o.timed; leads = o.leads }) o.both o.near),
+      subst (λ (t : Table). Agrees (state_of b) begun o.marks None (said ++ option_to_list (report_of client.owner.end.view)) t) (sym o.table)
+          (subst (λ r. Agrees (state_of b) begun o.marks None (said ++ option_to_list r) o.were.owner.end.server.view.session.table) (sym o.alike.0)
+          (marked_agree b fair begun o.marks o.were o.was said o.world (record { events = o.events; timed = o.timed; leads = o.leads }) o.both o.near)),
     )
 
 pub breaks_parting_agree : BreaksPartingAgree
 breaks_parting_agree b fair moments timed turns between server client did =
     let o = breaks_are_of_worlds reading_exists.0 reading_exists.1 b fair moments timed turns between server client did in
     let begun : List Order = begun_at moments (client_deeds turns) in
-    let said : List Said = reports_in (client_deeds turns) in (
+    let said : List Said = reports_in (client_deeds turns) in
+    let lost : ℕ = length o.marks in (
       o.marks,
       o.are_marks,
-      subst (λ r. Agrees (state_of b) begun o.marks (Some (length o.marks)) (said ++ option_to_list r) server.owner.end.server.view.session.table)
-          (sym o.alike.1)
-          (marked_parting_agree b fair begun o.marks server o.was said o.world (record { events = o.events; timed = o.timed; leads = o.leads }) o.both o.near),
+      subst (λ (t : Table). Agrees (state_of b) begun o.marks (Some lost) (said ++ option_to_list (report_of (control_end client.owner.end.view))) t)
+          (sym o.table)
+          (subst (λ r. Agrees (state_of b) begun o.marks (Some lost) (said ++ option_to_list r) o.were.owner.end.server.view.session.table) (sym o.alike.1)
+          (marked_parting_agree b fair begun o.marks o.were o.was said o.world (record { events = o.events; timed = o.timed; leads = o.leads }) o.both
+          o.near)),
     )

@@ -1,9 +1,9 @@
 -- What is so of a world whose client takes octets of a download: its server has let the link go, or waits for the command, or gives; and while it gives the
 -- client has no final reply.
-use Rattle.std.proofs.Common.{◌≡◌, ◌⊎◌, inl, inr, ℕ, Bool, true, false, true≢false, List, [], ◌∷◌, ◌++◌, None, refl, ap, ◌∙◌}
+use Rattle.std.proofs.Common.{◌≡◌, ◌⊎◌, inl, inr, ℕ, Bool, true, false, true≢false, List, [], ◌∷◌, ◌++◌, None, refl, sym, ap, subst, ◌∙◌}
 use Rattle.ftp_client_model.specs.Calls as near
 use Rattle.ftp_client_model.specs.Plan.{count_of}
-use Rattle.ftp_client_model.specs.View.{Job, Transferring}
+use Rattle.ftp_client_model.specs.View.{Job, Transferring, View as Near}
 use Rattle.ftp_client_model.specs.declared.client.Abort.TheVariants as Aborts
 use Rattle.ftp_client_model.specs.declared.client.ClientLink.{ClientLink as NearConnection}
 use Rattle.ftp_client_model.specs.declared.client.ClientLink.TheVariants as NearData
@@ -20,19 +20,20 @@ use Rattle.ftp_server_model.specs.declared.session.Pending.{Pending}
 use Rattle.ftp_server_model.specs.declared.session.Pending.TheVariants as Pendings
 use Rattle.ftp_server_model.specs.declared.session.ServerLink.{ServerLink}
 use Rattle.ftp_server_model.specs.declared.session.ServerLink.TheVariants as Data
-use Rattle.ftp_wire.specs.Decoder.{Decoder}
+use Rattle.ftp_wire.specs.Decoder.{Decoder, decoder_of, no_octets}
 use Rattle.ftp_endpoint.specs.declared.host.Host.{Host}
 use Rattle.ftp_pair_world.specs.Agreement.{Order, Single}
 use Rattle.ftp_pair_world.specs.Events.{ControlToClient, is_closed_by_near, pushed}
-use Rattle.ftp_pair_world.specs.World.{Mark, Stands, World}
+use Rattle.ftp_pair_world.specs.Outcome.{mark_in}
+use Rattle.ftp_pair_world.specs.World.{Mark, Opened, Stands, World}
 use Rattle.ftp_pair_dialogues.specs.Fetches.{Ask, Direction, Down, IsAsk, Rise, Up, busy, carrying, linked}
-use Rattle.ftp_pair_dialogues.specs.Stage.{Way}
-use Rattle.ftp_pair_agreement.specs.Cut.{PlacedAt, world_at}
+use Rattle.ftp_pair_dialogues.specs.Stage.{Answering, Way, calm}
+use Rattle.ftp_pair_agreement.specs.Cut.{Fits, FlowsRow, PlacedAt, world_at}
 use Rattle.ftp_pair_agreement.specs.Follows.{Phase}
 use Rattle.ftp_pair_agreement.specs.Over.{OverRuns}
 use Rattle.ftp_pair_agreement.specs.Rising.{Closing, Declined, Lift, Offered, Risen, Rising, Settled, Shut, Unjoined, Vanished, held, lift_passes}
 use Rattle.ftp_pair_agreement.specs.Runs.{IsFetching}
-use Rattle.ftp_pair_agreement.specs.Stages.{Answers, Aside as LeavesAside, AtFetch, Awaits, Carries, Closed, Course, Dialled, Dials, Dismissed, Early, Ended, Given, Giving, Holds, IsLasting, Leaving, LinkLeft, LinkOpen, LinkParting, Lost, PortAsked, PortDenied, PortSaid, PortTaken, PortTold, PortWanted, Ported, Refusing, Restarts, Retrieves, Rises, Severed, Tells, Unaccepted, Unclosed, Unopened, early_far, far_link, gives_on, heard_by, is_passing, replied_of, tie_of}
+use Rattle.ftp_pair_agreement.specs.Stages.{Answers, Aside as LeavesAside, AtFetch, Awaits, Carries, Closed, Course, Dialled, Dials, Dismissed, Early, Ended, Given, Giving, Holds, IsLasting, Leaving, LinkLeft, LinkOpen, LinkParting, Lost, PortAsked, PortDenied, PortSaid, PortTaken, PortTold, PortWanted, Ported, Refusing, Restarts, Retrieves, Rises, Severed, Tells, Unaccepted, Unclosed, Unopened, behind_opening, early_far, far_link, gives_on, heard_by, is_passing, replied_of, replies_in, tie_of}
 use Rattle.ftp_pair_agreement.proofs.FetchRuns.{pushed_client, serving_first}
 use Rattle.ftp_pair_agreement.proofs.FetchServed.{leads_still}
 use Rattle.ftp_pair_agreement.proofs.Rests.{near_form}
@@ -43,6 +44,7 @@ use Rattle.ftp_pair_deeds.proofs.Holding.{both}
 use Rattle.ftp_pair_transfers.proofs.Known.{AreCarried, aside_rests, is_giving, is_ready, last_carried}
 use Rattle.ftp_pair_transfers.proofs.Running.{not_trailing}
 use Rattle.ftp_pair_deeds.proofs.Plain.{IsPlainJob}
+use Rattle.ftp_pair_breaks.specs.Late.{downloading}
 use Rattle.ftp_pair_breaks.proofs.Faults.{Loads}
 use Rattle.ftp_pair_breaks.proofs.Unsent.{AskAll, Unsent, all_carried, last_all, not_halting}
 
@@ -58,6 +60,19 @@ pub record Feeding (w : World) : Type 0 where
   pub loads : Loads w.near
   pub far : (w.far.session.connection ≡ Data.Free) ⊎ ((is_final loads.replied ≡ false)
       × ((is_giving w.far.session.connection ≡ true) ⊎ ((w.far.session.connection ≡ Data.Ready) × (w.control_to_client ≡ []))))
+
+-- a server gives octets of a download, or of a listing: the client takes them, over a link that is open at both, and has no final reply; of a 150 it heard a
+-- front, and the rest is on its way, or it heard it; nothing goes to the server
+pub record Gives (w : World) : Type 0 where
+  pub loads : Loads w.near
+  pub unfinal : is_final loads.replied ≡ false
+  pub begun : Bool
+  pub base : Near
+  pub held : List ℕ
+  pub near : w.near ≡ near.hears (downloading loads.op (replied_of (heard_by begun)) loads.decoder loads.mark (calm base)) held
+  pub row : FlowsRow (behind_opening (heard_by begun) []) held (w.control_to_client ++ w.far.owed)
+  pub link : w.link ≡ Opened
+  pub quiet : w.control_to_server ≡ []
 
 -- ---- by stages
 
@@ -197,25 +212,43 @@ module _ (read : Reading) (state : State) (ask : Ask) (good : IsAsk ask) (all : 
         by_here (inr (Tells rise said after, h)) lasts = absurd (true≢false lasts)
         by_here (inr (Answers said leaves, h)) lasts = absurd (true≢false lasts)
 
-    -- where the server gives, the client takes, and has no final reply
-    stage_gives : is_giving w.far.session.connection ≡ true → (l : Loads w.near) × (is_final l.replied ≡ false)
+    -- where the server gives, the client takes
+    stage_gives : is_giving w.far.session.connection ≡ true → Gives w
     stage_gives gives = by_here s.here
       where
         none : (link : ServerLink Transfer) (closing : Bool) (pending : Pending Names) → s.base.far.session ≡ linked link closing pending s.base.far.session
-            → is_giving link ≡ false → (l : Loads w.near) × (is_final l.replied ≡ false)
+            → is_giving link ≡ false → Gives w
         none link closing pending is not = absurd (both gives (ap is_giving (link_is link closing pending is) ∙ not))
 
         none_held : (past : Bool) (path : Names) (keep : Keep) (d : Decoder)
-            → s.base.far.session ≡ linked (held past path keep d) false Pendings.Nothing s.base.far.session → (l : Loads w.near) × (is_final l.replied ≡ false)
+            → s.base.far.session ≡ linked (held past path keep d) false Pendings.Nothing s.base.far.session → Gives w
         none_held past path keep d is = none (held past path keep d) false Pendings.Nothing is (held_gives past path keep d)
 
         by_course : (course : Course) (came queue : List ℕ)
             → Holds state ask own (Carries (record { course = course; came = came; queue = queue })) s.way s.base
-            → (l : Loads w.near) × (is_final l.replied ≡ false)
-        by_course (Giving begun octet more) came queue h = (
-          record { op = ask.op; all = all; replied = replied_of (heard_by begun); decoder = _; mark = _; near = near_form s.base w of _ _ h.near },
-          begun_unfinal begun,
-        )
+            → Gives w
+        by_course (Giving begun octet more) came queue h =
+            let is : w ≡ world_at s.base (Answering (replies_in (Giving begun octet more))) s.cut = s.is ∙ ap (λ v. world_at s.base v s.cut) h.way_is in
+            let fits : FlowsRow (replies_in (Giving begun octet more)) s.cut.held (s.cut.moving ++ s.cut.owed) =
+            (subst (λ v. Fits v s.cut) h.way_is s.fits).1 in
+            record {
+              loads = record {
+                op = ask.op;
+                all = all;
+                replied = replied_of (heard_by begun);
+                decoder = decoder_of ask.settings came;
+                mark = mark_in (no_octets ask.settings) None came;
+                near = near_form s.base w of _ _ h.near;
+              };
+              unfinal = begun_unfinal begun;
+              begun = begun;
+              base = s.base.near;
+              held = s.cut.held;
+              near = ap (λ (u : World). u.near) is ∙ ap (λ n. near.hears (calm n) s.cut.held) h.near;
+              row = subst (λ (u : World). FlowsRow (replies_in (Giving begun octet more)) s.cut.held (u.control_to_client ++ u.far.owed)) (sym is) fits;
+              link = ap (λ (u : World). u.link) is ∙ h.link;
+              quiet = ap (λ (u : World). u.control_to_server) is;
+            }
         by_course (Given heard true) came queue h = none _ _ _ h.session refl
         by_course (Given heard false) came queue h = none _ _ _ h.session refl
         by_course (Ended begun clean) came queue h = none _ _ _ h.session refl
@@ -225,7 +258,7 @@ module _ (read : Reading) (state : State) (ask : Ask) (good : IsAsk ask) (all : 
         by_course (Refusing why (Lost clean)) came queue h = none _ _ _ h.session refl
         by_course Unopened came queue h = none _ _ _ h.session refl
 
-        by_lift : (rise : Rise) (lift : Lift) → Holds state ask own (Rises rise lift) s.way s.base → (l : Loads w.near) × (is_final l.replied ≡ false)
+        by_lift : (rise : Rise) (lift : Lift) → Holds state ask own (Rises rise lift) s.way s.base → Gives w
         by_lift rise Offered h = none_held false _ _ _ h.session
         by_lift rise (Rising past octet more came queue mark notes) h = none_held past _ _ _ h.session
         by_lift rise (Risen past closed came queue mark notes) h = none_held past _ _ _ h.session
@@ -234,13 +267,13 @@ module _ (read : Reading) (state : State) (ask : Ask) (good : IsAsk ask) (all : 
         by_lift rise Unjoined h = none _ _ _ h.session refl
 
         by_leaving : (leaves : Leaving) (said : Said) → Holds state ask own (Answers said leaves) s.way s.base
-            → (l : Loads w.near) × (is_final l.replied ≡ false)
+            → Gives w
         by_leaving (LeavesAside closes connection pending) said h = none connection _ _ h.session (aside_rests connection h.fine.1).2
         by_leaving LinkOpen said h = none _ _ _ h.session refl
         by_leaving LinkLeft said h = none _ _ _ h.session refl
         by_leaving LinkParting said h = none _ _ _ h.session refl
 
-        by_here : At s.way s.base → (l : Loads w.near) × (is_final l.replied ≡ false)
+        by_here : At s.way s.base → Gives w
         by_here (inl l) =
             absurd (both gives (aside_rests w.far.session.connection (leads_still read state ask good.plan own s.base w s.way of l).0.far.aside).2)
         by_here (inr (PortAsked closing, h)) = none _ _ _ h.session refl
@@ -301,21 +334,21 @@ module _ (read : Reading) (reads : IsReading read) (from : State) (begun : List 
     abbrev new : World
     new = pushed read ControlToClient count w
 
-    fetching_gives : IsFetching read from begun new → (l : Loads new.near) × (is_final l.replied ≡ false)
+    fetching_gives : IsFetching read from begun new → Gives new
     fetching_gives f = stage_gives read f.now f.ask f.is_ask (under_all f.done f.ask f.moment f.begun_is) f.own new f.stands gives
 
-    pub pushed_gives : IsPlainJob Unsent new.near.job → (l : Loads new.near) × (is_final l.replied ≡ false)
+    pub pushed_gives : IsPlainJob Unsent new.near.job → Gives new
     pushed_gives then_unsent = by runs
       where
-        still : IsStill w → (l : Loads new.near) × (is_final l.replied ≡ false)
+        still : IsStill w → Gives new
         still is = absurd (both gives (aside_rests w.far.session.connection is.far.aside).2)
 
-        by_phase : Phase read from begun w → (l : Loads new.near) × (is_final l.replied ≡ false)
+        by_phase : Phase read from begun w → Gives new
         by_phase (inl (linked, inl free)) = still (free_still read from begun w free)
         by_phase (inl (linked, inr under)) = still (under_still read from begun w under)
         by_phase (inr lost) = absurd (not_lost read from begun w control lost)
 
-        by : OverRuns read from begun w → (l : Loads new.near) × (is_final l.replied ≡ false)
+        by : OverRuns read from begun w → Gives new
         by (inl (inl f)) = by_phase f.phase
         by (inl (inr (inl on))) =
             elim (pushed_client read reads from begun count w on.fetching w (serving_first read reads from begun w on)) [

@@ -328,7 +328,7 @@ module _ (read : Reading) (reads : IsReading read) (moments : ℕ → ℕ) (time
         l.at.together.beside.control l.at.together.beside.unready
         (subst (λ (v : Near). IsPlainJob Unsent v.job) (sym near_is) l.unsent.job) (length octets) gives
         (subst (λ (v : Near). IsPlainJob Unsent v.job) (sym heard) p.job) in
-        let there = subst (λ (v : Near). (l : Loads v) × (is_final l.replied ≡ false)) heard got in
+        let there = subst (λ (v : Near). (l : Loads v) × (is_final l.replied ≡ false)) heard (got.loads, got.unfinal) in
         loading_of (hears n octets) there.0 there.1
     loads_then octets rest is (inr ready) =
         let none : octets ≡ [] =

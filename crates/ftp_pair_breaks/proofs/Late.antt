@@ -156,7 +156,7 @@ module _ (op : Op (List ℕ)) (all : count_of op ≡ None) where
   aborting count replied d mark n =
       if true && true && has_settled count (Receiving d mark) then sends_abort op (so_far replied d mark) (down replied d mark n) else down replied d mark n
 
-  goes_open : (replied : Replied) (d : Decoder) (mark : Option ℕ) (n : View) → carries_on (down replied d mark n) ≡ down replied d mark n
+  pub goes_open : (replied : Replied) (d : Decoder) (mark : Option ℕ) (n : View) → carries_on (down replied d mark n) ≡ down replied d mark n
   goes_open Replies.Nothing d mark n = refl
   goes_open Replies.Begun d mark n = ap (λ k. answers_once_over (aborting k Replies.Begun d mark n)) all
   goes_open (Replies.Final code) d mark n = ap (λ k. answers_once_over (aborting k (Replies.Final code) d mark n)) all
@@ -178,7 +178,7 @@ module _ (op : Op (List ℕ)) (all : count_of op ≡ None) where
   takes_one (Replies.Final code) d mark n octet =
       ap (λ k. aborting k (Replies.Final code) (decoded_octet d octet) (last_mark mark (octet_says d octet)) n) all
 
-  takes : (came : List ℕ) (replied : Replied) (d : Decoder) (mark : Option ℕ) (n : View)
+  pub takes : (came : List ℕ) (replied : Replied) (d : Decoder) (mark : Option ℕ) (n : View)
       → receives (down replied d mark n) came ≡ down replied (decoder_after d came) (mark_after d mark came) n
   takes [] replied d mark n = refl
   takes (octet ∷ octets) replied d mark n =

@@ -3,9 +3,16 @@ pub mod Faults
 pub mod Unsent
 pub mod ClientBroken
 pub mod Feeding
+pub mod Rows
+pub mod Drained
 pub mod Untold
 pub mod Steps
 pub mod Lagging
+pub mod BothBroken
+pub mod Unaware
+pub mod Preceding
+pub mod Following
+pub mod BothTold
 pub mod Unbroken
 pub mod Simulating
 pub mod Concluding

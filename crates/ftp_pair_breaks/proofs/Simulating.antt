@@ -1,9 +1,9 @@
--- Two drives of which a download's data connection breaks for the client, as a list of a world's events: deed by deed.
-use Rattle.std.proofs.Common.{◌≡◌, ◌⊎◌, inl, inr, ℕ, true, false, List, [], ◌∷◌, Option, refl, sym, ap, subst, ◌∙◌}
+-- Two drives of which a download's data connection breaks, as a list of a world's events: deed by deed.
+use Rattle.std.proofs.Common.{◌≡◌, ◌⊎◌, inl, inr, ℕ, true, false, List, [], ◌∷◌, ◌++◌, Option, refl, sym, ap, subst, ◌∙◌}
 use Rattle.ftp_control.specs.Asking.{Reset}
 use Rattle.ftp_control.specs.Deeds.{Calls, Deed, Done, Led, Other, Stand}
 use Rattle.ftp_control.specs.Lane.{Lane, with_fate}
-use Rattle.ftp_control.specs.Machine.{Aside, Break, Left}
+use Rattle.ftp_control.specs.Machine.{Aside, Break, Left, Listening}
 use Rattle.ftp_control.specs.declared.whole.Fate.TheVariants as Fates
 use Rattle.ftp_client_drive.specs.Side.{Starting, client_side}
 use Rattle.ftp_client_model.specs.Calls as near
@@ -12,10 +12,12 @@ use Rattle.ftp_client_model.specs.View.{Transfer, View as Near}
 use Rattle.ftp_ends.specs.declared.link.Wants.TheVariants as Want
 use Rattle.ftp_operation.specs.declared.op.Op.{Op}
 use Rattle.ftp_server_drive.specs.Side.{server_side}
+use Rattle.ftp_server_model.specs.Calls.{break_step, clock_step}
 use Rattle.ftp_server_model.specs.Machine.{IsReading, Reading}
+use Rattle.ftp_server_model.specs.View.{View as Far}
 use Rattle.ftp_pair_world.specs.Claims.{Beginning, IsFair}
 use Rattle.ftp_pair_world.specs.World.{Broken, Mark, World, marked_last}
-use Rattle.ftp_pair_drives.specs.Alone.{begun_by, reports_in}
+use Rattle.ftp_pair_drives.specs.Alone.{ServerIsCalm, begun_by, reports_in}
 use Rattle.ftp_pair_drives.specs.Between.{Between, Can, CanTurn, Client, Happened, Near as TheClient, Server, Turn, client_deeds, nothing_yet, server_deeds, with_hold}
 use Rattle.ftp_pair_drives.specs.Claims.{Begins}
 use Rattle.ftp_pair_drives.specs.Touches.{ToldBreak, touch_in}
@@ -34,14 +36,20 @@ use Rattle.ftp_pair_transfers.proofs.ClientStays.{client_resets}
 use Rattle.ftp_pair_transfers.proofs.Known.{AreCarried, Known}
 use Rattle.ftp_pair_transfers.proofs.Reaching.{earlier, starts_so}
 use Rattle.ftp_pair_transfers.proofs.Simulating.{asks, known, never}
-use Rattle.ftp_pair_breaks.specs.Claims.{BreaksAreOfWorlds, ReportAlike, SufferingIsOfWorld}
+use Rattle.ftp_pair_breaks.specs.Claims.{AreSame, BreaksAreOfWorlds, IsClientFirst, IsServerFirst, ReportAlike, SufferingIsOfWorld}
 use Rattle.ftp_server_model.specs.declared.session.ServerLink.TheVariants as Data
 use Rattle.ftp_pair_breaks.specs.Deeds.{AreMarks, ClientSuffers, Marks, ServerYields, SuffersAlong, YieldsAlong}
+use Rattle.ftp_pair_breaks.proofs.BothBroken.{broke, broke_step}
+use Rattle.ftp_pair_breaks.proofs.BothTold.{told_after, told_first, told_last}
 use Rattle.ftp_pair_breaks.proofs.ClientBroken.{broken_closing, broken_lane, broken_plain, broken_sound, client_broken, closing_by, closing_plain, closing_sound}
+use Rattle.ftp_pair_breaks.proofs.Drained.{BreaksNot, IsLone, dried, dried_none, dried_step, dried_told}
 use Rattle.ftp_pair_breaks.proofs.Faults.{Loads, faulted_plain}
 use Rattle.ftp_pair_breaks.proofs.Feeding.{Feeding, is_final}
+use Rattle.ftp_pair_breaks.proofs.Following.{follows}
 use Rattle.ftp_pair_breaks.proofs.Lagging.{Lags, Leftover, Whole, beside, feeding_at, feeds, is_failed, lag_step, leaves, unbroken}
+use Rattle.ftp_pair_breaks.proofs.Preceding.{Precedes, behind, gives_now, asks_none, precede_server, steady_here, steady_now, unaware}
 use Rattle.ftp_pair_breaks.proofs.Steps.{Again, At, again, client_step, idle_again, server_step}
+use Rattle.ftp_pair_breaks.proofs.Unaware.{steady_alike}
 use Rattle.ftp_pair_breaks.proofs.Unbroken.{can_unbroken, serving_dials}
 use Rattle.ftp_pair_breaks.proofs.Unsent.{AskAll, Unsent, all_carried, both_all, near_unsent, reset_fresh}
 use Rattle.ftp_pair_breaks.proofs.Untold.{Loading, fault_told, loading_of, loads_of, told_alike}
@@ -68,9 +76,16 @@ module _ (read : Reading) (reads : IsReading read) (moments : ℕ → ℕ) (time
   abbrev L : (deeds : List (Deed client_side)) (between : Between) (count : ℕ) (server : Stand server_side) (client : Stand client_side) → Type 0
   L deeds between count server client = Lags read reads moments timed b fair deeds between count server client
 
+  abbrev P : (deeds : List (Deed client_side)) (between : Between) (count : ℕ) (server : Stand server_side) (client : Stand client_side) → Type 0
+  P deeds between count server client = Precedes read reads moments timed b fair deeds between count server client
+
   -- a world is beside both drives, or beside the server's and a client that was not told of a break
+  abbrev Lone : (deeds : List (Deed client_side)) (between : Between) (count : ℕ) (server : Stand server_side) (client : Stand client_side) → Type 0
+  Lone deeds between count server client = W deeds between count server client ⊎ L deeds between count server client
+
+  -- so it is of the server's as if it had nothing unwritten of what it was told that it broke; or the server was told first
   abbrev Suffered : (deeds : List (Deed client_side)) (between : Between) (count : ℕ) (server : Stand server_side) (client : Stand client_side) → Type 0
-  Suffered deeds between count server client = W deeds between count server client ⊎ L deeds between count server client
+  Suffered deeds between count server client = Lone deeds between count (dried server) client ⊎ P deeds between count server client
 
   -- ---- a deed of the client, where a world is beside both
 
@@ -205,13 +220,13 @@ module _ (read : Reading) (reads : IsReading read) (moments : ℕ → ℕ) (time
             fresh = broken_fresh (faulted_now Fresh (loads_of v loads));
           }
 
-      breaks_on : Suffered (Other Break ∷ deeds) q count server new
+      breaks_on : Lone (Other Break ∷ deeds) q count server new
       breaks_on = elim is.0.2 [
         | inl wants ↦ by wants (feeding_at read reads moments timed b fair deeds puts p count server old o.at o.unsent wants)
         | inr closing ↦ inl (breaks_closing closing)
       ]
         where
-          by : near.wants v ≡ Want.Receive → (w.near ≡ v) × Feeding w → Suffered (Other Break ∷ deeds) q count server new
+          by : near.wants v ≡ Want.Receive → (w.near ≡ v) × Feeding w → Lone (Other Break ∷ deeds) q count server new
           by wants f =
               let there = subst Loads f.0 f.1.loads in
               elim f.1.far [
@@ -223,14 +238,14 @@ module _ (read : Reading) (reads : IsReading read) (moments : ℕ → ℕ) (time
 
     -- as where none breaks
     steps_on : (deed : Deed client_side) → BreaksNone deed → ClientSuffers deed old.owner new.owner → ClientTries deed old.owner new.owner
-        → Marks deed o.marks (marked_by deed o.marks) → CanTurn (Client deed) p q → Done deed old new → Suffered (deed ∷ deeds) q count server new
+        → Marks deed o.marks (marked_by deed o.marks) → CanTurn (Client deed) p q → Done deed old new → Lone (deed ∷ deeds) q count server new
     steps_on deed unbroken is tries marks can did =
         inl (on deed (marked_by deed o.marks) marks (marked_by deed w.marks) (ap (marked_by deed) o.marked)
         (client_step read reads moments timed b fair deed unbroken old new tries deeds carried p q can count server o.at did)
         (stays_unsent deed unbroken is did))
 
     whole_step : (deed : Deed client_side) → ClientSuffers deed old.owner new.owner → CanTurn (Client deed) p q → Done deed old new
-        → Suffered (deed ∷ deeds) q count server new
+        → Lone (deed ∷ deeds) q count server new
     whole_step (Other (Left (Reset left written))) is can did = inl (resets_on left written is can did)
     whole_step (Other Break) is can did = breaks_on is can did
     whole_step (Other (Aside (Starting op))) is can did = steps_on (Other (Aside (Starting op))) tt is (is.0.0, is.1) refl can did
@@ -239,29 +254,43 @@ module _ (read : Reading) (reads : IsReading read) (moments : ℕ → ℕ) (time
   -- ---- one after another
 
   -- a deed of the client
-  client_turn : (deed : Deed client_side) (deeds : List (Deed client_side)) → AskAll (begun_at moments deeds) → (p q : Between) (count : ℕ)
-      (server : Stand server_side) (old new : Stand client_side) → Suffered deeds p count server old → ClientSuffers deed old.owner new.owner
-      → CanTurn (Client deed) p q → Done deed old new → Suffered (deed ∷ deeds) q count server new
-  client_turn deed deeds puts p q count server old new (inl o) is can did = whole_step deeds puts p q count server old new o deed is can did
-  client_turn deed deeds puts p q count server old new (inr l) is can did =
+  lone_client : (deed : Deed client_side) (deeds : List (Deed client_side)) → AskAll (begun_at moments deeds) → (p q : Between) (count : ℕ)
+      (server : Stand server_side) (old new : Stand client_side) → Lone deeds p count server old → ClientSuffers deed old.owner new.owner
+      → CanTurn (Client deed) p q → Done deed old new → Lone (deed ∷ deeds) q count server new
+  lone_client deed deeds puts p q count server old new (inl o) is can did = whole_step deeds puts p q count server old new o deed is can did
+  lone_client deed deeds puts p q count server old new (inr l) is can did =
       elim (feeds read reads moments timed b fair deeds puts p count server old l).far [
         | inl free ↦
             whole_step deeds puts p q count server old new (leaves read reads moments timed b fair deeds puts p count server old l free) deed is can did
         | inr going ↦ inr (lag_step read reads moments timed b fair deeds puts p count server old l deed q new is can did going.1)
       ]
 
-  -- a deed of the server
-  server_turn : (deed : Deed server_side) (deeds : List (Deed client_side)) → AskAll (begun_at moments deeds) → (before : List (Deed server_side))
-      → ArePorts (deed ∷ before) → (p q : Between) (old new : Stand server_side) (client : Stand client_side) → Suffered deeds p (listened_in before) old client
-      → ServerYields deed old.owner new.owner → CanTurn (Server deed) p q → (did : Done deed old new)
-      → IsToldAt deed old new did (last_of moments (number_in deeds)) → Suffered deeds q (listened_in (deed ∷ before)) new client
-  server_turn deed deeds puts before ports p q old new client (inl o) is can did told =
-      let got = server_step read reads moments timed b fair deed old new is deeds (all_carried (begun_at moments deeds) puts) before ports p q can client o.at
-      did told in
+  client_turn : (deed : Deed client_side) (deeds : List (Deed client_side)) → AskAll (begun_at moments deeds) → (before : List (Deed server_side))
+      → ArePorts before → (p q : Between) (server : Stand server_side) (old new : Stand client_side) → Suffered deeds p (listened_in before) server old
+      → ClientSuffers deed old.owner new.owner → CanTurn (Client deed) p q → Done deed old new
+      → Suffered (deed ∷ deeds) q (listened_in before) server new
+  client_turn deed deeds puts before ports p q server old new (inl o) is can did =
+      inl (lone_client deed deeds puts p q (listened_in before) (dried server) old new o is can did)
+  client_turn deed deeds puts before ports p q server old new (inr l) is can did = by deed is can did
+    where
+      by : (deed : Deed client_side) → ClientSuffers deed old.owner new.owner → CanTurn (Client deed) p q → Done deed old new
+          → Suffered (deed ∷ deeds) q (listened_in before) server new
+      by (Other Break) is can did =
+          inl (inl (told_last read reads moments timed b fair deeds puts before ports p q server old new l is can did))
+      by deed is can did = inr (follows read reads moments timed b fair deeds puts p (listened_in before) server old l deed tt q new is can did)
+
+  -- a deed of the server that is told of no break
+  lone_server : (deed : Deed server_side) (deeds : List (Deed client_side)) → AskAll (begun_at moments deeds) → (before : List (Deed server_side))
+      → ArePorts (deed ∷ before) → (p q : Between) (old new : Stand server_side) (client : Stand client_side) → Lone deeds p (listened_in before) old client
+      → IsLone deed old.owner → ServerIsCalm old.owner new.owner → CanTurn (Server deed) p q → (did : Done deed old new)
+      → IsToldAt deed old new did (last_of moments (number_in deeds)) → Lone deeds q (listened_in (deed ∷ before)) new client
+  lone_server deed deeds puts before ports p q old new client (inl o) is calm can did told =
+      let got = server_step read reads moments timed b fair deed old new is calm deeds (all_carried (begun_at moments deeds) puts) before ports p q can client
+      o.at did told in
       inl (record { at = got.0; marks = o.marks; are_marks = o.are_marks; marked = got.1 ∙ o.marked; unsent = o.unsent })
-  server_turn deed deeds puts before ports p q old new client (inr l) is can did told =
-      let there = can_unbroken (touch_in deed) p q (serving_dials deed old.owner is.0) l.hold can in
-      let got = server_step read reads moments timed b fair deed old new is deeds (all_carried (begun_at moments deeds) puts) before ports (unbroken p)
+  lone_server deed deeds puts before ports p q old new client (inr l) is calm can did told =
+      let there = can_unbroken (touch_in deed) p q (serving_dials deed old.owner is) l.hold can in
+      let got = server_step read reads moments timed b fair deed old new is calm deeds (all_carried (begun_at moments deeds) puts) before ports (unbroken p)
       (unbroken q) there.0 (beside l.was client) l.at did told in
       by (record {
         was = l.was;
@@ -278,11 +307,43 @@ module _ (read : Reading) (reads : IsReading read) (moments : ℕ → ℕ) (time
         fresh = far_fresh p q client l.fresh (touch_in deed) can;
       })
     where
-      by : L deeds q (listened_in (deed ∷ before)) new client → Suffered deeds q (listened_in (deed ∷ before)) new client
+      by : L deeds q (listened_in (deed ∷ before)) new client → Lone deeds q (listened_in (deed ∷ before)) new client
       by l = elim (feeds read reads moments timed b fair deeds puts q (listened_in (deed ∷ before)) new client l).far [
         | inl free ↦ inl (leaves read reads moments timed b fair deeds puts q (listened_in (deed ∷ before)) new client l free)
         | inr going ↦ inr l
       ]
+
+  server_turn : (deed : Deed server_side) (deeds : List (Deed client_side)) → AskAll (begun_at moments deeds) → (before : List (Deed server_side))
+      → ArePorts (deed ∷ before) → (p q : Between) (old new : Stand server_side) (client : Stand client_side) → Suffered deeds p (listened_in before) old client
+      → ServerYields deed old.owner new.owner → CanTurn (Server deed) p q → (did : Done deed old new)
+      → IsToldAt deed old new did (last_of moments (number_in deeds)) → Suffered deeds q (listened_in (deed ∷ before)) new client
+  server_turn deed deeds puts before ports p q old new client (inl o) is can did told = by deed ports is can did told
+    where
+      on : (deed : Deed server_side) → BreaksNot deed → ArePorts (deed ∷ before) → ServerYields deed old.owner new.owner → CanTurn (Server deed) p q
+          → (did : Done deed old new) → IsToldAt deed old new did (last_of moments (number_in deeds))
+          → Suffered deeds q (listened_in (deed ∷ before)) new client
+      on deed kept ports is can did told =
+          let step = dried_step old new deed kept is.0 did in
+          inl (lone_server deed deeds puts before ports p q (dried old) (dried new) client o step.0 is.1 can step.1
+          (dried_told old new deed kept is.0 did (last_of moments (number_in deeds)) told))
+
+      told_of_it : ServerYields (Other Break) old.owner new.owner → CanTurn (Server (Other Break)) p q → Done (Other Break) old new
+          → Lone deeds p (listened_in before) (dried old) client → Suffered deeds q (listened_in before) new client
+      told_of_it is can did (inl o) = inr (told_first read reads moments timed b fair deeds puts p q (listened_in before) old new client is can did o)
+      told_of_it is can did (inr l) = inl (inl (told_after read reads moments timed b fair deeds puts p q (listened_in before) old new client is can did l))
+
+      by : (deed : Deed server_side) → ArePorts (deed ∷ before) → ServerYields deed old.owner new.owner → CanTurn (Server deed) p q
+          → (did : Done deed old new) → IsToldAt deed old new did (last_of moments (number_in deeds))
+          → Suffered deeds q (listened_in (deed ∷ before)) new client
+      by (Other Break) ports is can did told = told_of_it is can did o
+      by deed ports is can did told = on deed tt ports is can did told
+  server_turn deed deeds puts before ports p q old new client (inr l) is can did told = by deed is can did
+    where
+      by : (deed : Deed server_side) → ServerYields deed old.owner new.owner → CanTurn (Server deed) p q → Done deed old new
+          → Suffered deeds q (listened_in (deed ∷ before)) new client
+      by (Other (Listening port)) is can did =
+          absurd (asks_none read reads moments timed b fair deeds puts p (listened_in before) old client l port new did)
+      by deed is can did = inr (precede_server read reads moments timed b fair deeds puts p (listened_in before) old client l deed q new is can did)
 
   reaches : (turns : List Turn) (between : Between) → Happened turns between
       → (server_start server : Stand server_side) (client_start client : Stand client_side) → Begins b server_start client_start
@@ -298,13 +359,13 @@ module _ (read : Reading) (reads : IsReading read) (moments : ℕ → ℕ) (time
       subst (λ (m : Between). Suffered [] m 0 server client) (sym happened)
       (subst (λ (s : Stand server_side). Suffered [] nothing_yet 0 s client) (sym server_led)
       (subst (λ (c : Stand client_side). Suffered [] nothing_yet 0 server_start c) (sym client_led)
-      (inl (record {
+      (inl (subst (λ (s : Stand server_side). Lone [] nothing_yet 0 s client_start) (sym (dried_none server_start far_unwritten)) (inl (record {
         at = start.0;
         marks = [];
         are_marks = refl;
         marked = start.1;
         unsent = subst (IsPlainBy Unsent) (sym begins.client_view) (record { job = tt; port = refl; run = refl });
-      }))))
+      }))))))
   reaches (Server deed ∷ before) between happened server_start server client_start client begins untold unwritten far_unwritten near_untold server_led
       client_led takes gives ports told =
       let reached = reaches before happened.0 happened.1 server_start server_led.0 client_start client begins untold unwritten far_unwritten near_untold
@@ -315,20 +376,22 @@ module _ (read : Reading) (reads : IsReading read) (moments : ℕ → ℕ) (time
       client_led takes gives ports told =
       let reached = reaches before happened.0 happened.1 server_start server client_start client_led.0 begins untold unwritten far_unwritten near_untold
       server_led client_led.1 takes gives.0 ports told in
-      client_turn deed (client_deeds before) (in_all moments (client_deeds before) client_start client_led.0 client_led.1 gives.0) happened.0 between
-      (listened_in (server_deeds before)) server client_led.0 client reached gives.1 happened.2 client_led.2
+      client_turn deed (client_deeds before) (in_all moments (client_deeds before) client_start client_led.0 client_led.1 gives.0) (server_deeds before)
+      ports happened.0 between server client_led.0 client reached gives.1 happened.2 client_led.2
 
--- events of a world lead to what both drives hold, or to what the client held before it was told
+-- events of a world lead to what both drives hold, or held before one of them was told
 pub breaks_are_of_worlds : BreaksAreOfWorlds
 breaks_are_of_worlds read reads b fair moments timed turns between server client did =
     by (reaches read reads moments timed b fair turns between did.happened did.server_start server did.client_start client did.begins did.untold
     did.unwritten did.server_unwritten did.client_untold did.server_led did.client_led did.takes did.suffers did.ports did.told)
   where
-    of_world : (was : Stand client_side) (m : Between) → (was ≡ client) ⊎ (client.owner.end.view ≡ data_fault was.owner.end.view)
+    of_world : (were : Stand server_side) (was : Stand client_side) (m : Between)
+        → AreSame server were client was ⊎ (IsClientFirst server were client was ⊎ IsServerFirst server were client was)
         → ReportAlike client.owner.end.view was.owner.end.view
-        → (o : At read reads moments timed b fair (client_deeds turns) m (listened_in (server_deeds turns)) server was) (marks : List (List Mark))
+        → server.owner.end.server.view.session.table ≡ were.owner.end.server.view.session.table
+        → (o : At read reads moments timed b fair (client_deeds turns) m (listened_in (server_deeds turns)) were was) (marks : List (List Mark))
         → AreMarks (client_deeds turns) marks → o.world.marks ≡ marks → SufferingIsOfWorld read b moments turns server client
-    of_world was m is alike o marks are marked =
+    of_world were was m is alike table o marks are marked =
         let s = o.together.beside in
         record {
           events = o.leads.events;
@@ -337,9 +400,11 @@ breaks_are_of_worlds read reads b fair moments timed turns between server client
           leads = o.leads.leads;
           marks = marks;
           are_marks = are;
+          were = were;
           was = was;
           is = is;
           alike = alike;
+          table = table;
           both = record {
             moment = o.last;
             ahead = o.ahead;
@@ -354,9 +419,41 @@ breaks_are_of_worlds read reads b fair moments timed turns between server client
           near = s.near ∙ ap near.data_closed (sym (reports_is was.owner.end.view));
         }
 
-    by : Suffered read reads moments timed b fair (client_deeds turns) between (listened_in (server_deeds turns)) server client
-        → SufferingIsOfWorld read b moments turns server client
-    by (inl o) = of_world client between (inl refl) (refl, refl) o.at o.marks o.are_marks o.marked
-    by (inr l) =
-        of_world (beside l.was client) (unbroken between) (inr (l.view ∙ sym (fault_told l.was.end.view l.loads)))
-        (subst (λ (v : Near). ReportAlike v l.was.end.view) (sym l.view) (told_alike l.was.end.view l.loads)) l.at l.marks l.are_marks l.marked
+    -- what was begun asks for all
+    puts : AskAll (begun_at moments (client_deeds turns))
+    puts = in_all moments (client_deeds turns) did.client_start client did.client_led did.suffers
+
+    -- the server was told first
+    first : Precedes read reads moments timed b fair (client_deeds turns) between (listened_in (server_deeds turns)) server client → SufferingIsOfWorld read b moments turns server client
+    first p =
+        let were : Far = p.were.owner.end.server.view in
+        let broken : break_step (clock_step p.moment were) ≡ clock_step p.moment (broke were) = broke_step p.were p.at.serves p.sends p.moment in
+        let loads = (gives_now read reads moments timed b fair (client_deeds turns) puts between (listened_in (server_deeds turns)) server client p).loads in
+        of_world p.were (unaware p.refusals p.near p.queue client.owner.lane) (behind between)
+        (inr (inr (record {
+          moment = p.moment;
+          said = p.said;
+          left = p.left;
+          far = p.far_is ∙ ap (λ (f : Far). record f { owed = p.left }) (sym broken);
+          whole = ap (λ (f : Far). f.owed) broken ∙ p.whole;
+          heard = p.heard;
+          more = (heard_front p.queue p.said p.heard (client.unheard ++ between.control.to_client) p.split p.late).0;
+          front = (heard_front p.queue p.said p.heard (client.unheard ++ between.control.to_client) p.split p.late).1;
+          near = p.view;
+        })))
+        (steady_alike loads.op loads.decoder loads.mark client.owner.end.view p.near
+        (steady_now read reads moments timed b fair (client_deeds turns) puts between (listened_in (server_deeds turns)) server client p)
+        (steady_here read reads moments timed b fair (client_deeds turns) puts between (listened_in (server_deeds turns)) server client p))
+        (ap (λ (f : Far). f.session.table) p.far_is) p.at p.marks p.are_marks p.marked
+      where
+        heard_front : (queue said heard rest : List ℕ) → queue ++ said ≡ heard ++ rest → (heard ≡ []) ⊎ (queue ≡ [])
+            → (more : List ℕ) × (said ≡ heard ++ more)
+        heard_front queue said heard rest split (inl none) = (said, ap (λ o. o ++ said) (sym none))
+        heard_front queue said heard rest split (inr empty) = (rest, ap (λ o. o ++ said) (sym empty) ∙ split)
+
+    by : Suffered read reads moments timed b fair (client_deeds turns) between (listened_in (server_deeds turns)) server client → SufferingIsOfWorld read b moments turns server client
+    by (inl (inl o)) = of_world (dried server) client between (inl (refl, refl)) (refl, refl) refl o.at o.marks o.are_marks o.marked
+    by (inl (inr l)) =
+        of_world (dried server) (beside l.was client) (unbroken between) (inr (inl (refl, l.view ∙ sym (fault_told l.was.end.view l.loads))))
+        (subst (λ (v : Near). ReportAlike v l.was.end.view) (sym l.view) (told_alike l.was.end.view l.loads)) refl l.at l.marks l.are_marks l.marked
+    by (inr p) = first p

@@ -2,11 +2,11 @@
 use Rattle.std.proofs.Common.{◌≡◌, Bool, true, false, true≢false, [], ◌∷◌, Some, None, refl, sym, ap, ◌∙◌}
 use Rattle.ftp_control.specs.Asking.{Came, Ended as EndedBy, Reset, Shut}
 use Rattle.ftp_control.specs.Deeds.{Deed, Heard, Other, Read, Said as SaysDeed}
-use Rattle.ftp_control.specs.Machine.{Aside, Closed, End, Gave, Got, Held, Left, LetGo, Listening, Opened, Received, Waited, Wrote}
+use Rattle.ftp_control.specs.Machine.{Aside, Closed, End, Failed, Gave, Got, Held, Left, LetGo, Listening, Opened, Received, Waited, Wrote}
 use Rattle.ftp_server_drive.specs.Side.{Timed, server_side}
 use Rattle.ftp_pair_drives.specs.Between.{Between, Can, Far as TheServer, Has_ended, Has_lost, Hold}
 use Rattle.ftp_pair_drives.specs.Touches.{Accepts, Dials, Ends, IsDenied, IsMissed, Listens, None_of_it, Parts, Reads, Resets, Says, Takes, ToldBreak, ToldEnd, Touch, Writes, touch_in}
-use Rattle.ftp_pair_breaks.specs.Deeds.{IsYielding}
+use Rattle.ftp_pair_breaks.proofs.Drained.{IsLone}
 use Rattle.ftp_pair_breaks.proofs.Lagging.{unbroken}
 
 -- it dials
@@ -19,7 +19,7 @@ is_ended Has_ended = true
 is_ended hold = false
 
 -- no deed of such a server dials
-pub serving_dials : (deed : Deed server_side) (at : Held Timed) → IsYielding deed at → is_dialled (touch_in deed) ≡ false
+pub serving_dials : (deed : Deed server_side) (at : Held Timed) → IsLone deed at → is_dialled (touch_in deed) ≡ false
 serving_dials (Heard octets) at is = refl
 serving_dials (SaysDeed octets) at is = refl
 serving_dials (Read octets) at is = refl
@@ -37,6 +37,7 @@ serving_dials (Other (Left (EndedBy left written))) at is = refl
 serving_dials (Other (Left (Reset left written))) at is = refl
 serving_dials (Other (Left Shut)) at is = refl
 serving_dials (Other Closed) at is = refl
+serving_dials (Other Failed) at is = refl
 serving_dials deed at is = absurd is
 
 -- what it does can be done there, and the client has lost it still

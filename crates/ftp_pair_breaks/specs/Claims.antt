@@ -1,8 +1,8 @@
--- What is claimed of two drives of which a download's data connection breaks for the client.
+-- What is claimed of two drives of which a download's data connection breaks, for the client, the server while it gives, or both.
 use Rattle.std.specs.Prelude.{◌≡◌, ◌⊎◌, ℕ, List, [], ◌++◌, length, None, Some, option_to_list}
 use Rattle.ftp_control.specs.Deeds.{Led, Stand}
 use Rattle.ftp_client_drive.specs.Side.{client_side}
-use Rattle.ftp_client_model.specs.Calls.{control_end, data_closed, data_fault, report_of, reports}
+use Rattle.ftp_client_model.specs.Calls.{control_end, data_closed, data_fault, hears, report_of, reports}
 use Rattle.ftp_client_model.specs.View.{View}
 use Rattle.ftp_pair_breaks.specs.Deeds.{AreMarks, SuffersAlong, YieldsAlong}
 use Rattle.ftp_pair_drives.specs.Alone.{reports_in}
@@ -16,6 +16,7 @@ use Rattle.ftp_pair_world.specs.Claims.{AreTimed, Beginning, IsFair, state_of, w
 use Rattle.ftp_pair_world.specs.Events.{Event}
 use Rattle.ftp_pair_world.specs.World.{Mark, World}
 use Rattle.ftp_server_drive.specs.Side.{server_side}
+use Rattle.ftp_server_model.specs.Calls.{break_step, clock_step}
 use Rattle.ftp_server_model.specs.Machine.{IsReading, Reading}
 
 -- one server's drive and drives of one client did these deeds in this order, each when it could be done, and at these moments; as they began no octet of a
@@ -41,8 +42,29 @@ pub record DidSuffer (b : Beginning) (moments : ℕ → ℕ) (turns : List Turn)
 abbrev pub ReportAlike : (one other : View) → Type 0
 ReportAlike one other = (report_of one ≡ report_of other) × (report_of (control_end one) ≡ report_of (control_end other))
 
--- Events of a world lead from the beginning to one that holds what the server holds and what the client holds, or held before it was told of a break that a
--- world tells later: once the server has let the data connection go. It has marks of these deeds; they began the same operations at these moments.
+-- both ends hold what these hold
+abbrev pub AreSame : (server were : Stand server_side) (client was : Stand client_side) → Type 0
+AreSame server were client was = (were.owner.end ≡ server.owner.end) × (was ≡ client)
+
+-- the client was told of a break, and its server was not
+abbrev pub IsClientFirst : (server were : Stand server_side) (client was : Stand client_side) → Type 0
+IsClientFirst server were client was = (were.owner.end ≡ server.owner.end) × (client.owner.end.view ≡ data_fault was.owner.end.view)
+
+-- the server was told of a break, and its client was not: it said some of what it owed then, and the client heard the first octets of that
+pub record IsServerFirst (server were : Stand server_side) (client was : Stand client_side) : Type 0 where
+  pub moment : ℕ
+  pub said : List ℕ
+  pub left : List ℕ
+  pub far : server.owner.end.server.view ≡ record (break_step (clock_step moment were.owner.end.server.view)) { owed = left }
+  pub whole : (break_step (clock_step moment were.owner.end.server.view)).owed ≡ said ++ left
+  pub heard : List ℕ
+  pub more : List ℕ
+  pub front : said ≡ heard ++ more
+  pub near : client.owner.end.view ≡ hears was.owner.end.view heard
+
+-- Events of a world lead from the beginning to one that holds what the server holds and what the client holds, or what both held before one of them was told of
+-- a break that a world tells later: once the server has let the data connection go, or the other was told, too. It has marks of these deeds; they began the
+-- same operations at these moments.
 pub record SufferingIsOfWorld (read : Reading) (b : Beginning) (moments : ℕ → ℕ) (turns : List Turn) (server : Stand server_side)
     (client : Stand client_side) : Type 0 where
   pub events : List Event
@@ -51,10 +73,12 @@ pub record SufferingIsOfWorld (read : Reading) (b : Beginning) (moments : ℕ �
   pub leads : Leads read (world_of b) events (begun_at moments (client_deeds turns)) world
   pub marks : List (List Mark)
   pub are_marks : AreMarks (client_deeds turns) marks
+  pub were : Stand server_side
   pub was : Stand client_side
-  pub is : (was ≡ client) ⊎ (client.owner.end.view ≡ data_fault was.owner.end.view)
+  pub is : AreSame server were client was ⊎ (IsClientFirst server were client was ⊎ IsServerFirst server were client was)
   pub alike : ReportAlike client.owner.end.view was.owner.end.view
-  pub both : HoldsMarked marks server was (reports_in (client_deeds turns)) world
+  pub table : server.owner.end.server.view.session.table ≡ were.owner.end.server.view.session.table
+  pub both : HoldsMarked marks were was (reports_in (client_deeds turns)) world
   pub near : world.near ≡ data_closed (reports was.owner.end.view)
 
 -- so it is of any such deeds

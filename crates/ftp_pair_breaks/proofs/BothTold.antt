@@ -1,0 +1,459 @@
+-- A client that is told of a break after its server was: then a world tells both, its server says what the drive's said since, and its client hears what the
+-- drive's heard. So a world is beside both again. And a server that is told of a break after its client was.
+use Rattle.std.proofs.Common.{◌≡◌, inl, inr, ℕ, ◌<◌, true, false, true≢false, List, [], ◌∷◌, ◌++◌, length, take, drop, None, refl, sym, ap, ap₂, subst, ◌∙◌, append_assoc, append-nil, take-append-drop, arith}
+use Rattle.std.proofs.lemmas.List.{take-append-le}
+use Rattle.ftp_control.specs.Deeds.{Calls, Deed, Heard, HearsNext, Other, Said as Says, Says as SaysNext, Stand}
+use Rattle.ftp_control.specs.Lane.{Lane, with_fate}
+use Rattle.ftp_control.specs.Machine.{Break, seen}
+use Rattle.ftp_control.specs.Unheard.{Source}
+use Rattle.ftp_control.specs.declared.whole.Fate.TheVariants as Fates
+use Rattle.ftp_client_drive.specs.Side.{client_side}
+use Rattle.ftp_client_model.specs.Calls as near
+use Rattle.ftp_client_model.specs.Calls.{data_fault, hears, is_sound, may_hear}
+use Rattle.ftp_client_model.specs.View.{View as Near}
+use Rattle.ftp_server_drive.specs.Side.{Timed, server_side}
+use Rattle.ftp_server_model.specs.Calls.{clock_step, control_step}
+use Rattle.ftp_server_model.specs.Failing.{Counts}
+use Rattle.ftp_server_model.specs.Machine.{IsReading, Reading}
+use Rattle.ftp_server_model.specs.View.{View as Far}
+use Rattle.ftp_pair_world.specs.Claims.{Beginning, IsFair}
+use Rattle.ftp_pair_world.specs.World.{Broken, World, marked_last}
+use Rattle.ftp_pair_data.proofs.Moves.{drop_front, take_front}
+use Rattle.ftp_pair_drives.specs.Alone.{reports_in}
+use Rattle.ftp_pair_drives.specs.Between.{Between, Can, Far as TheServer, Has_lost, Near as TheClient}
+use Rattle.ftp_pair_drives.specs.Touches.{ToldBreak}
+use Rattle.ftp_pair_deeds.specs.Deeds.{ArePorts, listened_in}
+use Rattle.ftp_pair_deeds.proofs.FarForms.{none_later}
+use Rattle.ftp_pair_deeds.proofs.Fresh.{Fresh}
+use Rattle.ftp_pair_deeds.proofs.Holding.{both, is_called, is_had, is_sound as is_whole}
+use Rattle.ftp_pair_deeds.proofs.Plain.{IsPlainBy, IsPlainly, Whatever, hears_plain}
+use Rattle.ftp_pair_deeds.proofs.Stands.{ServerServes}
+use Rattle.ftp_pair_transfers.specs.Ahead.{Level}
+use Rattle.ftp_pair_transfers.specs.Deeds.{AreMoments, begun_at}
+use Rattle.ftp_pair_transfers.proofs.Beside.{Takes, Together, is_taking}
+use Rattle.ftp_pair_transfers.proofs.Called.{StaysFresh}
+use Rattle.ftp_pair_transfers.proofs.ClientStays.{client_keeps}
+use Rattle.ftp_pair_transfers.proofs.Known.{AreCarried}
+use Rattle.ftp_pair_transfers.proofs.Simulating.{known}
+use Rattle.ftp_pair_breaks.specs.Deeds.{ClientSuffers, ServerYields}
+use Rattle.ftp_pair_breaks.proofs.BothBroken.{both_broken, broke, level, none_there, told_is}
+use Rattle.ftp_pair_breaks.proofs.ClientBroken.{broken_lane}
+use Rattle.ftp_pair_breaks.proofs.Drained.{dried, dry}
+use Rattle.ftp_pair_breaks.proofs.Faults.{faulted, faulted_plain}
+use Rattle.ftp_pair_breaks.proofs.Feeding.{Gives}
+use Rattle.ftp_pair_breaks.proofs.Lagging.{Lags, Whole, beside, unbroken}
+use Rattle.ftp_pair_breaks.proofs.Preceding.{Precedes, behind, gives_at, gives_now, near_at, near_is, steady, steady_here, unaware}
+use Rattle.ftp_pair_breaks.proofs.Rows.{Steady}
+use Rattle.ftp_pair_breaks.proofs.Steps.{Again, At, both_again, client_step, same_again, server_step}
+use Rattle.ftp_pair_breaks.proofs.Unaware.{late_break, steady_told}
+use Rattle.ftp_pair_breaks.proofs.Untold.{Loading, fault_told, loading_of, loads_of, told_wants}
+use Rattle.ftp_pair_breaks.proofs.Unsent.{AskAll, Unsent, all_carried, unsent_kept}
+
+-- none counted
+no_counts : Counts
+no_counts = record { refusals = 0; failures = record { told = 0; strays = 0 } }
+
+-- a server that holds this
+abbrev holding : Far → Timed
+holding view = record { server = record { view = view; counts = no_counts }; told = None }
+
+-- one that stands so
+abbrev standing : Far → Lane → Source → List ℕ → Stand server_side
+standing view lane left unheard = record { owner = record { end = holding view; lane = lane }; left = left; unheard = unheard; written = None }
+
+module _ (read : Reading) (reads : IsReading read) (moments : ℕ → ℕ) (timed : AreMoments moments) (b : Beginning) (fair : IsFair b) where
+  abbrev Stands : (deeds : List (Deed client_side)) (between : Between) (count : ℕ) (server : Stand server_side) (client : Stand client_side) → Type 0
+  Stands deeds between count server client = At read reads moments timed b fair deeds between count server client
+
+  -- what a server's counts are, what its clock told and what was written is of no matter
+  recounted : (deeds : List (Deed client_side)) (between : Between) (count : ℕ) (server : Stand server_side) (client : Stand client_side)
+      (o : Stands deeds between count (standing server.owner.end.server.view server.owner.lane server.left server.unheard) client)
+      → Again read reads moments timed b fair deeds between count server client o.world.marks
+  recounted deeds between count server client o =
+      let t = o.together in
+      let s = t.beside in (
+        record {
+          world = o.world;
+          leads = o.leads;
+          last = o.last;
+          ahead = o.ahead;
+          together = record {
+            beside = record {
+              fits = s.fits;
+              near = s.near;
+              far = s.far;
+              to_server = s.to_server;
+              to_client = s.to_client;
+              rising = s.rising;
+              falling = s.falling;
+              listens = s.listens;
+              reported = s.reported;
+              control = s.control;
+              unready = s.unready;
+              cutoff = s.cutoff;
+            };
+            holds = t.holds;
+            comes = t.comes;
+            serves = t.serves;
+            takes = t.takes;
+            gives = t.gives;
+            keeping = t.keeping;
+            twin = t.twin;
+          };
+          serves = record { running = o.serves.running; none_waits = o.serves.none_waits };
+          plain = o.plain;
+          sound = o.sound;
+          fresh = o.fresh;
+        },
+        refl,
+      )
+
+  -- what is to be heard may lie between, or be read
+  pub resplit : (deeds : List (Deed client_side)) → AreCarried (begun_at moments deeds) → (between next : Between) (count : ℕ) (server : Stand server_side)
+      (old new : Stand client_side) (o : Stands deeds between count server old) → new.owner ≡ old.owner
+      → next.control.to_server ≡ between.control.to_server → old.unheard ++ between.control.to_client ≡ new.unheard ++ next.control.to_client
+      → next.data_ways ≡ between.data_ways → next.far ≡ between.far → next.near ≡ between.near
+      → Again read reads moments timed b fair deeds next count server new o.world.marks
+  resplit deeds carried between next count server old new o same other queue ways far near =
+      let t = o.together in
+      let lane : new.owner.lane ≡ old.owner.lane = ap (λ x. x.lane) same in
+      let view : new.owner.end.view ≡ old.owner.end.view = ap (λ x. x.end.view) same in
+      same_again read reads moments timed b fair deeds o o.world.marks next new
+      (client_keeps read (begun_at moments deeds) server old new (reports_in deeds) o.world (ap (λ x. x.end.refusals) same)
+      (known read reads moments timed b fair deeds between count server old _ o carried) o.last o.ahead between next count t view other queue
+      (ap₂ (λ d (l : Lane). server.owner.lane.untold ++ (d.to_server ++ l.unwritten)) (sym ways) (sym lane))
+      (λ e. (ap is_taking (sym lane) ∙ e, ap₂ (λ d (l : Lane). l.untold ++ (d.to_client ++ server.owner.lane.unwritten)) (sym ways) (sym lane))) far
+      (subst Takes (sym lane) t.takes)
+      (record {
+        spare = λ e. ap (λ (l : Lane). l.unwritten) lane ∙ t.gives.spare (ap is_had (sym near) ∙ e);
+        bare = λ e. ap (λ (l : Lane). l.unwritten) lane ∙ t.gives.bare (ap (λ (l : Lane). l.stands) (sym lane) ∙ e);
+      })
+      (λ e. ap is_had near ∙ t.keeping.had e) (λ e. t.keeping.over (ap (λ (l : Lane). is_whole l.fate) (sym lane) ∙ e)))
+      (ap (λ (v : Near). is_sound v.standing) view ∙ o.sound) (subst IsPlainly (sym view) o.plain)
+      (λ called.
+      let f = o.fresh (ap is_called (sym far) ∙ called) in
+      record {
+        plain = subst (IsPlainBy Fresh) (sym view) f.plain;
+        untold = ap (λ (l : Lane). l.untold) lane ∙ f.untold;
+        none = ap (λ d. d.to_client) ways ∙ f.none;
+      })
+
+  -- ---- the client is told last
+
+  module _ (deeds : List (Deed client_side)) (puts : AskAll (begun_at moments deeds)) (before : List (Deed server_side)) (ports : ArePorts before)
+      (p q : Between) (server : Stand server_side) (old new : Stand client_side)
+      (l : Precedes read reads moments timed b fair deeds p (listened_in before) server old)
+      (is : ClientSuffers (Other Break) old.owner new.owner) (can : Can TheClient ToldBreak p q) (did : Calls {side = client_side} Break old new) where
+    abbrev count : ℕ
+    count = listened_in before
+
+    abbrev w : World
+    w = l.at.world
+
+    abbrev n : Near
+    n = l.near
+
+    carried : AreCarried (begun_at moments deeds)
+    carried = all_carried (begun_at moments deeds) puts
+
+    abbrev g : Gives w
+    g = gives_now read reads moments timed b fair deeds puts p count server old l
+
+    near_was : w.near ≡ n
+    near_was = near_is read reads moments timed b fair deeds puts p count server old l
+
+    -- it has no final reply
+    loads : Loading n
+    loads = subst Loading near_was (loading_of w.near g.loads g.unfinal)
+
+    abbrev IsSteady : Near → Type 0
+    IsSteady v = Steady g.loads.op g.loads.decoder g.loads.mark v
+
+    here : IsSteady n
+    here = steady_here read reads moments timed b fair deeds puts p count server old l
+
+    -- whatever it hears of what is on its way
+    fronts : (front rest : List ℕ) → l.queue ++ l.said ≡ front ++ rest → IsSteady (hears n front)
+    fronts = steady read reads moments timed b fair deeds puts p count server old l
+
+    lane : new.owner.lane ≡ with_fate Fates.Broken old.owner.lane
+    lane = did.0.1
+
+    -- nothing of what is left of its link comes or goes
+    takes : Takes new.owner.lane
+    takes = record { bare = λ e. ap (λ (x : Lane). x.untold) lane ∙ l.at.together.takes.bare (ap (λ (x : Lane). x.stands) (sym lane) ∙ e) }
+
+    written : new.owner.lane.unwritten ≡ []
+    written = ap (λ (x : Lane). x.unwritten) lane ∙ is.0.1
+
+    -- the client that heard nothing of it is told
+    abbrev first : Stand client_side
+    first = unaware l.refusals (data_fault n) l.queue new.owner.lane
+
+    -- and the server
+    abbrev far_view : Far
+    far_view = clock_step l.moment (broke l.were.owner.end.server.view)
+
+    abbrev server_lane : Lane
+    server_lane = dry server.owner.lane
+
+    abbrev first_far : Stand server_side
+    first_far = standing far_view server_lane server.left server.unheard
+
+    abbrev ways : Between
+    ways = record (behind p) { near = Has_lost; far = Has_lost }
+
+    -- none was dialled then
+    none_fresh : {m : Between} {c : Stand client_side} → is_called m.far ≡ false → StaysFresh m c
+    none_fresh not called = absurd (both called not)
+
+    -- it has not failed
+    first_sound : is_sound (data_fault n).standing ≡ true
+    first_sound = ap is_sound (faulted n (loads_of n loads)).standing ∙ l.at.sound
+
+    -- it sends no ABOR
+    first_unsent : IsPlainBy Unsent (data_fault n)
+    first_unsent = faulted_plain Unsent n (loads_of n loads) l.unsent
+
+    -- a world tells both
+    told_both : Again read reads moments timed b fair deeds ways count first_far first (marked_last (Broken w.came) w.marks)
+    told_both =
+        let were = unaware l.refusals n l.queue old.owner.lane in
+        let known_now = known read reads moments timed b fair deeds (behind p) count l.were were _ l.at carried in
+        let at_level : Together read (begun_at moments deeds) l.at.last Level (behind p) count l.were were (reports_in deeds) w =
+        subst (λ a. Together read (begun_at moments deeds) l.at.last a (behind p) count l.were were (reports_in deeds) w)
+        (level read (begun_at moments deeds) l.were were (reports_in deeds) w l.at.serves l.sends l.at.last l.at.ahead (behind p) count l.at.together)
+        l.at.together in
+        both_again read reads moments timed b fair deeds l.at (marked_last (Broken w.came) w.marks) ways first_far first
+        (both_broken read (begun_at moments deeds) l.were first_far were first (reports_in deeds) w l.at.serves l.sends known_now g l.at.last (behind p) ways
+        count at_level l.moment refl near_was refl l.unread refl refl refl l.untold l.none (broken_lane old.owner.lane new.owner.lane lane) takes written)
+        (record { running = l.at.serves.running; none_waits = l.at.serves.none_waits }) first_sound
+        (faulted_plain Whatever n (loads_of n loads) l.at.plain) (none_fresh refl)
+
+    -- the server says what it said since
+    abbrev says : Between
+    says = record ways { control = record ways.control { to_client = [] ++ l.said } }
+
+    abbrev next_far : Stand server_side
+    next_far = standing server.owner.end.server.view server_lane server.left server.unheard
+
+    -- in one deed
+    said_next : SaysNext l.said first_far next_far
+    said_next =
+        let some : ℕ = length l.said in
+        let owed : far_view.owed ≡ l.said ++ l.left = l.whole in
+        let then_view : control_step some far_view ≡ server.owner.end.server.view =
+        ap (λ o. record far_view { owed = drop some o }) owed ∙ ap (λ o. record far_view { owed = o }) (drop_front l.said l.left) ∙ sym l.far_is in
+        record {
+          gives = record {
+            count = some;
+            owed = sym (ap (take some) owed ∙ take_front l.said l.left);
+            gave = (
+              record {
+                done = λ same. sym (none_later (control_step some far_view) l.at.serves.none_waits ∙ then_view);
+                failed = λ keeps differ. absurd (differ refl);
+                counted = ((0, omega arith, refl), ((0, omega arith, refl), omega arith));
+              },
+              refl,
+            );
+            lane = refl;
+          };
+          wrote = tt;
+          left = refl;
+          unheard = refl;
+        }
+
+    -- so a world's server says it
+    says_so : Again read reads moments timed b fair deeds says count (dried server) first (marked_last (Broken w.came) w.marks)
+    says_so =
+        let got = server_step read reads moments timed b fair (Says l.said) first_far next_far tt refl deeds carried before ports ways says refl first
+        told_both.0 said_next tt in
+        let same = recounted deeds says count (dried server) first got.0 in
+        (same.0, same.1 ∙ got.1 ∙ told_both.1)
+
+    -- the client has read what it was to hear
+    abbrev second : Stand client_side
+    second = record new {
+      owner = record new.owner { end = record { view = data_fault n; refusals = l.refusals } };
+      unheard = l.heard ++ new.unheard;
+    }
+
+    -- so it is beside one that read it
+    read_so : Again read reads moments timed b fair deeds q count (dried server) second (marked_last (Broken w.came) w.marks)
+    read_so =
+        let queue : l.queue ++ ([] ++ l.said) ≡ (l.heard ++ new.unheard) ++ q.control.to_client =
+        l.split ∙ sym (append_assoc l.heard old.unheard p.control.to_client)
+        ∙ ap₂ (λ (y : Stand client_side) (m : Between). (l.heard ++ y.unheard) ++ m.control.to_client) (sym did.1) (sym can.1) in
+        let got = resplit deeds carried says q count (dried server) first second says_so.0 refl (ap (λ (m : Between). m.control.to_server) can.1) queue
+        (ap (λ (m : Between). m.data_ways) can.1) (ap (λ (m : Between). m.far) can.1 ∙ l.hold) (ap (λ (m : Between). m.near) can.1) in
+        (got.0, got.1 ∙ says_so.1)
+
+    -- it hears what the drive's heard
+    heard_next : HearsNext l.heard second new
+    heard_next =
+        let calm : new.owner.end.refusals ≡ l.refusals = is.1 ∙ l.calm in
+        let first_is : take (length l.heard) (l.heard ++ new.unheard) ≡ l.heard = take_front l.heard new.unheard in
+        let split : l.queue ++ l.said ≡ l.heard ++ (old.unheard ++ p.control.to_client) = l.split in
+        let view : new.owner.end.view ≡ hears (data_fault n) l.heard =
+        did.0.0.0.0 is.1 ∙ ap data_fault l.view
+        ∙ late_break g.loads.op g.loads.all g.loads.decoder g.loads.mark n here l.heard (fronts l.heard (old.unheard ++ p.control.to_client) split) in
+        let may : (k : ℕ) → k < length l.heard → may_hear (hears (data_fault n) (take k (l.heard ++ new.unheard))) ≡ true =
+        λ k less.
+        let front : List ℕ = take k l.heard in
+        let rest : List ℕ = drop k l.heard ++ (old.unheard ++ p.control.to_client) in
+        let is_front : IsSteady (hears n front) =
+        fronts front rest (split ∙ ap (λ o. o ++ (old.unheard ++ p.control.to_client)) (sym (take-append-drop k l.heard))
+        ∙ append_assoc front (drop k l.heard) (old.unheard ++ p.control.to_client)) in
+        ap (λ o. may_hear (hears (data_fault n) o)) (take-append-le k l.heard new.unheard (omega (arith, less)))
+        ∙ ap may_hear (sym (late_break g.loads.op g.loads.all g.loads.decoder g.loads.mark n here front is_front))
+        ∙ steady_told g.loads.op g.loads.all g.loads.decoder g.loads.mark (hears n front) is_front in
+        record {
+          hears = (
+            ((λ same. (view ∙ ap (hears (data_fault n)) (sym first_is), may), λ differ. absurd (differ calm)), inl calm),
+            sym (ap (λ x. seen x new.owner.lane) (ap near.wants (fault_told n loads) ∙ told_wants n loads)),
+            λ e. absurd (true≢false (sym e)),
+          );
+          next = refl;
+          left = refl;
+          written = refl;
+        }
+
+    -- and so beside both drives
+    pub told_last : Whole read reads moments timed b fair (Other Break ∷ deeds) q count (dried server) new
+    told_last =
+        let got : Again read reads moments timed b fair (Heard l.heard ∷ deeds) q count (dried server) new read_so.0.world.marks =
+        client_step read reads moments timed b fair (Heard l.heard) tt second new (tt, is.1 ∙ l.calm) deeds carried q q refl count (dried server) read_so.0
+        heard_next in
+        record {
+          at = got.0;
+          marks = marked_last (Broken w.came) l.marks;
+          are_marks = (l.marks, l.are_marks, inr (w.came, refl));
+          marked = got.1 ∙ read_so.1 ∙ ap (marked_last (Broken w.came)) l.marked;
+          unsent = subst (IsPlainBy Unsent)
+              (sym (did.0.0.0.0 is.1 ∙ ap data_fault l.view ∙ late_break g.loads.op g.loads.all g.loads.decoder g.loads.mark n here l.heard
+              (fronts l.heard (old.unheard ++ p.control.to_client) l.split)))
+              (hears_plain Unsent unsent_kept l.heard (data_fault n) first_unsent);
+        }
+
+  -- ---- the server is told
+
+  module _ (deeds : List (Deed client_side)) (puts : AskAll (begun_at moments deeds)) (p q : Between) (count : ℕ) (old new : Stand server_side)
+      (client : Stand client_side) (is : ServerYields (Other Break) old.owner new.owner) (can : Can TheServer ToldBreak p q)
+      (did : Calls {side = server_side} Break old new) where
+    abbrev was : Stand server_side
+    was = dried old
+
+    all_carried_here : AreCarried (begun_at moments deeds)
+    all_carried_here = all_carried (begun_at moments deeds) puts
+
+    -- its lane
+    far_lane : new.owner.lane ≡ with_fate Fates.Broken old.owner.lane
+    far_lane = did.0.1
+
+    -- as if none were unwritten
+    dry_now : (dry new.owner.lane).unwritten ≡ []
+    dry_now = ap (λ (x : Lane). (dry x).unwritten) far_lane
+
+    unread : new.unheard ≡ old.unheard
+    unread = ap (λ (y : Stand server_side). y.unheard) did.1
+
+    -- it owes a 426
+    told_now : ServerServes old.owner → (moment : ℕ) × (new.owner.end.server.view ≡ clock_step moment (broke old.owner.end.server.view))
+    told_now serves = told_is old new serves is.1 is.0 did
+
+    -- it serves on
+    serves_now : (serves : ServerServes old.owner) → ServerServes new.owner
+    serves_now serves =
+        let t = told_now serves in record {
+          running = ap (λ (v : Far). v.session.life) t.1 ∙ serves.running;
+          none_waits = ap (λ (v : Far). v.waiting) t.1 ∙ serves.none_waits;
+        }
+
+    -- the client was told before: both are told
+    both_again_then : (l : Lags read reads moments timed b fair deeds p count was client)
+        → Again read reads moments timed b fair deeds q count (dried new) client (marked_last (Broken l.at.world.came) l.at.world.marks)
+    both_again_then l =
+        let before : Stand client_side = beside l.was client in
+        let w : World = l.at.world in
+        let serves : ServerServes old.owner = record { running = l.at.serves.running; none_waits = l.at.serves.none_waits } in
+        let t = told_now serves in
+        let known_now = known read reads moments timed b fair deeds (unbroken p) count was before _ l.at all_carried_here in
+        let g : Gives w = gives_at read reads moments timed b fair deeds puts (unbroken p) count was before l.at is.0 l.unsent in
+        let near_was : w.near ≡ l.was.end.view = near_at read reads moments timed b fair deeds puts (unbroken p) count was before l.at is.0 l.unsent in
+        let at_level : Together read (begun_at moments deeds) l.at.last Level (unbroken p) count was before (reports_in deeds) w =
+        subst (λ a. Together read (begun_at moments deeds) l.at.last a (unbroken p) count was before (reports_in deeds) w)
+        (level read (begun_at moments deeds) was before (reports_in deeds) w l.at.serves is.0 l.at.last l.at.ahead (unbroken p) count l.at.together)
+        l.at.together in
+        let there = none_there read (begun_at moments deeds) was (dried new) before client (reports_in deeds) w l.at.serves is.0 known_now g l.at.last
+        (unbroken p) q count at_level in
+        let view : client.owner.end.view ≡ data_fault l.was.end.view = l.view ∙ sym (fault_told l.was.end.view l.loads) in
+        let loads = loads_of l.was.end.view l.loads in
+        both_again read reads moments timed b fair deeds l.at (marked_last (Broken w.came) w.marks) q (dried new) client
+        (both_broken read (begun_at moments deeds) was (dried new) before client (reports_in deeds) w l.at.serves is.0 known_now g l.at.last
+        (unbroken p) q count at_level t.0 t.1 near_was view unread refl (ap (λ (m : Between). m.control) can.1)
+        (ap (λ (m : Between). m.data_ways.to_server) can.1) (ap (λ (x : Lane). x.untold) far_lane ∙ there.0) dry_now l.lane.dry l.lane.takes l.lane.written)
+        (record { running = (serves_now serves).running; none_waits = (serves_now serves).none_waits })
+        (ap (λ (v : Near). is_sound v.standing) view ∙ ap is_sound (faulted l.was.end.view loads).standing ∙ l.at.sound)
+        (subst IsPlainly (sym view) (faulted_plain Whatever l.was.end.view loads l.at.plain))
+        (λ called. absurd (both called (ap (λ (m : Between). is_called m.far) can.1)))
+
+    -- so a world is beside both drives
+    pub told_after : Lags read reads moments timed b fair deeds p count was client → Whole read reads moments timed b fair deeds q count (dried new) client
+    told_after l =
+        let came : ℕ = l.at.world.came in
+        let loads = loads_of l.was.end.view l.loads in
+        let view : client.owner.end.view ≡ data_fault l.was.end.view = l.view ∙ sym (fault_told l.was.end.view l.loads) in
+        record {
+          at = (both_again_then l).0;
+          marks = marked_last (Broken came) l.marks;
+          are_marks = l.are_broken came;
+          marked = (both_again_then l).1 ∙ ap (marked_last (Broken came)) l.marked;
+          unsent = subst (IsPlainBy Unsent) (sym view) (faulted_plain Unsent l.was.end.view loads l.unsent);
+        }
+
+    -- it is to be told: the server is told first
+    pub told_first : Whole read reads moments timed b fair deeds p count was client → Precedes read reads moments timed b fair deeds q count new client
+    told_first o =
+        let w : World = o.at.world in
+        let n : Near = client.owner.end.view in
+        let queue : List ℕ = client.unheard ++ p.control.to_client in
+        let serves : ServerServes old.owner = record { running = o.at.serves.running; none_waits = o.at.serves.none_waits } in
+        let t = told_now serves in
+        let known_now = known read reads moments timed b fair deeds p count was client _ o.at all_carried_here in
+        let g : Gives w = gives_at read reads moments timed b fair deeds puts p count was client o.at is.0 o.unsent in
+        let at_level : Together read (begun_at moments deeds) o.at.last Level p count was client (reports_in deeds) w =
+        subst (λ a. Together read (begun_at moments deeds) o.at.last a p count was client (reports_in deeds) w)
+        (level read (begun_at moments deeds) was client (reports_in deeds) w o.at.serves is.0 o.at.last o.at.ahead p count o.at.together)
+        o.at.together in
+        let there = none_there read (begun_at moments deeds) was (dried new) client client (reports_in deeds) w o.at.serves is.0 known_now g o.at.last
+        p q count at_level in
+        let got = resplit deeds all_carried_here p (behind q) count was client (unaware client.owner.end.refusals n queue client.owner.lane) o.at refl
+        (ap (λ (m : Between). m.control.to_server) can.1) (sym (append-nil queue)) (ap (λ (m : Between). m.data_ways) can.1) (sym can.0)
+        (ap (λ (m : Between). m.near) can.1) in
+        record {
+          were = was;
+          sends = is.0;
+          refusals = client.owner.end.refusals;
+          near = n;
+          queue = queue;
+          at = got.0;
+          unsent = o.unsent;
+          marks = o.marks;
+          are_marks = o.are_marks;
+          marked = got.1 ∙ o.marked;
+          said = [];
+          left = (broke old.owner.end.server.view).owed;
+          moment = t.0;
+          far_is = t.1;
+          whole = refl;
+          unread = unread;
+          untold = ap (λ (x : Lane). x.untold) far_lane ∙ there.0;
+          none = dry_now;
+          shut = broken_lane old.owner.lane new.owner.lane far_lane;
+          hold = ap (λ (m : Between). m.far) can.1;
+          calm = refl;
+          heard = [];
+          view = refl;
+          split = append-nil queue ∙ ap (λ (m : Between). client.unheard ++ m.control.to_client) (sym can.1);
+          late = inl refl;
+        }
