@@ -175,7 +175,8 @@ module _ (read : Reading) (reads : IsReading read) (moments : ℕ → ℕ) (time
           let then_stand : Stand client_side = unaware p.refusals then_view queue client.owner.lane in
           let first : take (length front) p.queue ≡ front = ap (take (length front)) is ∙ take_front front queue in
           let may : (k : ℕ) → k < length front → may_hear (hears n (take k p.queue)) ≡ true =
-          λ k less. steady_may g.loads.op g.loads.all g.loads.decoder g.loads.mark (hears n (take k p.queue)) (fronts (take k p.queue) (drop k p.queue ++ p.said)
+          λ k less.
+          steady_may g.loads.op g.loads.all g.loads.decoder g.loads.mark (hears n (take k p.queue)) (fronts (take k p.queue) (drop k p.queue ++ p.said)
           (ap (λ o. o ++ p.said) (sym (take-append-drop k p.queue)) ∙ append_assoc (take k p.queue) (drop k p.queue) p.said)) in
           let done : HearsNext front were then_stand = record {
             hears = (
@@ -218,10 +219,12 @@ module _ (read : Reading) (reads : IsReading read) (moments : ℕ → ℕ) (time
         let came : List ℕ = take some octets in
         let then_view : Near = receives n came in
         let then_stand : Stand client_side = unaware p.refusals then_view p.queue new.owner.lane in
+        let may : (k : ℕ) → k < some → near.may_receive (receives n (take k octets)) ≡ true =
+        λ k less. steady_receives g.loads.op g.loads.all g.loads.decoder g.loads.mark n here (take k octets) in
         let done : Done (Other (Received octets some)) were then_stand = (
           (
             (
-              (λ same. (refl, λ k less. steady_receives g.loads.op g.loads.all g.loads.decoder g.loads.mark n here (take k octets)), λ differ. absurd (differ refl)),
+              (λ same. (refl, may), λ differ. absurd (differ refl)),
               inl refl,
             ),
             did.0.1,

@@ -188,7 +188,8 @@ module _ (read : Reading) (reads : IsReading read) (moments : ℕ → ℕ) (time
     -- and the drive's
     pub steady_now : Steady gives_now.loads.op gives_now.loads.decoder gives_now.loads.mark client.owner.end.view
     steady_now =
-        subst (Steady gives_now.loads.op gives_now.loads.decoder gives_now.loads.mark) (sym p.view) (steady p.heard (client.unheard ++ between.control.to_client) p.split)
+        subst (Steady gives_now.loads.op gives_now.loads.decoder gives_now.loads.mark) (sym p.view)
+        (steady p.heard (client.unheard ++ between.control.to_client) p.split)
 
     -- no octet of its data connection goes to it
     pub nothing_rises : (between.data_ways.to_server ≡ []) × (client.owner.lane.unwritten ≡ [])

@@ -43,7 +43,8 @@ module _ (s : Session) (op : Op (List ℕ)) (all : count_of op ≡ None) (d : De
   at replied = down op all replied d mark (calm n)
 
   -- a front of a reply changes nothing
-  front : (replied : Replied) (reply : Reply) → IsWritten reply.code reply.lines → (heard more : List ℕ) (octet : ℕ) → heard ++ octet ∷ more ≡ reply_octets reply
+  front : (replied : Replied) (reply : Reply) → IsWritten reply.code reply.lines → (heard more : List ℕ) (octet : ℕ)
+      → heard ++ octet ∷ more ≡ reply_octets reply
       → Steady op d mark (hears (at replied) heard)
   front replied reply written heard more octet is =
       let only = (reply_is_heard reply.code reply.lines (at replied) written (record { ear = refl; gathered = refl })).cut heard more octet is in
@@ -78,7 +79,8 @@ module _ (s : Session) (op : Op (List ℕ)) (all : count_of op ≡ None) (d : De
   pub both_heard : (heard rest : List ℕ) → heard ++ rest ≡ opening ++ breaking → Steady op d mark (hears (at Replies.Nothing) heard)
   both_heard heard rest is = elim (cuts heard rest opening breaking is) [
     | inl r ↦
-        subst (Steady op d mark) (sym (ap (hears (at Replies.Nothing)) r.over ∙ in_pieces (at Replies.Nothing) opening r.more ∙ ap (λ v. hears v r.more) begins))
+        subst (Steady op d mark)
+        (sym (ap (hears (at Replies.Nothing)) r.over ∙ in_pieces (at Replies.Nothing) opening r.more ∙ ap (λ v. hears v r.more) begins))
         (broken_heard r.more rest r.left)
     | inr r ↦ front Replies.Nothing (fixed_reply Texts.Opens) (fixed s Texts.Opens) heard r.more r.octet (sym r.within)
   ]
