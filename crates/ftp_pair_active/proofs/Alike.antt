@@ -1,5 +1,5 @@
 -- A world that is beside both drives is beside any client that holds the same, with the same to read and the same on its way.
-use Rattle.std.proofs.Common.{◌≡◌, ℕ, List, ◌++◌, option_to_list, sym, ap, ap₂, subst, ◌∙◌}
+use Rattle.std.proofs.Common.{◌≡◌, ℕ, true, List, ◌++◌, option_to_list, sym, ap, ap₂, subst, ◌∙◌}
 use Rattle.ftp_control.specs.Deeds.{Stand}
 use Rattle.ftp_client_drive.specs.Side.{client_side}
 use Rattle.ftp_client_model.specs.Calls.{data_closed, report_of}
@@ -10,12 +10,11 @@ use Rattle.ftp_pair_world.specs.Agreement.{Order}
 use Rattle.ftp_pair_world.specs.World.{World}
 use Rattle.ftp_pair_drives.specs.Between.{Between, Hold}
 use Rattle.ftp_pair_drives.proofs.Taken.{taken}
-use Rattle.ftp_pair_deeds.proofs.Holding.{Takes}
 use Rattle.ftp_pair_transfers.specs.Ahead.{Ahead}
 use Rattle.ftp_pair_transfers.proofs.Ahead.{Holds}
-use Rattle.ftp_pair_transfers.proofs.Beside.{Comes, Keeping, Together, Writes}
+use Rattle.ftp_pair_transfers.proofs.Beside.{Comes, Keeping, Takes, Together, Writes, is_taking}
 
--- of two clients, and of what lies between with each
+-- of two clients, and of what lies between with each; what came to the one is the other's, where octets may come to that
 pub record SameOf (one other : Between) (c d : Stand client_side) : Type 0 where
   pub view : data_closed (taken d.owner.end.view) ≡ data_closed (taken c.owner.end.view)
   pub said : option_to_list (report_of d.owner.end.view) ≡ option_to_list (report_of c.owner.end.view)
@@ -23,7 +22,7 @@ pub record SameOf (one other : Between) (c d : Stand client_side) : Type 0 where
   pub to_server : other.control.to_server ≡ one.control.to_server
   pub ways : other.data_ways ≡ one.data_ways
   pub far : other.far ≡ one.far
-  pub untold : d.owner.lane.untold ≡ c.owner.lane.untold
+  pub untold : is_taking d.owner.lane ≡ true → (is_taking c.owner.lane ≡ true) × (d.owner.lane.untold ≡ c.owner.lane.untold)
   pub unwritten : d.owner.lane.unwritten ≡ c.owner.lane.unwritten
 
 pub together_of : (read : Reading) (begun : List Order) (moment : ℕ) (ahead : Ahead) (one other : Between) (told : ℕ) (server : Stand server_side)
@@ -39,12 +38,12 @@ together_of read begun moment ahead one other told server c d reports w t same t
     to_client = t.beside.to_client ∙ sym same.queue;
     rising = t.beside.rising
         ∙ ap₂ (λ d o. server.owner.lane.untold ++ (d.to_server ++ o)) (sym same.ways) (sym same.unwritten);
-    falling = t.beside.falling ∙ ap₂ (λ d o. o ++ (d.to_client ++ server.owner.lane.unwritten)) (sym same.ways) (sym same.untold);
+    falling = λ e. t.beside.falling (same.untold e).0
+        ∙ ap₂ (λ d o. o ++ (d.to_client ++ server.owner.lane.unwritten)) (sym same.ways) (sym (same.untold e).1);
     listens = t.beside.listens;
     reported = t.beside.reported ∙ ap (λ o. reports ++ o) (sym same.said);
     control = t.beside.control;
     unready = t.beside.unready;
-    marks = t.beside.marks;
     cutoff = t.beside.cutoff;
   };
   holds = subst (λ (h : Hold). Holds ahead h server.owner.end.server.view.session) (sym same.far) t.holds;

@@ -32,16 +32,15 @@ use Rattle.ftp_pair_data.specs.Unaborted.{is_unaborted}
 use Rattle.ftp_pair_data.proofs.Known.{Idling}
 use Rattle.ftp_pair_data.proofs.Moves.{Rested, begins_to}
 use Rattle.ftp_pair_data.proofs.Served.{settled}
-use Rattle.ftp_pair_deeds.proofs.Holding.{Takes, is_called, unclosed}
+use Rattle.ftp_pair_deeds.proofs.Holding.{is_called, unclosed}
 use Rattle.ftp_pair_deeds.proofs.NearForms.{is_unaborted_same}
 use Rattle.ftp_pair_deeds.proofs.Stands.{ServerServes, wants_port}
 use Rattle.ftp_pair_transfers.specs.Ahead.{Ahead}
 use Rattle.ftp_pair_transfers.specs.Deeds.{IsCarried}
-use Rattle.ftp_pair_transfers.proofs.Beside.{IsBeside, Together, Writes, rested}
-use Rattle.ftp_pair_transfers.proofs.ClientMoves.{more_unmarked}
+use Rattle.ftp_pair_transfers.proofs.Beside.{IsBeside, Takes, Together, Writes, is_taking, rested}
 use Rattle.ftp_pair_transfers.proofs.Known.{AreCarried, Known}
 use Rattle.ftp_pair_active.proofs.Asking.{asks_told, starts_asks, world_idles}
-use Rattle.ftp_pair_active.proofs.Telling.{IsAsking, Tells, begun_so_too, port_told, tells}
+use Rattle.ftp_pair_active.proofs.Telling.{IsAsking, Tells, begun_so_too, port_told, told_marks, tells}
 use Rattle.ftp_pair_active.proofs.Stands.{ClientFetches, rests_of}
 
 module _ (read : Reading) (reads : IsReading read) (begun : List Order) (server : Stand server_side) (old new : Stand client_side) (reports : List Said)
@@ -116,11 +115,11 @@ module _ (read : Reading) (reads : IsReading read) (begun : List Order) (server 
       to_server = b.to_server;
       to_client = b.to_client ∙ ap (λ (y : Stand client_side). y.unheard ++ between.control.to_client) (sym did.1);
       rising = b.rising ∙ ap (λ (l : Lane). server.owner.lane.untold ++ (between.data_ways.to_server ++ l.unwritten)) (sym lane);
-      falling = b.falling ∙ ap (λ (l : Lane). l.untold ++ (between.data_ways.to_client ++ server.owner.lane.unwritten)) (sym lane);
+      falling = λ e. b.falling (ap is_taking (sym lane) ∙ e)
+          ∙ ap (λ (l : Lane). l.untold ++ (between.data_ways.to_client ++ server.owner.lane.unwritten)) (sym lane);
       listens = b.listens;
       reported = b.reported ∙ ap (λ o. reports ++ option_to_list o) (free_none v free);
       control = b.control;
-      marks = more_unmarked w.marks b.marks;
       cutoff = b.cutoff;
       quiet = idles.1;
       holds = t.holds;
@@ -150,6 +149,7 @@ module _ (read : Reading) (reads : IsReading read) (begun : List Order) (server 
             (asks_told now op form (record { running = r.runs.running; none_waits = r.runs.none_waits }));
         moment = at;
         ahead = ahead;
+        marked = told_marks read orders at ahead between told server new (reports ++ []) now op asking;
         together = tells read orders at ahead between told server new (reports ++ []) now op asking;
       };
     }

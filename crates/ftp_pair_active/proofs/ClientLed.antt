@@ -32,7 +32,7 @@ use Rattle.ftp_pair_deeds.proofs.NearForms.{dialled_standing, dialling_of, is_un
 use Rattle.ftp_pair_deeds.proofs.Stands.{ClientFetches as ClientRests, ServerServes, wants_port}
 use Rattle.ftp_pair_transfers.specs.Ahead.{Ahead}
 use Rattle.ftp_pair_transfers.specs.Deeds.{AreMoments, begun_at, number_in}
-use Rattle.ftp_pair_transfers.proofs.Beside.{Goes, Together}
+use Rattle.ftp_pair_transfers.proofs.Beside.{Goes, Together, is_taking}
 use Rattle.ftp_pair_transfers.proofs.ClientDials.{client_dials}
 use Rattle.ftp_pair_transfers.proofs.ClientGiving.{client_gave, gave_sound}
 use Rattle.ftp_pair_transfers.proofs.ClientHears.{client_heard}
@@ -50,7 +50,7 @@ use Rattle.ftp_pair_active.proofs.Calls.{carried_too}
 use Rattle.ftp_pair_active.proofs.JoinedDeeds.{is_patient, joined_accepts, joined_busy, joined_heard, joined_never, joined_said, joined_stays, joined_taken}
 use Rattle.ftp_pair_active.proofs.Leading.{led_between, led_client, led_told}
 use Rattle.ftp_pair_active.proofs.Leads.{LedSo, near_uncalled}
-use Rattle.ftp_pair_active.proofs.LedDeeds.{GoesLed, is_asking_port, none_comes, none_unsent, none_untold, told_busy, told_listens, told_never, told_ported, told_said, told_stays, told_taken, told_wants}
+use Rattle.ftp_pair_active.proofs.LedDeeds.{GoesLed, StaysBare, is_asking_port, left_bare, none_bare, none_comes, none_unsent, none_untold, same_bare, told_busy, told_listens, told_never, told_ported, told_said, told_stays, told_taken, told_wants}
 use Rattle.ftp_pair_active.proofs.Portless.{dialled_portless, ended_portless, gives_portless, listens_wants, receives_portless}
 use Rattle.ftp_pair_active.proofs.Ports.{Ports, accepting_of, is_ported, world_ports}
 use Rattle.ftp_pair_active.proofs.Telling.{Tells, heard_tells}
@@ -298,20 +298,26 @@ module _ (read : Reading) (reads : IsReading read) (from : State) (moments : ℕ
     known_told : Known w
     known_told = known_of (Told port) more t asks
 
+    -- what is so of its data connection then
+    abbrev Bare : Type 0
+    Bare = StaysBare read begun server old new reports w port more p q told so last ahead t gone known_told
+
+    same : (lane : Lane) → new.owner.lane ≡ lane → lane.stands ≡ old.owner.lane.stands → lane.fate ≡ old.owner.lane.fate
+        → lane.untold ≡ old.owner.lane.untold → lane.unwritten ≡ old.owner.lane.unwritten → Bare
+    same = same_bare read begun server old new reports w port more p q told so last ahead t gone known_told
+
+    gone_bare : new.owner.lane.stands ≡ false → new.owner.lane.untold ≡ [] → new.owner.lane.unwritten ≡ [] → Bare
+    gone_bare = left_bare read begun server old new reports w port more p q told so last ahead t gone known_told
+
     -- nothing of it happens in a world
     stays_told : data_closed u ≡ data_closed v → new.unheard ≡ [] → q.control.to_client ≡ [] → q.control.to_server ≡ p.control.to_server
-        → q.data_ways ≡ p.data_ways → q.far ≡ p.far → is_called q.near ≡ false → new.owner.lane.untold ≡ [] → new.owner.lane.unwritten ≡ []
-        → GoesLed read [] begun q told server new (reports ++ []) w
-    stays_told is unheard empty other ways far called untold unwritten =
+        → q.data_ways ≡ p.data_ways → q.far ≡ p.far → is_called q.near ≡ false → Bare → GoesLed read [] begun q told server new (reports ++ []) w
+    stays_told is unheard empty other ways far called bare =
         subst (λ l. GoesLed read [] begun q told server new l w) (sym (append-nil reports))
-        (told_stays read begun server old new reports w port more p q told so last ahead t gone known_told is unheard empty other ways far called untold
-        unwritten)
+        (told_stays read begun server old new reports w port more p q told so last ahead t gone known_told is unheard empty other ways far called bare)
 
     comes : (old.unheard ≡ []) × (p.control.to_client ≡ [])
     comes = none_comes read begun server old new reports w port more p q told so last ahead t gone known_told
-
-    untold : old.owner.lane.untold ≡ []
-    untold = none_untold read begun server old new reports w port more p q told so last ahead t gone known_told
 
     unsent : old.owner.lane.unwritten ≡ []
     unsent = none_unsent read begun server old new reports w port more p q told so last ahead t gone known_told
@@ -321,35 +327,32 @@ module _ (read : Reading) (reads : IsReading read) (from : State) (moments : ℕ
     no want is other = absurd (told_never read begun server old new reports w port more p q told so last ahead t gone known_told want is other)
 
     -- where the same lies between
-    idles_told : data_closed u ≡ data_closed v → new.unheard ≡ [] → q ≡ p → new.owner.lane.untold ≡ [] → new.owner.lane.unwritten ≡ []
-        → GoesLed read [] begun q told server new (reports ++ []) w
-    idles_told is unheard same untold unwritten =
-        stays_told is unheard (ap (λ (b : Between). b.control.to_client) same ∙ comes.1) (ap (λ (b : Between). b.control.to_server) same)
-        (ap (λ (b : Between). b.data_ways) same) (ap (λ (b : Between). b.far) same) (ap (λ (b : Between). is_called b.near) same ∙ so.0.called) untold unwritten
+    idles_told : data_closed u ≡ data_closed v → new.unheard ≡ [] → q ≡ p → Bare → GoesLed read [] begun q told server new (reports ++ []) w
+    idles_told is unheard between bare =
+        stays_told is unheard (ap (λ (b : Between). b.control.to_client) between ∙ comes.1) (ap (λ (b : Between). b.control.to_server) between)
+        (ap (λ (b : Between). b.data_ways) between) (ap (λ (b : Between). b.far) between) (ap (λ (b : Between). is_called b.near) between ∙ so.0.called) bare
 
     told_goes : (deed : Deed client_side) → ClientTransfers deed old.owner new.owner → IsNext deed told → CanTurn (Client deed) p q → Done deed old new
         → Went deed
     told_goes (Heard octets) is next can did =
         let none = both_empty octets new.unheard (sym did.next ∙ comes.0) in
         idles_told (ap data_closed ((did.hears.0.0.0 is.1).0 ∙ ap (λ o. near.hears v (take (length o) old.unheard)) none.0)) none.1 can
-        (ap (λ (l : Lane). l.untold) did.hears.1 ∙ untold) (ap (λ (l : Lane). l.unwritten) did.hears.1 ∙ unsent)
+        (same _ did.hears.1 refl refl refl refl)
     told_goes (Says octets) is next can did =
         let none : octets ≡ [] = did.gives.owed ∙ take_none did.gives.count v.owed so.0.owed in
         idles_told (ap data_closed did.gives.gave.0 ∙ ap (λ o. data_closed (record v { owed = o })) (drop_none did.gives.count v.owed so.0.owed))
-        (did.unheard ∙ comes.0) (can ∙ sent_none p octets none) (ap (λ (l : Lane). l.untold) did.gives.lane ∙ untold)
-        (ap (λ (l : Lane). l.unwritten) did.gives.lane ∙ unsent)
+        (did.unheard ∙ comes.0) (can ∙ sent_none p octets none) (same _ did.gives.lane refl refl refl refl)
     told_goes (Read octets) is next can did =
         let none = both_empty octets q.control.to_client (sym can.0 ∙ comes.1) in
         stays_told (ap (λ o. data_closed o.end.view) did.owner) (did.unheard ∙ none.0) none.1 (ap (λ (b : Between). b.control.to_server) can.1)
         (ap (λ (b : Between). b.data_ways) can.1) (ap (λ (b : Between). b.far) can.1) (ap (λ (b : Between). is_called b.near) can.1 ∙ so.0.called)
-        (ap (λ o. o.lane.untold) did.owner ∙ untold) (ap (λ o. o.lane.unwritten) did.owner ∙ unsent)
+        (same _ (ap (λ o. o.lane) did.owner) refl refl refl refl)
     told_goes (Other (Aside (Reporting said))) is next can did =
         let none : said ≡ None = did.0.0.0 ∙ told_said read begun server old new reports w port more p q told so last ahead t gone known_told in
         subst (λ s. GoesLed read [] begun q told server new (reports ++ reported_by (Other (Aside (Reporting s)))) w) (sym none)
         (idles_told (ap data_closed (did.0.0.1.0 ∙ reports_is v)
         ∙ told_taken read begun server old new reports w port more p q told so last ahead t gone known_told)
-        (ap (λ (s : Stand client_side). s.unheard) did.1 ∙ comes.0) can (ap (λ (l : Lane). l.untold) did.0.1 ∙ untold)
-        (ap (λ (l : Lane). l.unwritten) did.0.1 ∙ unsent))
+        (ap (λ (s : Stand client_side). s.unheard) did.1 ∙ comes.0) can (same _ did.0.1 refl refl refl refl))
     told_goes (Other (Aside (Starting op))) is next can did =
         absurd (true≢false (sym (told_busy read begun server old new reports w port more p q told so last ahead t gone known_told) ∙ did.0.0.0))
     told_goes (Other (Listening given)) is next can did =
@@ -382,16 +385,25 @@ module _ (read : Reading) (reads : IsReading read) (from : State) (moments : ℕ
             by Want.CloseAll e = absurd (true≢false (sym e))
     told_goes (Other (LetGo octets)) is next can did =
         idles_told (ap (λ c. data_closed c.view) did.0.0.0) (ap (λ (s : Stand client_side). s.unheard) did.1 ∙ comes.0) can
-        (both_empty octets new.owner.lane.untold (sym did.0.1.0 ∙ untold)).1 (ap (λ (l : Lane). l.unwritten) did.0.1.1 ∙ unsent)
+        (record {
+          taking = λ e. ap is_taking (sym did.0.1.1) ∙ e;
+          untold = λ e. (both_empty octets new.owner.lane.untold (sym did.0.1.0
+              ∙ none_untold read begun server old new reports w port more p q told so last ahead t gone known_told e)).1;
+          bare = λ e. (both_empty octets new.owner.lane.untold (sym did.0.1.0
+              ∙ none_bare read begun server old new reports w port more p q told so last ahead t gone known_told
+              (ap (λ (l : Lane). l.stands) (sym did.0.1.1) ∙ e))).1;
+          unwritten = ap (λ (l : Lane). l.unwritten) did.0.1.1 ∙ unsent;
+        })
     told_goes (Other (Left (EndedBy left written))) is next can did =
         stays_told (ap (λ c. data_closed c.view) did.0.0) (ap (λ (s : Stand client_side). s.unheard) did.1 ∙ comes.0)
         (ap (λ (b : Between). b.control.to_client) can.1 ∙ comes.1) (ap (λ (b : Between). b.control.to_server) can.1) (ap (λ (b : Between). b.data_ways) can.1)
-        (ap (λ (b : Between). b.far) can.1) (ap (λ (b : Between). is_called b.near) can.1) did.0.1.untold did.0.1.unwritten
+        (ap (λ (b : Between). b.far) can.1) (ap (λ (b : Between). is_called b.near) can.1) (gone_bare did.0.1.stands did.0.1.untold did.0.1.unwritten)
     told_goes (Other (Left Shut)) is next can did =
-        idles_told (ap (λ c. data_closed c.view) did.0.0) (ap (λ (s : Stand client_side). s.unheard) did.1 ∙ comes.0) can did.0.1.untold did.0.1.unwritten
+        idles_told (ap (λ c. data_closed c.view) did.0.0) (ap (λ (s : Stand client_side). s.unheard) did.1 ∙ comes.0) can
+        (gone_bare did.0.1.stands did.0.1.untold did.0.1.unwritten)
     told_goes (Other Closed) is next can did =
         idles_told (ap data_closed did.0.0.0) (ap (λ (s : Stand client_side). s.unheard) did.1 ∙ comes.0) can
-        (ap (λ (l : Lane). l.untold) did.0.1.0 ∙ untold) (ap (λ (l : Lane). l.unwritten) did.0.1.0 ∙ unsent)
+        (same _ did.0.1.0 refl refl refl refl)
     told_goes deed is next can did = absurd is.0
 
   -- ---- it was dialled

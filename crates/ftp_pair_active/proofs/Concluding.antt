@@ -72,7 +72,7 @@ either_parting_agree b fair moments timed turns between server client did =
     let table : p.new.far.session.table ≡ f.session.table =
     p.table ∙ ap (λ (x : Far). x.session.table) s.far ∙ (keeps o.ahead f s.fits).table in (
       w.marks,
-      s.marks,
+      o.unmarked,
       subst (λ (t : Table). Agrees (state_of b) begun w.marks (Some (length w.marks)) (reports ++ option_to_list (report_of (control_end v))) t) table
           (subst (λ (r : List Said). Agrees (state_of b) begun w.marks (Some (length w.marks)) r p.new.far.session.table) told
           (subst (λ (c : Option ℕ). Agrees (state_of b) begun w.marks c p.new.reports p.new.far.session.table) p.cutoff

@@ -28,7 +28,6 @@ use Rattle.ftp_server_model.specs.declared.session.ServerLink.TheVariants as Dat
 use Rattle.ftp_server_model.specs.declared.session.Transfer.TheVariants as Transfers
 use Rattle.ftp_server_model.specs.declared.session.Way.TheVariants as Ways
 use Rattle.ftp_pair_world.specs.Agreement.{Order}
-use Rattle.ftp_pair_world.specs.Claims.{AreUnmarked}
 use Rattle.ftp_pair_world.specs.Events.{is_asked_for, is_closed_by_far, is_gone, lends_none, link_opens}
 use Rattle.ftp_pair_world.specs.World.{Gone, World}
 use Rattle.ftp_pair_agreement.specs.Over.{OverRuns}
@@ -393,6 +392,7 @@ module _ (read : Reading) (reads : IsReading read) (from : State) (begun : List 
           leads = leads_then read [] [] w one.new (settled open_world) one.leads (opens read one.new asked rests_then serves_then);
           moment = moment;
           ahead = Level;
+          marked = s.marks ∙ one.marks;
           together = record {
             beside = record {
               fits = ap (λ (y : Far). is_asked y.session.connection) is ∙ (keeps Opens xo refl).told;
@@ -403,14 +403,13 @@ module _ (read : Reading) (reads : IsReading read) (from : State) (begun : List 
               to_client = s.to_client ∙ one.to_client;
               rising = s.rising ∙ one.rising ∙ c.rising
                   ∙ ap₂ (λ o (m : Between). o ++ (m.data_ways.to_server ++ [])) (sym had.untold) (sym can.2);
-              falling = s.falling ∙ one.falling ∙ c.falling
+              falling = λ e. s.falling ∙ one.falling ∙ c.falling
                   ∙ ap₂ (λ o (m : Between). m.data_ways.to_client ++ o) (sym had.unwritten) (sym can.2);
               listens = s.listens ∙ one.listens ∙ b.listens;
               reported = s.reports ∙ one.reports ∙ b.reported ∙ ap (λ o. reports ++ o) none_said
                   ∙ ap (λ m. reports ++ option_to_list (report_of m)) (sym (led ∙ near_then));
               control = s.control ∙ one.control ∙ b.control;
               unready = λ e. unready_then;
-              marks = subst AreUnmarked (sym (s.marks ∙ one.marks)) b.marks;
               cutoff = s.cutoff ∙ one.cutoff ∙ b.cutoff;
             };
             holds = record {
@@ -422,7 +421,7 @@ module _ (read : Reading) (reads : IsReading read) (from : State) (begun : List 
             };
             comes = record { bare = λ e. had.untold; spare = λ e. had.untold; over = λ e. had.untold; shut = λ e. absurd (both (ap is_sound had.fate) e) };
             serves = record { spare = λ e. had.unwritten; bare = λ e. had.unwritten };
-            takes = record { bare = λ e. refl; over = λ e. refl };
+            takes = record { bare = λ e. refl };
             gives = record { spare = λ e. refl; bare = λ e. refl };
             keeping = record { had = λ e. refl; shut = λ e. s.shut (sym (ap (λ (m : Near). m.closing) led) ∙ e); over = λ e. absurd (true≢false e) };
             twin = λ e. absurd (true≢false (sym e));

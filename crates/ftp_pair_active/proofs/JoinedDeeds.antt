@@ -149,6 +149,7 @@ module _ (read : Reading) (begun : List Order) (server : Stand server_side) (old
       leads = leads_none read w;
       moment = moment;
       ahead = ahead;
+      marked = refl;
       together = together_of read begun moment ahead (led_between (Joined octets) more between) (led_between (Joined octets) more next) told server
           (led_client (Joined octets) old) (led_client (Joined octets) new) reports w t
           (record {
@@ -158,10 +159,10 @@ module _ (read : Reading) (begun : List Order) (server : Stand server_side) (old
             to_server = other;
             ways = ways;
             far = far;
-            untold = refl;
+            untold = λ e. (e, refl);
             unwritten = refl;
           })
-          (record { bare = λ e. refl; over = λ e. refl }) (record { spare = λ e. refl; bare = λ e. refl })
+          (record { bare = λ e. refl }) (record { spare = λ e. refl; bare = λ e. refl })
           (record {
             had = λ e. refl;
             shut = λ e. t.keeping.shut (ap (λ n. (accepted true (near.hears n octets)).closing) (sym is) ∙ e);
@@ -252,6 +253,7 @@ module _ (read : Reading) (begun : List Order) (server : Stand server_side) (old
               leads = leads_none read w;
               moment = moment;
               ahead = ahead;
+              marked = refl;
               together = together_of read begun moment ahead (led_between (Joined octets) more between) next told server (led_client (Joined octets) old) new
                   reports w t
                   (record {
@@ -262,10 +264,10 @@ module _ (read : Reading) (begun : List Order) (server : Stand server_side) (old
                     to_server = ap (λ (b : Between). b.control.to_server) can.1;
                     ways = ap (λ (b : Between). b.data_ways) can.1;
                     far = ap (λ (b : Between). b.far) can.1;
-                    untold = had.untold;
+                    untold = λ e. (refl, had.untold);
                     unwritten = had.unwritten;
                   })
-                  (record { bare = λ e. had.untold; over = λ e. had.untold }) (record { spare = λ e. had.unwritten; bare = λ e. had.unwritten })
+                  (record { bare = λ e. had.untold }) (record { spare = λ e. had.unwritten; bare = λ e. had.unwritten })
                   (record {
                     had = λ e. ap (λ (b : Between). is_had b.near) can.1;
                     shut = λ e. t.keeping.shut (ap (λ (n : Near). n.closing) (sym is) ∙ e);

@@ -147,8 +147,8 @@ module _ (read : Reading) (reads : IsReading read) (from : State) (begun : List 
     before_t : Together read begun moment ahead hold told server old reports w
     before_t =
         together_of read begun moment ahead (led_between (Joined []) (octet ∷ more) between) hold told server (joined_client v) old reports w t
-        (record { view = refl; said = refl; queue = refl; to_server = refl; ways = refl; far = refl; untold = refl; unwritten = refl })
-        (record { bare = λ e. refl; over = λ e. refl }) (record { spare = λ e. refl; bare = λ e. refl })
+        (record { view = refl; said = refl; queue = refl; to_server = refl; ways = refl; far = refl; untold = λ e. (e, refl); unwritten = refl })
+        (record { bare = λ e. refl }) (record { spare = λ e. refl; bare = λ e. refl })
         (record { had = t.keeping.had; shut = t.keeping.shut; over = t.keeping.over })
 
     fetches : ClientFetches old.owner
@@ -242,6 +242,7 @@ module _ (read : Reading) (reads : IsReading read) (from : State) (begun : List 
             leads = g.leads;
             moment = g.moment;
             ahead = g.ahead;
+            marked = g.marked;
             together = together_of read begun g.moment g.ahead hold hold told server new (joined_client u) reports g.world
                 (subst (λ l. Together read begun g.moment g.ahead hold told server new l g.world) (append-nil reports) g.together)
                 (record {
@@ -251,10 +252,10 @@ module _ (read : Reading) (reads : IsReading read) (from : State) (begun : List 
                   to_server = refl;
                   ways = refl;
                   far = refl;
-                  untold = refl;
+                  untold = λ e. (e, refl);
                   unwritten = refl;
                 })
-                (record { bare = λ e. refl; over = λ e. refl }) (record { spare = λ e. refl; bare = λ e. refl })
+                (record { bare = λ e. refl }) (record { spare = λ e. refl; bare = λ e. refl })
                 (record {
                   had = λ e. refl;
                   shut = λ e. g.together.keeping.shut (ap (λ (n : Near). n.closing) is ∙ e);
@@ -329,7 +330,7 @@ module _ (read : Reading) (reads : IsReading read) (from : State) (begun : List 
       more = more;
       on = on;
       queue = queue;
-      goes = record { world = w; leads = leads_none read w; moment = moment; ahead = ahead; together = t };
+      goes = record { world = w; leads = leads_none read w; moment = moment; ahead = ahead; marked = refl; together = t };
     }
     all_heard (octet ∷ heard) rest octets more d on queue moment ahead w t runs =
         by (λ octets more d on queue moment ahead w t runs. all_heard heard rest octets more d on queue moment ahead w t runs) on.stays on.closes_so
@@ -382,6 +383,7 @@ module _ (read : Reading) (reads : IsReading read) (from : State) (begun : List 
                 leads = leads_then read [] [] w h.goes.world next.goes.world h.goes.leads next.goes.leads;
                 moment = next.goes.moment;
                 ahead = next.goes.ahead;
+                marked = next.goes.marked ∙ h.goes.marked;
                 together = next.goes.together;
               };
             }

@@ -1,5 +1,5 @@
 -- Deeds of a client that a world's is ahead of: for most of them nothing happens in a world.
-use Rattle.std.proofs.Common.{◌≡◌, ℕ, Bool, true, false, true≢false, List, [], ◌++◌, Some, None, option_to_list, refl, sym, ap, ap₂, ◌∙◌}
+use Rattle.std.proofs.Common.{◌≡◌, ℕ, Bool, true, false, true≢false, ◌&&◌, List, [], ◌++◌, Some, None, option_to_list, refl, sym, ap, ap₂, ◌∙◌}
 use Rattle.ftp_control.specs.Deeds.{Calls, Stand}
 use Rattle.ftp_control.specs.Lane.{Lane}
 use Rattle.ftp_control.specs.Machine.{Listening}
@@ -30,7 +30,7 @@ use Rattle.ftp_pair_drives.proofs.Taken.{taken}
 use Rattle.ftp_pair_drives.proofs.Worlds.{leads_none}
 use Rattle.ftp_pair_deeds.proofs.Holding.{both, is_called, is_false, is_had, is_sound, unclosed}
 use Rattle.ftp_pair_transfers.specs.Ahead.{Ahead}
-use Rattle.ftp_pair_transfers.proofs.Beside.{Goes, Together}
+use Rattle.ftp_pair_transfers.proofs.Beside.{Goes, Together, is_taking}
 use Rattle.ftp_pair_transfers.proofs.Known.{Known, is_near_held}
 use Rattle.ftp_pair_active.specs.Lead.{Even, Lead, Told, led_by}
 use Rattle.ftp_pair_active.proofs.Alike.{together_of}
@@ -99,6 +99,7 @@ module _ (read : Reading) (begun : List Order) (server : Stand server_side) (old
       leads = leads_none read w;
       moment = moment;
       ahead = ahead;
+      marked = refl;
       together = together_of read begun moment ahead between next (next_listen told) server (led_client (Told port) old) new reports w t
           (record {
             view = ap (λ n. data_closed (taken n)) is;
@@ -107,12 +108,11 @@ module _ (read : Reading) (begun : List Order) (server : Stand server_side) (old
             to_server = ap (λ (b : Between). b.control.to_server) can.1;
             ways = ap (λ (b : Between). b.data_ways) can.1;
             far = ap (λ (b : Between). b.far) can.1;
-            untold = ap (λ (l : Lane). l.untold) did.0.1.1;
+            untold = λ e. (ap is_taking (sym did.0.1.1) ∙ e, ap (λ (l : Lane). l.untold) did.0.1.1);
             unwritten = ap (λ (l : Lane). l.unwritten) did.0.1.1;
           })
           (record {
             bare = λ e. ap (λ (l : Lane). l.untold) did.0.1.1 ∙ t.takes.bare (ap (λ (l : Lane). l.stands) (sym did.0.1.1) ∙ e);
-            over = λ e. ap (λ (l : Lane). l.untold) did.0.1.1 ∙ t.takes.over (ap (λ (l : Lane). is_sound l.fate) (sym did.0.1.1) ∙ e);
           })
           (record {
             spare = λ e. none_unwritten;
@@ -148,21 +148,51 @@ module _ (read : Reading) (begun : List Order) (server : Stand server_side) (old
       is_false (is_upload w.far.session.connection)
       (λ e. true≢false (sym (ap is_closed_by_near (known.takes e (ap is_near_held gone))) ∙ ap is_closed_by_near gone))
 
-  pub none_untold : old.owner.lane.untold ≡ []
-  none_untold =
+  pub none_untold : is_taking old.owner.lane ≡ true → old.owner.lane.untold ≡ []
+  none_untold e =
       (both_empty old.owner.lane.untold (between.data_ways.to_client ++ server.owner.lane.unwritten)
-      (sym t.beside.falling ∙ known.ended (ap is_near_held gone))).0
+      (sym (t.beside.falling e) ∙ known.ended (ap is_near_held gone))).0
+
+  -- nor came any over one that does not stand
+  pub none_bare : old.owner.lane.stands ≡ false → old.owner.lane.untold ≡ []
+  none_bare e = t.takes.bare e
 
   pub none_unsent : old.owner.lane.unwritten ≡ []
   none_unsent =
       (both_empty between.data_ways.to_server old.owner.lane.unwritten
       (both_empty server.owner.lane.untold (between.data_ways.to_server ++ old.owner.lane.unwritten) (sym t.beside.rising ∙ known.still untaken)).1).1
 
+  -- what is so of its data connection then
+  pub record StaysBare : Type 0 where
+    pub taking : is_taking new.owner.lane ≡ true → is_taking old.owner.lane ≡ true
+    pub untold : is_taking old.owner.lane ≡ true → new.owner.lane.untold ≡ []
+    pub bare : new.owner.lane.stands ≡ false → new.owner.lane.untold ≡ []
+    pub unwritten : new.owner.lane.unwritten ≡ []
+
+  -- it is so of one that is the same
+  pub same_bare : (lane : Lane) → new.owner.lane ≡ lane → lane.stands ≡ old.owner.lane.stands → lane.fate ≡ old.owner.lane.fate
+      → lane.untold ≡ old.owner.lane.untold → lane.unwritten ≡ old.owner.lane.unwritten → StaysBare
+  same_bare lane is stands fate untold unwritten = record {
+    taking = λ e. ap₂ (λ s f. s && is_sound f) (sym stands) (sym fate) ∙ ap is_taking (sym is) ∙ e;
+    untold = λ e. ap (λ (l : Lane). l.untold) is ∙ untold ∙ none_untold e;
+    bare = λ e. ap (λ (l : Lane). l.untold) is ∙ untold ∙ none_bare (sym stands ∙ ap (λ (l : Lane). l.stands) (sym is) ∙ e);
+    unwritten = ap (λ (l : Lane). l.unwritten) is ∙ unwritten ∙ none_unsent;
+  }
+
+  -- and of one that was left
+  pub left_bare : new.owner.lane.stands ≡ false → new.owner.lane.untold ≡ [] → new.owner.lane.unwritten ≡ [] → StaysBare
+  left_bare stands untold unwritten = record {
+    taking = λ e. absurd (true≢false (sym e ∙ ap (λ s. s && is_sound new.owner.lane.fate) stands));
+    untold = λ e. untold;
+    bare = λ e. untold;
+    unwritten = unwritten;
+  }
+
   -- it is to be told it still
   pub told_stays : data_closed u ≡ data_closed v → new.unheard ≡ [] → next.control.to_client ≡ [] → next.control.to_server ≡ between.control.to_server
-      → next.data_ways ≡ between.data_ways → next.far ≡ between.far → is_called next.near ≡ false → new.owner.lane.untold ≡ []
-      → new.owner.lane.unwritten ≡ [] → GoesLed read [] begun next told server new reports w
-  told_stays is unheard empty other ways far called untold unwritten = record {
+      → next.data_ways ≡ between.data_ways → next.far ≡ between.far → is_called next.near ≡ false → StaysBare
+      → GoesLed read [] begun next told server new reports w
+  told_stays is unheard empty other ways far called bare = record {
     lead = Told port;
     left = [];
     so = (
@@ -180,6 +210,7 @@ module _ (read : Reading) (begun : List Order) (server : Stand server_side) (old
       leads = leads_none read w;
       moment = moment;
       ahead = ahead;
+      marked = refl;
       together = together_of read begun moment ahead between next (next_listen told) server (led_client (Told port) old)
           (led_client (Told port) new) reports w t
           (record {
@@ -189,10 +220,10 @@ module _ (read : Reading) (begun : List Order) (server : Stand server_side) (old
             to_server = other;
             ways = ways;
             far = far;
-            untold = untold ∙ sym none_untold;
-            unwritten = unwritten ∙ sym none_unsent;
+            untold = λ e. (bare.taking e, bare.untold (bare.taking e) ∙ sym (none_untold (bare.taking e)));
+            unwritten = bare.unwritten ∙ sym none_unsent;
           })
-          (record { bare = λ e. untold; over = λ e. untold }) (record { spare = λ e. unwritten; bare = λ e. unwritten })
+          (record { bare = bare.bare }) (record { spare = λ e. bare.unwritten; bare = λ e. bare.unwritten })
           (record {
             had = λ e. absurd (true≢false (sym e ∙ ap is_near_held gone));
             shut = λ e. ap is_near_held gone;

@@ -17,8 +17,8 @@ use Rattle.ftp_server_drive.specs.Side.{server_side}
 use Rattle.ftp_server_model.specs.Calls as far
 use Rattle.ftp_server_model.specs.Machine.{IsReading, Reading}
 use Rattle.ftp_pair_world.specs.Agreement.{Order}
-use Rattle.ftp_pair_world.specs.Claims.{Beginning, IsFair, state_of, world_of}
-use Rattle.ftp_pair_world.specs.World.{World}
+use Rattle.ftp_pair_world.specs.Claims.{AreUnmarked, Beginning, IsFair, state_of, world_of}
+use Rattle.ftp_pair_world.specs.World.{Mark, World}
 use Rattle.ftp_pair_agreement.specs.Over.{OverRuns}
 use Rattle.ftp_pair_drives.specs.Alone.{begun_by, reported_by, reports_in}
 use Rattle.ftp_pair_drives.specs.Between.{Between, CanTurn, Client, Happened, Server, Turn, client_deeds, nothing_yet, server_deeds}
@@ -31,9 +31,10 @@ use Rattle.ftp_pair_deeds.proofs.Holding.{both}
 use Rattle.ftp_pair_deeds.proofs.Stands.{ServerServes, wants_port}
 use Rattle.ftp_pair_transfers.specs.Ahead.{Ahead, Level, far_ahead}
 use Rattle.ftp_pair_transfers.specs.Deeds.{AreMoments, AreToldAt, IsToldAt, begun_at, last_of, number_in}
-use Rattle.ftp_pair_transfers.proofs.Beside.{Together}
+use Rattle.ftp_pair_transfers.proofs.Beside.{Together, marks_with}
 use Rattle.ftp_pair_transfers.proofs.Known.{AreCarried, both_carried}
 use Rattle.ftp_pair_transfers.proofs.Simulating.{orders_are}
+use Rattle.ftp_pair_transfers.proofs.Trying.{more_unmarked}
 use Rattle.ftp_pair_active.specs.Claims.{EitherAreOfWorlds}
 use Rattle.ftp_pair_active.specs.Deeds.{ArePorts, AsksAlong, ClientTransfers, ServerTransfers, ServesAlong, listened_in}
 use Rattle.ftp_pair_active.specs.Lead.{Even, Joined, Lead, Told, led_by}
@@ -75,6 +76,13 @@ in_whole moments [] start now led asks = tt
 in_whole moments (deed ∷ before) start now led asks =
     both_whole (begun_at moments before) (begun_by (moments (number_in before)) deed) (in_whole moments before start led.0 led.1 asks.0)
     (by_whole (moments (number_in before)) deed led.0.owner now.owner asks.1)
+
+-- ---- marks
+
+-- an operation that is begun has none
+all_unmarked : (more : List Order) (marks : List (List Mark)) → AreUnmarked marks → AreUnmarked (marks_with more marks)
+all_unmarked [] marks unmarked = unmarked
+all_unmarked (order ∷ more) marks unmarked = all_unmarked more (marks ++ [] ∷ []) (more_unmarked marks unmarked)
 
 -- ---- ports
 
@@ -172,6 +180,7 @@ module _ (read : Reading) (reads : IsReading read) (moments : ℕ → ℕ) (time
     pub together : Together read begun last ahead (led_between lead more between) (led_told lead told) server (led_client lead client) reports world
     pub serves : ServerServes server.owner
     pub whole : IsWholly client.owner.end.view
+    pub unmarked : AreUnmarked world.marks
 
   -- how a client that is ahead stands
   asks : (begun : List Order) (between : Between) (told : ℕ) (server : Stand server_side) (client : Stand client_side) (reports : List Said)
@@ -208,12 +217,11 @@ module _ (read : Reading) (reads : IsReading read) (moments : ℕ → ℕ) (time
         to_server = ap (λ q. q ++ []) (sym begins.server_unheard);
         to_client = ap (λ q. q ++ []) (sym begins.client_unheard);
         rising = ap₂ (λ q r. q ++ ([] ++ r)) (sym untold) (sym unwritten);
-        falling = ap₂ (λ q r. q ++ ([] ++ r)) (sym near_untold) (sym far_unwritten);
+        falling = λ e. ap₂ (λ q r. q ++ ([] ++ r)) (sym near_untold) (sym far_unwritten);
         listens = refl;
         reported = ap (λ n. option_to_list (near.report_of n)) (sym begins.client_view);
         control = refl;
         unready = λ e. absurd (true≢false (sym e));
-        marks = tt;
         cutoff = refl;
       };
       holds = record {
@@ -229,7 +237,7 @@ module _ (read : Reading) (reads : IsReading read) (moments : ℕ → ℕ) (time
         shut = λ e. ap (λ f. is_open f.session.connection) begins.server_view;
       };
       serves = record { spare = λ e. far_unwritten; bare = λ e. far_unwritten };
-      takes = record { bare = λ e. near_untold; over = λ e. near_untold };
+      takes = record { bare = λ e. near_untold };
       gives = record { spare = λ e. unwritten; bare = λ e. unwritten };
       keeping = record {
         had = λ e. absurd (true≢false (sym e));
@@ -240,6 +248,7 @@ module _ (read : Reading) (reads : IsReading read) (moments : ℕ → ℕ) (time
     };
     serves = record { running = ap (λ f. f.session.life) begins.server_view; none_waits = ap (λ f. f.waiting) begins.server_view };
     whole = subst IsWholly (sym begins.client_view) (record { job = tt; run = refl });
+    unmarked = tt;
   }
 
   -- a deed of the server
@@ -268,6 +277,7 @@ module _ (read : Reading) (reads : IsReading read) (moments : ℕ → ℕ) (time
         together = g.goes.together;
         serves = went.1;
         whole = o.whole;
+        unmarked = subst AreUnmarked (sym g.goes.marked) o.unmarked;
       })
 
   -- of the client
@@ -296,6 +306,7 @@ module _ (read : Reading) (reads : IsReading read) (moments : ℕ → ℕ) (time
             (led_client g.lead new) (reports ++ reported_by deed) g.goes.world) (orders_are (moments (number_in deeds)) deed begun) g.goes.together;
         serves = o.serves;
         whole = whole;
+        unmarked = subst AreUnmarked (sym g.goes.marked) (all_unmarked (begun_by (moments (number_in deeds)) deed) o.world.marks o.unmarked);
       })
 
   -- deed by deed
@@ -350,7 +361,7 @@ either_are_of_worlds read reads b fair moments timed turns between server client
         far = s.far;
         reported = s.reported ∙ ap (λ r. reports_in (client_deeds turns) ++ r) (led_said o.lead o.more between (listened_in turns) server client o.so);
         control = s.control;
-        marks = s.marks;
+        marks = o.unmarked;
         cutoff = s.cutoff;
       };
     }

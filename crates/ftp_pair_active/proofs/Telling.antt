@@ -23,7 +23,6 @@ use Rattle.ftp_server_model.specs.Machine.{IsReading, Reading}
 use Rattle.ftp_server_model.specs.View.{View as Far}
 use Rattle.ftp_tree.specs.Sound.{last_second}
 use Rattle.ftp_pair_world.specs.Agreement.{Order, Single}
-use Rattle.ftp_pair_world.specs.Claims.{AreUnmarked}
 use Rattle.ftp_pair_world.specs.Events.{ControlToClient, is_asked_for, is_closed_by_far, is_closed_by_near, is_gone, pushed}
 use Rattle.ftp_pair_world.specs.Serving.{after_event, near_listens}
 use Rattle.ftp_pair_world.specs.World.{Gone, Stands, World, next_listen, port_at}
@@ -37,13 +36,13 @@ use Rattle.ftp_pair_data.specs.Unaborted.{is_unaborted}
 use Rattle.ftp_pair_data.proofs.Moves.{Rested, begins_to, drop_front, near_hears_to, take_front}
 use Rattle.ftp_pair_data.proofs.Served.{Runs, settled}
 use Rattle.ftp_pair_deeds.proofs.FarForms.{told_speaks}
-use Rattle.ftp_pair_deeds.proofs.Holding.{Takes, both, is_called, is_sound, unclosed}
+use Rattle.ftp_pair_deeds.proofs.Holding.{both, is_called, unclosed}
 use Rattle.ftp_pair_deeds.proofs.NearForms.{busy_same, is_unaborted_same}
 use Rattle.ftp_pair_deeds.proofs.Stands.{ServerServes, wants_port}
 use Rattle.ftp_pair_transfers.specs.Ahead.{Ahead, Fits, Level, Listened, Listens, Opens, Parted, far_ahead, is_parted}
 use Rattle.ftp_pair_transfers.specs.Deeds.{IsCarried}
 use Rattle.ftp_pair_transfers.proofs.Ahead.{Holds}
-use Rattle.ftp_pair_transfers.proofs.Beside.{Comes, Goes, IsBeside, Together, Writes, rested}
+use Rattle.ftp_pair_transfers.proofs.Beside.{Comes, Goes, IsBeside, Takes, Together, Writes, is_taking, rested}
 use Rattle.ftp_pair_transfers.proofs.Blind.{hears_blind}
 use Rattle.ftp_pair_transfers.proofs.Known.{AreCarried, Known, is_near_held}
 use Rattle.ftp_pair_transfers.proofs.Settling.{NearSettles, near_settles}
@@ -86,11 +85,11 @@ module _ (read : Reading) (orders : List Order) (moment : ℕ) (ahead : Ahead) (
     pub to_server : now.control_to_server ≡ server.unheard ++ between.control.to_server
     pub to_client : now.control_to_client ≡ new.unheard ++ between.control.to_client
     pub rising : now.data_to_server ≡ server.owner.lane.untold ++ (between.data_ways.to_server ++ new.owner.lane.unwritten)
-    pub falling : now.data_to_client ≡ new.owner.lane.untold ++ (between.data_ways.to_client ++ server.owner.lane.unwritten)
+    pub falling : is_taking new.owner.lane ≡ true
+        → now.data_to_client ≡ new.owner.lane.untold ++ (between.data_ways.to_client ++ server.owner.lane.unwritten)
     pub listens : Listened ahead told now.listens
     pub reported : now.reports ≡ reports
     pub control : now.control ≡ Stands
-    pub marks : AreUnmarked now.marks
     pub cutoff : now.cutoff ≡ None
     pub quiet : now.far.owed ≡ []
     pub holds : Holds ahead between.far x.session
@@ -118,6 +117,22 @@ module _ (read : Reading) (orders : List Order) (moment : ℕ) (ahead : Ahead) (
       by (Parted accepted) is = ap port_at (subst (λ h. Listened h told now.listens) (sym is) a.listens)
       by (Listens port) is = absurd (unasked a port is)
 
+  -- it is told the next one there
+  abbrev told_world : World
+  told_world = near_listens now
+
+  open_then : IsAsking → told_world.near.closing ≡ false
+  open_then a = ap (λ n. (listening (port_at now.listens) n).closing) a.form ∙ told_open (port_at now.listens) op now.near
+
+  told_settles : IsAsking → NearSettles told_world (settled told_world)
+  told_settles a =
+      near_settles told_world a.far_open a.none_asked (λ e. absurd (true≢false (sym e ∙ ap is_closed_by_far a.link)))
+      (λ e. absurd (true≢false (sym e ∙ open_then a)))
+
+  -- which makes no mark
+  pub told_marks : IsAsking → (settled (near_listens now)).marks ≡ now.marks
+  told_marks a = (told_settles a).same.marks
+
   pub tells : IsAsking
       → Together read orders moment ahead between (next_listen told) server (led_client (Told (port_at now.listens)) new) reports (settled (near_listens now))
   tells a = record {
@@ -128,12 +143,11 @@ module _ (read : Reading) (orders : List Order) (moment : ℕ) (ahead : Ahead) (
       to_server = s.same.to_server ∙ a.to_server;
       to_client = s.same.to_client ∙ a.to_client;
       rising = s.same.rising ∙ a.rising;
-      falling = s.same.falling ∙ a.falling;
+      falling = λ e. s.same.falling ∙ a.falling e;
       listens = subst (Listened ahead (next_listen told)) (sym s.same.listens) (one_more ahead refl);
       reported = s.reports ∙ ap₂ (λ l n. l ++ option_to_list (report_of (listening (port_at now.listens) n))) a.reported a.near;
       control = s.same.control ∙ a.control;
       unready = λ e. absurd (true≢false (sym e ∙ ap is_closed_by_near gone));
-      marks = subst AreUnmarked (sym s.same.marks) a.marks;
       cutoff = s.same.cutoff ∙ a.cutoff;
     };
     holds = a.holds;
@@ -149,19 +163,11 @@ module _ (read : Reading) (orders : List Order) (moment : ℕ) (ahead : Ahead) (
     twin = a.twin;
   }
     where
-      told_world : World
-      told_world = near_listens now
-
-      open_then : told_world.near.closing ≡ false
-      open_then = ap (λ n. (listening (port_at now.listens) n).closing) a.form ∙ told_open (port_at now.listens) op now.near
-
       s : NearSettles told_world (settled told_world)
-      s =
-          near_settles told_world a.far_open a.none_asked (λ e. absurd (true≢false (sym e ∙ ap is_closed_by_far a.link)))
-          (λ e. absurd (true≢false (sym e ∙ open_then)))
+      s = told_settles a
 
       gone : (settled told_world).link ≡ Gone
-      gone = s.stays open_then ∙ a.link
+      gone = s.stays (open_then a) ∙ a.link
 
       one_more : (other : Ahead) → other ≡ ahead → Listened ahead (next_listen told) (next_listen now.listens)
       one_more Level is = subst (λ h. Listened h (next_listen told) (next_listen now.listens)) is
@@ -327,20 +333,17 @@ module _ (read : Reading) (reads : IsReading read) (begun : List Order) (server 
       to_server = b.to_server;
       to_client = refl;
       rising = b.rising ∙ ap (λ o. server.owner.lane.untold ++ (between.data_ways.to_server ++ o)) (sym unwritten);
-      falling = b.falling ∙ ap (λ o. o ++ (between.data_ways.to_client ++ server.owner.lane.unwritten)) (sym untold);
+      falling = λ e. b.falling (ap is_taking (sym did.hears.1) ∙ e)
+          ∙ ap (λ o. o ++ (between.data_ways.to_client ++ server.owner.lane.unwritten)) (sym untold);
       listens = b.listens;
       reported = b.reported ∙ ap (λ o. reports ++ o) none_before;
       control = b.control;
-      marks = b.marks;
       cutoff = b.cutoff;
       quiet = a.far_owed;
       holds = t.holds;
       comes = t.comes;
       serves = t.serves;
-      takes = record {
-        bare = λ e. untold ∙ t.takes.bare (ap (λ (l : Lane). l.stands) (sym did.hears.1) ∙ e);
-        over = λ e. untold ∙ t.takes.over (ap (λ (l : Lane). is_sound l.fate) (sym did.hears.1) ∙ e);
-      };
+      takes = record { bare = λ e. untold ∙ t.takes.bare (ap (λ (l : Lane). l.stands) (sym did.hears.1) ∙ e) };
       gives = record {
         spare = λ e. unwritten ∙ t.gives.spare e;
         bare = λ e. unwritten ∙ t.gives.bare (ap (λ (l : Lane). l.stands) (sym did.hears.1) ∙ e);
@@ -364,6 +367,7 @@ module _ (read : Reading) (reads : IsReading read) (begun : List Order) (server 
         leads = near_hears_to read octet octets rest w (settled (near_listens now)) queue may (asks_told now a.op form r.runs);
         moment = moment;
         ahead = ahead;
+        marked = told_marks read begun moment ahead between told server new (reports ++ []) now a.op asking;
         together = tells read begun moment ahead between told server new (reports ++ []) now a.op asking;
       };
     }

@@ -50,7 +50,7 @@ did_try b moments turns between server client did = record {
 -- ---- the marks
 
 -- an operation that is begun has no mark
-more_unmarked : (marks : List (List Mark)) → AreUnmarked marks → AreUnmarked (marks ++ [] ∷ [])
+pub more_unmarked : (marks : List (List Mark)) → AreUnmarked marks → AreUnmarked (marks ++ [] ∷ [])
 more_unmarked [] unmarked = (refl, tt)
 more_unmarked (mark ∷ marks) unmarked = (unmarked.0, more_unmarked marks unmarked.1)
 
