@@ -45,8 +45,7 @@ use Rattle.ftp_pair_data.proofs.Served.{rests, settled}
 use Rattle.ftp_pair_deeds.proofs.FarForms.{given_none, told_passive}
 use Rattle.ftp_pair_deeds.proofs.Holding.{both, is_called, is_false, is_had, unclosed}
 use Rattle.ftp_pair_deeds.proofs.NearForms.{Taking, end_closing, taking_of, taking_same, wants_rest}
-use Rattle.ftp_pair_deeds.proofs.Plain.{IsPlainly, Whatever, ended_plain, whatever_kept}
-use Rattle.ftp_pair_deeds.proofs.Stands.{ClientFetches, ServerServes, portless}
+use Rattle.ftp_pair_deeds.proofs.Stands.{ClientFetches, ServerServes, wants_port}
 use Rattle.ftp_pair_transfers.specs.Ahead.{Ahead, Level, Listened, Listens, Opens, Parted}
 use Rattle.ftp_pair_transfers.proofs.Beside.{Goes, Together, rested}
 use Rattle.ftp_pair_transfers.proofs.Broke.{with_view}
@@ -69,7 +68,8 @@ with_none between = record between { data_ways = record between.data_ways { to_c
 
 module _ (read : Reading) (reads : IsReading read) (from : State) (begun : List Order) (puts : AreCarried begun) (server : Stand server_side)
     (old new : Stand client_side) (reports : List Said) (w : World) (calm : ClientIsCalm old.owner new.owner) (serves : ServerServes server.owner)
-    (before : ClientFetches old.owner) (plain : IsPlainly old.owner.end.view) (known : Known w) (runs : OverRuns read from begun w) where
+    (before : ClientFetches old.owner) (portless : wants_port (data_end old.owner.end.view).connection ≡ false) (known : Known w)
+    (runs : OverRuns read from begun w) where
   abbrev v : Near
   v = old.owner.end.view
 
@@ -99,7 +99,6 @@ module _ (read : Reading) (reads : IsReading read) (from : State) (begun : List 
   pub record Breaks (between : Between) (told : ℕ) : Type 0 where
     pub goes : Goes read [] begun (with_none between) told server (with_view (data_end v) new) (reports ++ []) w
     pub sound : is_sound (data_end v).standing ≡ true
-    pub plainly : IsPlainly (data_end v)
     pub alike : AreAlike u (data_end v)
 
   module _ (moment : ℕ) (ahead : Ahead) (between : Between) (told : ℕ) (t : Together read begun moment ahead between told server old reports w)
@@ -268,9 +267,6 @@ module _ (read : Reading) (reads : IsReading read) (from : State) (begun : List 
     ended : data_end d.world.near ≡ data_end v
     ended = ap data_end (d.near ∙ near_is)
 
-    plainly : IsPlainly (data_end v)
-    plainly = ended_plain Whatever whatever_kept v plain
-
     sound : is_sound (data_end v).standing ≡ true
     sound =
         ap (λ (n : Near). is_sound n.standing) (sym ended)
@@ -308,7 +304,7 @@ module _ (read : Reading) (reads : IsReading read) (from : State) (begun : List 
             leads = leads_then read [] [] w d.world (settled over) d.leads
                 (ends read d.world again d_link d.falling give
                 (ap (λ n. rests (near.wants (data_closed n))) ended
-                ∙ wants_rest (data_closed (data_end v)) sound (portless (data_end v).connection plainly.port) refl));
+                ∙ wants_rest (data_closed (data_end v)) sound portless refl));
             moment = moment;
             ahead = ahead;
             marked = s.same.marks ∙ d.marks;
@@ -344,6 +340,5 @@ module _ (read : Reading) (reads : IsReading read) (from : State) (begun : List 
             };
           };
           sound = sound;
-          plainly = plainly;
           alike = alike;
         }

@@ -28,9 +28,9 @@ use Rattle.ftp_pair_data.specs.Ahead.{is_asked, is_open}
 use Rattle.ftp_pair_data.specs.Unaborted.{is_unaborted}
 use Rattle.ftp_pair_deeds.specs.Deeds.{ArePorts, listened_in}
 use Rattle.ftp_pair_deeds.proofs.Holding.{both, is_called, is_false, is_had, is_sound}
-use Rattle.ftp_pair_deeds.proofs.Plain.{IsPlainly}
+use Rattle.ftp_pair_deeds.proofs.Plain.{IsPlainly, Whatever, ended_plain, whatever_kept}
 use Rattle.ftp_pair_deeds.proofs.Serves.{deed_serves}
-use Rattle.ftp_pair_deeds.proofs.Stands.{ServerServes}
+use Rattle.ftp_pair_deeds.proofs.Stands.{ServerServes, portless}
 use Rattle.ftp_pair_transfers.specs.Ahead.{Level, far_ahead, is_parted}
 use Rattle.ftp_pair_transfers.specs.Claims.{IsNear}
 use Rattle.ftp_pair_transfers.specs.Deeds.{AreMoments, AreResets, AreToldAt, IsServing, IsToldAt, ServerTransfers, ServesAlong, begun_at, last_of, number_in}
@@ -51,22 +51,22 @@ earlier (Other (Listening port)) before ports = ports.0
 earlier deed before ports = ports
 
 -- the reset that a break is told of
-abbrev IsResetFor : Deed client_side → Between → Type 0
+abbrev pub IsResetFor : Deed client_side → Between → Type 0
 IsResetFor (Other Break) between = between.far ≡ Has_lost
 IsResetFor deed between = ⊤
 
-reset_for : (deed : Deed client_side) (before : List Turn) (between : Between) (happened : Happened (Client deed ∷ before) between)
+pub reset_for : (deed : Deed client_side) (before : List Turn) (between : Between) (happened : Happened (Client deed ∷ before) between)
     → AreResets (Client deed ∷ before) between happened → IsResetFor deed happened.0
 reset_for (Other Break) before between happened resets = resets.1
 reset_for deed before between happened resets = tt
 
-resets_before : (deed : Deed client_side) (before : List Turn) (between : Between) (happened : Happened (Client deed ∷ before) between)
+pub resets_before : (deed : Deed client_side) (before : List Turn) (between : Between) (happened : Happened (Client deed ∷ before) between)
     → AreResets (Client deed ∷ before) between happened → AreResets before happened.0 happened.1
 resets_before (Other Break) before between happened resets = resets.0
 resets_before deed before between happened resets = resets
 
 -- how the client stands to it is the same after a deed of the server
-serving_near : (deed : Deed server_side) (at : Held Timed) → IsServing deed at → (p q : Between) → CanTurn (Server deed) p q → q.near ≡ p.near
+pub serving_near : (deed : Deed server_side) (at : Held Timed) → IsServing deed at → (p q : Between) → CanTurn (Server deed) p q → q.near ≡ p.near
 serving_near (Heard octets) at is p q can = ap (λ (m : Between). m.near) can
 serving_near (Says octets) at is p q can = ap (λ (m : Between). m.near) can
 serving_near (Read octets) at is p q can = ap (λ (m : Between). m.near) can.1
@@ -88,7 +88,7 @@ serving_near deed at is p q can = absurd is
 
 -- ---- the client that a world sees
 
-shown_still : (p q : Between) (client shown : Stand client_side) → q.near ≡ p.near → IsShown p client shown → IsShown q client shown
+pub shown_still : (p q : Between) (client shown : Stand client_side) → q.near ≡ p.near → IsShown p client shown → IsShown q client shown
 shown_still p q client shown near (inl same) = inl same
 shown_still p q client shown near (inr broke) =
     inr (broke.0, broke.1, record { apart = broke.2.apart; near = ap is_lost near ∙ broke.2.near; lane = broke.2.lane })
@@ -100,7 +100,7 @@ shown_itself between client shown (inl same) free = same
 shown_itself between client shown (inr broke) free = absurd (both (common client.owner.end.view broke.0 broke.2.apart).busy free)
 
 -- it has the same report
-shown_said : (between : Between) (client shown : Stand client_side) → IsShown between client shown
+pub shown_said : (between : Between) (client shown : Stand client_side) → IsShown between client shown
     → near.report_of shown.owner.end.view ≡ near.report_of client.owner.end.view
 shown_said between client shown (inl same) = ap (λ (c : Stand client_side). near.report_of c.owner.end.view) same
 shown_said between client shown (inr broke) =
@@ -108,7 +108,7 @@ shown_said between client shown (inr broke) =
     ap (λ (c : Stand client_side). near.report_of c.owner.end.view) broke.1 ∙ c.other_said ∙ sym c.one_said
 
 -- and is as it, or told of an end where that was told of a break
-shown_near : (between : Between) (client shown : Stand client_side) → IsShown between client shown → (there : Near)
+pub shown_near : (between : Between) (client shown : Stand client_side) → IsShown between client shown → (there : Near)
     → there ≡ near.data_closed (taken shown.owner.end.view) → IsNear there (near.data_closed (near.reports client.owner.end.view))
 shown_near between client shown (inl same) there is =
     inl (is ∙ ap (λ (c : Stand client_side). near.data_closed (taken c.owner.end.view)) same
@@ -121,6 +121,17 @@ shown_near between client shown (inr broke) there is =
       is = is ∙ ap (λ (c : Stand client_side). near.data_closed (taken c.owner.end.view)) broke.1 ∙ ap (λ n. near.data_closed (taken n)) a.other_is
           ∙ sym (ap (λ n. record (near.data_closed (near.reports n)) { connection = Data.Over Endings.Clean }) a.one_is);
     })
+
+-- where the server reset it, no octets of it come
+pub reset_falls : (between seen : Between) → IsSeen between seen → between.far ≡ Has_lost
+    → IsSeen (with_hold TheClient Has_lost between) (with_none seen)
+reset_falls between seen is lost = record {
+  control = is.control;
+  rising = is.rising;
+  near = refl;
+  far = is.far;
+  falls = inr (inr (record { none = refl; far = ap is_lost lost; near = refl }));
+}
 
 module _ (read : Reading) (reads : IsReading read) (moments : ℕ → ℕ) (timed : AreMoments moments) (b : Beginning) (fair : IsFair b) where
   abbrev At : List Order → Between → ℕ → Stand server_side → Stand client_side → List Said → Type 0
@@ -289,17 +300,6 @@ module _ (read : Reading) (reads : IsReading read) (moments : ℕ → ℕ) (time
             marked = went.1 ∙ ap (marked_by deed) o.1;
           }
 
-  -- where the server reset it, no octets of it come
-  reset_falls : (between seen : Between) → IsSeen between seen → between.far ≡ Has_lost
-      → IsSeen (with_hold TheClient Has_lost between) (with_none seen)
-  reset_falls between seen is lost = record {
-    control = is.control;
-    rising = is.rising;
-    near = refl;
-    far = is.far;
-    falls = inr (inr (record { none = refl; far = ap is_lost lost; near = refl }));
-  }
-
   -- a deed of the client
   client_sees : (deed : Deed client_side) (old new : Stand client_side) → ClientTries deed old.owner new.owner → (deeds : List (Deed client_side))
       → AreCarried (begun_at moments deeds) → (p q : Between) → CanTurn (Client deed) p q → IsResetFor deed p → (told : ℕ) (server : Stand server_side)
@@ -314,8 +314,10 @@ module _ (read : Reading) (reads : IsReading read) (moments : ℕ → ℕ) (time
           let o : At (begun_at moments deeds) at.seen told server old reports = so.0 in
           let begun : List Order = begun_at moments deeds in
           let lost : at.seen.far ≡ Has_lost = at.is_seen.far ∙ reset in
+          let plain : IsPlainly (near.data_end old.owner.end.view) = ended_plain Whatever whatever_kept old.owner.end.view o.plain in
           let k = client_breaks read reads (state_of b) begun puts server old new reports o.world is.1 o.serves
-          (asks read reads moments timed b fair deeds at.seen told server old reports o puts) o.plain
+          (asks read reads moments timed b fair deeds at.seen told server old reports o puts)
+          (portless (near.data_end old.owner.end.view).connection plain.port)
           (known read reads moments timed b fair deeds at.seen told server old reports o puts)
           (runs read reads moments timed b fair deeds at.seen told server old reports o puts) o.last o.ahead at.seen told o.together did is.0.0 is.0.1 is.0.2
           (ap is_had lost) (ap is_called lost) in
@@ -333,7 +335,7 @@ module _ (read : Reading) (reads : IsReading read) (moments : ℕ → ℕ) (time
               together = subst (λ l. Together read l k.goes.moment k.goes.ahead (with_none at.seen) told server shown (reports ++ []) k.goes.world)
                   (sym (append-nil begun)) k.goes.together;
               serves = o.serves;
-              plain = k.plainly;
+              plain = plain;
               sound = k.sound;
               fresh = λ e. absurd (both e (ap is_called lost));
             };

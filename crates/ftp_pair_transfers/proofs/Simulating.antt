@@ -90,7 +90,7 @@ starts_sound op old new calm did sound =
     ap (λ (n : Near). is_sound n.standing) (did.0.0.1.0.0 calm) ∙ ap is_sound (starts_standing op old.owner.end.view) ∙ sound
 
 -- where its reports are taken an operation is at a step just where it was
-doing_same : (job : Job) → is_doing (idle_of job) ≡ is_doing job
+pub doing_same : (job : Job) → is_doing (idle_of job) ≡ is_doing job
 doing_same (Told said) = refl
 doing_same Idle = refl
 doing_same (Waiting op) = refl
