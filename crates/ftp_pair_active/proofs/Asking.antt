@@ -34,7 +34,8 @@ use Rattle.ftp_pair_dialogues.specs.Stage.{Way, rest}
 use Rattle.ftp_pair_dialogues.specs.Login.{AtFree, AtOperation}
 use Rattle.ftp_pair_agreement.specs.Cut.{PlacedAt, world_at}
 use Rattle.ftp_pair_agreement.specs.Follows.{IsFree, Phase}
-use Rattle.ftp_pair_agreement.specs.Runs.{IsFetching, IsFetchingOn}
+use Rattle.ftp_pair_agreement.specs.PeekStages.{AtHalt, halt_tie}
+use Rattle.ftp_pair_agreement.specs.Runs.{IsFetching, IsFetchingOn, IsHalting}
 use Rattle.ftp_pair_agreement.specs.Over.{OverRuns}
 use Rattle.ftp_pair_agreement.specs.Rising.{Closing, Declined, Door, Lift, Offered, Risen, Rising, Settled, Shut, Unjoined, Vanished, door_near}
 use Rattle.ftp_pair_agreement.specs.Stages.{Answers, AtFetch, Awaits, Carries, Dials, Dismissed, Early, Dialled, Holds, PortAsked, PortDenied, PortSaid, PortTaken, PortTold, PortWanted, Ported, Restarts, Retrieves, Rises, Tells, Tie, Joined, Parting, Left, Over, Unaccepted, early_near, near_link, tie_of}
@@ -42,12 +43,13 @@ use Rattle.ftp_pair_agreement.proofs.Deliveries.{pushed_client as still_heard}
 use Rattle.ftp_pair_agreement.proofs.FetchRuns.{OnOrHalted, pushed_client, serving_first}
 use Rattle.ftp_pair_agreement.proofs.FetchServed.{leads_still}
 use Rattle.ftp_pair_agreement.proofs.FetchWants.{lasting_busy}
+use Rattle.ftp_pair_agreement.proofs.PeekHears.{OnOrTold, halt_pushes_down}
+use Rattle.ftp_pair_agreement.proofs.PeekRuns.{halt_busy}
 use Rattle.ftp_pair_agreement.proofs.Rests.{near_form}
 use Rattle.ftp_pair_agreement.proofs.Still.{IsSeen, IsStill, no_octets, operation_on, rest_placed, rest_world, seen, seen_placed}
 use Rattle.ftp_pair_drives.proofs.Leaving.{is_entered, not_logging}
-use Rattle.ftp_pair_data.specs.Unaborted.{is_unaborted}
 use Rattle.ftp_pair_data.proofs.Known.{beside}
-use Rattle.ftp_pair_data.proofs.Running.{free_still, halt_aborted, not_lost, under_still}
+use Rattle.ftp_pair_data.proofs.Running.{free_still, not_lost, under_still}
 use Rattle.ftp_pair_data.proofs.Served.{Runs, after_settles, rests, settled}
 use Rattle.ftp_pair_deeds.proofs.Stands.{wants_port}
 use Rattle.ftp_pair_transfers.proofs.Known.{AreCarried, is_ready, last_carried}
@@ -144,6 +146,11 @@ module _ (read : Reading) (state : State) (ask : Ask) (good : IsAsk ask) (own : 
       by (inr (Tells rise said after, h)) = never _ (ap (λ (n : Near). n.connection) h.near) refl
       by (inr (Answers said leaves, h)) = never _ (ap (λ (n : Near). n.connection) h.near) refl
 
+-- one that sent ABOR wants none
+halt_portless : (state : State) (ask : Ask) (own : List Mark) (w : World) → AtHalt state ask own w → wants_port w.near.connection ≡ false
+halt_portless state ask own w a =
+    ap (λ (u : World). wants_port u.near.connection) a.is ∙ ap (λ (n : Near). wants_port n.connection) a.here.near ∙ tie_portless (halt_tie a.halt)
+
 -- ---- behind octets that it heard
 
 module _ (read : Reading) (reads : IsReading read) (from : State) (begun : List Order) (puts : AreCarried begun) where
@@ -151,10 +158,9 @@ module _ (read : Reading) (reads : IsReading read) (from : State) (begun : List 
   fetching_asks w f wants = stage_asks read f.now f.ask f.is_ask f.own w f.stands wants
 
   pub hears_asks : (w : World) (count : ℕ) → OverRuns read from begun w → w.control ≡ Stands
-      → (is_closed_by_near w.link ≡ true → is_ready w.far.session.connection ≡ false) → is_unaborted w.near.job ≡ true
-      → is_unaborted (near.hears w.near (take count w.control_to_client)).job ≡ true
+      → (is_closed_by_near w.link ≡ true → is_ready w.far.session.connection ≡ false)
       → wants_port (near.hears w.near (take count w.control_to_client)).connection ≡ true → Asks (pushed read ControlToClient count w)
-  hears_asks w count runs control unready unaborted then_unaborted wants = by runs
+  hears_asks w count runs control unready wants = by runs
     where
       new : World
       new = pushed read ControlToClient count w
@@ -168,14 +174,19 @@ module _ (read : Reading) (reads : IsReading read) (from : State) (begun : List 
       by_phase (inr lost) = absurd (not_lost read from begun new control lost)
 
       by_on : (on : IsFetchingOn read from begun w) → OnOrHalted read reads from begun w on.fetching new → Asks new
-      by_on on (inr halts) = absurd (true≢false (sym then_unaborted ∙ halt_aborted on.fetching.now on.fetching.ask on.fetching.own new halts))
+      by_on on (inr halts) = absurd (true≢false (sym wants ∙ halt_portless on.fetching.now on.fetching.ask on.fetching.own new halts))
       by_on on (inl f) = fetching_asks new f wants
+
+      by_halt : (h : IsHalting from begun w) → OnOrTold read h.now h.ask h.own new → Asks new
+      by_halt h (inl halts) = absurd (true≢false (sym wants ∙ halt_portless h.now h.ask h.own new halts))
+      by_halt h (inr told) = stage_asks read h.now h.ask h.is_ask h.own new told wants
 
       by : OverRuns read from begun w → Asks new
       by (inl (inl f)) = by_phase (still_heard read reads from begun count w (record { unlinked = f.unlinked; phase = f.phase })).phase
       by (inl (inr (inl on))) = by_on on (pushed_client read reads from begun count w on.fetching w (serving_first read reads from begun w on))
       by (inl (inr (inr (inl trailing)))) = absurd (not_trailing read reads from begun puts w unready trailing)
-      by (inl (inr (inr (inr halting)))) = let h = halting.halting in absurd (true≢false (sym unaborted ∙ halt_aborted h.now h.ask h.own w h.stands))
+      by (inl (inr (inr (inr halting)))) =
+          let h = halting.halting in by_halt h (halt_pushes_down read h.now h.ask h.own count w h.stands)
       by (inr (inl trying)) = absurd (last_carried trying.going.done _ begun trying.going.begun_is puts)
       by (inr (inr tailing)) = absurd (last_carried tailing.going.done _ begun tailing.going.begun_is puts)
 
@@ -263,10 +274,10 @@ Idles w = (w.near.owed ≡ []) × (w.far.owed ≡ []) × (w.control_to_client �
 module _ (read : Reading) (reads : IsReading read) (from : State) (begun : List Order) (puts : AreCarried begun) where
   -- of a client that is logged in nothing is on its way
   pub world_idles : (w : World) → OverRuns read from begun w → w.control ≡ Stands
-      → (is_closed_by_near w.link ≡ true → is_ready w.far.session.connection ≡ false) → is_unaborted w.near.job ≡ true → is_busy w.near ≡ false
+      → (is_closed_by_near w.link ≡ true → is_ready w.far.session.connection ≡ false) → is_busy w.near ≡ false
       → w.near.standing ≡ Standings.Entered → Idles w
   unfolding is_entered
-  world_idles w runs control unready unaborted idle entered = by runs
+  world_idles w runs control unready idle entered = by runs
     where
       by_free : (f : IsFree from begun w) → AtFree f.now f.stands.way f.stands.base.near f.stands.base.far → Idles w
       by_free f (inl (logging, waits)) =
@@ -293,6 +304,6 @@ module _ (read : Reading) (reads : IsReading read) (from : State) (begun : List 
       by (inl (inr (inl on))) =
           let f = on.fetching in absurd (true≢false (sym (lasting_busy read f.now f.ask f.is_ask.plan f.own w f.stands on.lasts) ∙ idle))
       by (inl (inr (inr (inl trailing)))) = absurd (not_trailing read reads from begun puts w unready trailing)
-      by (inl (inr (inr (inr halting)))) = let h = halting.halting in absurd (true≢false (sym unaborted ∙ halt_aborted h.now h.ask h.own w h.stands))
+      by (inl (inr (inr (inr halting)))) = let h = halting.halting in absurd (true≢false (sym (halt_busy h.now h.ask h.own w h.stands) ∙ idle))
       by (inr (inl trying)) = absurd (last_carried trying.going.done _ begun trying.going.begun_is puts)
       by (inr (inr tailing)) = absurd (last_carried tailing.going.done _ begun tailing.going.begun_is puts)

@@ -28,24 +28,21 @@ use Rattle.ftp_pair_agreement.specs.Over.{OverRuns}
 use Rattle.ftp_pair_drives.specs.Alone.{ClientIsCalm}
 use Rattle.ftp_pair_drives.specs.Between.{Between}
 use Rattle.ftp_pair_drives.proofs.Taken.{free_none, free_same}
-use Rattle.ftp_pair_data.specs.Unaborted.{is_unaborted}
 use Rattle.ftp_pair_data.proofs.Known.{Idling}
 use Rattle.ftp_pair_data.proofs.Moves.{Rested, begins_to}
 use Rattle.ftp_pair_data.proofs.Served.{settled}
 use Rattle.ftp_pair_deeds.proofs.Holding.{is_called, unclosed}
-use Rattle.ftp_pair_deeds.proofs.NearForms.{is_unaborted_same}
-use Rattle.ftp_pair_deeds.proofs.Stands.{ServerServes, wants_port}
+use Rattle.ftp_pair_deeds.proofs.Stands.{ClientFetches as ClientRests, ServerServes, wants_port}
 use Rattle.ftp_pair_transfers.specs.Ahead.{Ahead}
 use Rattle.ftp_pair_transfers.specs.Deeds.{IsCarried}
 use Rattle.ftp_pair_transfers.proofs.Beside.{IsBeside, Takes, Together, Writes, is_taking, rested}
 use Rattle.ftp_pair_transfers.proofs.Known.{AreCarried, Known}
 use Rattle.ftp_pair_active.proofs.Asking.{asks_told, starts_asks, world_idles}
 use Rattle.ftp_pair_active.proofs.Telling.{IsAsking, Tells, begun_so_too, port_told, told_marks, tells}
-use Rattle.ftp_pair_active.proofs.Stands.{ClientFetches, rests_of}
 
 module _ (read : Reading) (reads : IsReading read) (begun : List Order) (server : Stand server_side) (old new : Stand client_side) (reports : List Said)
     (w : World)
-    (calm : ClientIsCalm old.owner new.owner) (serves : ServerServes server.owner) (before : ClientFetches old.owner) (known : Known w) where
+    (calm : ClientIsCalm old.owner new.owner) (serves : ServerServes server.owner) (before : ClientRests old.owner) (known : Known w) where
   abbrev v : Near
   v = old.owner.end.view
 
@@ -65,7 +62,7 @@ module _ (read : Reading) (reads : IsReading read) (begun : List Order) (server 
     b = t.beside
 
     r : Rested w
-    r = rested moment ahead between told server old reports w b serves (rests_of before)
+    r = rested moment ahead between told server old reports w b serves before
 
     free : is_busy v ≡ false
     free = did.0.0.0
@@ -87,8 +84,7 @@ module _ (read : Reading) (reads : IsReading read) (begun : List Order) (server 
 
     idles : (w.near.owed ≡ []) × (w.far.owed ≡ []) × (w.control_to_client ≡ [])
     idles =
-        world_idles read reads from begun puts w runs b.control b.unready
-        (ap (λ (m : Near). is_unaborted m.job) b.near ∙ is_unaborted_same v ∙ before.unaborted) (ap is_busy near_is ∙ free)
+        world_idles read reads from begun puts w runs b.control b.unready (ap is_busy near_is ∙ free)
         (ap (λ (m : Near). m.standing) near_is ∙ started.1)
 
     idle : Idling w

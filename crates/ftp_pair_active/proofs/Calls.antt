@@ -1,6 +1,5 @@
 -- What is so of every world whose server is to dial: its client is at its port, and the 150, or what is left of it, is all that lies between.
-use Rattle.std.proofs.Common.{◌≡◌, inl, inr, ℕ, Bool, true, false, true≢false, List, [], ◌∷◌, ◌++◌, None, refl, sym, ap, ap₂, subst, ◌∙◌, append_assoc, append-nil}
-use Rattle.std.specs.Prelude.{⊤}
+use Rattle.std.proofs.Common.{◌≡◌, inl, inr, ℕ, Bool, true, false, true≢false, List, [], ◌∷◌, ◌++◌, refl, sym, ap, ap₂, subst, ◌∙◌, append_assoc, append-nil}
 use Rattle.ftp_direct.specs.Direct.{State}
 use Rattle.ftp_endpoint.specs.declared.host.Host.{Host}
 use Rattle.ftp_ends.specs.Link.{same_host}
@@ -14,6 +13,7 @@ use Rattle.ftp_client_model.specs.Calls as near
 use Rattle.ftp_client_model.specs.Calls.{is_down}
 use Rattle.ftp_client_model.specs.Dialogue.{answered}
 use Rattle.ftp_client_model.specs.InFlight.{HearsReply}
+use Rattle.ftp_client_model.specs.Octets.{settled_of}
 use Rattle.ftp_client_model.specs.Plan.{count_of}
 use Rattle.ftp_client_model.specs.View.{Flow, View as Near}
 use Rattle.ftp_client_model.specs.declared.client.ClientLink.TheVariants as NearData
@@ -26,7 +26,7 @@ use Rattle.ftp_server_model.specs.declared.reply.FixedReply.TheVariants as Texts
 use Rattle.ftp_server_model.specs.declared.session.Pending.TheVariants as Pendings
 use Rattle.ftp_server_model.specs.declared.session.ServerLink.{ServerLink}
 use Rattle.ftp_server_model.specs.declared.session.ServerLink.TheVariants as Data
-use Rattle.ftp_pair_world.specs.Agreement.{Order, Single, Tries}
+use Rattle.ftp_pair_world.specs.Agreement.{Order, Single}
 use Rattle.ftp_pair_world.specs.Events.{is_closed_by_near}
 use Rattle.ftp_pair_world.specs.World.{Gone, Mark, Stands, World}
 use Rattle.ftp_pair_dialogues.specs.Dialogue.{is_aside}
@@ -40,20 +40,20 @@ use Rattle.ftp_pair_dialogues.proofs.Fetching.{own_host}
 use Rattle.ftp_pair_dialogues.proofs.Offering.{offer_awaited, with_flow}
 use Rattle.ftp_pair_agreement.specs.Cut.{Cut, Fits, PlacedAt, world_at}
 use Rattle.ftp_pair_agreement.specs.Follows.{Phase}
+use Rattle.ftp_pair_agreement.specs.PeekStages.{AtHalt, Gave, Gives, Halt, Halted, halt_far}
 use Rattle.ftp_pair_agreement.specs.Runs.{IsFetching}
 use Rattle.ftp_pair_agreement.specs.Over.{OverRuns}
 use Rattle.ftp_pair_agreement.specs.Rising.{Declined, Lift, Offered, Risen, Rising, Settled, Unjoined, held}
 use Rattle.ftp_pair_agreement.specs.Stages.{Answers, Aside as LeavesAside, AtFetch, Awaits, Carries, Closed, Course, Dialled, Dials, Dismissed, Early, Ended, Given, Giving as GivesOctets, Holds, Leaving, LinkLeft, LinkOpen, LinkParting, Lost, PortAsked, PortDenied, PortSaid, PortTaken, PortTold, PortWanted, Ported, Refusing, Restarts, Retrieves, Rises, Severed, Tells, Unaccepted, Unclosed, Unopened, early_far, far_link, gives_on, tie_of}
 use Rattle.ftp_pair_agreement.proofs.FetchServed.{leads_still}
 use Rattle.ftp_pair_agreement.proofs.Still.{IsSeen, IsStill, no_octets, rest_placed, seen_placed}
-use Rattle.ftp_pair_data.specs.Unaborted.{is_unaborted}
 use Rattle.ftp_pair_data.proofs.Known.{beside}
-use Rattle.ftp_pair_data.proofs.Running.{free_still, halt_aborted, not_lost, under_still}
-use Rattle.ftp_pair_transfers.specs.Deeds as passive
-use Rattle.ftp_pair_active.specs.Deeds.{IsCarried}
+use Rattle.ftp_pair_data.proofs.Running.{free_still, not_lost, under_still}
+use Rattle.ftp_pair_deeds.proofs.Plain.{IsSome}
+use Rattle.ftp_pair_transfers.specs.Deeds.{IsCarried}
 use Rattle.ftp_pair_transfers.proofs.Known.{AreCarried, is_ready, last_carried}
 use Rattle.ftp_pair_transfers.proofs.Running.{not_trailing}
-use Rattle.ftp_pair_active.proofs.Accepting.{awaiting}
+use Rattle.ftp_pair_active.proofs.Accepting.{IsFew, awaiting}
 
 -- its own command was sent, and no reply to it was heard
 abbrev pub listening : Op (List ℕ) → Flow → ℕ → Near → Near
@@ -78,8 +78,8 @@ pub data Waits (op : Op (List ℕ)) (flow : Flow) (port : ℕ) (n : Near) (octet
 
 pub record Calls (w : World) : Type 0 where
   pub op : Op (List ℕ)
-  pub all : count_of op ≡ None
   pub flow : Flow
+  pub few : IsFew op flow
   pub port : ℕ
   pub link : w.link ≡ Gone
   pub to_server : w.control_to_server ≡ []
@@ -126,7 +126,7 @@ held_unopened : (past : Bool) (path : Names) (keep : Keep) (d : Decoder) → is_
 held_unopened true path keep d = refl
 held_unopened false path keep d = refl
 
-module _ (read : Reading) (state : State) (ask : Ask) (good : IsAsk ask) (own : List Mark) (all : count_of ask.op ≡ None) where
+module _ (read : Reading) (state : State) (ask : Ask) (good : IsAsk ask) (own : List Mark) (some : IsSome (count_of ask.op)) where
   abbrev At : Way → World → Type 0
   At way b = AtFetch state ask read own way b
 
@@ -178,8 +178,8 @@ module _ (read : Reading) (state : State) (ask : Ask) (good : IsAsk ask) (own : 
           → same_host w.far.footing.here (near.hears w.near w.control_to_client).peer ≡ true → Waits ask.op flow port w.near w.control_to_client → Calls w
       called port begun h alone owed same waits = record {
         op = ask.op;
-        all = all;
         flow = flow;
+        few = (some, unsettled ask.sends);
         port = port;
         link = ap (λ (u : World). u.link) s.is ∙ (beside s.base s.way s.cut).0 ∙ h.link;
         to_server = alone;
@@ -191,6 +191,10 @@ module _ (read : Reading) (state : State) (ask : Ask) (good : IsAsk ask) (own : 
         waits = waits;
       }
         where
+          unsettled : (sends : Direction) → settled_of (carrying sends ask.settings) ≡ []
+          unsettled Down = refl
+          unsettled (Up rise) = refl
+
           rising : (sends : Direction) → is_down (carrying sends ask.settings) ≡ false
               → is_upload (Data.Transferring (carried sends ask state)) ≡ true
           rising Down e = absurd (true≢false e)
@@ -277,40 +281,26 @@ module _ (read : Reading) (state : State) (ask : Ask) (good : IsAsk ask) (own : 
 
 -- ---- in a world
 
--- such an operation asks for no number of octets
-pub carried_all : (op : Op (List ℕ)) → IsCarried op → count_of op ≡ None
-carried_all (Ops.Peek path count how) is = absurd is
-carried_all op is = refl
+-- such an operation asks for one octet at least, where it asks for a number of them
+pub carried_some : (op : Op (List ℕ)) → IsCarried op → IsSome (count_of op)
+carried_some (Ops.Peek path count how) some = some
+carried_some op is = tt
 
--- and is carried where the client dials alone
-pub carried_too : (op : Op (List ℕ)) → IsCarried op → passive.IsCarried op
-carried_too (Ops.Peek path count how) is = absurd is
-carried_too op is = tt
-
--- no operation does
-abbrev pub AreWhole : List Order → Type 0
-AreWhole [] = ⊤
-AreWhole (Single op moment ∷ orders) = (count_of op ≡ None) × AreWhole orders
-AreWhole (Tries upload moment ∷ orders) = AreWhole orders
-
-pub both_whole : (first more : List Order) → AreWhole first → AreWhole more → AreWhole (first ++ more)
-both_whole [] more whole others = others
-both_whole (Single op moment ∷ first) more whole others = (whole.0, both_whole first more whole.1 others)
-both_whole (Tries upload moment ∷ first) more whole others = both_whole first more whole others
-
-last_whole : (done : List Order) (order : Order) (begun : List Order) → begun ≡ done ++ order ∷ [] → AreWhole begun → AreWhole (order ∷ [])
-last_whole done order begun is whole = by done (subst AreWhole is whole)
+-- a server whose Peek sent ABOR waits for no data connection
+halt_unopened : (state : State) (ask : Ask) (own : List Mark) (w : World) → AtHalt state ask own w → is_opening w.far.session.connection ≡ false
+halt_unopened state ask own w a =
+    ap (λ (u : World). is_opening u.far.session.connection) a.is ∙ ap (λ (t : Session). is_opening t.connection) a.here.session ∙ by a.halt
   where
-    by : (done : List Order) → AreWhole (done ++ order ∷ []) → AreWhole (order ∷ [])
-    by [] w = w
-    by (Single op moment ∷ done) w = by done w.1
-    by (Tries upload moment ∷ done) w = by done w
+    by : (halt : Halt) → is_opening (halt_far ask.listed halt) ≡ false
+    by (Gives octet more) = refl
+    by (Gave whole final asked gap) = refl
+    by (Halted whole left) = refl
 
-module _ (read : Reading) (reads : IsReading read) (from : State) (begun : List Order) (puts : AreCarried begun) (whole : AreWhole begun) where
+module _ (read : Reading) (reads : IsReading read) (from : State) (begun : List Order) (puts : AreCarried begun) where
   pub world_calls : (w : World) → OverRuns read from begun w → w.control ≡ Stands
-      → (is_closed_by_near w.link ≡ true → is_ready w.far.session.connection ≡ false) → is_unaborted w.near.job ≡ true
+      → (is_closed_by_near w.link ≡ true → is_ready w.far.session.connection ≡ false)
       → is_opening w.far.session.connection ≡ true → w.far.owed ≡ [] → Calls w
-  world_calls w runs control unready unaborted waiting flushed = by runs
+  world_calls w runs control unready waiting flushed = by runs
     where
       still : IsStill w → ⊥
       still s = true≢false (sym waiting ∙ aside_unopened w.far.session.connection s.far.aside)
@@ -323,12 +313,12 @@ module _ (read : Reading) (reads : IsReading read) (from : State) (begun : List 
       by_fetching : IsFetching read from begun w → Calls w
       by_fetching f =
           stage_calls read f.now f.ask f.is_ask f.own
-          (last_whole f.done (Single f.ask.op f.moment) begun f.begun_is whole).0 w f.stands waiting flushed
+          (carried_some f.ask.op (last_carried f.done (Single f.ask.op f.moment) begun f.begun_is puts).0) w f.stands waiting flushed
 
       by : OverRuns read from begun w → Calls w
       by (inl (inl f)) = by_phase f.phase
       by (inl (inr (inl on))) = by_fetching on.fetching
       by (inl (inr (inr (inl trailing)))) = absurd (not_trailing read reads from begun puts w unready trailing)
-      by (inl (inr (inr (inr halting)))) = let h = halting.halting in absurd (true≢false (sym unaborted ∙ halt_aborted h.now h.ask h.own w h.stands))
+      by (inl (inr (inr (inr halting)))) = let h = halting.halting in absurd (true≢false (sym waiting ∙ halt_unopened h.now h.ask h.own w h.stands))
       by (inr (inl trying)) = absurd (last_carried trying.going.done _ begun trying.going.begun_is puts)
       by (inr (inr tailing)) = absurd (last_carried tailing.going.done _ begun tailing.going.begun_is puts)

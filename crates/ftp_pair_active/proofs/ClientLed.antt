@@ -1,10 +1,10 @@
 -- A deed of a client, whether a world's is ahead of it or not.
 use Rattle.std.proofs.Common.{◌≡◌, ℕ, zero, suc, Bool, true, false, true≢false, List, [], ◌∷◌, ◌++◌, length, take, drop, None, option_to_list, refl, sym, ap, ap₂, subst, ◌∙◌, append-nil, arith}
 use Rattle.std.proofs.Math.Seq.{drop-nil}
-use Rattle.ftp_control.specs.Asking.{Came, Connected, Ended as EndedBy, Shut}
+use Rattle.ftp_control.specs.Asking.{Came, Connected, Ended as EndedBy, Reset, Shut}
 use Rattle.ftp_control.specs.Deeds.{Deed, Done, Heard, HearsNext, Other, Read, Said as Says, Stand}
 use Rattle.ftp_control.specs.Lane.{Lane}
-use Rattle.ftp_control.specs.Machine.{Aside, Closed, End, Gave, Got, Left, LetGo, Listening, Opened, Received, Waited, Wrote, awaits}
+use Rattle.ftp_control.specs.Machine.{Aside, Break, Closed, End, Failed as HasFailed, Gave, Got, Left, LetGo, Listening, Opened, Received, Waited, Wrote, awaits}
 use Rattle.ftp_direct.specs.Direct.{State}
 use Rattle.ftp_ends.specs.declared.link.Wants.{Wants}
 use Rattle.ftp_ends.specs.declared.link.Wants.TheVariants as Want
@@ -20,24 +20,24 @@ use Rattle.ftp_pair_world.specs.Agreement.{Order, Single}
 use Rattle.ftp_pair_world.specs.World.{Gone, World, next_listen, port_at}
 use Rattle.ftp_pair_agreement.specs.Over.{OverRuns}
 use Rattle.ftp_pair_drives.specs.Alone.{begun_by, reported_by}
-use Rattle.ftp_pair_drives.specs.Between.{Between, Can, CanTurn, Client, Has, Near as TheClient, sent}
+use Rattle.ftp_pair_drives.specs.Between.{Between, Can, CanTurn, Client, Has, IsStanding, Near as TheClient, sent}
 use Rattle.ftp_pair_agreement.proofs.Chunks.{both_empty}
 use Rattle.ftp_pair_drives.specs.Touches.{Touch, touch_in}
 use Rattle.ftp_pair_drives.proofs.Simulating.{reported_is}
 use Rattle.ftp_pair_drives.proofs.Taken.{reports_is, taken}
-use Rattle.ftp_pair_data.specs.Unaborted.{is_unaborted}
 use Rattle.ftp_pair_data.proofs.Served.{rests}
 use Rattle.ftp_pair_deeds.proofs.Holding.{is_called}
-use Rattle.ftp_pair_deeds.proofs.NearForms.{dialled_standing, dialling_of, is_unaborted_same, receives_standing, starts_standing}
+use Rattle.ftp_pair_deeds.proofs.NearForms.{dialled_standing, dialling_of, receives_standing, starts_standing}
 use Rattle.ftp_pair_deeds.proofs.Stands.{ClientFetches as ClientRests, ServerServes, wants_port}
 use Rattle.ftp_pair_transfers.specs.Ahead.{Ahead}
 use Rattle.ftp_pair_transfers.specs.Deeds.{AreMoments, begun_at, number_in}
-use Rattle.ftp_pair_transfers.proofs.Beside.{Goes, Together, is_taking}
+use Rattle.ftp_pair_transfers.proofs.Beside.{Goes, Together, is_taking, open_takes}
+use Rattle.ftp_pair_transfers.proofs.Called.{BreaksNone}
 use Rattle.ftp_pair_transfers.proofs.ClientDials.{client_dials}
 use Rattle.ftp_pair_transfers.proofs.ClientGiving.{client_gave, gave_sound}
 use Rattle.ftp_pair_transfers.proofs.ClientHears.{client_heard}
 use Rattle.ftp_pair_transfers.proofs.ClientMoves.{client_begins, client_said}
-use Rattle.ftp_pair_transfers.proofs.ClientStays.{client_closed, client_ends, client_got, client_lets, client_read, client_reports, client_shuts, client_waited, client_wrote}
+use Rattle.ftp_pair_transfers.proofs.ClientStays.{client_closed, client_ends, client_fails, client_got, client_lets, client_read, client_reports, client_resets, client_shuts, client_waited, client_wrote}
 use Rattle.ftp_pair_transfers.proofs.ClientTaking.{client_received}
 use Rattle.ftp_pair_transfers.proofs.ClientTold.{client_told_end}
 use Rattle.ftp_pair_transfers.proofs.Known.{AreCarried, Known, is_near_held}
@@ -46,16 +46,13 @@ use Rattle.ftp_pair_transfers.proofs.Simulating.{orders_after}
 use Rattle.ftp_pair_active.specs.Deeds.{ClientTransfers}
 use Rattle.ftp_pair_active.specs.Lead.{Even, Joined, Lead, Told}
 use Rattle.ftp_pair_active.proofs.Beginning.{begins_tells}
-use Rattle.ftp_pair_active.proofs.Calls.{carried_too}
 use Rattle.ftp_pair_active.proofs.JoinedDeeds.{is_patient, joined_accepts, joined_busy, joined_heard, joined_never, joined_said, joined_stays, joined_taken}
 use Rattle.ftp_pair_active.proofs.Leading.{led_between, led_client, led_told}
 use Rattle.ftp_pair_active.proofs.Leads.{LedSo, near_uncalled}
 use Rattle.ftp_pair_active.proofs.LedDeeds.{GoesLed, StaysBare, is_asking_port, left_bare, none_bare, none_comes, none_unsent, none_untold, same_bare, told_busy, told_listens, told_never, told_ported, told_said, told_stays, told_taken, told_wants}
 use Rattle.ftp_pair_active.proofs.Portless.{dialled_portless, ended_portless, gives_portless, listens_wants, receives_portless}
-use Rattle.ftp_pair_active.proofs.Ports.{Ports, accepting_of, is_ported, world_ports}
+use Rattle.ftp_pair_active.proofs.Ports.{accepting_of, is_ported, world_awaits}
 use Rattle.ftp_pair_active.proofs.Telling.{Tells, heard_tells}
-use Rattle.ftp_pair_active.proofs.Whole.{IsWholly, whole_unaborted}
-use Rattle.ftp_pair_active.proofs.Stands.{ClientFetches, rests_of}
 
 -- so many ports were told then
 abbrev pub told_by : Deed client_side → ℕ → ℕ
@@ -83,8 +80,8 @@ sent_none between octets none =
 
 module _ (read : Reading) (reads : IsReading read) (from : State) (moments : ℕ → ℕ) (timed : AreMoments moments) (deeds : List (Deed client_side))
     (puts : AreCarried (begun_at moments deeds)) (server : Stand server_side) (old new : Stand client_side) (reports : List Said) (w : World)
-    (serves : ServerServes server.owner) (runs : OverRuns read from (begun_at moments deeds) w) (whole : IsWholly new.owner.end.view)
-    (was_whole : IsWholly old.owner.end.view) (last : ℕ) (ahead : Ahead) (p q : Between) (told : ℕ) where
+    (serves : ServerServes server.owner) (runs : OverRuns read from (begun_at moments deeds) w) (run : old.owner.end.view.run ≡ None) (last : ℕ) (ahead : Ahead)
+    (p q : Between) (told : ℕ) where
   abbrev begun : List Order
   begun = begun_at moments deeds
 
@@ -103,21 +100,17 @@ module _ (read : Reading) (reads : IsReading read) (from : State) (moments : ℕ
   Went deed = GoesLed read (begun_by (moments (number_in deeds)) deed) (orders_after (moments (number_in deeds)) deed begun) q (told_by deed told) server new
       (reports ++ reported_by deed) w
 
-  after : is_unaborted u.job ≡ true
-  after = whole_unaborted u whole
-
-  known_of : (lead : Lead) (more : List ℕ) → At lead more → ClientFetches (led_client lead old).owner → Known w
+  known_of : (lead : Lead) (more : List ℕ) → At lead more → ClientRests (led_client lead old).owner → Known w
   known_of lead more t asks =
       world_known read reads from begun puts w runs t.beside.control t.beside.unready
 
-  ports_of : (lead : Lead) (more : List ℕ) → At lead more → ClientFetches (led_client lead old).owner → Ports w
-  ports_of lead more t asks =
-      world_ports read reads from begun puts w runs t.beside.control t.beside.unready
-      (ap (λ (n : Near). is_unaborted n.job) t.beside.near ∙ is_unaborted_same (led_client lead old).owner.end.view ∙ asks.unaborted)
+  -- one that is at its port has no link
+  awaits_of : (lead : Lead) (more : List ℕ) → At lead more → is_ported w.near.connection ≡ true → w.link ≡ Gone
+  awaits_of lead more t ported = world_awaits read reads from begun puts w runs t.beside.control t.beside.unready ported
 
   -- ---- none is ahead
 
-  module _ (t : At Even []) (asks : ClientFetches old.owner) (so : is_called p.near ≡ false) where
+  module _ (t : At Even []) (asks : ClientRests old.owner) (so : is_called p.near ≡ false) where
     known : Known w
     known = known_of Even [] t asks
 
@@ -145,15 +138,15 @@ module _ (read : Reading) (reads : IsReading read) (from : State) (moments : ℕ
     hears_even octets is same did false portless =
         even [] begun (reports ++ [])
         (subst (λ (m : Between). Goes read [] begun m told server new (reports ++ []) w) (sym same)
-        (client_heard read begun server old new reports w is.1 serves (rests_of asks) portless known reads from puts runs octets last ahead p told t did).0)
-        (rests_now (client_heard read begun server old new reports w is.1 serves (rests_of asks) portless known reads from puts runs octets last ahead p told t
+        (client_heard read begun server old new reports w is.1 serves asks portless known reads from puts runs octets last ahead p told t did).0)
+        (rests_now (client_heard read begun server old new reports w is.1 serves asks portless known reads from puts runs octets last ahead p told t
         did).1
         portless)
         (touch_in {end = client_machine} (Heard octets)) same
     hears_even [] is same did true wants =
         absurd (true≢false (sym wants ∙ ap (λ (n : Near). wants_port n.connection) ((did.hears.0.0.0 is.1).0) ∙ asks.dials))
     hears_even (octet ∷ octets) is same did true wants =
-        told_then (heard_tells read reads begun server old new reports w is.1 serves asks known from puts runs octet octets last ahead p told t did so after
+        told_then (heard_tells read reads begun server old new reports w is.1 serves asks known from puts runs octet octets last ahead p told t did so
         wants) same
 
     -- an operation begins
@@ -163,41 +156,41 @@ module _ (read : Reading) (reads : IsReading read) (from : State) (moments : ℕ
         let at : ℕ = moments (number_in deeds) in
         even (Single op at ∷ []) (begun ++ Single op at ∷ []) (reports ++ [])
         (subst (λ (m : Between). Goes read (Single op at ∷ []) (begun ++ Single op at ∷ []) m told server new (reports ++ []) w) (sym same)
-        (client_begins read reads begun server old new reports w is.1 serves (rests_of asks)
+        (client_begins read reads begun server old new reports w is.1 serves asks
         (rests_now (ap (λ (n : Near). is_sound n.standing) (did.0.0.1.0.0 is.1) ∙ ap is_sound (starts_standing op v) ∙ asks.sound) portless) known op
-        (carried_too op is.0.0) at (timed (number_in deeds)) last ahead p told t is.0.1 did))
+        is.0.0 at (timed (number_in deeds)) last ahead p told t is.0.1 did))
         (rests_now (ap (λ (n : Near). is_sound n.standing) (did.0.0.1.0.0 is.1) ∙ ap is_sound (starts_standing op v) ∙ asks.sound) portless)
         (touch_in {end = client_machine} (Other (Aside (Starting op)))) same
     begins_even op is same did true wants =
-        told_then (begins_tells read reads begun server old new reports w is.1 serves asks known from puts runs op (carried_too op is.0.0)
+        told_then (begins_tells read reads begun server old new reports w is.1 serves asks known from puts runs op is.0.0
         (moments (number_in deeds)) (timed (number_in deeds)) last ahead p told t is.0.1 did so wants) same
 
     -- who accepts at a port has no link
     never : near.wants v ≡ Want.Accept → is_near_held w.link ≡ false
     never wants =
         let has = accepting_of v wants in
-        let ports : Ports w = ports_of Even [] t asks in
         let is : w.near ≡ data_closed (taken v) = t.beside.near in
-        ap is_near_held (ports.awaits (ap (λ (n : Near). is_ported n.connection) is ∙ has.0))
+        ap is_near_held (awaits_of Even [] t (ap (λ (n : Near). is_ported n.connection) is ∙ has.0))
 
-    even_goes : (deed : Deed client_side) → ClientTransfers deed old.owner new.owner → CanTurn (Client deed) p q → Done deed old new → Went deed
-    even_goes (Heard octets) is can did = hears_even octets is can did (wants_port u.connection) refl
-    even_goes (Says octets) is can did =
+    even_goes : (deed : Deed client_side) → BreaksNone deed → ClientTransfers deed old.owner new.owner → CanTurn (Client deed) p q → Done deed old new
+        → Went deed
+    even_goes (Heard octets) unbroken is can did = hears_even octets is can did (wants_port u.connection) refl
+    even_goes (Says octets) unbroken is can did =
         even [] begun (reports ++ [])
-        (client_said read reads begun server old new reports w is.1 serves (rests_of asks)
+        (client_said read reads begun server old new reports w is.1 serves asks
         (rests_now (ap (λ (n : Near). is_sound n.standing) did.gives.gave.0 ∙ asks.sound)
         (ap (λ (n : Near). wants_port n.connection) did.gives.gave.0 ∙ asks.dials))
         known octets last ahead p q told t did can)
         (rests_now (ap (λ (n : Near). is_sound n.standing) did.gives.gave.0 ∙ asks.sound)
         (ap (λ (n : Near). wants_port n.connection) did.gives.gave.0 ∙ asks.dials))
         (touch_in {end = client_machine} (Says octets)) can
-    even_goes (Read octets) is can did =
+    even_goes (Read octets) unbroken is can did =
         even [] begun (reports ++ [])
         (client_read read begun server old new reports w is.1 known octets last ahead p q told t did can.0 (ap (λ (m : Between). m.control.to_server) can.1)
         (ap (λ (m : Between). m.data_ways) can.1) (ap (λ (m : Between). m.far) can.1) (ap (λ (m : Between). m.near) can.1))
         (same_rests (ap (λ o. o.end.view) did.owner))
         (touch_in {end = client_machine} (Read octets)) can
-    even_goes (Other (Aside (Reporting said))) is can did =
+    even_goes (Other (Aside (Reporting said))) unbroken is can did =
         even [] begun (reports ++ reported_by (Other (Aside (Reporting said))))
         (subst (λ (l : List Said). Goes read [] begun q told server new (reports ++ l) w) (sym (reported_is said))
         (subst (λ (m : Between). Goes read [] begun m told server new (reports ++ option_to_list said) w) (sym can)
@@ -205,95 +198,107 @@ module _ (read : Reading) (reads : IsReading read) (from : State) (moments : ℕ
         (rests_now (ap (λ (n : Near). is_sound n.standing) (did.0.0.1.0 ∙ reports_is v) ∙ asks.sound)
         (ap (λ (n : Near). wants_port n.connection) (did.0.0.1.0 ∙ reports_is v) ∙ asks.dials))
         (touch_in {end = client_machine} (Other (Aside (Reporting said)))) can
-    even_goes (Other (Aside (Starting op))) is can did = begins_even op is can did (wants_port u.connection) refl
-    even_goes (Other (Listening port)) is can did = absurd (true≢false (sym (listens_wants v did.0.2.0).0 ∙ asks.dials))
-    even_goes (Other (Opened host (Came from left written ∷ []) at_first so_far rest)) is can did =
+    even_goes (Other (Aside (Starting op))) unbroken is can did = begins_even op is can did (wants_port u.connection) refl
+    even_goes (Other (Listening port)) unbroken is can did = absurd (true≢false (sym (listens_wants v did.0.2.0).0 ∙ asks.dials))
+    even_goes (Other (Opened host (Came from left written ∷ []) at_first so_far rest)) unbroken is can did =
         absurd (true≢false (sym (ap is_called can.0) ∙ so))
-    even_goes (Other (Opened host (Connected endpoint left written ∷ []) at_first so_far rest)) is can did =
+    even_goes (Other (Opened host (Connected endpoint left written ∷ []) at_first so_far rest)) unbroken is can did =
         let dials = dialling_of endpoint v did.0.2.0 in
         let view = did.0.0.0.0.0 is.1 in
         even [] begun (reports ++ [])
-        (client_dials read begun server old new reports w is.1 serves (rests_of asks)
+        (client_dials read begun server old new reports w is.1 serves asks
         (rests_now (ap (λ (n : Near). is_sound n.standing) view ∙ ap is_sound (dialled_standing endpoint host v dials) ∙ asks.sound)
         (ap (λ (n : Near). wants_port n.connection) view ∙ dialled_portless endpoint host v dials))
         known host endpoint left written at_first so_far rest last p q told did can ahead t)
         (rests_now (ap (λ (n : Near). is_sound n.standing) view ∙ ap is_sound (dialled_standing endpoint host v dials) ∙ asks.sound)
         (ap (λ (n : Near). wants_port n.connection) view ∙ dialled_portless endpoint host v dials))
         (touch_in {end = client_machine} (Other (Opened host (Connected endpoint left written ∷ []) at_first so_far rest))) can
-    even_goes (Other (Gave count octets rest)) is can did =
+    even_goes (Other (Gave count octets rest)) unbroken is can did =
         even [] begun (reports ++ [])
         (subst (λ (m : Between). Goes read [] begun m told server new (reports ++ []) w) (sym can)
-        (client_gave read begun server old new reports w is.1 serves (rests_of asks) known count octets rest last ahead p told did t))
-        (rests_now (gave_sound read begun server old new reports w is.1 serves (rests_of asks) known count octets rest last ahead p told did t)
-        (ap (λ (n : Near). wants_port n.connection) (did.0.0.1.0.0 is.1) ∙ gives_portless count v was_whole.run asks.dials))
+        (client_gave read begun server old new reports w is.1 serves asks known count octets rest last ahead p told did t))
+        (rests_now (gave_sound read begun server old new reports w is.1 serves asks known count octets rest last ahead p told did t)
+        (ap (λ (n : Near). wants_port n.connection) (did.0.0.1.0.0 is.1) ∙ gives_portless count v run asks.dials))
         (touch_in {end = client_machine} (Other (Gave count octets rest))) can
-    even_goes (Other (Wrote octets)) is can did =
+    even_goes (Other (Wrote octets)) unbroken is can did =
         even [] begun (reports ++ []) (client_wrote read begun server old new reports w is.1 known octets last ahead p q told t did can)
         (same_rests (ap (λ c. c.view) did.0.0))
         (touch_in {end = client_machine} (Other (Wrote octets))) can
-    even_goes (Other (Got octets)) is can did =
+    even_goes (Other (Got octets)) unbroken is can did =
         even [] begun (reports ++ []) (client_got read begun server old new reports w is.1 known octets last ahead p q told t did can)
         (same_rests (ap (λ c. c.view) did.0.0))
         (touch_in {end = client_machine} (Other (Got octets))) can
-    even_goes (Other (Received octets count)) is can did =
+    even_goes (Other (Received octets count)) unbroken is can did =
         let view = (did.0.0.0.0 is.1).0 in
         even [] begun (reports ++ [])
         (subst (λ (m : Between). Goes read [] begun m told server new (reports ++ []) w) (sym can)
-        (client_received read begun server old new reports w is.1 serves (rests_of asks)
+        (client_received read begun server old new reports w is.1 serves asks
         (rests_now (ap (λ (n : Near). is_sound n.standing) view ∙ ap is_sound (receives_standing (take count octets) v) ∙ asks.sound)
         (ap (λ (n : Near). wants_port n.connection) view ∙ receives_portless (take count octets) v asks.dials))
         known octets count last ahead p told t did))
         (rests_now (ap (λ (n : Near). is_sound n.standing) view ∙ ap is_sound (receives_standing (take count octets) v) ∙ asks.sound)
         (ap (λ (n : Near). wants_port n.connection) view ∙ receives_portless (take count octets) v asks.dials))
         (touch_in {end = client_machine} (Other (Received octets count))) can
-    even_goes (Other End) is can did =
+    even_goes (Other End) unbroken is can did =
         let view = did.0.0.0.0 is.1 in
         even [] begun (reports ++ [])
-        (client_told_end read begun server old new reports w is.1 serves (rests_of asks)
-        (ap (λ (n : Near). wants_port n.connection) view ∙ ended_portless v was_whole.run asks.dials) known last ahead p q told t did can reads from puts
+        (client_told_end read begun server old new reports w is.1 serves asks
+        (ap (λ (n : Near). wants_port n.connection) view ∙ ended_portless v run asks.dials) known last ahead p q told t did can reads from puts
         runs).0
-        (rests_now (client_told_end read begun server old new reports w is.1 serves (rests_of asks)
-        (ap (λ (n : Near). wants_port n.connection) view ∙ ended_portless v was_whole.run asks.dials) known last ahead p q told t did can reads from puts
+        (rests_now (client_told_end read begun server old new reports w is.1 serves asks
+        (ap (λ (n : Near). wants_port n.connection) view ∙ ended_portless v run asks.dials) known last ahead p q told t did can reads from puts
         runs).1
-        (ap (λ (n : Near). wants_port n.connection) view ∙ ended_portless v was_whole.run asks.dials))
+        (ap (λ (n : Near). wants_port n.connection) view ∙ ended_portless v run asks.dials))
         (touch_in {end = client_machine} (Other End)) can
-    even_goes (Other (Waited lost)) is can did =
+    even_goes (Other (Waited lost)) unbroken is can did =
         even [] begun (reports ++ [])
         (subst (λ (m : Between). Goes read [] begun m told server new (reports ++ []) w) (sym can)
         (client_waited read begun server old new reports w is.1 known lost last ahead p told t did))
         (same_rests (ap (λ c. c.view) did.0.0))
         (touch_in {end = client_machine} (Other (Waited lost))) can
-    even_goes (Other (LetGo octets)) is can did =
+    even_goes (Other (LetGo octets)) unbroken is can did =
         even [] begun (reports ++ [])
         (subst (λ (m : Between). Goes read [] begun m told server new (reports ++ []) w) (sym can)
         (client_lets read begun server old new reports w is.1 known octets last ahead p told t did))
         (same_rests (ap (λ c. c.view) did.0.0.0))
         (touch_in {end = client_machine} (Other (LetGo octets))) can
-    even_goes (Other (Left (EndedBy left written))) is can did =
+    even_goes (Other (Left (EndedBy left written))) unbroken is can did =
         even [] begun (reports ++ [])
-        (client_ends read begun server old new reports w is.1 known (rests_of asks) never left written last ahead p q told t did can)
+        (client_ends read begun server old new reports w is.1 known asks never left written last ahead p q told t did can)
         (same_rests (ap (λ c. c.view) did.0.0))
         (touch_in {end = client_machine} (Other (Left (EndedBy left written)))) can
-    even_goes (Other (Left Shut)) is can did =
+    even_goes (Other (Left Shut)) unbroken is can did =
         even [] begun (reports ++ [])
         (subst (λ (m : Between). Goes read [] begun m told server new (reports ++ []) w) (sym can)
         (client_shuts read begun server old new reports w is.1 known last ahead p told t did))
         (same_rests (ap (λ c. c.view) did.0.0))
         (touch_in {end = client_machine} (Other (Left Shut))) can
-    even_goes (Other Closed) is can did =
+    even_goes (Other Closed) unbroken is can did =
         even [] begun (reports ++ [])
         (subst (λ (m : Between). Goes read [] begun m told server new (reports ++ []) w) (sym can)
         (client_closed read begun server old new reports w is.1 known last ahead p told t did))
         (rests_now (ap (λ (n : Near). is_sound n.standing) did.0.0.0 ∙ asks.sound) (ap (λ (n : Near). wants_port n.connection) did.0.0.0 ∙ asks.dials))
         (touch_in {end = client_machine} (Other Closed)) can
-    even_goes deed is can did = absurd is.0
+    even_goes (Other HasFailed) unbroken is can did =
+        even [] begun (reports ++ [])
+        (subst (λ (m : Between). Goes read [] begun m told server new (reports ++ []) w) (sym can)
+        (client_fails read begun server old new reports w is.1 known last ahead p told t did))
+        (same_rests (ap (λ c. c.view) did.0.0))
+        (touch_in {end = client_machine} (Other HasFailed)) can
+    even_goes (Other (Left (Reset left written))) unbroken is can did =
+        even [] begun (reports ++ [])
+        (client_resets read begun server old new reports w is.1 known asks never left written last ahead p q told t did is.0.1 can)
+        (same_rests (ap (λ c. c.view) did.0.0))
+        (touch_in {end = client_machine} (Other (Left (Reset left written)))) can
+    even_goes (Other Break) unbroken is can did = absurd unbroken
+    even_goes deed unbroken is can did = absurd is.0
 
   -- ---- it is to be told a port
 
   module _ (port : ℕ) (more : List ℕ) (so : LedSo (Told port) more p told server old) (t : At (Told port) more)
-      (asks : ClientFetches (led_client (Told port) old).owner) where
+      (asks : ClientRests (led_client (Told port) old).owner) where
     gone : w.link ≡ Gone
-    gone = (ports_of (Told port) more t asks).awaits (ap (λ (n : Near). is_ported n.connection) t.beside.near ∙ told_ported port so.0.op v so.0.view)
+    gone = awaits_of (Told port) more t (ap (λ (n : Near). is_ported n.connection) t.beside.near ∙ told_ported port so.0.op v so.0.view)
 
     known_told : Known w
     known_told = known_of (Told port) more t asks
@@ -332,42 +337,44 @@ module _ (read : Reading) (reads : IsReading read) (from : State) (moments : ℕ
         stays_told is unheard (ap (λ (b : Between). b.control.to_client) between ∙ comes.1) (ap (λ (b : Between). b.control.to_server) between)
         (ap (λ (b : Between). b.data_ways) between) (ap (λ (b : Between). b.far) between) (ap (λ (b : Between). is_called b.near) between ∙ so.0.called) bare
 
-    told_goes : (deed : Deed client_side) → ClientTransfers deed old.owner new.owner → IsNext deed told → CanTurn (Client deed) p q → Done deed old new
+    told_goes : (deed : Deed client_side) → BreaksNone deed → ClientTransfers deed old.owner new.owner → IsNext deed told → CanTurn (Client deed) p q
+        → Done deed old new
         → Went deed
-    told_goes (Heard octets) is next can did =
+    told_goes (Heard octets) unbroken is next can did =
         let none = both_empty octets new.unheard (sym did.next ∙ comes.0) in
         idles_told (ap data_closed ((did.hears.0.0.0 is.1).0 ∙ ap (λ o. near.hears v (take (length o) old.unheard)) none.0)) none.1 can
         (same _ did.hears.1 refl refl refl refl)
-    told_goes (Says octets) is next can did =
+    told_goes (Says octets) unbroken is next can did =
         let none : octets ≡ [] = did.gives.owed ∙ take_none did.gives.count v.owed so.0.owed in
         idles_told (ap data_closed did.gives.gave.0 ∙ ap (λ o. data_closed (record v { owed = o })) (drop_none did.gives.count v.owed so.0.owed))
         (did.unheard ∙ comes.0) (can ∙ sent_none p octets none) (same _ did.gives.lane refl refl refl refl)
-    told_goes (Read octets) is next can did =
+    told_goes (Read octets) unbroken is next can did =
         let none = both_empty octets q.control.to_client (sym can.0 ∙ comes.1) in
         stays_told (ap (λ o. data_closed o.end.view) did.owner) (did.unheard ∙ none.0) none.1 (ap (λ (b : Between). b.control.to_server) can.1)
         (ap (λ (b : Between). b.data_ways) can.1) (ap (λ (b : Between). b.far) can.1) (ap (λ (b : Between). is_called b.near) can.1 ∙ so.0.called)
         (same _ (ap (λ o. o.lane) did.owner) refl refl refl refl)
-    told_goes (Other (Aside (Reporting said))) is next can did =
+    told_goes (Other (Aside (Reporting said))) unbroken is next can did =
         let none : said ≡ None = did.0.0.0 ∙ told_said read begun server old new reports w port more p q told so last ahead t gone known_told in
         subst (λ s. GoesLed read [] begun q told server new (reports ++ reported_by (Other (Aside (Reporting s)))) w) (sym none)
         (idles_told (ap data_closed (did.0.0.1.0 ∙ reports_is v)
         ∙ told_taken read begun server old new reports w port more p q told so last ahead t gone known_told)
         (ap (λ (s : Stand client_side). s.unheard) did.1 ∙ comes.0) can (same _ did.0.1 refl refl refl refl))
-    told_goes (Other (Aside (Starting op))) is next can did =
+    told_goes (Other (Aside (Starting op))) unbroken is next can did =
         absurd (true≢false (sym (told_busy read begun server old new reports w port more p q told so last ahead t gone known_told) ∙ did.0.0.0))
-    told_goes (Other (Listening given)) is next can did =
+    told_goes (Other (Listening given)) unbroken is next can did =
         let wants = listens_wants v did.0.2.0 in
         subst (λ l. GoesLed read [] begun q (next_listen told) server new l w) (sym (append-nil reports))
         (told_listens read begun server old new reports w port more p q told so last ahead t gone known_told given did is.1 can next wants.1)
-    told_goes (Other (Opened host (Came from left written ∷ []) at_first so_far rest)) is next can did = no Want.Accept did.0.2.0 refl
-    told_goes (Other (Opened host (Connected endpoint left written ∷ []) at_first so_far rest)) is next can did = no (Want.Connect endpoint) did.0.2.0 refl
-    told_goes (Other (Gave count octets rest)) is next can did = no Want.Send did.0.2 refl
-    told_goes (Other (Wrote octets)) is next can did =
+    told_goes (Other (Opened host (Came from left written ∷ []) at_first so_far rest)) unbroken is next can did = no Want.Accept did.0.2.0 refl
+    told_goes (Other (Opened host (Connected endpoint left written ∷ []) at_first so_far rest)) unbroken is next can did =
+        no (Want.Connect endpoint) did.0.2.0 refl
+    told_goes (Other (Gave count octets rest)) unbroken is next can did = no Want.Send did.0.2 refl
+    told_goes (Other (Wrote octets)) unbroken is next can did =
         absurd (omega (arith, ap length unsent, did.0.1.some))
-    told_goes (Other (Got octets)) is next can did = no Want.Receive did.0.2 refl
-    told_goes (Other (Received octets count)) is next can did = no Want.Receive did.0.2.1 refl
-    told_goes (Other End) is next can did = no Want.Receive did.0.2 refl
-    told_goes (Other (Waited lost)) is next can did = absurd (true≢false (sym did.0.2 ∙ asking_waits))
+    told_goes (Other (Got octets)) unbroken is next can did = no Want.Receive did.0.2 refl
+    told_goes (Other (Received octets count)) unbroken is next can did = no Want.Receive did.0.2.1 refl
+    told_goes (Other End) unbroken is next can did = no Want.Receive did.0.2 refl
+    told_goes (Other (Waited lost)) unbroken is next can did = absurd (true≢false (sym did.0.2 ∙ asking_waits))
       where
         -- one that is to be told a port waits for nothing
         asking_waits : awaits (near.wants v) ≡ false
@@ -383,7 +390,7 @@ module _ (read : Reading) (reads : IsReading read) (from : State) (moments : ℕ
             by Want.Receive e = absurd (true≢false (sym e))
             by Want.Send e = absurd (true≢false (sym e))
             by Want.CloseAll e = absurd (true≢false (sym e))
-    told_goes (Other (LetGo octets)) is next can did =
+    told_goes (Other (LetGo octets)) unbroken is next can did =
         idles_told (ap (λ c. data_closed c.view) did.0.0.0) (ap (λ (s : Stand client_side). s.unheard) did.1 ∙ comes.0) can
         (record {
           taking = λ e. ap is_taking (sym did.0.1.1) ∙ e;
@@ -394,17 +401,32 @@ module _ (read : Reading) (reads : IsReading read) (from : State) (moments : ℕ
               (ap (λ (l : Lane). l.stands) (sym did.0.1.1) ∙ e))).1;
           unwritten = ap (λ (l : Lane). l.unwritten) did.0.1.1 ∙ unsent;
         })
-    told_goes (Other (Left (EndedBy left written))) is next can did =
+    told_goes (Other (Left (EndedBy left written))) unbroken is next can did =
         stays_told (ap (λ c. data_closed c.view) did.0.0) (ap (λ (s : Stand client_side). s.unheard) did.1 ∙ comes.0)
         (ap (λ (b : Between). b.control.to_client) can.1 ∙ comes.1) (ap (λ (b : Between). b.control.to_server) can.1) (ap (λ (b : Between). b.data_ways) can.1)
         (ap (λ (b : Between). b.far) can.1) (ap (λ (b : Between). is_called b.near) can.1) (gone_bare did.0.1.stands did.0.1.untold did.0.1.unwritten)
-    told_goes (Other (Left Shut)) is next can did =
+    told_goes (Other (Left Shut)) unbroken is next can did =
         idles_told (ap (λ c. data_closed c.view) did.0.0) (ap (λ (s : Stand client_side). s.unheard) did.1 ∙ comes.0) can
         (gone_bare did.0.1.stands did.0.1.untold did.0.1.unwritten)
-    told_goes (Other Closed) is next can did =
+    told_goes (Other Closed) unbroken is next can did =
         idles_told (ap data_closed did.0.0.0) (ap (λ (s : Stand client_side). s.unheard) did.1 ∙ comes.0) can
         (same _ did.0.1.0 refl refl refl refl)
-    told_goes deed is next can did = absurd is.0
+    told_goes (Other HasFailed) unbroken is next can did =
+        idles_told (ap (λ c. data_closed c.view) did.0.0) (ap (λ (s : Stand client_side). s.unheard) did.1 ∙ comes.0) can
+        (record {
+          taking = λ e. open_takes old.owner.lane did.0.1.1;
+          untold = λ e. ap (λ (l : Lane). l.untold) did.0.1.0
+              ∙ none_untold read begun server old new reports w port more p q told so last ahead t gone known_told e;
+          bare = λ e. ap (λ (l : Lane). l.untold) did.0.1.0 ∙ none_bare read begun server old new reports w port more p q told so last ahead t gone known_told
+              (ap (λ (l : Lane). l.stands) (sym did.0.1.0) ∙ e);
+          unwritten = ap (λ (l : Lane). l.unwritten) did.0.1.0 ∙ unsent;
+        })
+    told_goes (Other (Left (Reset left written))) unbroken is next can did =
+        stays_told (ap (λ c. data_closed c.view) did.0.0) (ap (λ (s : Stand client_side). s.unheard) did.1 ∙ comes.0)
+        (ap (λ (b : Between). b.control.to_client) can.1 ∙ comes.1) (ap (λ (b : Between). b.control.to_server) can.1) (ap (λ (b : Between). b.data_ways) can.1)
+        (ap (λ (b : Between). b.far) can.1) (ap (λ (b : Between). is_called b.near) can.1) (gone_bare did.0.1.stands did.0.1.untold did.0.1.unwritten)
+    told_goes (Other Break) unbroken is next can did = absurd unbroken
+    told_goes deed unbroken is next can did = absurd is.0
 
   -- ---- it was dialled
 
@@ -429,47 +451,57 @@ module _ (read : Reading) (reads : IsReading read) (from : State) (moments : ℕ
     unheld : {A : Type 0} → p.near ≡ Has → A
     unheld has = absurd (true≢false (sym (ap is_called so.0.called) ∙ ap is_called has))
 
-    joined_goes : (deed : Deed client_side) → ClientTransfers deed old.owner new.owner → CanTurn (Client deed) p q → Done deed old new → Went deed
-    joined_goes (Heard heard) is can did =
+    joined_goes : (deed : Deed client_side) → BreaksNone deed → ClientTransfers deed old.owner new.owner → CanTurn (Client deed) p q → Done deed old new
+        → Went deed
+    joined_goes (Heard heard) unbroken is can did =
         subst (λ l. GoesLed read [] begun q told server new l w) (sym (append-nil reports))
         (joined_heard read begun server old new reports w octets more p q told so last ahead t reads from puts serves runs is.1 heard did can)
-    joined_goes (Says said) is can did =
+    joined_goes (Says said) unbroken is can did =
         let none_said : said ≡ [] = did.gives.owed ∙ take_none did.gives.count v.owed so.0.owed in
         idles_joined (ap data_closed did.gives.gave.0 ∙ ap (λ o. data_closed (record v { owed = o })) (drop_none did.gives.count v.owed so.0.owed)) did.unheard
         (can ∙ sent_none p said none_said)
-    joined_goes (Read octets) is can did =
+    joined_goes (Read octets) unbroken is can did =
         stays_joined (ap (λ o. data_closed o.end.view) did.owner)
         (ap (λ a. a ++ q.control.to_client) did.unheard ∙ sym can.0 ∙ ap (λ a. a ++ p.control.to_client) (sym did.heard))
         (ap (λ (b : Between). b.control.to_server) can.1) (ap (λ (b : Between). b.data_ways) can.1) (ap (λ (b : Between). b.far) can.1)
         (ap (λ (b : Between). b.near) can.1)
-    joined_goes (Other (Aside (Reporting said))) is can did =
+    joined_goes (Other (Aside (Reporting said))) unbroken is can did =
         let none_said : said ≡ None = did.0.0.0 ∙ joined_said read begun server old new reports w octets more p q told so last ahead t in
         subst (λ s. GoesLed read [] begun q told server new (reports ++ reported_by (Other (Aside (Reporting s)))) w) (sym none_said)
         (idles_joined (ap data_closed (did.0.0.1.0 ∙ reports_is v ∙ joined_taken read begun server old new reports w octets more p q told so last ahead t))
         (ap (λ (s : Stand client_side). s.unheard) did.1) can)
-    joined_goes (Other (Aside (Starting op))) is can did =
+    joined_goes (Other (Aside (Starting op))) unbroken is can did =
         absurd (true≢false (sym (joined_busy read begun server old new reports w octets more p q told so last ahead t) ∙ did.0.0.0))
-    joined_goes (Other (Listening port)) is can did = none Want.Listen did.0.2.0 refl
-    joined_goes (Other (Opened host (Came other left written ∷ []) at_first so_far rest)) is can did =
+    joined_goes (Other (Listening port)) unbroken is can did = none Want.Listen did.0.2.0 refl
+    joined_goes (Other (Opened host (Came other left written ∷ []) at_first so_far rest)) unbroken is can did =
         subst (λ l. GoesLed read [] begun q told server new l w) (sym (append-nil reports))
         (joined_accepts read begun server old new reports w octets more p q told so last ahead t host other left written at_first so_far rest is.1 did can is.0)
-    joined_goes (Other (Opened host (Connected endpoint left written ∷ []) at_first so_far rest)) is can did = none (Want.Connect endpoint) did.0.2.0 refl
-    joined_goes (Other (Gave count given rest)) is can did = none Want.Send did.0.2 refl
-    joined_goes (Other (Wrote wrote)) is can did = unheld can.0
-    joined_goes (Other (Got got)) is can did = none Want.Receive did.0.2 refl
-    joined_goes (Other (Received received count)) is can did = none Want.Receive did.0.2.1 refl
-    joined_goes (Other End) is can did = none Want.Receive did.0.2 refl
-    joined_goes (Other (Waited lost)) is can did = idles_joined (ap (λ c. data_closed c.view) did.0.0) (ap (λ (s : Stand client_side). s.unheard) did.1) can
-    joined_goes (Other (LetGo let_go)) is can did = idles_joined (ap (λ c. data_closed c.view) did.0.0.0) (ap (λ (s : Stand client_side). s.unheard) did.1) can
-    joined_goes (Other (Left (EndedBy left written))) is can did = unheld can.0
-    joined_goes (Other (Left Shut)) is can did = idles_joined (ap (λ c. data_closed c.view) did.0.0) (ap (λ (s : Stand client_side). s.unheard) did.1) can
-    joined_goes (Other Closed) is can did = idles_joined (ap data_closed did.0.0.0) (ap (λ (s : Stand client_side). s.unheard) did.1) can
-    joined_goes deed is can did = absurd is.0
+    joined_goes (Other (Opened host (Connected endpoint left written ∷ []) at_first so_far rest)) unbroken is can did =
+        none (Want.Connect endpoint) did.0.2.0 refl
+    joined_goes (Other (Gave count given rest)) unbroken is can did = none Want.Send did.0.2 refl
+    joined_goes (Other (Wrote wrote)) unbroken is can did = unheld can.0
+    joined_goes (Other (Got got)) unbroken is can did = none Want.Receive did.0.2 refl
+    joined_goes (Other (Received received count)) unbroken is can did = none Want.Receive did.0.2.1 refl
+    joined_goes (Other End) unbroken is can did = none Want.Receive did.0.2 refl
+    joined_goes (Other (Waited lost)) unbroken is can did =
+        idles_joined (ap (λ c. data_closed c.view) did.0.0) (ap (λ (s : Stand client_side). s.unheard) did.1) can
+    joined_goes (Other (LetGo let_go)) unbroken is can did =
+        idles_joined (ap (λ c. data_closed c.view) did.0.0.0) (ap (λ (s : Stand client_side). s.unheard) did.1) can
+    joined_goes (Other (Left (EndedBy left written))) unbroken is can did = unheld can.0
+    joined_goes (Other (Left Shut)) unbroken is can did =
+        idles_joined (ap (λ c. data_closed c.view) did.0.0) (ap (λ (s : Stand client_side). s.unheard) did.1) can
+    joined_goes (Other Closed) unbroken is can did = idles_joined (ap data_closed did.0.0.0) (ap (λ (s : Stand client_side). s.unheard) did.1) can
+    joined_goes (Other HasFailed) unbroken is can did =
+        idles_joined (ap (λ c. data_closed c.view) did.0.0) (ap (λ (s : Stand client_side). s.unheard) did.1) can
+    joined_goes (Other (Left (Reset left written))) unbroken is can did = absurd (subst IsStanding so.0.called can.0)
+    joined_goes (Other Break) unbroken is can did = absurd unbroken
+    joined_goes deed unbroken is can did = absurd is.0
 
   -- ---- whichever lead
 
-  pub client_led : (deed : Deed client_side) → ClientTransfers deed old.owner new.owner → IsNext deed told → CanTurn (Client deed) p q → Done deed old new
-      → (lead : Lead) (more : List ℕ) → LedSo lead more p told server old → At lead more → ClientFetches (led_client lead old).owner → Went deed
-  client_led deed is next can did Even more so t asks = even_goes t asks so.0 deed is can did
-  client_led deed is next can did (Told port) more so t asks = told_goes port more so t asks deed is next can did
-  client_led deed is next can did (Joined octets) more so t asks = joined_goes octets more so t deed is can did
+  pub client_led : (deed : Deed client_side) → BreaksNone deed → ClientTransfers deed old.owner new.owner → IsNext deed told → CanTurn (Client deed) p q
+      → Done deed old new
+      → (lead : Lead) (more : List ℕ) → LedSo lead more p told server old → At lead more → ClientRests (led_client lead old).owner → Went deed
+  client_led deed unbroken is next can did Even more so t asks = even_goes t asks so.0 deed unbroken is can did
+  client_led deed unbroken is next can did (Told port) more so t asks = told_goes port more so t asks deed unbroken is next can did
+  client_led deed unbroken is next can did (Joined octets) more so t asks = joined_goes octets more so t deed unbroken is can did

@@ -1,5 +1,7 @@
 -- What follows of a world that holds what both drives hold: agreement, and the direct run.
-use Rattle.std.proofs.Common.{◌≡◌, ℕ, false, List, [], ◌++◌, length, Option, Some, None, option_to_list, ap, ap₂, subst, ◌∙◌, append_assoc, append-nil}
+use Rattle.std.proofs.Common.{◌≡◌, inl, inr, ℕ, false, List, [], ◌++◌, length, Option, Some, None, option_to_list, sym, ap, ap₂, subst, ◌∙◌, append_assoc, append-nil}
+use Rattle.ftp_control.specs.Deeds.{Stand}
+use Rattle.ftp_client_drive.specs.Side.{client_side}
 use Rattle.ftp_client_model.specs.Calls.{control_end, data_closed, report_of}
 use Rattle.ftp_client_model.specs.View.{View as Near}
 use Rattle.ftp_operation.specs.Answer.{Said}
@@ -13,16 +15,18 @@ use Rattle.ftp_pair_world.specs.World.{Mark}
 use Rattle.ftp_pair_world.proofs.AgreementLemmas.{unmarked_is_direct}
 use Rattle.ftp_pair_agreement.proofs.Theorems.{agrees-always}
 use Rattle.ftp_pair_drives.specs.Alone.{reports_in}
-use Rattle.ftp_pair_drives.specs.Between.{client_deeds}
+use Rattle.ftp_pair_drives.specs.Between.{Between, client_deeds}
 use Rattle.ftp_pair_drives.proofs.Taken.{cut_alike, free_none, taken}
 use Rattle.ftp_pair_drives.proofs.Worlds.{LeadsOn, leads_then}
 use Rattle.ftp_pair_deeds.proofs.Parting.{cut_report, parts}
 use Rattle.ftp_pair_transfers.proofs.Ahead.{keeps}
+use Rattle.ftp_pair_transfers.proofs.Broke.{IsShown}
 use Rattle.ftp_pair_transfers.proofs.Concluding.{in_single}
 use Rattle.ftp_pair_transfers.specs.Deeds.{begun_at}
 use Rattle.ftp_pair_active.specs.Claims.{EitherAgree, EitherAreTheDirectRun, EitherPartingAgree}
 use Rattle.ftp_pair_active.proofs.Parting.{led_cut}
-use Rattle.ftp_pair_active.proofs.Simulating.{either_are_of_worlds, reaches, view_is}
+use Rattle.ftp_pair_active.proofs.Reaching.{either_are_of_worlds, reaches}
+use Rattle.ftp_pair_active.proofs.Simulating.{view_is}
 use Rattle.ftp_pair_active.specs.Deeds.{listened_in}
 use Rattle.ftp_pair_active.specs.Lead.{led_by}
 
@@ -44,17 +48,28 @@ either_agree b fair moments timed turns between server client did =
           (subst (λ (c : Option ℕ). Agrees (state_of b) begun w.marks c w.reports w.far.session.table) s.cutoff agree)),
     )
 
+-- told that the control connection ended, the client that a world sees reports what the drive's would
+shown_cut : (between : Between) (client shown : Stand client_side) → IsShown between client shown
+    → report_of (control_end shown.owner.end.view) ≡ report_of (control_end client.owner.end.view)
+unfolding control_end
+shown_cut between client shown (inl same) = ap (λ (c : Stand client_side). report_of (control_end c.owner.end.view)) same
+shown_cut between client shown (inr broke) =
+    ap (λ (c : Stand client_side). report_of (control_end c.owner.end.view)) broke.1 ∙ ap (λ n. report_of (control_end n)) broke.2.apart.other_is
+    ∙ sym (ap (λ n. report_of (control_end n)) broke.2.apart.one_is)
+
 -- one more event ends the control connection for both
 pub either_parting_agree : EitherPartingAgree
 either_parting_agree b fair moments timed turns between server client did =
     let read = reading_exists.0 in
-    let o = reaches read reading_exists.1 moments timed b fair turns between did.happened did.server_start server did.client_start client did.begins
+    let at = reaches read reading_exists.1 moments timed b fair turns between did.happened did.resets did.server_start server did.client_start client did.begins
     did.untold did.unwritten did.server_unwritten did.client_untold did.server_led did.client_led did.serves did.asks did.ports did.told in
+    let o = at.reached in
+    let c = at.shown.owner.end.view in
     let w = o.world in
     let s = o.together.beside in
     let f : Far = server.owner.end.server.view in
     let v : Near = client.owner.end.view in
-    let u : Near = led_by o.lead v in
+    let u : Near = led_by o.lead c in
     let begun : List Order = begun_at moments (client_deeds turns) in
     let reports : List Said = reports_in (client_deeds turns) in
     let p = parts read w (ap is_parted s.control) in
@@ -62,13 +77,14 @@ either_parting_agree b fair moments timed turns between server client did =
     (leads_then read begun [] (world_of b) w p.new o.leads p.leads) in
     let agree : WorldAgrees (state_of b) begun p.new = agrees-always read reading_exists.1 b fair all.events begun p.new all.timed all.leads in
     let near_is : report_of (control_end w.near) ≡ report_of (control_end (taken u)) =
-    ap (λ n. report_of (control_end n)) (s.near ∙ ap (λ n. data_closed (taken n)) (view_is o.lead client)) ∙ cut_report false (taken u) in
+    ap (λ n. report_of (control_end n)) (s.near ∙ ap (λ n. data_closed (taken n)) (view_is o.lead at.shown)) ∙ cut_report false (taken u) in
     let said : w.reports ≡ reports ++ option_to_list (report_of u) =
-    s.reported ∙ ap (λ n. reports ++ option_to_list (report_of n)) (view_is o.lead client) in
+    s.reported ∙ ap (λ n. reports ++ option_to_list (report_of n)) (view_is o.lead at.shown) in
     let told : p.new.reports ≡ reports ++ option_to_list (report_of (control_end v)) =
     p.reports ∙ ap₂ (λ r n. r ++ option_to_list n) said near_is
     ∙ append_assoc reports (option_to_list (report_of u)) (option_to_list (report_of (control_end (taken u)))) ∙ ap (λ l. reports ++ l) (cut_alike u)
-    ∙ ap (λ n. reports ++ option_to_list n) (led_cut o.lead o.more between (listened_in turns) server client o.so) in
+    ∙ ap (λ n. reports ++ option_to_list n) (led_cut o.lead o.more at.seen (listened_in turns) server at.shown o.so
+    ∙ shown_cut between client at.shown at.shows) in
     let table : p.new.far.session.table ≡ f.session.table =
     p.table ∙ ap (λ (x : Far). x.session.table) s.far ∙ (keeps o.ahead f s.fits).table in (
       w.marks,

@@ -37,14 +37,13 @@ use Rattle.ftp_pair_drives.specs.Touches.{Dials as DialsAt}
 use Rattle.ftp_pair_drives.proofs.Taken.{taken}
 use Rattle.ftp_pair_drives.proofs.Worlds.{LeadsOn, leads_none, leads_then}
 use Rattle.ftp_pair_data.specs.Ahead.{accepts, is_asked, is_open}
-use Rattle.ftp_pair_data.specs.Unaborted.{is_unaborted}
 use Rattle.ftp_pair_data.proofs.Hearing.{at_link}
 use Rattle.ftp_pair_data.proofs.Moves.{Rested, near_hears, opens}
 use Rattle.ftp_pair_data.proofs.Served.{Runs, far_wants, rests, settled}
 use Rattle.ftp_pair_deeds.proofs.FarForms.{no_close, none_later, opened_shut}
 use Rattle.ftp_pair_deeds.proofs.Holding.{both, is_called, is_had, is_sound}
-use Rattle.ftp_pair_deeds.proofs.NearForms.{busy_same, is_unaborted_same}
-use Rattle.ftp_pair_deeds.proofs.Stands.{ServerServes}
+use Rattle.ftp_pair_deeds.proofs.NearForms.{busy_same}
+use Rattle.ftp_pair_deeds.proofs.Stands.{ClientFetches as ClientRests, ServerServes}
 use Rattle.ftp_pair_transfers.specs.Ahead.{Ahead, Level, Listens, Opens, Parted as PartedAhead, ahead_of, far_ahead}
 use Rattle.ftp_pair_transfers.proofs.Ahead.{keeps, left_is, left_link, opens_ready}
 use Rattle.ftp_pair_transfers.proofs.Beside.{Goes, IsBeside, Together, rested}
@@ -52,11 +51,10 @@ use Rattle.ftp_pair_transfers.proofs.Known.{AreCarried, is_ready}
 use Rattle.ftp_pair_transfers.proofs.Settling.{NearSettles, near_settles}
 use Rattle.ftp_pair_active.specs.Lead.{Joined, led_by}
 use Rattle.ftp_pair_active.proofs.Accepting.{awaiting, joined_closing, joining, joins}
-use Rattle.ftp_pair_active.proofs.Calls.{AreWhole, Calls, Came, Coming, Waits, is_lift, is_opening, listening, world_calls}
+use Rattle.ftp_pair_active.proofs.Calls.{Calls, Came, Coming, Waits, is_lift, is_opening, listening, world_calls}
 use Rattle.ftp_pair_active.proofs.Leading.{Comes, IsJoined, StaysSo, Waits as WaitsThere, led_between, led_client}
 use Rattle.ftp_pair_active.proofs.Lifting.{Lifted}
 use Rattle.ftp_pair_active.proofs.Opening.{OpensTo, opens_to}
-use Rattle.ftp_pair_active.proofs.Stands.{ClientFetches, rests_of}
 
 -- ---- a server that dials
 
@@ -208,10 +206,10 @@ joins_rests op (Sending [] mark) n = refl
 joins_rests op (Sending (octet ∷ left) mark) n = refl
 joins_rests op (Receiving decoder mark) n = refl
 
-module _ (read : Reading) (reads : IsReading read) (from : State) (begun : List Order) (puts : AreCarried begun) (whole : AreWhole begun)
+module _ (read : Reading) (reads : IsReading read) (from : State) (begun : List Order) (puts : AreCarried begun)
     (old new : Stand server_side) (client : Stand client_side) (reports : List Said) (w : World) (calm : ServerIsCalm old.owner new.owner)
     (before : ServerServes old.owner)
-    (asks : ClientFetches client.owner) (runs : OverRuns read from begun w) where
+    (asks : ClientRests client.owner) (runs : OverRuns read from begun w) where
   abbrev x : Far
   x = old.owner.end.server.view
 
@@ -261,17 +259,14 @@ module _ (read : Reading) (reads : IsReading read) (from : State) (begun : List 
       b = t.beside
 
       r : Rested w
-      r = rested moment Level between told old client reports w b before (rests_of asks)
+      r = rested moment Level between told old client reports w b before asks
 
       wf : w.far ≡ clock_step moment xc
       wf = b.far ∙ ap (λ l. clock_step moment (at_link l false x)) dial.link
 
-      unaborted : is_unaborted w.near.job ≡ true
-      unaborted = ap (λ (n : Near). is_unaborted n.job) b.near ∙ is_unaborted_same v ∙ asks.unaborted
-
       c : Calls w
       c =
-          world_calls read reads from begun puts whole w runs b.control b.unready unaborted (ap (λ (f : Far). is_opening f.session.connection) wf)
+          world_calls read reads from begun puts w runs b.control b.unready (ap (λ (f : Far). is_opening f.session.connection) wf)
           (ap (λ (f : Far). f.owed) wf ∙ did.0.2.1)
 
       abbrev octets : List ℕ
@@ -293,7 +288,7 @@ module _ (read : Reading) (reads : IsReading read) (from : State) (begun : List 
           ap (near.data_opened one.new.far.footing.here) one.form
           ∙ ap (λ same. accepted same (awaiting c.op Replies.Begun c.flow c.port n))
           (ap₂ (λ (f : Far) (m : Near). same_host f.footing.here m.peer) one.far one.near ∙ c.same)
-          ∙ joins c.op c.all Replies.Begun c.flow refl c.port n
+          ∙ joins c.op Replies.Begun c.flow c.few refl c.port n
 
       abbrev f : Far
       f = clock_step moment xo
@@ -345,7 +340,7 @@ module _ (read : Reading) (reads : IsReading read) (from : State) (begun : List 
       led : led_by (Joined octets) v ≡ open_world.near
       led =
           ap (λ m. accepted true (near.hears m octets)) (sym near_is) ∙ ap (accepted true) (sym one.near) ∙ ap (accepted true) one.form
-          ∙ joins c.op c.all Replies.Begun c.flow refl c.port n ∙ sym near_then
+          ∙ joins c.op Replies.Begun c.flow c.few refl c.port n ∙ sym near_then
 
       none_said : option_to_list (report_of v) ≡ []
       none_said = ap (λ m. option_to_list (report_of m)) (sym near_is) ∙ by c.waits
@@ -359,8 +354,8 @@ module _ (read : Reading) (reads : IsReading read) (from : State) (begun : List 
         where
           by : Waits c.op c.flow c.port w.near octets → StaysSo w.near octets (joined_closing c.flow)
           by (Came empty is) =
-              (WaitsThere empty (record { op = c.op; all = c.all; replied = Replies.Begun; flow = c.flow; come = refl; port = c.port; is = is }), refl)
-          by (Coming octet more queue o) = (Comes c.op c.all c.flow c.port octet more queue o, refl)
+              (WaitsThere empty (record { op = c.op; few = c.few; replied = Replies.Begun; flow = c.flow; come = refl; port = c.port; is = is }), refl)
+          by (Coming octet more queue o) = (Comes c.op c.flow c.few c.port octet more queue o, refl)
 
       called_now : next.near ≡ Is_called
       called_now = ap (λ (m : Between). m.near) can.2

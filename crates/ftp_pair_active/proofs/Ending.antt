@@ -108,6 +108,7 @@ either_over_are_the_direct_run b fair moments timed asked server over =
       server_unwritten = over.server_unwritten;
       client_untold = over.client_untold;
       happened = over.happened;
+      resets = over.resets;
       server_led = over.server_led;
       client_led = client.0;
       serves = over.serves;

@@ -103,7 +103,7 @@ module _ (read : Reading) (begun : List Order) (server : Stand server_side) (old
   by_stays P one other = by j.stays.0
     where
       by : Stays d octets → P v
-      by (Comes op all flow port octet left is o) =
+      by (Comes op flow few port octet left is o) =
           let form : d ≡ listening op flow port d = (o.fronts [] left octet (sym is)).0 in
           subst P (sym (ap (λ (n : Near). record n { closing = v.closing }) form)) (one op flow port d v.closing)
       by (Waits is a) = subst P (sym (ap (λ (n : Near). record n { closing = v.closing }) a.is)) (other a.op a.replied a.flow a.port d v.closing)
@@ -228,7 +228,7 @@ module _ (read : Reading) (begun : List Order) (server : Stand server_side) (old
       had = did.0.1
 
       by : Stays d octets → GoesLed read [] begun next told server new reports w
-      by (Comes op all flow port octet others is o) =
+      by (Comes op flow few port octet others is o) =
           let form : v ≡ record (listening op flow port d) { closing = v.closing } =
           ap (λ (n : Near). record n { closing = v.closing }) (o.fronts [] others octet (sym is)).0 in
           absurd (true≢false (sym (ap is_accept wants) ∙ ap (λ n. is_accept (near.wants n)) form ∙ (listening_wants op flow port d v.closing).1))

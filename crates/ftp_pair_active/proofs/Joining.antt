@@ -1,6 +1,6 @@
 -- A client that was dialled and has not accepted yet hears octets: a world's client heard the rest of the 150 and accepted, and what comes after that both hear
 -- alike.
-use Rattle.std.proofs.Common.{◌≡◌, inl, inr, ℕ, ◌<◌, Bool, true, false, true≢false, List, [], ◌∷◌, ◌++◌, take, None, option_to_list, refl, sym, ap, ap₂, subst, ◌∙◌, append-nil, arith}
+use Rattle.std.proofs.Common.{◌≡◌, inl, inr, ℕ, ◌<◌, Bool, true, false, true≢false, List, [], ◌∷◌, ◌++◌, take, option_to_list, refl, sym, ap, ap₂, subst, ◌∙◌, append-nil, arith}
 use Rattle.ftp_control.specs.Deeds.{HearsNext, Stand}
 use Rattle.ftp_control.specs.Lane.{Lane}
 use Rattle.ftp_control.specs.Machine.{held, seen}
@@ -8,7 +8,6 @@ use Rattle.ftp_direct.specs.Direct.{State}
 use Rattle.ftp_client_drive.specs.Side.{client_side}
 use Rattle.ftp_client_model.specs.Calls as near
 use Rattle.ftp_client_model.specs.Calls.{accepted, data_closed, hears_octet, is_down, is_sound, report_of}
-use Rattle.ftp_client_model.specs.Plan.{count_of}
 use Rattle.ftp_client_model.specs.View.{Flow, Receiving, Sending, View as Near}
 use Rattle.ftp_client_model.specs.declared.client.Replied.{Replied}
 use Rattle.ftp_client_model.specs.declared.client.Replied.TheVariants as Replies
@@ -29,8 +28,9 @@ use Rattle.ftp_pair_agreement.proofs.OverRunning.{over_lead}
 use Rattle.ftp_pair_drives.proofs.Taken.{taken}
 use Rattle.ftp_pair_drives.proofs.Worlds.{leads_none, leads_then}
 use Rattle.ftp_pair_data.specs.Unaborted.{is_unaborted}
-use Rattle.ftp_pair_deeds.proofs.Stands.{ServerServes, wants_port}
+use Rattle.ftp_pair_deeds.proofs.Stands.{ClientFetches as ClientRests, ServerServes, wants_port}
 use Rattle.ftp_pair_data.specs.Ahead.{accepts, is_asked}
+use Rattle.ftp_pair_deeds.proofs.Fresh.{Fresh}
 use Rattle.ftp_pair_transfers.specs.Ahead.{Ahead, Level, Listens, Opens as OpensAhead, Parted, is_left}
 use Rattle.ftp_pair_transfers.proofs.Beside.{Goes, Together}
 use Rattle.ftp_pair_transfers.proofs.Blind.{hears_blind}
@@ -38,13 +38,13 @@ use Rattle.ftp_pair_transfers.proofs.ClientHears.{client_heard}
 use Rattle.ftp_pair_transfers.proofs.Known.{AreCarried, Known, is_near_held}
 use Rattle.ftp_pair_transfers.proofs.Running.{hears_sound, world_known}
 use Rattle.ftp_pair_active.specs.Lead.{Joined}
-use Rattle.ftp_pair_active.proofs.Accepting.{Alike, Awaits, Failed, Meets, Refused, Refuses, awaiting, has_come, is_transfer, joined_closing, joined_link, joining, joins, octet_met}
+use Rattle.ftp_pair_active.proofs.Accepting.{Alike, Awaits, Failed, IsFew, Meets, Refused, Refuses, awaiting, has_come, is_transfer, joined_closing, joined_link, joining, joins, octet_met}
 use Rattle.ftp_pair_active.proofs.Alike.{together_of}
 use Rattle.ftp_pair_active.proofs.Calls.{Opens}
 use Rattle.ftp_pair_active.proofs.Leading.{Comes, Stays, Waits, closes, joined_client, joined_lane, led_between}
 use Rattle.ftp_pair_active.proofs.Ports.{Ports, hears_ports, is_attached, is_begun, is_ended_whole, is_joined}
-use Rattle.ftp_pair_active.proofs.Whole.{IsWholly, hears_whole, whole_unaborted}
-use Rattle.ftp_pair_active.proofs.Stands.{ClientFetches, rests_of}
+use Rattle.ftp_pair_active.proofs.Keeping.{IsKeeping, hears_kept}
+use Rattle.ftp_pair_active.proofs.Unsent.{fresh_kept, fresh_unaborted}
 
 -- ---- one that is to hear more of the 150
 
@@ -64,21 +64,21 @@ pub record On (d : Near) (octets : List ℕ) (closed : Bool) : Type 0 where
   pub owed : d.owed ≡ []
   pub open_now : d.closing ≡ false
 
-pub comes_on : (op : Op (List ℕ)) → count_of op ≡ None → (flow : Flow) (port : ℕ) (d : Near) (octet : ℕ) (more : List ℕ) → Opens op flow port d (octet ∷ more)
+pub comes_on : (op : Op (List ℕ)) (flow : Flow) → IsFew op flow → (port : ℕ) (d : Near) (octet : ℕ) (more : List ℕ) → Opens op flow port d (octet ∷ more)
     → On (hears_octet d octet) more (joined_closing flow)
-comes_on op all flow port d octet [] o =
+comes_on op flow few port d octet [] o =
     let whole : hears_octet d octet ≡ awaiting op Replies.Begun flow port (hears_octet d octet) = o.whole in
     record {
-      stays = Waits refl (record { op = op; all = all; replied = Replies.Begun; flow = flow; come = refl; port = port; is = whole });
+      stays = Waits refl (record { op = op; few = few; replied = Replies.Begun; flow = flow; come = refl; port = port; is = whole });
       closes_so = refl;
       owed = o.none;
       open_now = ap (λ (n : Near). n.closing) whole;
     }
-comes_on op all flow port d octet (next ∷ more) o =
+comes_on op flow few port d octet (next ∷ more) o =
     let on : Opens op flow port (hears_octet d octet) (next ∷ more) = opens_on op flow port d octet (next ∷ more) o in
     let first = on.fronts [] more next refl in
     record {
-      stays = Comes op all flow port next more refl on;
+      stays = Comes op flow few port next more refl on;
       closes_so = refl;
       owed = first.1;
       open_now = ap (λ (n : Near). n.closing) first.0;
@@ -100,7 +100,7 @@ tail (octet ∷ octets) = octets
 
 -- what it is once it accepts
 pub joins_form : (d : Near) (a : Awaits d) → accepted true d ≡ joining a.op a.replied a.flow d
-joins_form d a = ap (accepted true) a.is ∙ joins a.op a.all a.replied a.flow a.come a.port d
+joins_form d a = ap (accepted true) a.is ∙ joins a.op a.replied a.flow a.few a.come a.port d
 
 -- what it is once it has the link
 pub joined_portless : (flow : Flow) → wants_port (joined_link flow) ≡ false
@@ -126,7 +126,7 @@ module _ (read : Reading) (reads : IsReading read) (from : State) (begun : List 
     v = accepted true d
 
     js : v ≡ joining a.op a.replied a.flow d
-    js = ap (accepted true) a.is ∙ joins a.op a.all a.replied a.flow a.come a.port d
+    js = ap (accepted true) a.is ∙ joins a.op a.replied a.flow a.few a.come a.port d
 
     abbrev one : Near
     one = hears_octet v octet
@@ -151,18 +151,17 @@ module _ (read : Reading) (reads : IsReading read) (from : State) (begun : List 
         (record { bare = λ e. refl }) (record { spare = λ e. refl; bare = λ e. refl })
         (record { had = t.keeping.had; shut = t.keeping.shut; over = t.keeping.over })
 
-    fetches : ClientFetches old.owner
+    fetches : ClientRests old.owner
     fetches = record {
       sound = ap (λ (n : Near). is_sound n.standing) js;
       dials = ap (λ (n : Near). wants_port n.connection) js ∙ joined_portless a.flow;
-      unaborted = ap (λ (n : Near). is_unaborted n.job) js;
     }
 
-    wholly : IsWholly v
-    wholly = subst IsWholly (sym js) (record { job = (a.all, refl); run = refl })
+    keeping : IsKeeping Fresh v
+    keeping = subst (IsKeeping Fresh) (sym js) (record { job = (a.few.0, (refl, a.few.1)); run = refl })
 
     after : is_unaborted one.job ≡ true
-    after = whole_unaborted one (hears_whole (octet ∷ []) v wholly)
+    after = fresh_unaborted one (hears_kept Fresh fresh_kept (octet ∷ []) v keeping)
 
     near_is : w.near ≡ data_closed v
     near_is = t.beside.near ∙ ap (λ n. data_closed (taken n)) js ∙ ap data_closed (sym js)
@@ -177,7 +176,7 @@ module _ (read : Reading) (reads : IsReading read) (from : State) (begun : List 
     same = ap₂ (λ n q. data_closed (near.hears n (take 1 q))) near_is queue ∙ hears_blind (octet ∷ []) v
 
     unaborted : is_unaborted w.near.job ≡ true
-    unaborted = ap (λ (n : Near). is_unaborted n.job) near_is ∙ fetches.unaborted
+    unaborted = ap (λ (n : Near). is_unaborted n.job) near_is ∙ ap (λ (n : Near). is_unaborted n.job) js
 
     then_unaborted : is_unaborted p.job ≡ true
     then_unaborted = ap (λ (n : Near). is_unaborted n.job) same ∙ after
@@ -229,9 +228,9 @@ module _ (read : Reading) (reads : IsReading read) (from : State) (begun : List 
     heard_on aw closed is =
         let u : Near = accepted true (hears_octet d octet) in
         let form : u ≡ joining aw.op aw.replied aw.flow (hears_octet d octet) =
-        ap (accepted true) aw.is ∙ joins aw.op aw.all aw.replied aw.flow aw.come aw.port (hears_octet d octet) in
+        ap (accepted true) aw.is ∙ joins aw.op aw.replied aw.flow aw.few aw.come aw.port (hears_octet d octet) in
         let portless : wants_port one.connection ≡ false = ap (λ (n : Near). wants_port n.connection) (is ∙ form) ∙ joined_portless aw.flow in
-        let went = client_heard read begun server old new reports w refl serves (rests_of fetches) portless known reads from puts runs (octet ∷ []) moment ahead
+        let went = client_heard read begun server old new reports w refl serves fetches portless known reads from puts runs (octet ∷ []) moment ahead
         hold told before_t did in
         let g = went.0 in
         record {
@@ -338,12 +337,12 @@ module _ (read : Reading) (reads : IsReading read) (from : State) (begun : List 
         by : ((octets more : List ℕ) (d : Near) → On d octets closed → heard ++ rest ≡ octets ++ more → (moment : ℕ) (ahead : Ahead) (w : World)
             → Beside octets more d moment ahead w → OverRuns read from begun w → HeardAll heard rest d closed between told w)
             → (s : Stays d octets) → closes s ≡ closed → HeardAll (octet ∷ heard) rest d closed between told w
-        by again (Comes op all flow port first others is o) closes_is =
+        by again (Comes op flow few port first others is o) closes_is =
             let both : octet ∷ (heard ++ rest) ≡ first ∷ (others ++ more) = queue ∙ ap (λ l. l ++ more) is in
             let same : octet ≡ first = head_same octet first both in
             let octets_is : octets ≡ octet ∷ others = is ∙ ap (λ h. h ∷ others) (sym same) in
             let o_here : Opens op flow port d (octet ∷ others) = subst (Opens op flow port d) octets_is o in
-            let now = comes_on op all flow port d octet others o_here in
+            let now = comes_on op flow few port d octet others o_here in
             let one = again others more (hears_octet d octet)
             (record { stays = now.stays; closes_so = now.closes_so ∙ closes_is; owed = now.owed; open_now = now.open_now })
             (ap tail both) moment ahead w

@@ -7,7 +7,6 @@ use Rattle.ftp_control.specs.declared.whole.Fate.TheVariants.{Sound}
 use Rattle.ftp_control.specs.declared.whole.Rest.TheVariants.{Nothing}
 use Rattle.ftp_client_drive.specs.Side.{client_side}
 use Rattle.ftp_client_model.specs.Calls.{data_closed}
-use Rattle.ftp_client_model.specs.Plan.{count_of}
 use Rattle.ftp_client_model.specs.View.{Doing, Flow, View as Near}
 use Rattle.ftp_client_model.specs.declared.client.ClientLink.TheVariants as Data
 use Rattle.ftp_client_model.specs.declared.client.Step.TheVariants as Steps
@@ -18,7 +17,7 @@ use Rattle.ftp_pair_drives.specs.Between.{Awaits, Between, Can, Far as TheServer
 use Rattle.ftp_pair_drives.specs.Touches.{Accepts, Dials, Ends, IsDenied, IsMissed, Listens, None_of_it, Parts, Reads, Resets, Says, Takes, ToldBreak, ToldEnd, Touch, Writes}
 use Rattle.ftp_pair_deeds.proofs.Holding.{is_called}
 use Rattle.ftp_pair_active.specs.Lead.{Even, Joined, Lead, Told, led_by}
-use Rattle.ftp_pair_active.proofs.Accepting.{Awaits as AwaitsHere, joined_closing}
+use Rattle.ftp_pair_active.proofs.Accepting.{Awaits as AwaitsHere, IsFew, joined_closing}
 use Rattle.ftp_pair_active.proofs.Calls.{Opens}
 
 -- ---- the client that is ahead
@@ -67,13 +66,13 @@ pub record IsTold (between : Between) (c : Stand client_side) : Type 0 where
 
 -- it was dialled, and these octets, of the 150, come before it can accept; or it waits for who came
 pub data Stays (v : Near) (octets : List ℕ) : Type 0 where
-  Comes : (op : Op (List ℕ)) → count_of op ≡ None → (flow : Flow) → (port octet : ℕ) → (more : List ℕ) → octets ≡ octet ∷ more → Opens op flow port v octets
+  Comes : (op : Op (List ℕ)) → (flow : Flow) → IsFew op flow → (port octet : ℕ) → (more : List ℕ) → octets ≡ octet ∷ more → Opens op flow port v octets
       → Stays v octets
   Waits : octets ≡ [] → AwaitsHere v → Stays v octets
 
 -- a world's client has closed the link at once
 abbrev pub closes : {v : Near} {octets : List ℕ} → Stays v octets → Bool
-closes (Comes op all flow port octet more is o) = joined_closing flow
+closes (Comes op flow few port octet more is o) = joined_closing flow
 closes (Waits is a) = joined_closing a.flow
 
 -- so it does or not

@@ -41,7 +41,6 @@ use Rattle.ftp_pair_active.proofs.Joining.{joined_portless, joins_form}
 use Rattle.ftp_pair_active.proofs.Leading.{Comes, IsJoined, IsTold, Stays, Waits, led_client}
 use Rattle.ftp_pair_active.proofs.Lifting.{Lifted}
 use Rattle.ftp_pair_active.proofs.Telling.{has_any}
-use Rattle.ftp_pair_active.proofs.Stands.{ClientFetches}
 
 -- ---- what is so then
 
@@ -61,9 +60,9 @@ told_fetches port op n = (refl, refl, refl)
 
 pub stays_joined : (d : Near) (octets : List ℕ) → Stays d octets → let m : Near = accepted true (near.hears d octets) in
     (is_sound m.standing ≡ true) × (wants_port m.connection ≡ false) × (is_unaborted m.job ≡ true)
-stays_joined d octets (Comes op all flow port octet more is o) =
+stays_joined d octets (Comes op flow few port octet more is o) =
     let form : accepted true (near.hears d octets) ≡ joining op Replies.Begun flow (near.hears d octets) =
-    ap (accepted true) o.whole ∙ joins op all Replies.Begun flow refl port (near.hears d octets) in (
+    ap (accepted true) o.whole ∙ joins op Replies.Begun flow few refl port (near.hears d octets) in (
       ap (λ (n : Near). is_sound n.standing) form,
       ap (λ (n : Near). wants_port n.connection) form ∙ joined_portless flow,
       ap (λ (n : Near). is_unaborted n.job) form,
@@ -77,20 +76,28 @@ stays_joined d octets (Waits is a) =
     )
 
 pub led_fetches : (lead : Lead) (more : List ℕ) (between : Between) (told : ℕ) (server : Stand server_side) (c : Stand client_side)
-    → LedSo lead more between told server c → is_unaborted c.owner.end.view.job ≡ true → ClientFetches (led_client lead c).owner
-led_fetches Even more between told server c so unaborted =
-    record { sound = so.1.sound; dials = so.1.dials; unaborted = unaborted }
-led_fetches (Told port) more between told server c so unaborted =
+    → LedSo lead more between told server c → ClientRests (led_client lead c).owner
+led_fetches Even more between told server c so = so.1
+led_fetches (Told port) more between told server c so =
     let one = told_fetches port so.0.op c.owner.end.view in
     let is : led_by (Told port) c.owner.end.view ≡ listening port (busy (Doing so.0.op Steps.Listen) Data.ListenWanted c.owner.end.view) =
     ap (listening port) so.0.view in
     record {
       sound = ap (λ (n : Near). is_sound n.standing) is ∙ one.0;
       dials = ap (λ (n : Near). wants_port n.connection) is ∙ one.1;
-      unaborted = ap (λ (n : Near). is_unaborted n.job) is ∙ one.2;
     }
-led_fetches (Joined octets) more between told server c so unaborted =
-    let one = stays_joined (data_closed c.owner.end.view) octets so.0.stays.0 in record { sound = one.0; dials = one.1; unaborted = one.2 }
+led_fetches (Joined octets) more between told server c so =
+    let one = stays_joined (data_closed c.owner.end.view) octets so.0.stays.0 in record { sound = one.0; dials = one.1 }
+
+-- one that is ahead sent no ABOR
+pub told_unaborted : (port : ℕ) (between : Between) (c : Stand client_side) → IsTold between c
+    → is_unaborted (led_client (Told port) c).owner.end.view.job ≡ true
+told_unaborted port between c is_told =
+    ap (λ n. is_unaborted (listening port n).job) is_told.view ∙ (told_fetches port is_told.op c.owner.end.view).2
+
+pub joined_unaborted : (octets more : List ℕ) (between : Between) (c : Stand client_side) → IsJoined octets more between c
+    → is_unaborted (led_client (Joined octets) c).owner.end.view.job ≡ true
+joined_unaborted octets more between c j = (stays_joined (data_closed c.owner.end.view) octets j.stays.0).2
 
 -- ---- what a deed does to who is called
 

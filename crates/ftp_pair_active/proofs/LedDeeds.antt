@@ -54,6 +54,14 @@ is_asking_port Want.Listen = true
 is_asking_port Want.CloseData = true
 is_asking_port other = false
 
+pub asks_port : (op : Op (List ℕ)) (v : Near) → data_closed v ≡ busy (Doing op Steps.Listen) Data.ListenWanted v → is_asking_port (near.wants v) ≡ true
+unfolding near.wants
+asks_port op v is = ap (λ (n : Near). is_asking_port (near.wants (record n { closing = v.closing }))) is ∙ by v.closing
+  where
+    by : (closing : Bool) → is_asking_port (near.wants (record (busy (Doing op Steps.Listen) Data.ListenWanted v) { closing = closing })) ≡ true
+    by true = refl
+    by false = refl
+
 -- it has one once it is told
 told_has : (port : ℕ) (op : Op (List ℕ)) (n : Near) → is_ported (listening port (busy (Doing op Steps.Listen) Data.ListenWanted n)).connection ≡ true
 unfolding listening
@@ -233,13 +241,7 @@ module _ (read : Reading) (begun : List Order) (server : Stand server_side) (old
   }
 
   pub told_wants : is_asking_port (near.wants v) ≡ true
-  unfolding near.wants
-  told_wants = ap (λ (n : Near). is_asking_port (near.wants (record n { closing = v.closing }))) so.0.view ∙ by v.closing
-    where
-      by : (closing : Bool)
-          → is_asking_port (near.wants (record (busy (Doing so.0.op Steps.Listen) Data.ListenWanted v) { closing = closing })) ≡ true
-      by true = refl
-      by false = refl
+  told_wants = asks_port so.0.op v so.0.view
 
   pub told_never : (q : Wants) → near.wants v ≡ q → is_asking_port q ≡ false → ⊥
   told_never q is other = true≢false (sym told_wants ∙ ap is_asking_port is ∙ other)

@@ -1,8 +1,8 @@
-pub mod Stands
 pub mod Accepting
-pub mod Whole
+pub mod Keeping
 pub mod Ports
 pub mod Calls
+pub mod Unsent
 pub mod Asking
 pub mod Leading
 pub mod Opening
@@ -20,6 +20,8 @@ pub mod ServerGoes
 pub mod ServerLed
 pub mod ClientLed
 pub mod Simulating
+pub mod Broke
+pub mod Reaching
 pub mod Parting
 pub mod Concluding
 pub mod Passive

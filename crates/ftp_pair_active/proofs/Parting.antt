@@ -39,9 +39,9 @@ comes_cut op one flow port n m = refl
 
 joined_cut : (v : Near) (octets : List ℕ) → Stays (data_closed v) octets
     → near.report_of (near.control_end (accepted true (near.hears (data_closed v) octets))) ≡ near.report_of (near.control_end v)
-joined_cut v octets (Comes op all flow port octet more is o) =
+joined_cut v octets (Comes op flow few port octet more is o) =
     ap (λ n. near.report_of (near.control_end n))
-    (ap (accepted true) o.whole ∙ joins op all Replies.Begun flow refl port (near.hears (data_closed v) octets))
+    (ap (accepted true) o.whole ∙ joins op Replies.Begun flow few refl port (near.hears (data_closed v) octets))
     ∙ comes_cut op Replies.Begun flow port (near.hears (data_closed v) octets) (data_closed v)
     ∙ sym (ap (λ n. near.report_of (near.control_end n)) (o.fronts [] more octet (sym is)).0) ∙ cut_report false v
 joined_cut v octets (Waits is a) =

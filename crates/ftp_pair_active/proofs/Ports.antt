@@ -24,6 +24,7 @@ use Rattle.ftp_client_model.specs.Dialogue.{has_begun}
 use Rattle.ftp_pair_dialogues.specs.Stage.{Answering, Way}
 use Rattle.ftp_pair_agreement.specs.Cut.{Fits, PlacedAt, coming, world_at}
 use Rattle.ftp_pair_agreement.specs.Follows.{Phase}
+use Rattle.ftp_pair_agreement.specs.PeekStages.{halt_tie}
 use Rattle.ftp_pair_agreement.specs.Runs.{IsFetching, IsFetchingOn}
 use Rattle.ftp_pair_agreement.specs.Over.{OverRuns}
 use Rattle.ftp_pair_agreement.specs.Rising.{Closing, Declined, Door, Lift, Offered, Risen, Rising, Settled, Shut, Unjoined, Vanished, door_near}
@@ -240,6 +241,22 @@ module _ (read : Reading) (reads : IsReading read) (from : State) (begun : List 
       by (inl (inr (inl on))) = fetching_ports w on.fetching
       by (inl (inr (inr (inl trailing)))) = absurd (not_trailing read reads from begun puts w unready trailing)
       by (inl (inr (inr (inr halting)))) = let h = halting.halting in absurd (true≢false (sym unaborted ∙ halt_aborted h.now h.ask h.own w h.stands))
+      by (inr (inl trying)) = absurd (last_carried trying.going.done _ begun trying.going.begun_is puts)
+      by (inr (inr tailing)) = absurd (last_carried tailing.going.done _ begun tailing.going.begun_is puts)
+
+  -- one that is at a port has no link, one that sent ABOR among them
+  pub world_awaits : (w : World) → OverRuns read from begun w → w.control ≡ Stands
+      → (is_closed_by_near w.link ≡ true → is_ready w.far.session.connection ≡ false) → is_ported w.near.connection ≡ true → w.link ≡ Gone
+  world_awaits w runs control unready ported = by runs
+    where
+      by : OverRuns read from begun w → w.link ≡ Gone
+      by (inl (inl f)) = f.unlinked.link
+      by (inl (inr (inl on))) = (fetching_ports w on.fetching).awaits ported
+      by (inl (inr (inr (inl trailing)))) = absurd (not_trailing read reads from begun puts w unready trailing)
+      by (inl (inr (inr (inr halting)))) =
+          let a = halting.halting.stands in
+          absurd (true≢false (sym ported ∙ ap (λ (u : World). is_ported u.near.connection) a.is ∙ ap (λ (n : Near). is_ported n.connection) a.here.near
+          ∙ tie_apart (halt_tie a.halt)))
       by (inr (inl trying)) = absurd (last_carried trying.going.done _ begun trying.going.begun_is puts)
       by (inr (inr tailing)) = absurd (last_carried tailing.going.done _ begun tailing.going.begun_is puts)
 

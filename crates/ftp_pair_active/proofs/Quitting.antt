@@ -30,6 +30,7 @@ use Rattle.ftp_pair_transfers.specs.Deeds.{AreMoments, begun_at}
 use Rattle.ftp_pair_transfers.specs.Over.{orders_at}
 use Rattle.ftp_pair_transfers.proofs.Ending.{as_many}
 use Rattle.ftp_pair_transfers.proofs.Quitting.{finals_keep, rests_now}
+use Rattle.ftp_pair_transfers.proofs.Reaching.{shown_itself}
 use Rattle.ftp_pair_transfers.proofs.Resting.{idles}
 use Rattle.ftp_pair_active.specs.Claims.{DidEither}
 use Rattle.ftp_pair_active.specs.Deeds.{ClientTransfers, listened_in}
@@ -41,7 +42,8 @@ use Rattle.ftp_pair_active.proofs.Concluding.{either_are_the_direct_run}
 use Rattle.ftp_pair_active.proofs.Ending.{answers_are, answers_go, carried_free, orders_are}
 use Rattle.ftp_pair_active.proofs.Leading.{Comes, Stays, Waits, led_between, led_client}
 use Rattle.ftp_pair_active.proofs.Leads.{LedSo}
-use Rattle.ftp_pair_active.proofs.Simulating.{in_carried, reaches}
+use Rattle.ftp_pair_active.proofs.Reaching.{reaches}
+use Rattle.ftp_pair_active.proofs.Simulating.{in_carried}
 
 -- ---- a client that is not busy is even
 
@@ -52,7 +54,7 @@ waits_busy : (op : Op (List ℕ)) (replied : Replied) (flow : Flow) (port : ℕ)
 waits_busy op replied flow port n = refl
 
 stays_busy : (v : Near) (octets : List ℕ) → Stays (data_closed v) octets → is_busy v ≡ true
-stays_busy v octets (Comes op all flow port octet more is o) =
+stays_busy v octets (Comes op flow few port octet more is o) =
     ap is_busy (o.fronts [] more octet (sym is)).0 ∙ listens_busy op flow port (data_closed v)
 stays_busy v octets (Waits is a) = ap is_busy a.is ∙ waits_busy a.op a.replied a.flow a.port (data_closed v)
 
@@ -75,17 +77,21 @@ quits_next : (read : Reading) → IsReading read → (b : Beginning) → IsFair 
 quits_next read reads b fair moments timed turns between server client did free entered told =
     let n : Near = client.owner.end.view in
     let v : Far = server.owner.end.server.view in
-    let o = reaches read reads moments timed b fair turns between did.happened did.server_start server did.client_start client did.begins did.untold
+    let at = reaches read reads moments timed b fair turns between did.happened did.resets did.server_start server did.client_start client did.begins did.untold
     did.unwritten did.server_unwritten did.client_untold did.server_led did.client_led did.serves did.asks did.ports did.told in
+    let o = at.reached in
+    let itself : at.shown ≡ client = shown_itself between client at.shown at.shows free in
+    let free_there : is_busy at.shown.owner.end.view ≡ false = ap (λ (c : Stand client_side). is_busy c.owner.end.view) itself ∙ free in
     let w = o.world in
     let s = o.together.beside in
     let begun : List Order = begun_at moments (client_deeds turns) in
     let runs = all_runs read reads b fair o.leads.events begun w o.leads.timed o.leads.leads in
     let none = ap (λ r. reports_in (client_deeds turns) ++ option_to_list r) (free_none n free) ∙ append-nil (reports_in (client_deeds turns)) in
-    let even : o.lead ≡ Even = free_even o.lead o.more between (listened_in turns) server client o.so free in
-    let same : (led_client o.lead client).owner.end.view ≡ n = ap (λ l. (led_client l client).owner.end.view) even in
-    let here : (led_between o.lead o.more between).control.to_server ≡ between.control.to_server =
-    ap (λ l. (led_between l o.more between).control.to_server) even in
+    let even : o.lead ≡ Even = free_even o.lead o.more at.seen (listened_in turns) server at.shown o.so free_there in
+    let same : (led_client o.lead at.shown).owner.end.view ≡ n =
+    ap (λ l. (led_client l at.shown).owner.end.view) even ∙ ap (λ (c : Stand client_side). c.owner.end.view) itself in
+    let here : (led_between o.lead o.more at.seen).control.to_server ≡ between.control.to_server =
+    ap (λ l. (led_between l o.more at.seen).control.to_server) even ∙ ap (λ q. q.to_server) at.is_seen.control in
     let said = ap (λ m. reports_in (client_deeds turns) ++ option_to_list (report_of m)) same in
     let all : length w.reports ≡ length begun = ap length s.reported ∙ ap length said ∙ ap length none ∙ told in
     let standing : w.near.standing ≡ Standings.Entered = ap (λ (u : Near). u.standing) s.near ∙ ap (λ (u : Near). u.standing) same ∙ entered in
@@ -109,6 +115,7 @@ either_that_quit_are_the_direct_run b fair moments timed asked server over =
       server_unwritten = over.server_unwritten;
       client_untold = over.client_untold;
       happened = over.happened;
+      resets = over.resets;
       server_led = over.server_led;
       client_led = near.0;
       serves = over.serves;

@@ -1,5 +1,5 @@
 -- A deed of a server, in a world whose client is ahead of the drive's or not: all is as in ftp_pair_transfers, of the client that is ahead.
-use Rattle.std.proofs.Common.{◌≡◌, ℕ, List, [], ◌∷◌, take, sym, ap, subst, ◌∙◌, append-nil}
+use Rattle.std.proofs.Common.{◌≡◌, ℕ, true, List, [], ◌∷◌, take, Option, sym, ap, subst, ◌∙◌}
 use Rattle.ftp_control.specs.Asking.{Came, Ended as EndedBy, Reset, Shut}
 use Rattle.ftp_control.specs.Deeds.{Deed, Done, Heard, Other, Read, Said as Says, Stand}
 use Rattle.ftp_control.specs.Machine.{Aside, Closed, End, Gave, Got, Left, LetGo, Listening, Opened, Received, Waited, Wrote}
@@ -11,12 +11,15 @@ use Rattle.ftp_server_model.specs.Machine.{IsReading, Reading, hears, hears_octe
 use Rattle.ftp_pair_world.specs.Agreement.{Order}
 use Rattle.ftp_pair_world.specs.World.{World, next_listen, port_at}
 use Rattle.ftp_pair_agreement.specs.Over.{OverRuns}
-use Rattle.ftp_pair_drives.specs.Between.{Between, CanTurn, Far as TheServer, Has_lost, Server, with_hold}
+use Rattle.ftp_pair_drives.specs.Alone.{ServerIsCalm}
+use Rattle.ftp_pair_drives.specs.Between.{Between, CanTurn, Far as TheServer, Has_lost, IsStanding, Server, with_hold}
+use Rattle.ftp_pair_data.specs.Unaborted.{is_unaborted}
 use Rattle.ftp_pair_data.proofs.Served.{Runs}
+use Rattle.ftp_pair_deeds.proofs.Holding.{is_called}
 use Rattle.ftp_pair_deeds.proofs.Serves.{deed_serves}
-use Rattle.ftp_pair_deeds.proofs.Stands.{ServerServes}
+use Rattle.ftp_pair_deeds.proofs.Stands.{ClientFetches as ClientRests, ServerServes}
 use Rattle.ftp_pair_transfers.specs.Ahead.{Ahead}
-use Rattle.ftp_pair_transfers.specs.Deeds.{IsToldAt, begun_at, last_of, number_in}
+use Rattle.ftp_pair_transfers.specs.Deeds.{IsToldAt, ServerTransfers, begun_at, last_of, number_in}
 use Rattle.ftp_pair_transfers.proofs.Beside.{Goes, Together}
 use Rattle.ftp_pair_transfers.proofs.Known.{AreCarried, Known}
 use Rattle.ftp_pair_transfers.proofs.Lost.{with_lost}
@@ -25,8 +28,7 @@ use Rattle.ftp_pair_transfers.proofs.ServerGiving.{server_gave}
 use Rattle.ftp_pair_transfers.proofs.ServerMoves.{server_heard, server_said}
 use Rattle.ftp_pair_transfers.proofs.ServerStays.{server_accepts, server_aside, server_closed, server_ends, server_got, server_lets, server_listens, server_read, server_resets, server_shuts, server_waited, server_wrote}
 use Rattle.ftp_pair_transfers.proofs.ServerTaking.{server_received, server_told_end}
-use Rattle.ftp_pair_active.specs.Deeds.{ListenerTransfers}
-use Rattle.ftp_pair_active.proofs.Stands.{ClientFetches, rests_of}
+use Rattle.ftp_pair_transfers.proofs.Simulating.{ResetsNone}
 
 -- so many ports were told then
 abbrev pub told_by : Deed server_side → ℕ → ℕ
@@ -41,7 +43,8 @@ IsNext deed told = Unit {0}
 module _ (read : Reading) (reads : IsReading read) (from : State) (moments : ℕ → ℕ) (deeds : List (Deed client_side))
     (puts : AreCarried (begun_at moments deeds))
     (old new : Stand server_side) (client : Stand client_side) (reports : List Said) (w : World) (serves : ServerServes old.owner)
-    (asks : ClientFetches client.owner) (runs : OverRuns read from (begun_at moments deeds) w) (last : ℕ) (ahead : Ahead) (p q : Between) (told : ℕ)
+    (asks : ClientRests client.owner) (runs : OverRuns read from (begun_at moments deeds) w) (last : ℕ) (ahead : Ahead) (p q : Between) (told : ℕ)
+    (called : is_called p.far ≡ true → is_unaborted client.owner.end.view.job ≡ true)
     (t : Together read (begun_at moments deeds) last ahead p told old client reports w) where
   abbrev begun : List Order
   begun = begun_at moments deeds
@@ -57,91 +60,88 @@ module _ (read : Reading) (reads : IsReading read) (from : State) (moments : ℕ
   abbrev Went : Deed server_side → Type 0
   Went deed = Goes read [] begun q (told_by deed told) new client reports w × ServerServes new.owner
 
-  -- where all was written nothing is lost
-  none_lost : old.owner.lane.unwritten ≡ [] → with_lost old.owner.lane.unwritten (with_hold TheServer Has_lost p) ≡ with_hold TheServer Has_lost p
-  none_lost none =
-      let at : Between = with_hold TheServer Has_lost p in
-      ap (λ o. with_lost o at) none
-      ∙ ap (λ o. record at { data_ways = record at.data_ways { to_client = o } }) (append-nil at.data_ways.to_client)
+  -- it resets one, and what it did not write is on its way still there
+  pub reset_goes : (left written : Option (List ℕ)) → ServerIsCalm old.owner new.owner → Done (Other (Left (Reset left written))) old new → IsStanding p.far
+      → Goes read [] begun (with_lost old.owner.lane.unwritten (with_hold TheServer Has_lost p)) told new client reports w × ServerServes new.owner
+  reset_goes left written calm did stands = (
+    server_resets read begun old new client reports w calm serves known left written last ahead p told t did stands,
+    deed_serves (Other (Left (Reset left written))) tt old new (tt, calm) did serves,
+  )
 
-  -- of any but a dial
-  pub server_goes : (deed : Deed server_side) → ListenerTransfers deed old.owner new.owner → IsNext deed told → CanTurn (Server deed) p q
+  -- of any but a dial and that
+  pub server_goes : (deed : Deed server_side) → ResetsNone deed → ServerTransfers deed old.owner new.owner → IsNext deed told → CanTurn (Server deed) p q
       → (did : Done deed old new) → IsToldAt deed old new did (last_of moments (number_in deeds)) → Went deed
-  server_goes (Heard octets) is next can did at =
+  server_goes (Heard octets) kept is next can did at =
       subst (λ (m : Between). Goes read [] begun m told new client reports w × ServerServes new.owner) (sym can)
-      (server_heard read reads begun old new client reports w is.1 serves (rests_of asks) known hears_on octets last ahead p told t (λ e. asks.unaborted) did)
-  server_goes (Says octets) is next can did at = (
-    server_said read reads begun old new client reports w is.1 serves (rests_of asks) known hears_on octets last ahead p q told t did can,
+      (server_heard read reads begun old new client reports w is.1 serves asks known hears_on octets last ahead p told t called did)
+  server_goes (Says octets) kept is next can did at = (
+    server_said read reads begun old new client reports w is.1 serves asks known hears_on octets last ahead p q told t did can,
     deed_serves (Says octets) tt old new (tt, is.1) did serves,
   )
-  server_goes (Read octets) is next can did at = (
+  server_goes (Read octets) kept is next can did at = (
     server_read read begun old new client reports w is.1 serves known octets last ahead p q told t did can.0
         (ap (λ (m : Between). m.control.to_client) can.1) (ap (λ (m : Between). m.data_ways) can.1) (ap (λ (m : Between). m.far) can.1)
         (ap (λ (m : Between). m.near) can.1),
     deed_serves (Read octets) tt old new (tt, is.1) did serves,
   )
-  server_goes (Other (Aside tt)) is next can did at = (
+  server_goes (Other (Aside tt)) kept is next can did at = (
     subst (λ (m : Between). Goes read [] begun m told new client reports w) (sym can)
         (server_aside read begun old new client reports w is.1 serves known last ahead p told t did),
     deed_serves (Other (Aside tt)) tt old new (tt, is.1) did serves,
   )
-  server_goes (Other (Listening port)) is next can did at = (
+  server_goes (Other (Listening port)) kept is next can did at = (
     server_listens read begun old new client reports w is.1 serves known port last ahead p q told t did can next,
     deed_serves (Other (Listening port)) tt old new (tt, is.1) did serves,
   )
-  server_goes (Other (Opened host (Came other left written ∷ []) at_first so_far rest)) is next can did at = (
+  server_goes (Other (Opened host (Came other left written ∷ []) at_first so_far rest)) kept is next can did at = (
     server_accepts read begun old new client reports w is.1 serves known host other left written at_first so_far rest last ahead p q told t did can is.0,
     deed_serves (Other (Opened host (Came other left written ∷ []) at_first so_far rest)) tt old new is did serves,
   )
-  server_goes (Other (Got octets)) is next can did at = (
+  server_goes (Other (Got octets)) kept is next can did at = (
     server_got read begun old new client reports w is.1 serves known octets last ahead p q told t did can,
     record {
       running = ap (λ x. x.server.view.session.life) did.0.0 ∙ serves.running;
       none_waits = ap (λ x. x.server.view.waiting) did.0.0 ∙ serves.none_waits;
     },
   )
-  server_goes (Other (Received octets count)) is next can did at =
+  server_goes (Other (Received octets count)) kept is next can did at =
       subst (λ (m : Between). Goes read [] begun m told new client reports w × ServerServes new.owner) (sym can)
-      (server_received read reads from begun puts old new client reports w is.1 serves (rests_of asks) known runs octets count last ahead p told did t)
-  server_goes (Other End) is next can did at =
-      server_told_end read reads from begun puts old new client reports w is.1 serves (rests_of asks) known runs last ahead p q told did can
+      (server_received read reads from begun puts old new client reports w is.1 serves asks known runs octets count last ahead p told did t)
+  server_goes (Other End) kept is next can did at =
+      server_told_end read reads from begun puts old new client reports w is.1 serves asks known runs last ahead p q told did can
       (λ takes. world_timed read reads from moments deeds puts w runs t.beside.control t.beside.unready takes ∙ sym at) t
-  server_goes (Other (Gave count octets rest)) is next can did at = (
+  server_goes (Other (Gave count octets rest)) kept is next can did at = (
     subst (λ (m : Between). Goes read [] begun m told new client reports w) (sym can)
-        (server_gave read begun old new client reports w is.1 serves (rests_of asks) known count octets rest last p told did ahead t),
+        (server_gave read begun old new client reports w is.1 serves asks known count octets rest last p told did ahead t),
     deed_serves (Other (Gave count octets rest)) tt old new (tt, is.1) did serves,
   )
-  server_goes (Other (Wrote octets)) is next can did at = (
+  server_goes (Other (Wrote octets)) kept is next can did at = (
     server_wrote read begun old new client reports w is.1 serves known octets last ahead p q told t did can,
     deed_serves (Other (Wrote octets)) tt old new (tt, is.1) did serves,
   )
-  server_goes (Other (Waited lost)) is next can did at = (
+  server_goes (Other (Waited lost)) kept is next can did at = (
     subst (λ (m : Between). Goes read [] begun m told new client reports w) (sym can)
         (server_waited read begun old new client reports w is.1 serves known lost last ahead p told t did),
     deed_serves (Other (Waited lost)) tt old new (tt, is.1) did serves,
   )
-  server_goes (Other (LetGo octets)) is next can did at = (
+  server_goes (Other (LetGo octets)) kept is next can did at = (
     subst (λ (m : Between). Goes read [] begun m told new client reports w) (sym can)
         (server_lets read begun old new client reports w is.1 serves known octets last ahead p told t did),
     deed_serves (Other (LetGo octets)) tt old new (tt, is.1) did serves,
   )
-  server_goes (Other (Left (EndedBy left written))) is next can did at = (
+  server_goes (Other (Left (EndedBy left written))) kept is next can did at = (
     server_ends read begun old new client reports w is.1 serves known left written last ahead p q told t did can,
     deed_serves (Other (Left (EndedBy left written))) tt old new (tt, is.1) did serves,
   )
-  server_goes (Other (Left (Reset left written))) is next can did at = (
-    subst (λ (m : Between). Goes read [] begun m told new client reports w) (none_lost is.0 ∙ sym can.1)
-        (server_resets read begun old new client reports w is.1 serves known left written last ahead p told t did can.0),
-    deed_serves (Other (Left (Reset left written))) tt old new (tt, is.1) did serves,
-  )
-  server_goes (Other (Left Shut)) is next can did at = (
+  server_goes (Other (Left (Reset left written))) kept is next can did at = absurd kept
+  server_goes (Other (Left Shut)) kept is next can did at = (
     subst (λ (m : Between). Goes read [] begun m told new client reports w) (sym can)
         (server_shuts read begun old new client reports w is.1 serves known last ahead p told t did),
     deed_serves (Other (Left Shut)) tt old new (tt, is.1) did serves,
   )
-  server_goes (Other Closed) is next can did at = (
+  server_goes (Other Closed) kept is next can did at = (
     subst (λ (m : Between). Goes read [] begun m told new client reports w) (sym can)
         (server_closed read begun old new client reports w is.1 serves known last ahead p told t did),
     deed_serves (Other Closed) tt old new (tt, is.1) did serves,
   )
-  server_goes deed is next can did at = absurd is.0
+  server_goes deed kept is next can did at = absurd is.0

@@ -29,7 +29,7 @@ use Rattle.ftp_pair_dialogues.specs.Fetches.{busy}
 use Rattle.ftp_pair_agreement.specs.Over.{OverRuns}
 use Rattle.ftp_pair_agreement.proofs.Chunks.{both_empty}
 use Rattle.ftp_pair_drives.specs.Alone.{ServerIsCalm}
-use Rattle.ftp_pair_drives.specs.Between.{Between, Can, CanTurn, Far as TheServer, Server}
+use Rattle.ftp_pair_drives.specs.Between.{Between, Can, CanTurn, Far as TheServer, Has_lost, IsStanding, Server, with_hold}
 use Rattle.ftp_pair_drives.specs.Touches.{Dials, touch_in}
 use Rattle.ftp_pair_data.specs.Ahead.{is_asked}
 use Rattle.ftp_pair_data.specs.Unaborted.{is_unaborted}
@@ -39,24 +39,25 @@ use Rattle.ftp_pair_deeds.proofs.Holding.{both, is_called}
 use Rattle.ftp_pair_deeds.proofs.NearForms.{is_unaborted_same}
 use Rattle.ftp_pair_deeds.proofs.Stands.{ClientFetches as ClientRests, ServerServes}
 use Rattle.ftp_pair_transfers.specs.Ahead.{Ahead, Fits, Level, Listens, Opens, Parted, far_ahead}
+use Rattle.ftp_pair_transfers.specs.Deeds as passive
 use Rattle.ftp_pair_transfers.specs.Deeds.{IsToldAt, begun_at, last_of, number_in}
 use Rattle.ftp_pair_transfers.proofs.Ahead.{left_rests, says_after}
 use Rattle.ftp_pair_transfers.proofs.Beside.{Goes, Together}
 use Rattle.ftp_pair_transfers.proofs.Known.{AreCarried, Known}
+use Rattle.ftp_pair_transfers.proofs.Lost.{with_lost}
 use Rattle.ftp_pair_transfers.proofs.Running.{world_known}
-use Rattle.ftp_pair_active.specs.Deeds.{IsListening, ListenerTransfers, ServerTransfers}
+use Rattle.ftp_pair_transfers.proofs.Simulating.{ResetsNone}
+use Rattle.ftp_pair_active.specs.Deeds.{ServerTransfers}
 use Rattle.ftp_pair_active.specs.Lead.{Even, Joined, Lead, Told, led_by}
 use Rattle.ftp_pair_active.proofs.Accepting.{is_transfer}
-use Rattle.ftp_pair_active.proofs.Calls.{AreWhole}
 use Rattle.ftp_pair_active.proofs.Dialling.{dials_on, dials_serves}
 use Rattle.ftp_pair_active.proofs.Joining.{upload_there}
 use Rattle.ftp_pair_active.proofs.Leading.{Comes, Stays, Waits, led_between, led_client, led_told, not_awaiting, server_follows}
-use Rattle.ftp_pair_active.proofs.Leads.{LedSo, far_apart, is_apart, told_owes, world_sides}
+use Rattle.ftp_pair_active.proofs.Leads.{LedSo, far_apart, is_apart, joined_unaborted, told_owes, told_unaborted, world_sides}
 use Rattle.ftp_pair_active.proofs.LedDeeds.{GoesLed}
-use Rattle.ftp_pair_active.proofs.Lifting.{lifts_on}
-use Rattle.ftp_pair_active.proofs.ServerGoes.{IsNext, server_goes, told_by}
+use Rattle.ftp_pair_active.proofs.Lifting.{Lifted, lifts_on}
+use Rattle.ftp_pair_active.proofs.ServerGoes.{IsNext, reset_goes, server_goes, told_by}
 use Rattle.ftp_pair_active.proofs.Telling.{has_any}
-use Rattle.ftp_pair_active.proofs.Stands.{ClientFetches}
 
 -- ---- deeds
 
@@ -79,7 +80,7 @@ is_saying (Says octets) = true
 is_saying deed = false
 
 -- any but a dial leaves what the client holds, and has to read unless it says some
-pub quiet_apart : (deed : Deed server_side) (at : Held Timed) → IsListening deed at → is_saying deed ≡ false → is_apart (touch_in deed) ≡ true
+pub quiet_apart : (deed : Deed server_side) (at : Held Timed) → passive.IsServing deed at → is_saying deed ≡ false → is_apart (touch_in deed) ≡ true
 quiet_apart (Says octets) at is e = absurd (true≢false e)
 quiet_apart (Heard octets) at is e = refl
 quiet_apart (Read octets) at is e = refl
@@ -125,9 +126,10 @@ stays_job d octets (Comes op all flow port octet more is o) = ap (λ (n : Near).
 stays_job d octets (Waits is a) = ap (λ (n : Near). is_transfer n.job) a.is
 
 module _ (read : Reading) (reads : IsReading read) (from : State) (moments : ℕ → ℕ) (deeds : List (Deed client_side))
-    (puts : AreCarried (begun_at moments deeds)) (whole : AreWhole (begun_at moments deeds)) (old new : Stand server_side)
+    (puts : AreCarried (begun_at moments deeds)) (old new : Stand server_side)
     (client : Stand client_side) (reports : List Said) (w : World) (serves : ServerServes old.owner)
-    (runs : OverRuns read from (begun_at moments deeds) w) (last : ℕ) (ahead : Ahead) (p q : Between) (told : ℕ) where
+    (runs : OverRuns read from (begun_at moments deeds) w) (last : ℕ) (ahead : Ahead) (p q : Between) (told : ℕ)
+    (called : is_called p.far ≡ true → is_unaborted client.owner.end.view.job ≡ true) where
   abbrev begun : List Order
   begun = begun_at moments deeds
 
@@ -149,17 +151,17 @@ module _ (read : Reading) (reads : IsReading read) (from : State) (moments : ℕ
   module _ (host : Host) (endpoint : Endpoint) (left written at_first so_far : Option (List ℕ)) (rest : Rest) (calm : ServerIsCalm old.owner new.owner)
       (did : Calls {side = server_side} (Opened host (Connected endpoint left written ∷ []) at_first so_far rest) old new)
       (can : Can TheServer (Dials endpoint) p q) where
-    dials_led : (lead : Lead) (more : List ℕ) → LedSo lead more p told old client → At lead more → ClientFetches (led_client lead client).owner
+    dials_led : (lead : Lead) (more : List ℕ) → LedSo lead more p told old client → At lead more → ClientRests (led_client lead client).owner
         → GoesLed read [] begun q told new client reports w × ServerServes new.owner
     dials_led Even more so t asks =
-        let d = dials_on read reads from begun puts whole old new client reports w calm serves asks runs host endpoint left written at_first so_far rest last p
+        let d = dials_on read reads from begun puts old new client reports w calm serves asks runs host endpoint left written at_first so_far rest last p
         q told did can ahead t in (
           record { lead = Joined d.0; left = []; so = (d.1, d.2); goes = d.3 },
-          dials_serves read reads from begun puts whole old new client reports w calm serves asks runs host endpoint left written at_first so_far rest last p
+          dials_serves read reads from begun puts old new client reports w calm serves asks runs host endpoint left written at_first so_far rest last p
               q told did can,
         )
     dials_led (Told port) more so t asks =
-        let d = dials_on read reads from begun puts whole old new (led_client (Told port) client) reports w calm serves asks runs host endpoint left written
+        let d = dials_on read reads from begun puts old new (led_client (Told port) client) reports w calm serves asks runs host endpoint left written
         at_first so_far rest last p q (next_listen told) did can ahead t in
         let is : led_by (Told port) v ≡ listening port (busy (Doing so.0.op Steps.Listen) NearData.ListenWanted v) = ap (listening port) so.0.view in
         absurd (true≢false (sym (stays_job (data_closed (led_by (Told port) v)) d.0 d.1.stays.0) ∙ ap (λ (n : Near). is_transfer n.job) is
@@ -169,11 +171,11 @@ module _ (read : Reading) (reads : IsReading read) (from : State) (moments : ℕ
   -- ---- a client that was told a port there owes
 
   module _ (port : ℕ) (more : List ℕ) (so : LedSo (Told port) more p told old client) (t : At (Told port) more)
-      (asks : ClientFetches (led_client (Told port) client).owner) where
+      (asks : ClientRests (led_client (Told port) client).owner) where
     owes_none : w.far.owed ≡ []
     owes_none =
         world_sides read reads from begun puts w runs t.beside.control t.beside.unready
-        (ap (λ (n : Near). is_unaborted n.job) t.beside.near ∙ is_unaborted_same (led_by (Told port) v) ∙ asks.unaborted)
+        (ap (λ (n : Near). is_unaborted n.job) t.beside.near ∙ is_unaborted_same (led_by (Told port) v) ∙ told_unaborted port p client so.0)
         (ap (λ (n : Near). has_any n.owed) t.beside.near ∙ ap (λ n. has_any (listening port n).owed) so.0.view ∙ told_owes port so.0.op v)
 
     -- so the server says nothing
@@ -208,18 +210,20 @@ module _ (read : Reading) (reads : IsReading read) (from : State) (moments : ℕ
 
   -- ---- any other deed
 
-  module _ (deed : Deed server_side) (is : ListenerTransfers deed old.owner new.owner) (next : IsNext deed told) (can : CanTurn (Server deed) p q)
+  module _ (deed : Deed server_side) (kept : ResetsNone deed) (is : passive.ServerTransfers deed old.owner new.owner) (next : IsNext deed told)
+      (can : CanTurn (Server deed) p q)
       (did : Done deed old new) (at : IsToldAt deed old new did (last_of moments (number_in deeds))) where
-    goes_even : At Even [] → ClientFetches client.owner → q.near ≡ p.near → (is_called p.near ≡ false) × ClientRests client.owner → Went deed
+    goes_even : At Even [] → ClientRests client.owner → q.near ≡ p.near → (is_called p.near ≡ false) × ClientRests client.owner → Went deed
     goes_even t asks same apart =
-        let g = server_goes read reads from moments deeds puts old new client reports w serves asks runs last ahead p q told t deed is next can did at in
+        let g = server_goes read reads from moments deeds puts old new client reports w serves asks runs last ahead p q told called t deed kept is next can did
+        at in
         (record { lead = Even; left = []; so = (ap is_called same ∙ apart.0, apart.1); goes = g.0 }, g.1)
 
     goes_told : (port : ℕ) (more : List ℕ) (so : LedSo (Told port) more p told old client) → At (Told port) more
-        → ClientFetches (led_client (Told port) client).owner → is_port deed ≡ false → q.near ≡ p.near → q.control.to_client ≡ p.control.to_client → Went deed
+        → ClientRests (led_client (Told port) client).owner → is_port deed ≡ false → q.near ≡ p.near → q.control.to_client ≡ p.control.to_client → Went deed
     goes_told port more so t asks other same queue =
         let g = server_goes read reads from moments deeds puts old new (led_client (Told port) client) reports w serves asks runs last ahead p q
-        (next_listen told) t deed is (any_next deed (next_listen told) other) can did at in (
+        (next_listen told) (λ e. told_unaborted port p client so.0) t deed kept is (any_next deed (next_listen told) other) can did at in (
           record {
             lead = Told port;
             left = [];
@@ -244,11 +248,12 @@ module _ (read : Reading) (reads : IsReading read) (from : State) (moments : ℕ
 
     goes_joined : ServerTransfers deed old.owner new.owner → (octets more : List ℕ) (so : LedSo (Joined octets) more p told old client)
         → At (Joined octets) more
-        → ClientFetches (led_client (Joined octets) client).owner → Went deed
+        → ClientRests (led_client (Joined octets) client).owner → Went deed
     goes_joined active octets more so t asks =
         let f = server_follows octets more p q so.0.called (touch_in deed) can in
         let g = server_goes read reads from moments deeds puts old new (led_client (Joined octets) client) reports w serves asks runs last ahead
-        (led_between (Joined octets) more p) (led_between (Joined octets) f.rest q) told t deed is next f.can did at in (
+        (led_between (Joined octets) more p) (led_between (Joined octets) f.rest q) told (λ e. joined_unaborted octets more p client so.0) t deed kept is next
+        f.can did at in (
           record {
             lead = Joined octets;
             left = f.rest;
@@ -276,7 +281,7 @@ module _ (read : Reading) (reads : IsReading read) (from : State) (moments : ℕ
         unsent busy = elim (known.lines busy) [
           | inl none ↦ none
           | inr halts ↦ absurd (true≢false (sym (ap (λ (n : Near). is_unaborted n.job) t.beside.near ∙ is_unaborted_same (led_by (Joined octets) v)
-              ∙ asks.unaborted) ∙ halts.0))
+              ∙ joined_unaborted octets more p client so.0) ∙ halts.0))
         ]
 
         quiet : so.0.closed ≡ true → old.unheard ++ p.control.to_server ≡ []
@@ -286,66 +291,114 @@ module _ (read : Reading) (reads : IsReading read) (from : State) (moments : ℕ
             (led_between (Joined octets) more p) told (led_client (Joined octets) client) w t (so.1 e).takes))
 
   -- whichever lead
-  goes_quiet : (deed : Deed server_side) → ListenerTransfers deed old.owner new.owner → ServerTransfers deed old.owner new.owner → IsNext deed told
+  goes_quiet : (deed : Deed server_side) → ResetsNone deed → passive.ServerTransfers deed old.owner new.owner → ServerTransfers deed old.owner new.owner
+      → IsNext deed told
       → CanTurn (Server deed) p q → (did : Done deed old new) → IsToldAt deed old new did (last_of moments (number_in deeds)) → is_saying deed ≡ false
-      → is_port deed ≡ false → (lead : Lead) (more : List ℕ) → LedSo lead more p told old client → At lead more → ClientFetches (led_client lead client).owner
+      → is_port deed ≡ false → (lead : Lead) (more : List ℕ) → LedSo lead more p told old client → At lead more → ClientRests (led_client lead client).owner
       → Went deed
-  goes_quiet deed is active next can did at silent other Even more so t asks =
-      goes_even deed is next can did at t asks (far_apart (touch_in deed) p q (quiet_apart deed old.owner is.0 silent) can).0 so
-  goes_quiet deed is active next can did at silent other (Told port) more so t asks =
+  goes_quiet deed kept is active next can did at silent other Even more so t asks =
+      goes_even deed kept is next can did at t asks (far_apart (touch_in deed) p q (quiet_apart deed old.owner is.0 silent) can).0 so
+  goes_quiet deed kept is active next can did at silent other (Told port) more so t asks =
       let apart = far_apart (touch_in deed) p q (quiet_apart deed old.owner is.0 silent) can in
-      goes_told deed is next can did at port more so t asks other apart.0 apart.1
-  goes_quiet deed is active next can did at silent other (Joined octets) more so t asks = goes_joined deed is next can did at active octets more so t asks
+      goes_told deed kept is next can did at port more so t asks other apart.0 apart.1
+  goes_quiet deed kept is active next can did at silent other (Joined octets) more so t asks =
+      goes_joined deed kept is next can did at active octets more so t asks
 
-  goes_says : (octets : List ℕ) → ListenerTransfers (Says octets) old.owner new.owner → ServerTransfers (Says octets) old.owner new.owner
+  goes_says : (octets : List ℕ) → passive.ServerTransfers (Says octets) old.owner new.owner → ServerTransfers (Says octets) old.owner new.owner
       → CanTurn (Server (Says octets)) p q → (did : Done (Says octets) old new) → (lead : Lead) (more : List ℕ) → LedSo lead more p told old client
       → At lead more
-      → ClientFetches (led_client lead client).owner → Went (Says octets)
-  goes_says octets is active can did Even more so t asks = goes_even (Says octets) is tt can did tt t asks (ap (λ (b : Between). b.near) can) so
+      → ClientRests (led_client lead client).owner → Went (Says octets)
+  goes_says octets is active can did Even more so t asks = goes_even (Says octets) tt is tt can did tt t asks (ap (λ (b : Between). b.near) can) so
   goes_says octets is active can did (Told port) more so t asks =
-      goes_told (Says octets) is tt can did tt port more so t asks refl (ap (λ (b : Between). b.near) can)
+      goes_told (Says octets) tt is tt can did tt port more so t asks refl (ap (λ (b : Between). b.near) can)
       (ap (λ (b : Between). b.control.to_client) can ∙ ap (λ o. p.control.to_client ++ o) (says_none port more so t asks octets did)
       ∙ append-nil p.control.to_client)
-  goes_says octets is active can did (Joined front) more so t asks = goes_joined (Says octets) is tt can did tt active front more so t asks
+  goes_says octets is active can did (Joined front) more so t asks = goes_joined (Says octets) tt is tt can did tt active front more so t asks
 
-  goes_listens : (port : ℕ) → ListenerTransfers (Other (Listening port)) old.owner new.owner
+  goes_listens : (port : ℕ) → passive.ServerTransfers (Other (Listening port)) old.owner new.owner
       → ServerTransfers (Other (Listening port)) old.owner new.owner
       → port ≡ port_at told → CanTurn (Server (Other (Listening port))) p q → (did : Done (Other (Listening port)) old new) → (lead : Lead) (more : List ℕ)
-      → LedSo lead more p told old client → At lead more → ClientFetches (led_client lead client).owner → Went (Other (Listening port))
+      → LedSo lead more p told old client → At lead more → ClientRests (led_client lead client).owner → Went (Other (Listening port))
   goes_listens port is active next can did Even more so t asks =
-      goes_even (Other (Listening port)) is next can did tt t asks (ap (λ (b : Between). b.near) can.1) so
+      goes_even (Other (Listening port)) tt is next can did tt t asks (ap (λ (b : Between). b.near) can.1) so
   goes_listens port is active next can did (Told other) more so t asks = absurd (listens_never other more so t asks did.0.2.0)
-  goes_listens port is active next can did (Joined octets) more so t asks = goes_joined (Other (Listening port)) is next can did tt active octets more so t asks
+  goes_listens port is active next can did (Joined octets) more so t asks =
+      goes_joined (Other (Listening port)) tt is next can did tt active octets more so t asks
+
+  -- ---- it resets one
+
+  -- what it did not write is on its way to the client still, whether that is ahead or not
+  pub resets_led : (left written : Option (List ℕ)) → ServerIsCalm old.owner new.owner → Done (Other (Left (Reset left written))) old new → IsStanding p.far
+      → (lead : Lead) (more : List ℕ) → LedSo lead more p told old client → At lead more → ClientRests (led_client lead client).owner
+      → GoesLed read [] begun (with_lost old.owner.lane.unwritten (with_hold TheServer Has_lost p)) told new client reports w × ServerServes new.owner
+  resets_led left written calm did stands Even more so t asks =
+      let g = reset_goes read reads from moments deeds puts old new client reports w serves asks runs last ahead p p told called t left written calm did
+      stands in
+      (record { lead = Even; left = []; so = so; goes = g.0 }, g.1)
+  resets_led left written calm did stands (Told port) more so t asks =
+      let g = reset_goes read reads from moments deeds puts old new (led_client (Told port) client) reports w serves asks runs last ahead p p
+      (next_listen told) (λ e. told_unaborted port p client so.0) t left written calm did stands in (
+        record {
+          lead = Told port;
+          left = [];
+          so = (record { op = so.0.op; view = so.0.view; owed = so.0.owed; empty = so.0.empty; called = so.0.called }, so.1);
+          goes = g.0;
+        },
+        g.1,
+      )
+  resets_led left written calm did stands (Joined octets) more so t asks =
+      let g = reset_goes read reads from moments deeds puts old new (led_client (Joined octets) client) reports w serves asks runs last ahead
+      (led_between (Joined octets) more p) (led_between (Joined octets) more p) told (λ e. joined_unaborted octets more p client so.0) t left written calm did
+      stands in (
+        record {
+          lead = Joined octets;
+          left = more;
+          so = (
+            record { closed = so.0.closed; stays = so.0.stays; owed = so.0.owed; queue = so.0.queue; called = so.0.called },
+            λ e.
+                let l : Lifted p old = so.1 e in record {
+                  takes = ap (λ (at : Timed). is_upload at.server.view.session.connection) did.0.0 ∙ l.takes;
+                  none_comes = l.none_comes;
+                  untold = did.0.1.untold;
+                },
+          );
+          goes = g.0;
+        },
+        g.1,
+      )
 
   -- ---- all deeds
 
-  pub server_led : (deed : Deed server_side) → ServerTransfers deed old.owner new.owner → IsNext deed told → CanTurn (Server deed) p q
+  pub server_led : (deed : Deed server_side) → ResetsNone deed → ServerTransfers deed old.owner new.owner → IsNext deed told → CanTurn (Server deed) p q
       → (did : Done deed old new) → IsToldAt deed old new did (last_of moments (number_in deeds)) → (lead : Lead) (more : List ℕ)
-      → LedSo lead more p told old client → At lead more → ClientFetches (led_client lead client).owner → Went deed
-  server_led (Says octets) is next can did at lead more so t asks = goes_says octets is is can did lead more so t asks
-  server_led (Other (Listening port)) is next can did at lead more so t asks = goes_listens port is is next can did lead more so t asks
-  server_led (Other (Opened host (Connected endpoint left written ∷ []) at_first so_far rest)) is next can did at lead more so t asks =
+      → LedSo lead more p told old client → At lead more → ClientRests (led_client lead client).owner → Went deed
+  server_led (Says octets) kept is next can did at lead more so t asks = goes_says octets is is can did lead more so t asks
+  server_led (Other (Listening port)) kept is next can did at lead more so t asks = goes_listens port is is next can did lead more so t asks
+  server_led (Other (Opened host (Connected endpoint left written ∷ []) at_first so_far rest)) kept is next can did at lead more so t asks =
       dials_led host endpoint left written at_first so_far rest is.1 did can lead more so t asks
-  server_led (Heard octets) is next can did at lead more so t asks = goes_quiet (Heard octets) is is next can did at refl refl lead more so t asks
-  server_led (Read octets) is next can did at lead more so t asks = goes_quiet (Read octets) is is next can did at refl refl lead more so t asks
-  server_led (Other (Aside tt)) is next can did at lead more so t asks = goes_quiet (Other (Aside tt)) is is next can did at refl refl lead more so t asks
-  server_led (Other (Opened host (Came other left written ∷ []) at_first so_far rest)) is next can did at lead more so t asks =
-      goes_quiet (Other (Opened host (Came other left written ∷ []) at_first so_far rest)) is is next can did at refl refl lead more so t asks
-  server_led (Other (Got octets)) is next can did at lead more so t asks = goes_quiet (Other (Got octets)) is is next can did at refl refl lead more so t asks
-  server_led (Other (Received octets count)) is next can did at lead more so t asks =
-      goes_quiet (Other (Received octets count)) is is next can did at refl refl lead more so t asks
-  server_led (Other End) is next can did at lead more so t asks = goes_quiet (Other End) is is next can did at refl refl lead more so t asks
-  server_led (Other (Gave count octets rest)) is next can did at lead more so t asks =
-      goes_quiet (Other (Gave count octets rest)) is is next can did at refl refl lead more so t asks
-  server_led (Other (Wrote octets)) is next can did at lead more so t asks =
-      goes_quiet (Other (Wrote octets)) is is next can did at refl refl lead more so t asks
-  server_led (Other (Waited lost)) is next can did at lead more so t asks = goes_quiet (Other (Waited lost)) is is next can did at refl refl lead more so t asks
-  server_led (Other (LetGo octets)) is next can did at lead more so t asks =
-      goes_quiet (Other (LetGo octets)) is is next can did at refl refl lead more so t asks
-  server_led (Other (Left (EndedBy left written))) is next can did at lead more so t asks =
-      goes_quiet (Other (Left (EndedBy left written))) is is next can did at refl refl lead more so t asks
-  server_led (Other (Left (Reset left written))) is next can did at lead more so t asks =
-      goes_quiet (Other (Left (Reset left written))) is is next can did at refl refl lead more so t asks
-  server_led (Other (Left Shut)) is next can did at lead more so t asks = goes_quiet (Other (Left Shut)) is is next can did at refl refl lead more so t asks
-  server_led (Other Closed) is next can did at lead more so t asks = goes_quiet (Other Closed) is is next can did at refl refl lead more so t asks
-  server_led deed is next can did at lead more so t asks = absurd is.0
+  server_led (Heard octets) kept is next can did at lead more so t asks = goes_quiet (Heard octets) tt is is next can did at refl refl lead more so t asks
+  server_led (Read octets) kept is next can did at lead more so t asks = goes_quiet (Read octets) tt is is next can did at refl refl lead more so t asks
+  server_led (Other (Aside tt)) kept is next can did at lead more so t asks =
+      goes_quiet (Other (Aside tt)) tt is is next can did at refl refl lead more so t asks
+  server_led (Other (Opened host (Came other left written ∷ []) at_first so_far rest)) kept is next can did at lead more so t asks =
+      goes_quiet (Other (Opened host (Came other left written ∷ []) at_first so_far rest)) tt is is next can did at refl refl lead more so t asks
+  server_led (Other (Got octets)) kept is next can did at lead more so t asks =
+      goes_quiet (Other (Got octets)) tt is is next can did at refl refl lead more so t asks
+  server_led (Other (Received octets count)) kept is next can did at lead more so t asks =
+      goes_quiet (Other (Received octets count)) tt is is next can did at refl refl lead more so t asks
+  server_led (Other End) kept is next can did at lead more so t asks = goes_quiet (Other End) tt is is next can did at refl refl lead more so t asks
+  server_led (Other (Gave count octets rest)) kept is next can did at lead more so t asks =
+      goes_quiet (Other (Gave count octets rest)) tt is is next can did at refl refl lead more so t asks
+  server_led (Other (Wrote octets)) kept is next can did at lead more so t asks =
+      goes_quiet (Other (Wrote octets)) tt is is next can did at refl refl lead more so t asks
+  server_led (Other (Waited lost)) kept is next can did at lead more so t asks =
+      goes_quiet (Other (Waited lost)) tt is is next can did at refl refl lead more so t asks
+  server_led (Other (LetGo octets)) kept is next can did at lead more so t asks =
+      goes_quiet (Other (LetGo octets)) tt is is next can did at refl refl lead more so t asks
+  server_led (Other (Left (EndedBy left written))) kept is next can did at lead more so t asks =
+      goes_quiet (Other (Left (EndedBy left written))) tt is is next can did at refl refl lead more so t asks
+  server_led (Other (Left (Reset left written))) kept is next can did at lead more so t asks = absurd kept
+  server_led (Other (Left Shut)) kept is next can did at lead more so t asks =
+      goes_quiet (Other (Left Shut)) tt is is next can did at refl refl lead more so t asks
+  server_led (Other Closed) kept is next can did at lead more so t asks = goes_quiet (Other Closed) tt is is next can did at refl refl lead more so t asks
+  server_led deed kept is next can did at lead more so t asks = absurd is.0

@@ -32,13 +32,12 @@ use Rattle.ftp_pair_drives.specs.Alone.{ClientIsCalm}
 use Rattle.ftp_pair_drives.specs.Between.{Between}
 use Rattle.ftp_pair_drives.proofs.Taken.{HearsAlike, hears_alike, taken}
 use Rattle.ftp_pair_data.specs.Ahead.{is_asked}
-use Rattle.ftp_pair_data.specs.Unaborted.{is_unaborted}
 use Rattle.ftp_pair_data.proofs.Moves.{Rested, begins_to, drop_front, near_hears_to, take_front}
 use Rattle.ftp_pair_data.proofs.Served.{Runs, settled}
 use Rattle.ftp_pair_deeds.proofs.FarForms.{told_speaks}
 use Rattle.ftp_pair_deeds.proofs.Holding.{both, is_called, unclosed}
-use Rattle.ftp_pair_deeds.proofs.NearForms.{busy_same, is_unaborted_same}
-use Rattle.ftp_pair_deeds.proofs.Stands.{ServerServes, wants_port}
+use Rattle.ftp_pair_deeds.proofs.NearForms.{busy_same}
+use Rattle.ftp_pair_deeds.proofs.Stands.{ClientFetches as ClientRests, ServerServes, wants_port}
 use Rattle.ftp_pair_transfers.specs.Ahead.{Ahead, Fits, Level, Listened, Listens, Opens, Parted, far_ahead, is_parted}
 use Rattle.ftp_pair_transfers.specs.Deeds.{IsCarried}
 use Rattle.ftp_pair_transfers.proofs.Ahead.{Holds}
@@ -50,7 +49,6 @@ use Rattle.ftp_pair_transfers.proofs.Twins.{HasTwin, gone_far, gone_link, goes_o
 use Rattle.ftp_pair_active.specs.Lead.{Told}
 use Rattle.ftp_pair_active.proofs.Asking.{Asks, told_open, asks_told, hears_asks}
 use Rattle.ftp_pair_active.proofs.Leading.{IsTold, led_client}
-use Rattle.ftp_pair_active.proofs.Stands.{ClientFetches, rests_of}
 
 abbrev pub has_any : {A : Type 0} → List A → Bool
 has_any [] = false
@@ -223,7 +221,7 @@ pub record Tells (read : Reading) (server : Stand server_side) (new : Stand clie
 
 module _ (read : Reading) (reads : IsReading read) (begun : List Order) (server : Stand server_side) (old new : Stand client_side) (reports : List Said)
     (w : World)
-    (calm : ClientIsCalm old.owner new.owner) (serves : ServerServes server.owner) (before : ClientFetches old.owner) (known : Known w) where
+    (calm : ClientIsCalm old.owner new.owner) (serves : ServerServes server.owner) (before : ClientRests old.owner) (known : Known w) where
   abbrev v : Near
   v = old.owner.end.view
 
@@ -232,7 +230,7 @@ module _ (read : Reading) (reads : IsReading read) (begun : List Order) (server 
 
   module _ (from : State) (puts : AreCarried begun) (runs : OverRuns read from begun w) (octet : ℕ) (octets : List ℕ) (moment : ℕ) (ahead : Ahead)
       (between : Between) (told : ℕ) (t : Together read begun moment ahead between told server old reports w)
-      (did : HearsNext (octet ∷ octets) old new) (called : is_called between.near ≡ false) (after : is_unaborted uu.job ≡ true)
+      (did : HearsNext (octet ∷ octets) old new) (called : is_called between.near ≡ false)
       (wants : wants_port uu.connection ≡ true) where
     b : IsBeside moment ahead between told server old reports w
     b = t.beside
@@ -244,7 +242,7 @@ module _ (read : Reading) (reads : IsReading read) (begun : List Order) (server 
     rest = new.unheard ++ between.control.to_client
 
     r : Rested w
-    r = rested moment ahead between told server old reports w b serves (rests_of before)
+    r = rested moment ahead between told server old reports w b serves before
 
     queue : w.control_to_client ≡ all ++ rest
     queue = b.to_client ∙ ap (λ a. a ++ between.control.to_client) did.next ∙ append_assoc all new.unheard between.control.to_client
@@ -277,19 +275,11 @@ module _ (read : Reading) (reads : IsReading read) (begun : List Order) (server 
     pushed_near : near.hears w.near (take (length all) w.control_to_client) ≡ near.hears w.near all
     pushed_near = ap (near.hears w.near) first
 
-    unaborted : is_unaborted w.near.job ≡ true
-    unaborted = ap (λ (n : Near). is_unaborted n.job) b.near ∙ is_unaborted_same v ∙ before.unaborted
-
-    unaborted_then : is_unaborted (near.hears w.near (take (length all) w.control_to_client)).job ≡ true
-    unaborted_then =
-        ap (λ (n : Near). is_unaborted n.job) pushed_near ∙ sym (is_unaborted_same (near.hears w.near all)) ∙ ap (λ (n : Near). is_unaborted n.job) taken_is
-        ∙ is_unaborted_same uu ∙ after
-
     wants_there : wants_port (near.hears w.near (take (length all) w.control_to_client)).connection ≡ true
     wants_there = ap (λ (n : Near). wants_port n.connection) (pushed_near) ∙ ap (λ (n : Near). wants_port n.connection) taken_is ∙ wants
 
     a : Asks (pushed read ControlToClient (length all) w)
-    a = hears_asks read reads from begun puts w (length all) runs b.control b.unready unaborted unaborted_then wants_there
+    a = hears_asks read reads from begun puts w (length all) runs b.control b.unready wants_there
 
     abbrev n : Near
     n = near.hears w.near all

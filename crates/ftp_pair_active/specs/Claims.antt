@@ -1,5 +1,5 @@
--- What is claimed of two drives by their deeds, in any order in which each can happen, where files were put and fetched, and listings, over data connections
--- that either dialled: a list of the world's events leads from the beginning to what both ends hold; so there is agreement, and the direct run.
+-- What is claimed of two drives by their deeds, in any order in which each can happen, where files were put, fetched and peeked into, and listings, over data
+-- connections that either dialled: a list of the world's events leads from the beginning to what both ends hold; so there is agreement, and the direct run.
 use Rattle.std.specs.Prelude.{◌≡◌, ℕ, false, List, [], ◌++◌, length, Some, None, option_to_list}
 use Rattle.ftp_control.specs.Deeds.{Led, Stand}
 use Rattle.ftp_client_drive.specs.Side.{client_side}
@@ -9,8 +9,8 @@ use Rattle.ftp_pair_drives.specs.Alone.{reports_in}
 use Rattle.ftp_pair_drives.specs.Between.{Between, Happened, Turn, client_deeds, server_deeds}
 use Rattle.ftp_pair_drives.specs.Claims.{Begins}
 use Rattle.ftp_pair_transfers.specs.Ahead.{Ahead, Fits, far_ahead}
-use Rattle.ftp_pair_transfers.specs.Claims.{DidTransfer}
-use Rattle.ftp_pair_transfers.specs.Deeds.{AreMoments, AreToldAt, begun_at}
+use Rattle.ftp_pair_transfers.specs.Claims.{DidTransfer, IsNear}
+use Rattle.ftp_pair_transfers.specs.Deeds.{AreMoments, AreResets, AreToldAt, begun_at}
 use Rattle.ftp_pair_world.specs.Agreement.{Agrees, Leads}
 use Rattle.ftp_pair_world.specs.Claims.{AreAnswers, AreTimed, AreUnmarked, Beginning, IsFair, state_of, world_of}
 use Rattle.ftp_pair_world.specs.Events.{Event}
@@ -33,6 +33,7 @@ pub record DidEither (b : Beginning) (moments : ℕ → ℕ) (turns : List Turn)
   pub server_unwritten : server_start.owner.lane.unwritten ≡ []
   pub client_untold : client_start.owner.lane.untold ≡ []
   pub happened : Happened turns between
+  pub resets : AreResets turns between happened
   pub server_led : Led (server_deeds turns) server_start server
   pub client_led : Led (client_deeds turns) client_start client
   pub serves : ServesAlong (server_deeds turns) server_start server server_led
@@ -47,7 +48,7 @@ pub record HoldsBoth (server : Stand server_side) (client : Stand client_side) (
   pub ahead : Ahead
   pub lead : Lead
   pub fits : Fits ahead server.owner.end.server.view.session.connection
-  pub near : w.near ≡ data_closed (reports (led_by lead client.owner.end.view))
+  pub near : IsNear w.near (data_closed (reports (led_by lead client.owner.end.view)))
   pub far : w.far ≡ clock_step moment (far_ahead ahead server.owner.end.server.view)
   pub reported : w.reports ≡ told ++ option_to_list (report_of client.owner.end.view)
   pub control : w.control ≡ Stands
@@ -97,11 +98,8 @@ EitherAreTheDirectRun =
     → length (reports_in (client_deeds turns)) ≡ length (begun_at moments (client_deeds turns))
     → AreAnswers (state_of b) (begun_at moments (client_deeds turns)) (reports_in (client_deeds turns)) server.owner.end.server.view.session.table
 
--- deeds of which the client alone dialled, with the ports of a world, are such deeds, where none of them is a Peek, nothing of the client's data connections
--- failed, and the server reset none with octets unwritten
+-- deeds of which the client alone dialled are such deeds
 abbrev pub PassiveIsEither : Type 0
 PassiveIsEither =
     (b : Beginning) (moments : ℕ → ℕ) (turns : List Turn) (between : Between) (server : Stand server_side) (client : Stand client_side)
-    → (did : DidTransfer b moments turns between server client)
-    → ServesAlong (server_deeds turns) did.server_start server did.server_led → AsksAlong (client_deeds turns) did.client_start client did.client_led
-    → DidEither b moments turns between server client
+    → DidTransfer b moments turns between server client → DidEither b moments turns between server client

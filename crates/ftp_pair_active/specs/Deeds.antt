@@ -1,14 +1,12 @@
--- The deeds of one server's drive and of drives of one client while whole files are put and fetched, and listings, over data connections that either of both
--- listens for (RFC 959, section 3.2), and the ports of both.
+-- The deeds of one server's drive and of drives of one client while files are put, fetched and peeked into, and listings, over data connections that either of
+-- both listens for (RFC 959, section 3.2), and the ports of both.
 use Rattle.std.specs.Prelude.{◌≡◌, ⊤, ℕ, true, false, List, [], ◌∷◌}
-use Rattle.ftp_control.specs.Asking.{Came, Connected, Reset}
+use Rattle.ftp_control.specs.Asking.{Came, Connected}
 use Rattle.ftp_control.specs.Deeds.{Deed, Other, Stand, Led}
-use Rattle.ftp_control.specs.Machine.{Held, Aside, Break, Failed, Left, Listening, Opened}
+use Rattle.ftp_control.specs.Machine.{Held, Aside, Listening, Opened}
 use Rattle.ftp_client_drive.specs.Side.{Starting, client_side}
 use Rattle.ftp_client_model.specs.Failing.{Client}
 use Rattle.ftp_ends.specs.Link.{same_host}
-use Rattle.ftp_operation.specs.declared.op.Op.{Op}
-use Rattle.ftp_operation.specs.declared.op.Op.TheVariants as Ops
 use Rattle.ftp_server_drive.specs.Side.{Timed, server_side}
 use Rattle.ftp_pair_world.specs.World.{next_listen, port_at}
 use Rattle.ftp_pair_drives.specs.Alone.{ClientIsCalm, ServerIsCalm}
@@ -18,18 +16,10 @@ use Rattle.ftp_pair_transfers.specs.Deeds as passive
 
 -- ---- the server
 
--- it does all that it does where it listens alone, but that it resets no data connection with octets unwritten
-abbrev pub IsListening : Deed server_side → Held Timed → Type 0
-IsListening (Other (Left (Reset left written))) at = at.lane.unwritten ≡ []
-IsListening deed at = passive.IsServing deed at
-
-abbrev pub ListenerTransfers : Deed server_side → (old new : Held Timed) → Type 0
-ListenerTransfers deed old new = IsListening deed old × ServerIsCalm old new
-
--- and it dials
+-- it does all that it does where it listens alone, and it dials
 abbrev pub IsServing : Deed server_side → Held Timed → Type 0
 IsServing (Other (Opened host (Connected endpoint left written ∷ []) at_first so_far rest)) at = ⊤
-IsServing deed at = IsListening deed at
+IsServing deed at = passive.IsServing deed at
 
 -- so it does, and it was not refused memory, and no device of it failed or strayed
 abbrev pub ServerTransfers : Deed server_side → (old new : Held Timed) → Type 0
@@ -40,18 +30,10 @@ ServesAlong deeds start now led = Along ServerTransfers deeds start now led
 
 -- ---- the client
 
--- any operation but a Peek
-abbrev pub IsCarried : Op (List ℕ) → Type 0
-IsCarried (Ops.Peek path count how) = ⊥
-IsCarried op = ⊤
-
--- it begins such operations, for which either dials, once nothing is to be closed; it listens at its ports, accepts its peer there, and does all that it does
--- where it dials alone, but that nothing of a data connection fails
+-- it begins operations as where it dials alone, for which either dials, once nothing is to be closed; it listens at its ports, accepts its peer there, and does
+-- all else that it does where it dials alone
 abbrev pub IsAsking : Deed client_side → Held Client → Type 0
-IsAsking (Other Failed) at = ⊥
-IsAsking (Other Break) at = ⊥
-IsAsking (Other (Left (Reset left written))) at = ⊥
-IsAsking (Other (Aside (Starting op))) at = IsCarried op × (at.end.view.closing ≡ false)
+IsAsking (Other (Aside (Starting op))) at = passive.IsCarried op × (at.end.view.closing ≡ false)
 IsAsking (Other (Listening port)) at = ⊤
 IsAsking (Other (Opened host (Came from left written ∷ []) at_first so_far rest)) at = same_host host at.end.view.peer ≡ true
 IsAsking deed at = passive.IsAsking deed at

@@ -12,9 +12,9 @@ use Rattle.ftp_pair_drives.specs.Between.{Between, Happened, Turn, client_deeds,
 use Rattle.ftp_pair_drives.specs.Claims.{Begins}
 use Rattle.ftp_pair_drives.specs.Over.{Answers, answers_of, deeds_of_drive, deeds_of_server}
 use Rattle.ftp_pair_deeds.specs.Deeds.{AreMidst}
-use Rattle.ftp_pair_transfers.specs.Deeds.{AreMoments, AreToldAt}
+use Rattle.ftp_pair_transfers.specs.Deeds.{AreMoments, AreResets, AreToldAt, IsCarried}
 use Rattle.ftp_pair_transfers.specs.Over.{orders_at}
-use Rattle.ftp_pair_active.specs.Deeds.{ArePorts, AsksAlong, IsCarried, ServesAlong}
+use Rattle.ftp_pair_active.specs.Deeds.{ArePorts, AsksAlong, ServesAlong}
 use Rattle.ftp_pair_world.specs.Claims.{AreAnswers, Beginning, IsFair, state_of}
 use Rattle.ftp_server_drive.specs.Driving.{Drove as ServerDrove}
 use Rattle.ftp_server_drive.specs.Side.{server_side}
@@ -57,6 +57,7 @@ pub record AreOver (b : Beginning) (moments : ℕ → ℕ) (asked : List (Op (Li
   pub turns : List Turn
   pub between : Between
   pub happened : Happened turns between
+  pub resets : AreResets turns between happened
   pub closed : Asked
   pub server_is : deeds_of_server drove ≡ Other (Left closed) ∷ Ended ∷ server_deeds turns
   pub client_is : client_deeds turns ≡ deeds_in asked client_start client put

@@ -15,7 +15,7 @@ use Rattle.ftp_pair_drives.specs.Between.{Between, Happened, Turn, client_deeds,
 use Rattle.ftp_pair_drives.specs.Claims.{Begins}
 use Rattle.ftp_pair_drives.specs.Over.{answers_of, deeds_of_server}
 use Rattle.ftp_pair_drives.specs.Quitting.{HappenedAlone, quitting}
-use Rattle.ftp_pair_transfers.specs.Deeds.{AreMoments, AreToldAt}
+use Rattle.ftp_pair_transfers.specs.Deeds.{AreMoments, AreResets, AreToldAt}
 use Rattle.ftp_pair_transfers.specs.Over.{orders_at}
 use Rattle.ftp_pair_transfers.specs.Quitting.{LeavesAlong}
 use Rattle.ftp_pair_active.specs.Deeds.{ArePorts, ServesAlong}
@@ -38,6 +38,7 @@ pub record HaveQuit (b : Beginning) (moments : ℕ → ℕ) (asked : List (Op (L
   pub turns : List Turn
   pub between : Between
   pub happened : Happened turns between
+  pub resets : AreResets turns between happened
   pub closed : Asked
   pub finals : List (Deed server_side)
   pub server_is : deeds_of_server drove ≡ Other (Left closed) ∷ (finals ++ server_deeds turns)

@@ -1,11 +1,11 @@
-//! Laws of two drives that put and fetch files over data connections that either dials: functions that do nothing, whose contracts are the claims of `specs/`,
+//! Laws of two drives that put, fetch and peek over data connections that either dials: functions that do nothing, whose contracts are the claims of `specs/`,
 //! of the deeds that `Drives` of a server's and of a client's drive cites, in any order in which each can happen.
 ghost use Rattle.ftp_pair_active.specs.Claims.{EitherAgree, EitherAreOfWorlds, EitherAreTheDirectRun, EitherPartingAgree, PassiveIsEither};
 ghost use Rattle.ftp_pair_active.specs.Over.{EitherOverAreTheDirectRun};
 ghost use Rattle.ftp_pair_active.specs.Quitting.{EitherThatQuitAreTheDirectRun};
 
-/// One server's drive and drives of one client that put and fetched whole files and listings over passive and active data connections, of which nothing failed,
-/// leave what a list of the world's events leads to from the beginning.
+/// One server's drive and drives of one client that put and fetched files and listings, and peeked, over passive and active data connections leave what a list
+/// of the world's events leads to from the beginning.
 pub fn either_are_of_worlds()
     ensures { EitherAreOfWorlds }
 {}
@@ -33,7 +33,7 @@ pub fn either_that_quit_are_the_direct_run()
     ensures { EitherThatQuitAreTheDirectRun }
 {}
 
-/// Deeds over data connections that the server alone listens for are such deeds, where none is of a Peek, fails or loses octets in a reset.
+/// Deeds over data connections that the server alone listens for are such deeds.
 pub fn passive_is_either()
     ensures { PassiveIsEither }
 {}

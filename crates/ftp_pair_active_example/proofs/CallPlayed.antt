@@ -181,6 +181,7 @@ module _ (table : Table) (moments : ℕ → ℕ) where
   begins = record {
     turns = Client (Other (Begun fetch)) ∷ [];
     happened = (nothing_yet, refl, refl);
+    resets = tt;
     far_led = refl;
     gives = tt;
     midst = [];
@@ -235,6 +236,7 @@ module _ (table : Table) (moments : ℕ → ℕ) where
       record {
         turns = Client (Other (Listening 49152)) ∷ p.turns;
         happened = (lies [] [] [] [] Has_not Has_not, p.happened, (tt, refl));
+        resets = p.resets;
         far_led = p.far_led;
         gives = p.gives;
         midst = Other (Listening 49152) ∷ p.midst;
@@ -327,7 +329,7 @@ module _ (table : Table) (moments : ℕ → ℕ) where
         let server = far_in none_yet far_done [] in
         let all : List ℕ = far_sent.owed ++ far_given.owed in
         let told = near_is_told moments Starts begun fetch 1 [] example_octets Is_called Has_ended [] all server none_yet (still near_asking) refl refl sends in
-        near_turn moments Starts begun fetch (Other (Opened here (Came here None None ∷ []) None None Rests.Nothing)) tt (λ before. (refl, λ ports. ports)) 1
+        near_turn moments Starts begun fetch (Other (Opened here (Came here None None ∷ []) None None Rests.Nothing)) (tt, tt) (λ before. (refl, λ ports. ports)) 1
         (lies [] [] [] example_octets Is_called Has_ended) (lies [] [] [] example_octets Has Has_ended) server (near_in none_yet near_called [])
         (near_in (one_stands [] []) near_heard []) (refl, refl) (near_accepts here near_called refl refl refl) (refl, refl) told
 
@@ -338,16 +340,16 @@ module _ (table : Table) (moments : ℕ → ℕ) where
         let server = far_in none_yet far_done [] in
         let some = lies [] [] [] example_octets Has Has_ended in
         let none = lies [] [] [] [] Has Has_ended in
-        let got = near_turn moments Starts begun fetch (Other (Got example_octets)) tt (λ before. (refl, λ ports. ports)) 1 some none server
+        let got = near_turn moments Starts begun fetch (Other (Got example_octets)) (tt, tt) (λ before. (refl, λ ports. ports)) 1 some none server
         (near_in (one_stands [] []) near_heard [])
         (near_in (one_stands [] example_octets) near_heard []) (tt, refl) (gets example_octets near_heard refl) (refl, refl, refl) comes in
-        let one = near_turn moments Starts begun fetch (Other (Received example_octets 1)) tt (λ before. (refl, λ ports. ports)) 1 none none server
+        let one = near_turn moments Starts begun fetch (Other (Received example_octets 1)) (tt, tt) (λ before. (refl, λ ports. ports)) 1 none none server
         (near_in (one_stands [] example_octets) near_heard []) (near_in (one_stands [] (105 ∷ [])) near_taking []) (tt, refl)
         (takes_one 104 (105 ∷ []) near_heard refl refl) refl got in
-        let taken = near_turn moments Starts begun fetch (Other (Received (105 ∷ []) 1)) tt (λ before. (refl, λ ports. ports)) 1 none none server
+        let taken = near_turn moments Starts begun fetch (Other (Received (105 ∷ []) 1)) (tt, tt) (λ before. (refl, λ ports. ports)) 1 none none server
         (near_in (one_stands [] (105 ∷ [])) near_taking []) (near_in (one_stands [] []) near_taken []) (tt, refl)
         (takes_one 105 [] near_taking refl refl) refl one in
-        near_turn moments Starts begun fetch (Other End) tt (λ before. (refl, λ ports. ports)) 1 none none server (near_in (one_stands [] []) near_taken [])
+        near_turn moments Starts begun fetch (Other End) (tt, tt) (λ before. (refl, λ ports. ports)) 1 none none server (near_in (one_stands [] []) near_taken [])
         (near_in one_over near_over []) (tt, refl) (ends near_taken refl) (refl, refl, refl) taken
 
     -- both began as a session does, and the operation was begun

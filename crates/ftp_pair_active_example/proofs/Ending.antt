@@ -23,7 +23,8 @@ use Rattle.ftp_pair_drives.specs.Between.{Between, CanTurn, Client, Has_ended, s
 use Rattle.ftp_pair_drives.specs.Claims.{Begins}
 use Rattle.ftp_pair_drives.specs.Over.{Answers}
 use Rattle.ftp_pair_drives.proofs.Playing.{Attends}
-use Rattle.ftp_pair_active.specs.Deeds.{ClientTransfers, IsCarried}
+use Rattle.ftp_pair_transfers.specs.Deeds.{IsCarried}
+use Rattle.ftp_pair_active.specs.Deeds.{ClientTransfers}
 use Rattle.ftp_pair_active.specs.Over.{AnswersByEither, AreAnswered, AreOver}
 use Rattle.ftp_pair_example.proofs.Ending.{lies_over}
 use Rattle.ftp_pair_example.proofs.Moves.{near_closes, says_answer}
@@ -155,6 +156,7 @@ module _ (b : Beginning) (first : Far) (op : Op (List ℕ)) (said : Said) (clien
           turns = Client (Other Closed) ∷ Client (Other (Left asked)) ∷ Client (Other (Report (Some said))) ∷ p.turns;
           between = lies_over Has_ended [] [];
           happened = (lies_over Has_ended [] [], (there, (there, p.happened, refl), can), refl);
+          resets = p.resets;
           closed = Shut;
           server_is = refl;
           client_is = ap (λ l. Other Closed ∷ Other (Left asked) ∷ Other (Report (Some said)) ∷ l) p.client_is;

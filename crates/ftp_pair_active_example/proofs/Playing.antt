@@ -16,9 +16,9 @@ use Rattle.ftp_server_model.specs.declared.heard.HeardLine.TheVariants.{Asks}
 use Rattle.ftp_pair_drives.specs.Between.{Between, CanTurn, Client, Happened, Hold, Server, Turn, client_deeds, server_deeds}
 use Rattle.ftp_pair_drives.proofs.Playing.{Attends, ear_after, far_ending, far_hears, is_silent}
 use Rattle.ftp_pair_deeds.specs.Deeds.{AreMidst, IsMidst}
-use Rattle.ftp_pair_transfers.specs.Deeds.{AreToldAt, last_of, number_in}
+use Rattle.ftp_pair_transfers.specs.Deeds.{AreResets, AreToldAt, last_of, number_in}
 use Rattle.ftp_pair_active.specs.Deeds.{ArePorts, AsksAlong, ClientTransfers, ServerTransfers, ServesAlong, listened_in}
-use Rattle.ftp_pair_example.proofs.Playing.{IsUntimed, can_take, drop_all, far_in, first_is, hearing, lies, near_in, other_is, reading, saying, seen_so, take_all, takes_only}
+use Rattle.ftp_pair_example.proofs.Playing.{IsUnbroken, IsUntimed, can_take, drop_all, far_in, first_is, hearing, lies, near_in, near_resets, other_is, reading, saying, seen_so, take_all, takes_only}
 
 -- ---- deeds of both
 
@@ -27,6 +27,7 @@ pub record Played (moments : ℕ → ℕ) (start : Stand server_side) (begun : S
     (server : Stand server_side) (client : Stand client_side) : Type 0 where
   pub turns : List Turn
   pub happened : Happened turns between
+  pub resets : AreResets turns between happened
   pub far_led : Led (server_deeds turns) start server
   pub gives : ServesAlong (server_deeds turns) start server far_led
   pub midst : List (Deed client_side)
@@ -54,6 +55,7 @@ module _ (moments : ℕ → ℕ) (start : Stand server_side) (begun : Stand clie
   far_turn deed quiet listened old new at next client gives done can p = record {
     turns = Server deed ∷ p.turns;
     happened = (old, p.happened, can);
+    resets = p.resets;
     far_led = (at, p.far_led, done);
     gives = (p.gives, gives);
     midst = p.midst;
@@ -66,18 +68,19 @@ module _ (moments : ℕ → ℕ) (start : Stand server_side) (begun : Stand clie
     told = (p.told, quiet.1 at next done (last_of moments (number_in (client_deeds p.turns))));
   }
 
-  -- a deed of the client
-  pub near_turn : (deed : Deed client_side) → IsMidst deed → TellsNoPort (Client deed)
+  -- a deed of the client but that it is told of a break
+  pub near_turn : (deed : Deed client_side) → IsMidst deed × IsUnbroken deed → TellsNoPort (Client deed)
       → (listened : ℕ) (old new : Between) (server : Stand server_side) (at next : Stand client_side)
       → ClientTransfers deed at.owner next.owner → Done deed at next → CanTurn (Client deed) old new
       → Played moments start begun op listened old server at → Played moments start begun op listened new server next
   near_turn deed amid quiet listened old new server at next takes done can p = record {
     turns = Client deed ∷ p.turns;
     happened = (old, p.happened, can);
+    resets = near_resets deed amid.1 p.turns old new p.happened can p.resets;
     far_led = p.far_led;
     gives = p.gives;
     midst = deed ∷ p.midst;
-    are = (p.are, amid);
+    are = (p.are, amid.0);
     client_is = ap (λ l. deed ∷ l) p.client_is;
     near_led = (at, p.near_led, done);
     takes = (p.takes, takes);
@@ -117,7 +120,7 @@ module _ (moments : ℕ → ℕ) (start : Stand server_side) (begun : Stand clie
         left = refl;
         unheard = refl;
       } in
-      near_turn moments start begun op (Says n.owed) tt (λ before. (refl, λ ports. ports)) listened (lies up down go come near_hold far_hold)
+      near_turn moments start begun op (Says n.owed) (tt, tt) (λ before. (refl, λ ports. ports)) listened (lies up down go come near_hold far_hold)
       (lies (up ++ n.owed) down go come near_hold far_hold)
       server (near_in lane n []) (near_in lane new []) (tt, refl) says refl p
 
@@ -143,7 +146,7 @@ module _ (moments : ℕ → ℕ) (start : Stand server_side) (begun : Stand clie
         written = refl;
       } in
       near_hears up down server lane octets next (other_is (takes_only (near.wants n)) _ more)
-      (near_turn moments start begun op (Heard (octet ∷ [])) tt (λ before. (refl, λ ports. ports)) listened (lies up down go come near_hold far_hold)
+      (near_turn moments start begun op (Heard (octet ∷ [])) (tt, tt) (λ before. (refl, λ ports. ports)) listened (lies up down go come near_hold far_hold)
       (lies up down go come near_hold far_hold)
       server (near_in lane n (octet ∷ octets)) (near_in lane next octets) (tt, refl) hears refl p)
     where
@@ -165,7 +168,7 @@ module _ (moments : ℕ → ℕ) (start : Stand server_side) (begun : Stand clie
         written = refl;
       } in
       near_hears up [] server lane down n can
-      (near_turn moments start begun op (Read down) tt (λ before. (refl, λ ports. ports)) listened (lies up down go come near_hold far_hold)
+      (near_turn moments start begun op (Read down) (tt, tt) (λ before. (refl, λ ports. ports)) listened (lies up down go come near_hold far_hold)
       (lies up [] go come near_hold far_hold)
       server (near_in lane n []) (near_in lane n down) (tt, refl) reads (sym (append-nil down), refl) p)
 

@@ -114,7 +114,7 @@ abbrev pub IsUnbroken : Deed client_side → Type 0
 IsUnbroken (Other Break) = ⊥
 IsUnbroken deed = Unit {0}
 
-near_resets : (deed : Deed client_side) → IsUnbroken deed → (before : List Turn) (old new : Between) (happened : Happened before old)
+pub near_resets : (deed : Deed client_side) → IsUnbroken deed → (before : List Turn) (old new : Between) (happened : Happened before old)
     (can : CanTurn (Client deed) old new) → AreResets before old happened → AreResets (Client deed ∷ before) new (old, happened, can)
 near_resets (Other Break) unbroken before old new happened can resets = absurd unbroken
 near_resets deed unbroken before old new happened can resets = resets

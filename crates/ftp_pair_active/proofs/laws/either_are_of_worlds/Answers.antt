@@ -1,4 +1,4 @@
-use Rattle.ftp_pair_active.proofs.Simulating.{either_are_of_worlds}
+use Rattle.ftp_pair_active.proofs.Reaching.{either_are_of_worlds}
 use Rattle.ftp_pair_active.proofs.laws.either_are_of_worlds.Goals as goal
 
 pub returns : goal.returns

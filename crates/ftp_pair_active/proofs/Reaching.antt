@@ -1,0 +1,354 @@
+-- Two drives that put, fetch and peek over data connections that either dials, as a list of a world's events: one deed after another; a world sees what lies
+-- between, what a reset dropped, and a client that was told of a break as one that was told of an end.
+use Rattle.std.proofs.Common.{◌≡◌, ◌⊎◌, inl, inr, ℕ, true, false, true≢false, List, [], ◌∷◌, ◌++◌, option_to_list, refl, sym, ap, subst, ◌∙◌, append-nil}
+use Rattle.ftp_control.specs.Asking.{Connected, Reset}
+use Rattle.ftp_control.specs.Deeds.{Deed, Done, Led, Other, Stand}
+use Rattle.ftp_control.specs.Lane.{Lane}
+use Rattle.ftp_control.specs.Machine.{Break, Held, Left, Opened}
+use Rattle.ftp_ends.specs.declared.link.Wants.TheVariants as Want
+use Rattle.ftp_client_drive.specs.Side.{client_side}
+use Rattle.ftp_client_model.specs.Calls as near
+use Rattle.ftp_client_model.specs.View.{View as Near}
+use Rattle.ftp_operation.specs.Answer.{Said}
+use Rattle.ftp_server_drive.specs.Side.{Timed, server_side}
+use Rattle.ftp_server_model.specs.Machine.{IsReading, Reading}
+use Rattle.ftp_pair_world.specs.Agreement.{Order}
+use Rattle.ftp_pair_world.specs.Claims.{AreUnmarked, Beginning, IsFair, state_of, world_of}
+use Rattle.ftp_pair_drives.specs.Alone.{reported_by, reports_in}
+use Rattle.ftp_pair_drives.specs.Between.{Between, CanTurn, Client, Far as TheServer, Happened, Has_lost, IsStanding, Server, Turn, client_deeds, nothing_yet, server_deeds, with_hold}
+use Rattle.ftp_pair_drives.specs.Claims.{Begins}
+use Rattle.ftp_pair_drives.specs.Touches.{touch_in}
+use Rattle.ftp_pair_drives.proofs.Taken.{reports_is, taken}
+use Rattle.ftp_pair_drives.proofs.Worlds.{leads_then}
+use Rattle.ftp_pair_data.proofs.Known.{is_doing}
+use Rattle.ftp_pair_deeds.proofs.Holding.{both, is_called, is_had, is_sound}
+use Rattle.ftp_pair_deeds.proofs.Plain.{Whatever}
+use Rattle.ftp_pair_deeds.proofs.Stands.{ClientFetches as ClientRests, wants_port}
+use Rattle.ftp_pair_transfers.specs.Claims.{IsNear}
+use Rattle.ftp_pair_transfers.specs.Deeds as passive
+use Rattle.ftp_pair_transfers.specs.Deeds.{AreMoments, AreResets, AreToldAt, IsToldAt, begun_at, last_of, number_in}
+use Rattle.ftp_pair_transfers.proofs.Beside.{Together}
+use Rattle.ftp_pair_transfers.proofs.Broke.{IsShown, with_view}
+use Rattle.ftp_pair_transfers.proofs.Called.{BreaksNone}
+use Rattle.ftp_pair_transfers.proofs.ClientBroken.{Breaks, client_breaks, with_none}
+use Rattle.ftp_pair_transfers.proofs.EitherEnd.{AreAlike}
+use Rattle.ftp_pair_transfers.proofs.Known.{AreCarried}
+use Rattle.ftp_pair_transfers.proofs.Lost.{IsSeen, far_done, is_lost, near_done, resets_losing, seen_itself, with_lost}
+use Rattle.ftp_pair_transfers.proofs.Reaching.{IsResetFor, reset_falls, reset_for, resets_before, serving_near, shown_near, shown_said, shown_still}
+use Rattle.ftp_pair_active.specs.Claims.{EitherAreOfWorlds}
+use Rattle.ftp_pair_active.specs.Deeds.{ArePorts, AsksAlong, ClientTransfers, ServerTransfers, ServesAlong, listened_in}
+use Rattle.ftp_pair_active.specs.Lead.{Even, Joined, Lead, Told, led_by}
+use Rattle.ftp_pair_active.proofs.Broke.{broke_does}
+use Rattle.ftp_pair_active.proofs.ClientLed as by_client
+use Rattle.ftp_pair_active.proofs.JoinedDeeds.{joined_never}
+use Rattle.ftp_pair_active.proofs.Keeping.{ended_kept, whatever_kept}
+use Rattle.ftp_pair_active.proofs.Leading.{Comes, Stays, Waits, led_between, led_client, led_told}
+use Rattle.ftp_pair_active.proofs.Leads.{LedSo}
+use Rattle.ftp_pair_active.proofs.LedDeeds.{asks_port, is_asking_port}
+use Rattle.ftp_pair_active.proofs.Portless.{ended_portless}
+use Rattle.ftp_pair_active.proofs.Ports.{is_ported}
+use Rattle.ftp_pair_active.proofs.ServerGoes as by_server
+use Rattle.ftp_pair_active.proofs.Simulating.{Reached, asks, client_ports, client_reaches, in_carried, known, led_said, reset_reaches, runs, server_ports, server_reaches, starts_so, view_is}
+
+-- ---- the client that a world sees
+
+-- one that was told of a break, or of an end in its place, is not ahead
+broke_even : (lead : Lead) (more : List ℕ) (between seen : Between) (told : ℕ) (server : Stand server_side) (client shown : Stand client_side)
+    → LedSo lead more seen told server shown → IsSeen between seen → (shows : IsShown between client shown) → (shown ≡ client) ⊎ (lead ≡ Even)
+broke_even lead more between seen told server client shown so is_seen (inl same) = inl same
+broke_even Even more between seen told server client shown so is_seen (inr broke) = inr refl
+broke_even (Told port) more between seen told server client shown so is_seen (inr broke) =
+    let other : Near = broke.0 in
+    let is : near.data_closed other ≡ near.data_closed shown.owner.end.view = ap (λ (c : Stand client_side). near.data_closed c.owner.end.view) (sym broke.1) in
+    absurd (true≢false (sym (ap (λ (n : Near). is_doing n.job) (is ∙ so.0.view)) ∙ ap (λ (n : Near). is_doing n.job) broke.2.apart.other_is))
+broke_even (Joined octets) more between seen told server client shown so is_seen (inr broke) =
+    absurd (true≢false (sym broke.2.near ∙ ap is_lost (sym is_seen.near) ∙ ap is_lost so.0.called))
+
+-- as a world holds it, it is the client that is ahead, or was told of an end where that was told of a break
+led_near : (lead : Lead) (more : List ℕ) (between seen : Between) (told : ℕ) (server : Stand server_side) (client shown : Stand client_side)
+    → LedSo lead more seen told server shown → IsSeen between seen → IsShown between client shown → (there : Near)
+    → there ≡ near.data_closed (taken (led_by lead shown.owner.end.view)) → IsNear there (near.data_closed (near.reports (led_by lead client.owner.end.view)))
+led_near lead more between seen told server client shown so is_seen shows there is =
+    by (broke_even lead more between seen told server client shown so is_seen shows)
+  where
+    by : (shown ≡ client) ⊎ (lead ≡ Even) → IsNear there (near.data_closed (near.reports (led_by lead client.owner.end.view)))
+    by (inl same) =
+        inl (is ∙ ap (λ (c : Stand client_side). near.data_closed (taken (led_by lead c.owner.end.view))) same
+        ∙ ap near.data_closed (sym (reports_is (led_by lead client.owner.end.view))))
+    by (inr even) =
+        subst (λ l. IsNear there (near.data_closed (near.reports (led_by l client.owner.end.view)))) (sym even)
+        (shown_near between client shown shows there (is ∙ ap (λ l. near.data_closed (taken (led_by l shown.owner.end.view))) even))
+
+-- the client that it sees is the same after a deed of the server but a dial
+serving_keeps : (deed : Deed server_side) (at : Held Timed) → passive.IsServing deed at → (p q : Between) (client shown : Stand client_side)
+    → CanTurn (Server deed) p q → IsShown p client shown → IsShown q client shown
+serving_keeps deed at is p q client shown can shows = shown_still p q client shown (serving_near deed at is p q can) shows
+
+-- one that was dialled and did not accept yet is at its port
+stays_ported : (v : Near) (octets : List ℕ) → Stays v octets → is_ported v.connection ≡ true
+stays_ported v octets (Comes op flow few port octet more is o) = ap (λ (n : Near). is_ported n.connection) (o.fronts [] more octet (sym is)).0
+stays_ported v octets (Waits is a) = ap (λ (n : Near). is_ported n.connection) a.is
+
+-- so one that a server dials was told of no break
+dialled_shows : (lead : Lead) (more : List ℕ) (p q seen : Between) (told : ℕ) (server : Stand server_side) (client shown : Stand client_side)
+    → LedSo lead more seen told server shown → is_called seen.near ≡ true → IsShown p client shown → IsShown q client shown
+dialled_shows lead more p q seen told server client shown so called (inl same) = inl same
+dialled_shows Even more p q seen told server client shown so called (inr broke) = absurd (both called so.0)
+dialled_shows (Told port) more p q seen told server client shown so called (inr broke) = absurd (both called so.0.called)
+dialled_shows (Joined octets) more p q seen told server client shown so called (inr broke) =
+    absurd (true≢false (sym (stays_ported (near.data_closed shown.owner.end.view) octets so.0.stays.0)
+    ∙ ap (λ (c : Stand client_side). is_ported c.owner.end.view.connection) broke.1 ∙ ap (λ (n : Near). is_ported n.connection) broke.2.apart.other_is))
+
+module _ (read : Reading) (reads : IsReading read) (moments : ℕ → ℕ) (timed : AreMoments moments) (b : Beginning) (fair : IsFair b) where
+  abbrev At : List Order → Between → ℕ → Stand server_side → Stand client_side → List Said → Type 0
+  At begun between told server client reports = Reached read reads moments timed b fair begun between told server client reports
+
+  -- after deeds, a world is beside both drives, as it sees what lies between and the client
+  pub record Seen (begun : List Order) (between : Between) (told : ℕ) (server : Stand server_side) (client : Stand client_side)
+      (reports : List Said) : Type 0 where
+    pub seen : Between
+    pub is_seen : IsSeen between seen
+    pub shown : Stand client_side
+    pub shows : IsShown between client shown
+    pub reached : At begun seen told server shown reports
+
+  -- ---- a deed of the server
+
+  server_sees : (deed : Deed server_side) (old new : Stand server_side) (deeds : List (Deed client_side)) (before : List Turn) (p q : Between)
+      (client : Stand client_side) (reports : List Said) → AreCarried (begun_at moments deeds) → ServerTransfers deed old.owner new.owner
+      → by_server.IsNext deed (listened_in before) → CanTurn (Server deed) p q → (did : Done deed old new)
+      → IsToldAt deed old new did (last_of moments (number_in deeds)) → Seen (begun_at moments deeds) p (listened_in before) old client reports
+      → Seen (begun_at moments deeds) q (listened_in (Server deed ∷ before)) new client reports
+  server_sees (Other (Left (Reset left written))) old new deeds before p q client reports puts is next can did told at =
+      record {
+        seen = with_lost old.owner.lane.unwritten (with_hold TheServer Has_lost at.seen);
+        is_seen = resets_losing p q at.seen at.is_seen old.owner.lane.unwritten
+            (λ e. at.reached.together.serves.spare (still_had at.reached.lead at.reached.more ∙ ap is_had at.is_seen.far ∙ e)) can;
+        shown = at.shown;
+        shows = shown_still p q client at.shown (ap (λ (m : Between). m.near) can.1) at.shows;
+        reached = reset_reaches read reads moments timed b fair left written old new deeds before at.seen at.shown reports puts is.1
+            (subst IsStanding (sym at.is_seen.far) can.0) did at.reached;
+      }
+    where
+      -- how the server stands to it is the same, whether the client is ahead or not
+      still_had : (lead : Lead) (more : List ℕ) → is_had (led_between lead more at.seen).far ≡ is_had at.seen.far
+      still_had Even more = refl
+      still_had (Told port) more = refl
+      still_had (Joined octets) more = refl
+  server_sees (Other (Opened host (Connected endpoint left written ∷ []) at_first so_far rest)) old new deeds before p q client reports puts is next can did
+      told at =
+      let dial : Deed server_side = Other (Opened host (Connected endpoint left written ∷ []) at_first so_far rest) in
+      let there = far_done p q at.seen at.is_seen (touch_in dial) can in
+      let went = server_reaches read reads moments timed b fair dial tt old new deeds before at.seen there.after at.shown reports puts is next there.can did told at.reached in
+      record {
+        seen = there.after;
+        is_seen = there.is_seen;
+        shown = at.shown;
+        shows = dialled_shows went.lead went.more p q there.after (listened_in before) new client at.shown went.so
+            (ap (λ (m : Between). is_called m.near) there.can.2) at.shows;
+        reached = went;
+      }
+  server_sees deed old new deeds before p q client reports puts is next can did told at =
+      let there = far_done p q at.seen at.is_seen (touch_in deed) can in
+      record {
+        seen = there.after;
+        is_seen = there.is_seen;
+        shown = at.shown;
+        shows = serving_keeps deed old.owner is.0 p q client at.shown can at.shows;
+        reached = server_reaches read reads moments timed b fair deed tt old new deeds before at.seen there.after at.shown reports puts is next there.can did
+            told at.reached;
+      }
+
+  -- ---- a deed of the client
+
+  -- but that it is told of a break
+  client_sees_on : (deed : Deed client_side) → BreaksNone deed → (old new : Stand client_side) (deeds : List (Deed client_side)) (before : List Turn)
+      (p q : Between) (server : Stand server_side) (reports : List Said) → AreCarried (begun_at moments deeds) → ClientTransfers deed old.owner new.owner
+      → by_client.IsNext deed (listened_in before) → CanTurn (Client deed) p q → Done deed old new
+      → Seen (begun_at moments deeds) p (listened_in before) server old reports
+      → Seen (begun_at moments (deed ∷ deeds)) q (listened_in (Client deed ∷ before)) server new (reports ++ reported_by deed)
+  client_sees_on deed unbroken old new deeds before p q server reports puts is next can did at = by at.shows
+    where
+      by : IsShown p old at.shown → Seen (begun_at moments (deed ∷ deeds)) q (listened_in (Client deed ∷ before)) server new (reports ++ reported_by deed)
+      by (inl same) =
+          let there = near_done p q at.seen at.is_seen (touch_in deed) can in
+          record {
+            seen = there.after;
+            is_seen = there.is_seen;
+            shown = new;
+            shows = inl refl;
+            reached = client_reaches read reads moments timed b fair deed unbroken old new deeds before at.seen there.after server reports puts is next
+                there.can did (subst (λ c. At (begun_at moments deeds) at.seen (listened_in before) server c reports) same at.reached);
+          }
+      by (inr broke) =
+          let there = near_done p q at.seen at.is_seen (touch_in deed) can in
+          let so = broke_does p q old new broke.0 broke.2 deed is did can in
+          record {
+            seen = there.after;
+            is_seen = there.is_seen;
+            shown = so.after;
+            shows = so.shows;
+            reached = client_reaches read reads moments timed b fair deed unbroken (with_view broke.0 old) so.after deeds before at.seen there.after server
+                reports puts so.is next there.can so.did
+                (subst (λ c. At (begun_at moments deeds) at.seen (listened_in before) server c reports) broke.1 at.reached);
+          }
+
+  -- it is told of a break: in a world it is told of the end
+  module _ (old new : Stand client_side) (deeds : List (Deed client_side)) (told : ℕ) (s : Between) (server : Stand server_side) (reports : List Said)
+      (puts : AreCarried (begun_at moments deeds)) (is : ClientTransfers (Other Break) old.owner new.owner) (did : Done (Other Break) old new)
+      (lost : s.far ≡ Has_lost) (o : At (begun_at moments deeds) s told server old reports) where
+    abbrev begun : List Order
+    begun = begun_at moments deeds
+
+    abbrev v : Near
+    v = old.owner.end.view
+
+    -- one that takes octets is not ahead
+    taking_even : (lead : Lead) (more : List ℕ) → LedSo lead more s told server old
+        → Together read begun o.last o.ahead (led_between lead more s) (led_told lead told) server (led_client lead old) reports o.world → lead ≡ Even
+    taking_even Even more so t = refl
+    taking_even (Told port) more so t = absurd (true≢false (sym (asks_port so.0.op v so.0.view) ∙ ap is_asking_port is.0.1))
+    taking_even (Joined octets) more so t =
+        absurd (joined_never read begun server old old reports o.world octets more s s told so o.last o.ahead t Want.Receive is.0.1 refl)
+
+    even : o.lead ≡ Even
+    even = taking_even o.lead o.more o.so o.together
+
+    t : Together read begun o.last o.ahead s told server old reports o.world
+    t = subst (λ l. Together read begun o.last o.ahead (led_between l o.more s) (led_told l told) server (led_client l old) reports o.world) even o.together
+
+    rests : ClientRests old.owner
+    rests = subst (λ l. ClientRests (led_client l old).owner) even (asks read reads moments timed b fair begun s told server old reports o)
+
+    portless : wants_port (near.data_end v).connection ≡ false
+    portless = ended_portless v o.keeping.run rests.dials
+
+    breaks : Breaks read reads (state_of b) begun puts server old new reports o.world is.1 o.serves rests portless
+        (known read reads moments timed b fair deeds puts s told server old reports o) (runs read reads moments timed b fair begun s told server old reports o)
+        s told
+    breaks =
+        client_breaks read reads (state_of b) begun puts server old new reports o.world is.1 o.serves rests portless
+        (known read reads moments timed b fair deeds puts s told server old reports o) (runs read reads moments timed b fair begun s told server old reports o)
+        o.last o.ahead s told t did is.0.0 is.0.1 is.0.2 (ap is_had lost) (ap is_called lost)
+
+    abbrev shown : Stand client_side
+    shown = with_view (near.data_end v) new
+
+    break_reaches : At (begun_at moments (Other Break ∷ deeds)) (with_none s) told server shown (reports ++ [])
+    break_reaches =
+        let k = breaks in
+        record {
+          world = k.goes.world;
+          leads = leads_then read begun [] (world_of b) o.world k.goes.world o.leads k.goes.leads;
+          last = k.goes.moment;
+          ahead = k.goes.ahead;
+          lead = Even;
+          more = [];
+          so = (refl, record { sound = k.sound; dials = portless });
+          together = subst (λ l. Together read l k.goes.moment k.goes.ahead (with_none s) told server shown (reports ++ []) k.goes.world)
+              (sym (append-nil begun)) k.goes.together;
+          serves = o.serves;
+          keeping = ended_kept Whatever whatever_kept v o.keeping;
+          fresh = λ e. absurd (both e (ap is_called lost));
+          unmarked = subst AreUnmarked (sym k.goes.marked) o.unmarked;
+        }
+
+    break_shows : (q : Between) → is_lost q.near ≡ true → IsShown q new shown
+    break_shows q gone = by breaks.alike
+      where
+        by : AreAlike new.owner.end.view (near.data_end v) → IsShown q new shown
+        by (inl e) = inl (ap (λ n. with_view n new) (sym e))
+        by (inr apart) = inr (
+          near.data_end v,
+          refl,
+          record { apart = apart; near = gone; lane = λ o. both (ap is_sound o.1) (ap (λ (l : Lane). is_sound l.fate) did.0.1) },
+        )
+
+  client_sees : (deed : Deed client_side) (old new : Stand client_side) (deeds : List (Deed client_side)) (before : List Turn)
+      (p q : Between) (server : Stand server_side) (reports : List Said) → AreCarried (begun_at moments deeds) → ClientTransfers deed old.owner new.owner
+      → by_client.IsNext deed (listened_in before) → CanTurn (Client deed) p q → IsResetFor deed p → Done deed old new
+      → Seen (begun_at moments deeds) p (listened_in before) server old reports
+      → Seen (begun_at moments (deed ∷ deeds)) q (listened_in (Client deed ∷ before)) server new (reports ++ reported_by deed)
+  client_sees (Other Break) old new deeds before p q server reports puts is next can reset did at = by at.shows
+    where
+      by : IsShown p old at.shown → Seen (begun_at moments (Other Break ∷ deeds)) q (listened_in before) server new (reports ++ [])
+      by (inr broke) = absurd (both broke.2.near (ap is_lost can.0))
+      by (inl same) =
+          let told : ℕ = listened_in before in
+          let lost : at.seen.far ≡ Has_lost = at.is_seen.far ∙ reset in
+          let o : At (begun_at moments deeds) at.seen told server old reports =
+          subst (λ c. At (begun_at moments deeds) at.seen told server c reports) same at.reached in
+          record {
+            seen = with_none at.seen;
+            is_seen = subst (λ m. IsSeen m (with_none at.seen)) (sym can.1) (reset_falls p at.seen at.is_seen reset);
+            shown = with_view (near.data_end old.owner.end.view) new;
+            shows = break_shows old new deeds told at.seen server reports puts is did lost o q (ap (λ (m : Between). is_lost m.near) can.1);
+            reached = break_reaches old new deeds told at.seen server reports puts is did lost o;
+          }
+  client_sees deed old new deeds before p q server reports puts is next can reset did at =
+      client_sees_on deed tt old new deeds before p q server reports puts is next can did at
+
+  -- ---- one after another
+
+  pub reaches : (turns : List Turn) (between : Between) → (happened : Happened turns between) → AreResets turns between happened
+      → (server_start server : Stand server_side) (client_start client : Stand client_side) → Begins b server_start client_start
+      → server_start.owner.lane.untold ≡ [] → client_start.owner.lane.unwritten ≡ []
+      → server_start.owner.lane.unwritten ≡ [] → client_start.owner.lane.untold ≡ []
+      → (server_led : Led (server_deeds turns) server_start server) (client_led : Led (client_deeds turns) client_start client)
+      → ServesAlong (server_deeds turns) server_start server server_led → AsksAlong (client_deeds turns) client_start client client_led
+      → ArePorts turns → AreToldAt moments turns server_start server server_led
+      → Seen (begun_at moments (client_deeds turns)) between (listened_in turns) server client (reports_in (client_deeds turns))
+  reaches [] between happened resets server_start server client_start client begins untold unwritten far_unwritten near_untold server_led client_led serves asks
+      ports told =
+      subst (λ (m : Between). Seen [] m 0 server client []) (sym happened)
+      (subst (λ (s : Stand server_side). Seen [] nothing_yet 0 s client []) (sym server_led)
+      (subst (λ (c : Stand client_side). Seen [] nothing_yet 0 server_start c []) (sym client_led) (record {
+        seen = nothing_yet;
+        is_seen = seen_itself nothing_yet;
+        shown = client_start;
+        shows = inl refl;
+        reached = starts_so read reads moments timed b fair server_start client_start begins untold unwritten far_unwritten near_untold;
+      })))
+  reaches (Server deed ∷ before) between happened resets server_start server client_start client begins untold unwritten far_unwritten near_untold server_led
+      client_led serves asks ports told =
+      let port = server_ports deed before ports in
+      server_sees deed server_led.0 server (client_deeds before) before happened.0 between client (reports_in (client_deeds before))
+      (in_carried moments (client_deeds before) client_start client client_led asks) serves.1 port.1 happened.2 server_led.2 told.1
+      (reaches before happened.0 happened.1 resets server_start server_led.0 client_start client begins untold unwritten far_unwritten near_untold server_led.1
+      client_led serves.0 asks port.0 told.0)
+  reaches (Client deed ∷ before) between happened resets server_start server client_start client begins untold unwritten far_unwritten near_untold server_led
+      client_led serves asks ports told =
+      let port = client_ports deed before ports in
+      client_sees deed client_led.0 client (client_deeds before) before happened.0 between server (reports_in (client_deeds before))
+      (in_carried moments (client_deeds before) client_start client_led.0 client_led.1 asks.0) asks.1 port.1 happened.2
+      (reset_for deed before between happened resets) client_led.2
+      (reaches before happened.0 happened.1 (resets_before deed before between happened resets) server_start server client_start client_led.0 begins untold
+      unwritten far_unwritten near_untold server_led client_led.1 serves asks.0 port.0 told)
+
+-- events of a world lead to what both drives hold
+pub either_are_of_worlds : EitherAreOfWorlds
+either_are_of_worlds read reads b fair moments timed turns between server client did =
+    let at = reaches read reads moments timed b fair turns between did.happened did.resets did.server_start server did.client_start client did.begins did.untold
+    did.unwritten did.server_unwritten did.client_untold did.server_led did.client_led did.serves did.asks did.ports did.told in
+    let o = at.reached in
+    let s = o.together.beside in
+    record {
+      events = o.leads.events;
+      timed = o.leads.timed;
+      world = o.world;
+      leads = o.leads.leads;
+      both = record {
+        moment = o.last;
+        ahead = o.ahead;
+        lead = o.lead;
+        fits = s.fits;
+        near = led_near o.lead o.more between at.seen (listened_in turns) server client at.shown o.so at.is_seen at.shows o.world.near
+            (s.near ∙ ap (λ n. near.data_closed (taken n)) (view_is o.lead at.shown));
+        far = s.far;
+        reported = s.reported ∙ ap (λ r. reports_in (client_deeds turns) ++ r) (led_said o.lead o.more at.seen (listened_in turns) server at.shown o.so
+            ∙ ap (λ r. option_to_list r) (shown_said between client at.shown at.shows));
+        control = s.control;
+        marks = o.unmarked;
+        cutoff = s.cutoff;
+      };
+    }
