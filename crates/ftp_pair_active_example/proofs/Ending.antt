@@ -19,7 +19,7 @@ use Rattle.ftp_server_drive.specs.Side.{server_machine, server_side}
 use Rattle.ftp_server_model.specs.Calls as far
 use Rattle.ftp_server_model.specs.View.{View as Far}
 use Rattle.ftp_pair_world.specs.Claims.{Beginning}
-use Rattle.ftp_pair_drives.specs.Between.{Between, CanTurn, Client, Has_ended, server_deeds}
+use Rattle.ftp_pair_drives.specs.Between.{Between, CanTurn, Client, Hold, server_deeds}
 use Rattle.ftp_pair_drives.specs.Claims.{Begins}
 use Rattle.ftp_pair_drives.specs.Over.{Answers}
 use Rattle.ftp_pair_drives.proofs.Playing.{Attends}
@@ -34,12 +34,12 @@ use Rattle.ftp_pair_active_example.proofs.Playing.{Played}
 -- ---- both are over
 
 module _ (b : Beginning) (first : Far) (op : Op (List ℕ)) (said : Said) (client_first begun : Near) (v : Far) (n : Near) (moments : ℕ → ℕ)
-    (lane : Lane) (asked : Asked) (there : Between) (begins : Begins b (far_in none_yet first []) (near_in none_yet client_first []))
+    (lane : Lane) (asked : Asked) (hold : Hold) (there : Between) (begins : Begins b (far_in none_yet first []) (near_in none_yet client_first []))
     (does : Done (Other (Begun op)) (near_in none_yet client_first []) (near_in none_yet begun [])) (is : IsCarried op)
     (some : near.report_of n ≡ Some said) (free : is_under_way (near.reports n).job ≡ false)
     (leaves : Done (Other (Left asked)) (near_in lane (near.reports n) []) (near_in none_yet (near.reports n) []))
     (may : ClientTransfers (Other (Left asked)) (near_in lane (near.reports n) []).owner (near_in none_yet (near.reports n) []).owner)
-    (can : CanTurn (Client (Other (Left asked))) there (lies_over Has_ended [] []))
+    (can : CanTurn (Client (Other (Left asked))) there (lies_over hold [] []))
     (p : Played moments (far_in none_yet first []) (near_in none_yet begun []) op 1 there (far_in none_yet v []) (near_in lane n [])) where
   -- what the client holds as its drive is over
   unfoldable pub near_done : Stand client_side
@@ -154,8 +154,8 @@ module _ (b : Beginning) (first : Far) (op : Op (List ℕ)) (said : Said) (clien
           drove = drove;
           put = all_asked;
           turns = Client (Other Closed) ∷ Client (Other (Left asked)) ∷ Client (Other (Report (Some said))) ∷ p.turns;
-          between = lies_over Has_ended [] [];
-          happened = (lies_over Has_ended [] [], (there, (there, p.happened, refl), can), refl);
+          between = lies_over hold [] [];
+          happened = (lies_over hold [] [], (there, (there, p.happened, refl), can), refl);
           resets = p.resets;
           closed = Shut;
           server_is = refl;

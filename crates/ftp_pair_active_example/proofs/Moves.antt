@@ -5,8 +5,9 @@ use Rattle.ftp_command.specs.Line.{line_of}
 use Rattle.ftp_command.specs.declared.command.Command.TheVariants as command
 use Rattle.ftp_control.specs.Asking.{Came, Connected}
 use Rattle.ftp_control.specs.Deeds.{Done, Other}
-use Rattle.ftp_control.specs.Lane.{Lane}
+use Rattle.ftp_control.specs.Lane.{Lane, with_rest}
 use Rattle.ftp_control.specs.Machine.{Gave, Listening, Opened, rest_by, rest_left}
+use Rattle.ftp_control.specs.declared.whole.Rest.{Rest}
 use Rattle.ftp_control.specs.declared.whole.Rest.TheVariants as Rests
 use Rattle.ftp_client_model.specs.Calls as near
 use Rattle.ftp_client_model.specs.View.{View as Near}
@@ -55,13 +56,13 @@ far_dials endpoint v new wants owed is rest = (
   refl,
 )
 
--- it gives them, the last ones
-pub gives_more : (octets : List ℕ) (v new : Far) → far.wants v ≡ Want.Send → octets ≡ take (length octets) (far.to_give v)
-    → Rests.Nothing ≡ rest_left (drop (length octets) (far.to_give v)) → new ≡ later (far.given_step (length octets) v)
-    → Done (Other (Gave (length octets) octets Rests.Nothing)) (far_in one_more v []) (far_in (one_stands octets []) new [])
-gives_more octets v new wants first rest is = (
+-- it gives the first of them, and has more or not
+pub gives_more : (rest : Rest) (octets : List ℕ) (v new : Far) → far.wants v ≡ Want.Send → octets ≡ take (length octets) (far.to_give v)
+    → rest ≡ rest_left (drop (length octets) (far.to_give v)) → new ≡ later (far.given_step (length octets) v)
+    → Done (Other (Gave (length octets) octets rest)) (far_in one_more v []) (far_in (with_rest rest (one_stands octets [])) new [])
+gives_more rest octets v new wants first more is = (
   (
-    ((λ course. (first, rest)), (steps (GiveFails (length octets)) (far.given_step (length octets)) v new is, refl)),
+    ((λ course. (first, more)), (steps (GiveFails (length octets)) (far.given_step (length octets)) v new is, refl)),
     (refl, (refl, refl)),
     wants,
   ),

@@ -2,6 +2,7 @@
 use Rattle.std.proofs.Common.{◌≡◌, inl, ℕ, ◌<◌, true, true≢false, List, [], ◌∷◌, ◌++◌, length, take, None, refl, sym, ap, subst, ◌∙◌, append-nil, arith}
 use Rattle.ftp_control.specs.Deeds.{Deed, Done, Heard, HearsNext, Led, Other, Read, ReadsNext, Said as Says, Says as SaysNext, Stand}
 use Rattle.ftp_control.specs.Lane.{Lane}
+use Rattle.ftp_control.specs.Machine.{Break}
 use Rattle.ftp_client_drive.specs.Side.{Begun, client_side}
 use Rattle.ftp_client_model.specs.Calls as near
 use Rattle.ftp_client_model.specs.View.{View as Near}
@@ -13,7 +14,7 @@ use Rattle.ftp_server_drive.specs.Side.{server_side}
 use Rattle.ftp_server_model.specs.Machine.{IsReading, Reading, heard_line, may_hear}
 use Rattle.ftp_server_model.specs.View.{View as Far, line_limit}
 use Rattle.ftp_server_model.specs.declared.heard.HeardLine.TheVariants.{Asks}
-use Rattle.ftp_pair_drives.specs.Between.{Between, CanTurn, Client, Happened, Hold, Server, Turn, client_deeds, server_deeds}
+use Rattle.ftp_pair_drives.specs.Between.{Between, CanTurn, Client, Happened, Has_lost, Hold, Server, Turn, client_deeds, server_deeds}
 use Rattle.ftp_pair_drives.proofs.Playing.{Attends, ear_after, far_ending, far_hears, is_silent}
 use Rattle.ftp_pair_deeds.specs.Deeds.{AreMidst, IsMidst}
 use Rattle.ftp_pair_transfers.specs.Deeds.{AreResets, AreToldAt, last_of, number_in}
@@ -86,6 +87,26 @@ module _ (moments : ℕ → ℕ) (start : Stand server_side) (begun : Stand clie
     takes = (p.takes, takes);
     listened_is = (quiet p.turns).0 ∙ p.listened_is;
     ports = (quiet p.turns).1 p.ports;
+    told = p.told;
+  }
+
+  -- the client is told of a break, as the server has reset the data connection
+  pub near_is_broken : (listened : ℕ) (old new : Between) (server : Stand server_side) (at next : Stand client_side)
+      → ClientTransfers (Other Break) at.owner next.owner → Done (Other Break) at next → old.far ≡ Has_lost → CanTurn (Client (Other Break)) old new
+      → Played moments start begun op listened old server at → Played moments start begun op listened new server next
+  near_is_broken listened old new server at next takes done lost can p = record {
+    turns = Client (Other Break) ∷ p.turns;
+    happened = (old, p.happened, can);
+    resets = (p.resets, lost);
+    far_led = p.far_led;
+    gives = p.gives;
+    midst = Other Break ∷ p.midst;
+    are = (p.are, tt);
+    client_is = ap (λ l. Other Break ∷ l) p.client_is;
+    near_led = (at, p.near_led, done);
+    takes = (p.takes, takes);
+    listened_is = p.listened_is;
+    ports = p.ports;
     told = p.told;
   }
 

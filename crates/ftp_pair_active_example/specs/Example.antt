@@ -1,4 +1,5 @@
--- A session of two drives that fetch a file over an active data connection, as an example: the premises can be met (RFC 959, section 3.2; RFC 2428).
+-- Sessions of two drives that fetch a file, and peek into one, over an active data connection, as an example: the premises can be met (RFC 959, section 3.2;
+-- RFC 2428).
 use Rattle.std.specs.Prelude.{ℕ, true, false, List, [], ◌∷◌}
 use Rattle.ftp_control.specs.Deeds.{Stand}
 use Rattle.ftp_operation.specs.Answer.{Octets, Said}
@@ -16,6 +17,8 @@ use Rattle.ftp_pair_example.specs.Example.{HasFile, example_name, example_octets
 abbrev pub call_how : How
 call_how = record { representation = defaults; marks = false; active = true; extended = true }
 
+-- ---- it is fetched
+
 -- the operation and its answer: the whole file
 abbrev pub call_asked : List (Op (List ℕ) × Said)
 call_asked = (Ops.Get example_name call_how, Octets example_octets) ∷ []
@@ -24,3 +27,14 @@ call_asked = (Ops.Get example_name call_how, Octets example_octets) ∷ []
 abbrev pub CallIsOver : Type 0
 CallIsOver =
     (table : Table) (stamp : ℕ) (moments : ℕ → ℕ) → HasFile table stamp → (server : Stand server_side) × AreOver (example table) moments call_asked server
+
+-- ---- its first octet is
+
+-- the operation and its answer
+abbrev pub peek_asked : List (Op (List ℕ) × Said)
+peek_asked = (Ops.Peek example_name 1 call_how, Octets (104 ∷ [])) ∷ []
+
+-- of every such map, and at any moment, drives did so by their contracts, and the server's was over since the client left after it
+abbrev pub CallIsPeek : Type 0
+CallIsPeek =
+    (table : Table) (stamp : ℕ) (moments : ℕ → ℕ) → HasFile table stamp → (server : Stand server_side) × AreOver (example table) moments peek_asked server

@@ -56,7 +56,7 @@ AreSilent e [] = Unit {0}
 AreSilent e (octet ∷ octets) = ((octet == 10) ≡ false) × (ear_out line_limit e octet ≡ []) × AreSilent (ear_step line_limit e octet) octets
 
 -- it reads octets
-reading : (lane : Lane) (v : Far) (octets : List ℕ) → Heeds lane v → v.owed ≡ [] → Done (Read octets) (far_in lane v []) (far_in lane v octets)
+pub reading : (lane : Lane) (v : Far) (octets : List ℕ) → Heeds lane v → v.owed ≡ [] → Done (Read octets) (far_in lane v []) (far_in lane v octets)
 reading lane v octets at owed =
     let reads : ReadsNext octets (far_in lane v []) (far_in lane v octets) = record {
       due = (owed, λ serves. at.waits);
@@ -76,7 +76,7 @@ unfolding hears_octet
 silent_octet read octet v none = ap (λ events. heard_events read events (record v { ear = ear_step line_limit v.ear octet })) (sym none)
 
 -- it hears such an octet
-hearing : (lane : Lane) (octet : ℕ) (rest : List ℕ) (v : Far) → Heeds lane v → (octet == 10) ≡ false → ear_out line_limit v.ear octet ≡ []
+pub hearing : (lane : Lane) (octet : ℕ) (rest : List ℕ) (v : Far) → Heeds lane v → (octet == 10) ≡ false → ear_out line_limit v.ear octet ≡ []
     → Done (Heard (octet ∷ [])) (far_in lane v (octet ∷ rest)) (far_in lane (record v { ear = ear_step line_limit v.ear octet }) rest)
 hearing lane octet rest v at ends none =
     let next : Far = record v { ear = ear_step line_limit v.ear octet } in
@@ -110,7 +110,7 @@ line_octet read v text asked said reads =
     sym (ap (λ events. heard_events read events w) said ∙ ap (λ h. heard_line h w) reads)
 
 -- it hears the end of a line
-ending : (lane : Lane) (v new : Far) (text : List ℕ) (asked : Command (List ℕ)) → Heeds lane v → ear_out line_limit v.ear 10 ≡ line text ∷ []
+pub ending : (lane : Lane) (v new : Far) (text : List ℕ) (asked : Command (List ℕ)) → Heeds lane v → ear_out line_limit v.ear 10 ≡ line text ∷ []
     → ((read : Reading) → IsReading read → read text ≡ Asks asked)
     → new ≡ heard_line (Asks asked) (record v { ear = ear_step line_limit v.ear 10; footing = record v.footing { moment = 0 } })
     → Done (Heard (10 ∷ [])) (far_in lane v (10 ∷ [])) (far_in lane new [])
