@@ -190,7 +190,7 @@ module _ (read : Reading) (orders : List Order) (old new : Stand server_side) (c
   -- ---- a server that takes no octets
 
   -- has none before it
-  none_there : (moment : ℕ) (ahead : Ahead) (between : Between) (told : ℕ) → Together read orders moment ahead between told old client reports w
+  pub none_there : (moment : ℕ) (ahead : Ahead) (between : Between) (told : ℕ) → Together read orders moment ahead between told old client reports w
       → is_upload v.session.connection ≡ false → old.owner.lane.untold ≡ []
   none_there moment ahead between told t none = by ahead t
     where
