@@ -11,7 +11,9 @@ use Rattle.ftp_client_drive.specs.Side.{client_side}
 use Rattle.ftp_client_model.specs.Calls as near
 use Rattle.ftp_client_model.specs.Calls.{data_fault, hears, is_sound, may_hear}
 use Rattle.ftp_client_model.specs.View.{View as Near}
+use Rattle.ftp_ends.specs.declared.link.Wants.TheVariants as Want
 use Rattle.ftp_server_drive.specs.Side.{Timed, server_side}
+use Rattle.ftp_server_model.specs.Calls as far
 use Rattle.ftp_server_model.specs.Calls.{clock_step, control_step}
 use Rattle.ftp_server_model.specs.Failing.{Counts}
 use Rattle.ftp_server_model.specs.Machine.{IsReading, Reading}
@@ -19,7 +21,7 @@ use Rattle.ftp_server_model.specs.View.{View as Far}
 use Rattle.ftp_pair_world.specs.Claims.{Beginning, IsFair}
 use Rattle.ftp_pair_world.specs.World.{Broken, World, marked_last}
 use Rattle.ftp_pair_data.proofs.Moves.{drop_front, take_front}
-use Rattle.ftp_pair_drives.specs.Alone.{reports_in}
+use Rattle.ftp_pair_drives.specs.Alone.{ServerIsCalm, reports_in}
 use Rattle.ftp_pair_drives.specs.Between.{Between, Can, Far as TheServer, Has_lost, Near as TheClient}
 use Rattle.ftp_pair_drives.specs.Touches.{ToldBreak}
 use Rattle.ftp_pair_deeds.specs.Deeds.{ArePorts, listened_in}
@@ -35,7 +37,7 @@ use Rattle.ftp_pair_transfers.proofs.Called.{StaysFresh}
 use Rattle.ftp_pair_transfers.proofs.ClientStays.{client_keeps}
 use Rattle.ftp_pair_transfers.proofs.Known.{AreCarried}
 use Rattle.ftp_pair_transfers.proofs.Simulating.{known}
-use Rattle.ftp_pair_breaks.specs.Deeds.{ClientSuffers, ServerYields}
+use Rattle.ftp_pair_breaks.specs.Deeds.{ClientSuffers}
 use Rattle.ftp_pair_breaks.proofs.BothBroken.{both_broken, broke, level, none_there, told_is}
 use Rattle.ftp_pair_breaks.proofs.ClientBroken.{broken_lane}
 use Rattle.ftp_pair_breaks.proofs.Drained.{dried, dry}
@@ -338,7 +340,8 @@ module _ (read : Reading) (reads : IsReading read) (moments : ℕ → ℕ) (time
   -- ---- the server is told
 
   module _ (deeds : List (Deed client_side)) (puts : AskAll (begun_at moments deeds)) (p q : Between) (count : ℕ) (old new : Stand server_side)
-      (client : Stand client_side) (is : ServerYields (Other Break) old.owner new.owner) (can : Can TheServer ToldBreak p q)
+      (client : Stand client_side) (is : (far.wants old.owner.end.server.view ≡ Want.Send) × ServerIsCalm old.owner new.owner)
+      (can : Can TheServer ToldBreak p q)
       (did : Calls {side = server_side} Break old new) where
     abbrev was : Stand server_side
     was = dried old

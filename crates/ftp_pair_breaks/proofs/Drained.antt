@@ -26,11 +26,10 @@ dry_held at = record at { lane = dry at.lane }
 abbrev pub dried : Stand server_side → Stand server_side
 dried server = with_owner (dry_held server.owner) server
 
--- what it does where it is told of no break: a write of its data connection fails; it resets one of which none is unwritten; else as where none breaks
+-- what it does where it is told of no break: a read or a write of its data connection fails; else as where none breaks
 abbrev pub IsLone : Deed server_side → Held Timed → Type 0
 IsLone (Other Failed) at = ⊤
 IsLone (Other Break) at = ⊥
-IsLone (Other (Left (Reset left written))) at = at.lane.unwritten ≡ []
 IsLone deed at = IsServing deed at
 
 -- a deed but that it is told of a break
@@ -89,11 +88,6 @@ open_dry old new fate kept is open_now =
 module _ (old new : Stand server_side) where
   besides : new ≡ with_owner new.owner old → dried new ≡ with_owner (dried new).owner (dried old)
   besides is = ap (with_owner (dried new).owner) is
-
-  -- one that is reset has none unwritten
-  lone : (left written : Option (List ℕ)) → IsYielding (Other (Left (Reset left written))) old.owner → (dried old).owner.lane.unwritten ≡ []
-  lone left written (inl none) = ap (unless_broken old.owner.lane.fate) none ∙ dry_none old.owner.lane.fate
-  lone left written (inr broken) = ap (λ f. unless_broken f old.owner.lane.unwritten) broken
 
   -- so it does each
   pub dried_step : (deed : Deed server_side) → BreaksNot deed → IsYielding deed old.owner → Done deed old new
@@ -246,7 +240,7 @@ module _ (old new : Stand server_side) where
         ),
       )
   dried_step (Other (Left (Reset left written))) unbroken is did = (
-    lone left written is,
+    tt,
     (
       (did.0.0, left_dry (Reset left written) did.0.1, (did.0.2.0, fair_dry old.owner.lane left written did.0.2.1, did.0.2.2)),
       besides did.1,

@@ -5,6 +5,8 @@ pub mod ClientBroken
 pub mod Feeding
 pub mod Rows
 pub mod Drained
+pub mod Failing
+pub mod Seen
 pub mod Untold
 pub mod Steps
 pub mod Lagging

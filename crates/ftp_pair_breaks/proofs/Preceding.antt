@@ -1,6 +1,6 @@
 -- A server that is told of a break while it gives, before its client: a world tells both once the client is told. Until then its server is one that was not
 -- told, and its client one that heard nothing of what the server said since. What the server does then.
-use Rattle.std.proofs.Common.{◌≡◌, ◌⊎◌, ℕ, ◌≤◌, Bool, true, false, true≢false, ◌&&◌, List, [], ◌∷◌, ◌++◌, length, take, drop, None, refl, sym, ap, ap₂, subst, ◌∙◌, append_assoc, append-nil, take-append-drop}
+use Rattle.std.proofs.Common.{◌≡◌, ◌⊎◌, inl, inr, ℕ, ◌≤◌, Bool, true, false, true≢false, ◌&&◌, List, [], ◌∷◌, ◌++◌, length, take, drop, None, refl, sym, ap, ap₂, subst, ◌∙◌, append_assoc, append-nil, take-append-drop}
 use Rattle.ftp_control.specs.Asking.{Asked, Came, Ended as EndedBy, Reset, Shut}
 use Rattle.ftp_control.specs.Deeds.{Calls, Deed, Done, Heard, HearsNext, Other, Read, Said as Says, Stand}
 use Rattle.ftp_control.specs.Lane.{IsLeft, IsOpen, Lane, with_untold}
@@ -34,6 +34,7 @@ use Rattle.ftp_pair_breaks.specs.Deeds.{AreMarks, ServerYields}
 use Rattle.ftp_pair_breaks.proofs.Faults.{Loads}
 use Rattle.ftp_pair_breaks.proofs.BothBroken.{broke, level, sends_far}
 use Rattle.ftp_pair_breaks.proofs.Drained.{dry, unless_broken}
+use Rattle.ftp_pair_breaks.proofs.Failing.{closes}
 use Rattle.ftp_pair_breaks.proofs.Feeding.{Gives, pushed_gives}
 use Rattle.ftp_pair_breaks.proofs.Rows.{Steady, breaking, gives_heard}
 use Rattle.ftp_pair_breaks.proofs.Steps.{At}
@@ -367,5 +368,8 @@ module _ (read : Reading) (reads : IsReading read) (moments : ℕ → ℕ) (time
         leaves next new Shut (ap (λ (m : Between). m.far) can ∙ p.hold) (ap behind can) (ap (λ (m : Between). m.control.to_client) can) did
     precede_server (Other Closed) next new is can did = absurd (wants_not Want.CloseData refl did.0.2)
     precede_server (Other Failed) next new is can did = absurd (shut_now did.0.1.1)
-    precede_server (Other Break) next new is can did = absurd (wants_not Want.Send refl is.0)
+    precede_server (Other Break) next new is can did = absurd (elim is.0 [
+      | inl sends ↦ wants_not Want.Send refl sends
+      | inr closing ↦ wants_not Want.CloseData refl (closes f closing)
+    ])
     precede_server deed next new is can did = absurd is.0

@@ -1,5 +1,5 @@
 -- Two drives of which a download's data connection breaks, as a list of a world's events: deed by deed.
-use Rattle.std.proofs.Common.{◌≡◌, ◌⊎◌, inl, inr, ℕ, true, false, List, [], ◌∷◌, ◌++◌, Option, refl, sym, ap, subst, ◌∙◌}
+use Rattle.std.proofs.Common.{◌≡◌, ◌⊎◌, inl, inr, ℕ, true, false, true≢false, List, [], ◌∷◌, ◌++◌, Option, refl, sym, ap, subst, ◌∙◌, append-nil}
 use Rattle.ftp_control.specs.Asking.{Reset}
 use Rattle.ftp_control.specs.Deeds.{Calls, Deed, Done, Led, Other, Stand}
 use Rattle.ftp_control.specs.Lane.{Lane, with_fate}
@@ -12,28 +12,30 @@ use Rattle.ftp_client_model.specs.View.{Transfer, View as Near}
 use Rattle.ftp_ends.specs.declared.link.Wants.TheVariants as Want
 use Rattle.ftp_operation.specs.declared.op.Op.{Op}
 use Rattle.ftp_server_drive.specs.Side.{server_side}
+use Rattle.ftp_server_model.specs.Calls as far
 use Rattle.ftp_server_model.specs.Calls.{break_step, clock_step}
 use Rattle.ftp_server_model.specs.Machine.{IsReading, Reading}
 use Rattle.ftp_server_model.specs.View.{View as Far}
 use Rattle.ftp_pair_world.specs.Claims.{Beginning, IsFair}
 use Rattle.ftp_pair_world.specs.World.{Broken, Mark, World, marked_last}
 use Rattle.ftp_pair_drives.specs.Alone.{ServerIsCalm, begun_by, reports_in}
-use Rattle.ftp_pair_drives.specs.Between.{Between, Can, CanTurn, Client, Happened, Near as TheClient, Server, Turn, client_deeds, nothing_yet, server_deeds, with_hold}
+use Rattle.ftp_pair_drives.specs.Between.{Between, Can, CanTurn, Client, Far as TheServer, Happened, Has, Has_lost, Near as TheClient, Server, Turn, client_deeds, nothing_yet, server_deeds, with_hold}
 use Rattle.ftp_pair_drives.specs.Claims.{Begins}
 use Rattle.ftp_pair_drives.specs.Touches.{ToldBreak, touch_in}
 use Rattle.ftp_pair_drives.proofs.Taken.{reports_is}
 use Rattle.ftp_pair_deeds.specs.Deeds.{ArePorts, listened_in}
 use Rattle.ftp_pair_deeds.proofs.Fresh.{Fresh}
-use Rattle.ftp_pair_deeds.proofs.Holding.{is_called}
+use Rattle.ftp_pair_deeds.proofs.Holding.{is_called, is_had}
 use Rattle.ftp_pair_deeds.proofs.Plain.{IsPlainBy, IsPlainly}
 use Rattle.ftp_pair_deeds.proofs.Stands.{ClientFetches}
 use Rattle.ftp_pair_transfers.specs.Deeds.{AreMoments, AreToldAt, IsToldAt, begun_at, last_of, number_in}
 use Rattle.ftp_pair_transfers.specs.Refusals.{ClientTries, marked_by}
-use Rattle.ftp_pair_transfers.proofs.Called.{BreaksNone, StaysFresh, far_fresh}
+use Rattle.ftp_pair_transfers.proofs.Called.{BreaksNone, StaysFresh}
 use Rattle.ftp_pair_transfers.proofs.ClientGiving.{gave_by}
 use Rattle.ftp_pair_transfers.proofs.ClientRefused.{refused_plain}
 use Rattle.ftp_pair_transfers.proofs.ClientStays.{client_resets}
 use Rattle.ftp_pair_transfers.proofs.Known.{AreCarried, Known}
+use Rattle.ftp_pair_transfers.proofs.Lost.{IsSeen, near_done, seen_itself, with_lost}
 use Rattle.ftp_pair_transfers.proofs.Reaching.{earlier, starts_so}
 use Rattle.ftp_pair_transfers.proofs.Simulating.{asks, known, never}
 use Rattle.ftp_pair_breaks.specs.Claims.{AreSame, BreaksAreOfWorlds, IsClientFirst, IsServerFirst, ReportAlike, SufferingIsOfWorld}
@@ -48,9 +50,10 @@ use Rattle.ftp_pair_breaks.proofs.Feeding.{Feeding, is_final}
 use Rattle.ftp_pair_breaks.proofs.Following.{follows}
 use Rattle.ftp_pair_breaks.proofs.Lagging.{Lags, Leftover, Whole, beside, feeding_at, feeds, is_failed, lag_step, leaves, unbroken}
 use Rattle.ftp_pair_breaks.proofs.Preceding.{Precedes, behind, gives_now, asks_none, precede_server, steady_here, steady_now, unaware}
-use Rattle.ftp_pair_breaks.proofs.Steps.{Again, At, again, client_step, idle_again, server_step}
+use Rattle.ftp_pair_breaks.proofs.Steps.{Again, At, again, client_step, idle_again, server_step, told_late}
 use Rattle.ftp_pair_breaks.proofs.Unaware.{steady_alike}
-use Rattle.ftp_pair_breaks.proofs.Unbroken.{can_unbroken, serving_dials}
+use Rattle.ftp_pair_breaks.proofs.Seen.{IsTold, Sees, dropped, far_sees, sees_fresh}
+use Rattle.ftp_pair_breaks.proofs.Unbroken.{sees_unbroken}
 use Rattle.ftp_pair_breaks.proofs.Unsent.{AskAll, Unsent, all_carried, both_all, near_unsent, reset_fresh}
 use Rattle.ftp_pair_breaks.proofs.Untold.{Loading, fault_told, loading_of, loads_of, told_alike}
 
@@ -68,6 +71,11 @@ in_all moments [] start now led gives = tt
 in_all moments (deed ∷ before) start now led gives =
     both_all (begun_at moments before) (begun_by (moments (number_in before)) deed) (in_all moments before start led.0 led.1 gives.0)
     (by_all (moments (number_in before)) deed led.0.owner now.owner gives.1)
+
+-- where none is lost
+none_lost : (octets : List ℕ) (m : Between) → octets ≡ [] → with_lost octets m ≡ m
+none_lost octets m none =
+    ap (λ o. with_lost o m) none ∙ ap (λ t. record m { data_ways = record m.data_ways { to_client = t } }) (append-nil m.data_ways.to_client)
 
 module _ (read : Reading) (reads : IsReading read) (moments : ℕ → ℕ) (timed : AreMoments moments) (b : Beginning) (fair : IsFair b) where
   abbrev W : (deeds : List (Deed client_side)) (between : Between) (count : ℕ) (server : Stand server_side) (client : Stand client_side) → Type 0
@@ -265,6 +273,7 @@ module _ (read : Reading) (reads : IsReading read) (moments : ℕ → ℕ) (time
         | inr going ↦ inr (lag_step read reads moments timed b fair deeds puts p count server old l deed q new is can did going.1)
       ]
 
+  -- so it is where the server was told first
   client_turn : (deed : Deed client_side) (deeds : List (Deed client_side)) → AskAll (begun_at moments deeds) → (before : List (Deed server_side))
       → ArePorts before → (p q : Between) (server : Stand server_side) (old new : Stand client_side) → Suffered deeds p (listened_in before) server old
       → ClientSuffers deed old.owner new.owner → CanTurn (Client deed) p q → Done deed old new
@@ -279,72 +288,140 @@ module _ (read : Reading) (reads : IsReading read) (moments : ℕ → ℕ) (time
           inl (inl (told_last read reads moments timed b fair deeds puts before ports p q server old new l is can did))
       by deed is can did = inr (follows read reads moments timed b fair deeds puts p (listened_in before) server old l deed tt q new is can did)
 
+  -- the client was told, and its world's was not: it lags on, or its world's is told now
+  lags_still : (deeds : List (Deed client_side)) → AskAll (begun_at moments deeds) → (p q : Between) (told count : ℕ) (old new : Stand server_side)
+      (client : Stand client_side) (l : L deeds p told old client)
+      → Again read reads moments timed b fair deeds (unbroken q) count new (beside l.was client) l.at.world.marks → q.near ≡ Has_lost → StaysFresh q client
+      → Lone deeds q count new client
+  lags_still deeds puts p q told count old new client l got hold fresh = by (record {
+    was = l.was;
+    at = got.0;
+    loads = l.loads;
+    view = l.view;
+    hold = hold;
+    lane = l.lane;
+    marks = l.marks;
+    are_marks = l.are_marks;
+    are_broken = l.are_broken;
+    marked = got.1 ∙ l.marked;
+    unsent = l.unsent;
+    fresh = fresh;
+  })
+    where
+      by : L deeds q count new client → Lone deeds q count new client
+      by l = elim (feeds read reads moments timed b fair deeds puts q count new client l).far [
+        | inl free ↦ inl (leaves read reads moments timed b fair deeds puts q count new client l free)
+        | inr going ↦ inr l
+      ]
+
   -- a deed of the server that is told of no break
   lone_server : (deed : Deed server_side) (deeds : List (Deed client_side)) → AskAll (begun_at moments deeds) → (before : List (Deed server_side))
       → ArePorts (deed ∷ before) → (p q : Between) (old new : Stand server_side) (client : Stand client_side) → Lone deeds p (listened_in before) old client
-      → IsLone deed old.owner → ServerIsCalm old.owner new.owner → CanTurn (Server deed) p q → (did : Done deed old new)
+      → IsLone deed old.owner → ServerIsCalm old.owner new.owner → Sees deed old p q → (did : Done deed old new)
       → IsToldAt deed old new did (last_of moments (number_in deeds)) → Lone deeds q (listened_in (deed ∷ before)) new client
   lone_server deed deeds puts before ports p q old new client (inl o) is calm can did told =
       let got = server_step read reads moments timed b fair deed old new is calm deeds (all_carried (begun_at moments deeds) puts) before ports p q can client
       o.at did told in
       inl (record { at = got.0; marks = o.marks; are_marks = o.are_marks; marked = got.1 ∙ o.marked; unsent = o.unsent })
   lone_server deed deeds puts before ports p q old new client (inr l) is calm can did told =
-      let there = can_unbroken (touch_in deed) p q (serving_dials deed old.owner is) l.hold can in
+      let there = sees_unbroken deed old is p q l.hold can in
       let got = server_step read reads moments timed b fair deed old new is calm deeds (all_carried (begun_at moments deeds) puts) before ports (unbroken p)
       (unbroken q) there.0 (beside l.was client) l.at did told in
-      by (record {
-        was = l.was;
-        at = got.0;
-        loads = l.loads;
-        view = l.view;
-        hold = there.1;
-        lane = l.lane;
-        marks = l.marks;
-        are_marks = l.are_marks;
-        are_broken = l.are_broken;
-        marked = got.1 ∙ l.marked;
-        unsent = l.unsent;
-        fresh = far_fresh p q client l.fresh (touch_in deed) can;
-      })
-    where
-      by : L deeds q (listened_in (deed ∷ before)) new client → Lone deeds q (listened_in (deed ∷ before)) new client
-      by l = elim (feeds read reads moments timed b fair deeds puts q (listened_in (deed ∷ before)) new client l).far [
-        | inl free ↦ inl (leaves read reads moments timed b fair deeds puts q (listened_in (deed ∷ before)) new client l free)
-        | inr going ↦ inr l
-      ]
+      lags_still deeds puts p q (listened_in before) (listened_in (deed ∷ before)) old new client l got there.1 (sees_fresh deed old is p q client l.fresh can)
 
-  server_turn : (deed : Deed server_side) (deeds : List (Deed client_side)) → AskAll (begun_at moments deeds) → (before : List (Deed server_side))
+  -- one that is told of the break of what is to close
+  lone_late : (deeds : List (Deed client_side)) → AskAll (begun_at moments deeds) → (before : List (Deed server_side)) (p : Between) (old new : Stand server_side)
+      (client : Stand client_side) → Lone deeds p (listened_in before) (dried old) client → ServerIsCalm old.owner new.owner
+      → old.owner.end.server.view.session.closing ≡ true → p.far ≡ Has → Calls {side = server_side} Break old new
+      → Lone deeds (dropped (dried old) p) (listened_in before) (dried new) client
+  lone_late deeds puts before p old new client (inl o) calm closing has did =
+      let got = told_late read reads moments timed b fair old new calm did closing deeds (all_carried (begun_at moments deeds) puts) before p has client o.at in
+      inl (record { at = got.0; marks = o.marks; are_marks = o.are_marks; marked = got.1 ∙ o.marked; unsent = o.unsent })
+  lone_late deeds puts before p old new client (inr l) calm closing has did =
+      let got = told_late read reads moments timed b fair old new calm did closing deeds (all_carried (begun_at moments deeds) puts) before (unbroken p) has
+      (beside l.was client) l.at in
+      lags_still deeds puts p (dropped (dried old) p) (listened_in before) (listened_in before) (dried old) (dried new) client l got l.hold
+      (λ called. absurd (true≢false (sym called)))
+
+  -- where a world is beside the server as if it had nothing unwritten of what it was told that it broke
+  module _ (deeds : List (Deed client_side)) (puts : AskAll (begun_at moments deeds)) (before : List (Deed server_side)) (p q : Between)
+      (old new : Stand server_side) (client : Stand client_side) (o : Lone deeds p (listened_in before) (dried old) client) where
+    -- it is told of a break while it gives
+    told_giving : (far.wants old.owner.end.server.view ≡ Want.Send) × ServerIsCalm old.owner new.owner → Can TheServer ToldBreak p q
+        → Calls {side = server_side} Break old new → Lone deeds p (listened_in before) (dried old) client → Suffered deeds q (listened_in before) new client
+    told_giving is can did (inl w) =
+        inr (told_first read reads moments timed b fair deeds puts p q (listened_in before) old new client is can did w)
+    told_giving is can did (inr l) =
+        inl (inl (told_after read reads moments timed b fair deeds puts p q (listened_in before) old new client is can did l))
+
+    -- or once that is to close
+    told_of_it : ServerYields (Other Break) old.owner new.owner → IsTold (dried old) p q → Calls {side = server_side} Break old new
+        → Suffered deeds q (listened_in before) new client
+    told_of_it is can did = elim can [
+      | inl sends ↦ told_giving (sends.0, is.1) sends.1 did o
+      | inr closing ↦
+          subst (λ (m : Between). Suffered deeds m (listened_in before) new client) (sym closing.2)
+          (inl (lone_late deeds puts before p old new client o is.1 closing.0 closing.1 did))
+    ]
+
+    -- a deed but that
+    goes_on : (deed : Deed server_side) → BreaksNot deed → ArePorts (deed ∷ before) → ServerYields deed old.owner new.owner → Sees deed (dried old) p q
+        → (did : Done deed old new) → IsToldAt deed old new did (last_of moments (number_in deeds))
+        → Suffered deeds q (listened_in (deed ∷ before)) new client
+    goes_on deed kept ports is can did told =
+        let step = dried_step old new deed kept is.0 did in
+        inl (lone_server deed deeds puts before ports p q (dried old) (dried new) client o step.0 is.1 can step.1
+        (dried_told old new deed kept is.0 did (last_of moments (number_in deeds)) told))
+
+    lone_turn : (deed : Deed server_side) → ArePorts (deed ∷ before) → ServerYields deed old.owner new.owner → Sees deed (dried old) p q
+        → (did : Done deed old new) → IsToldAt deed old new did (last_of moments (number_in deeds))
+        → Suffered deeds q (listened_in (deed ∷ before)) new client
+    lone_turn (Other Break) ports is can did told = told_of_it is can did
+    lone_turn deed ports is can did told = goes_on deed tt ports is can did told
+
+  -- where the server was told first
+  module _ (deeds : List (Deed client_side)) (puts : AskAll (begun_at moments deeds)) (before : List (Deed server_side)) (p q : Between)
+      (old new : Stand server_side) (client : Stand client_side) (l : P deeds p (listened_in before) old client) where
+    lost_not : p.far ≡ Has → ⊥
+    lost_not has = true≢false (ap is_had (sym has ∙ l.hold))
+
+    precede_turn : (deed : Deed server_side) → ServerYields deed old.owner new.owner → Sees deed (dried old) p q → Done deed old new
+        → Suffered deeds q (listened_in (deed ∷ before)) new client
+    precede_turn (Other (Listening port)) is can did =
+        absurd (asks_none read reads moments timed b fair deeds puts p (listened_in before) old client l port new did)
+    precede_turn (Other Break) is can did = absurd (elim can [
+      | inl sends ↦ lost_not sends.1.0
+      | inr closing ↦ lost_not closing.1
+    ])
+    precede_turn (Other (Left (Reset left written))) is can did =
+        inr (precede_server read reads moments timed b fair deeds puts p (listened_in before) old client l (Other (Left (Reset left written))) q new is
+        (can.0, can.1 ∙ none_lost (dried old).owner.lane.unwritten (with_hold TheServer Has_lost p) l.none) did)
+    precede_turn deed is can did =
+        inr (precede_server read reads moments timed b fair deeds puts p (listened_in before) old client l deed q new is can did)
+
+  -- a deed of the server, as a world sees it
+  pub server_turn : (deed : Deed server_side) (deeds : List (Deed client_side)) → AskAll (begun_at moments deeds) → (before : List (Deed server_side))
       → ArePorts (deed ∷ before) → (p q : Between) (old new : Stand server_side) (client : Stand client_side) → Suffered deeds p (listened_in before) old client
-      → ServerYields deed old.owner new.owner → CanTurn (Server deed) p q → (did : Done deed old new)
+      → ServerYields deed old.owner new.owner → Sees deed (dried old) p q → (did : Done deed old new)
       → IsToldAt deed old new did (last_of moments (number_in deeds)) → Suffered deeds q (listened_in (deed ∷ before)) new client
-  server_turn deed deeds puts before ports p q old new client (inl o) is can did told = by deed ports is can did told
-    where
-      on : (deed : Deed server_side) → BreaksNot deed → ArePorts (deed ∷ before) → ServerYields deed old.owner new.owner → CanTurn (Server deed) p q
-          → (did : Done deed old new) → IsToldAt deed old new did (last_of moments (number_in deeds))
-          → Suffered deeds q (listened_in (deed ∷ before)) new client
-      on deed kept ports is can did told =
-          let step = dried_step old new deed kept is.0 did in
-          inl (lone_server deed deeds puts before ports p q (dried old) (dried new) client o step.0 is.1 can step.1
-          (dried_told old new deed kept is.0 did (last_of moments (number_in deeds)) told))
+  server_turn deed deeds puts before ports p q old new client (inl o) is can did told =
+      lone_turn deeds puts before p q old new client o deed ports is can did told
+  server_turn deed deeds puts before ports p q old new client (inr l) is can did told = precede_turn deeds puts before p q old new client l deed is can did
 
-      told_of_it : ServerYields (Other Break) old.owner new.owner → CanTurn (Server (Other Break)) p q → Done (Other Break) old new
-          → Lone deeds p (listened_in before) (dried old) client → Suffered deeds q (listened_in before) new client
-      told_of_it is can did (inl o) = inr (told_first read reads moments timed b fair deeds puts p q (listened_in before) old new client is can did o)
-      told_of_it is can did (inr l) = inl (inl (told_after read reads moments timed b fair deeds puts p q (listened_in before) old new client is can did l))
+  -- octets are unwritten only where it has a data connection
+  pub spare_now : (deeds : List (Deed client_side)) (between : Between) (count : ℕ) (server : Stand server_side) (client : Stand client_side)
+      → Suffered deeds between count server client → is_had between.far ≡ false → (dried server).owner.lane.unwritten ≡ []
+  spare_now deeds between count server client (inl (inl o)) = o.at.together.serves.spare
+  spare_now deeds between count server client (inl (inr l)) = l.at.together.serves.spare
+  spare_now deeds between count server client (inr p) = λ e. p.none
 
-      by : (deed : Deed server_side) → ArePorts (deed ∷ before) → ServerYields deed old.owner new.owner → CanTurn (Server deed) p q
-          → (did : Done deed old new) → IsToldAt deed old new did (last_of moments (number_in deeds))
-          → Suffered deeds q (listened_in (deed ∷ before)) new client
-      by (Other Break) ports is can did told = told_of_it is can did o
-      by deed ports is can did told = on deed tt ports is can did told
-  server_turn deed deeds puts before ports p q old new client (inr l) is can did told = by deed is can did
-    where
-      by : (deed : Deed server_side) → ServerYields deed old.owner new.owner → CanTurn (Server deed) p q → Done deed old new
-          → Suffered deeds q (listened_in (deed ∷ before)) new client
-      by (Other (Listening port)) is can did =
-          absurd (asks_none read reads moments timed b fair deeds puts p (listened_in before) old client l port new did)
-      by deed is can did = inr (precede_server read reads moments timed b fair deeds puts p (listened_in before) old client l deed q new is can did)
+  -- so it is as a world sees what lies between
+  record Stood (deeds : List (Deed client_side)) (between : Between) (count : ℕ) (server : Stand server_side) (client : Stand client_side) : Type 0 where
+    seen : Between
+    is_seen : IsSeen between seen
+    suffered : Suffered deeds seen count server client
 
+  -- deed by deed
   reaches : (turns : List Turn) (between : Between) → Happened turns between
       → (server_start server : Stand server_side) (client_start client : Stand client_side) → Begins b server_start client_start
       → server_start.owner.lane.untold ≡ [] → client_start.owner.lane.unwritten ≡ []
@@ -352,38 +429,53 @@ module _ (read : Reading) (reads : IsReading read) (moments : ℕ → ℕ) (time
       → (server_led : Led (server_deeds turns) server_start server) (client_led : Led (client_deeds turns) client_start client)
       → YieldsAlong (server_deeds turns) server_start server server_led → SuffersAlong (client_deeds turns) client_start client client_led
       → ArePorts (server_deeds turns) → AreToldAt moments turns server_start server server_led
-      → Suffered (client_deeds turns) between (listened_in (server_deeds turns)) server client
+      → Stood (client_deeds turns) between (listened_in (server_deeds turns)) server client
   reaches [] between happened server_start server client_start client begins untold unwritten far_unwritten near_untold server_led client_led takes gives
       ports told =
       let start = starts_so read reads moments timed b fair server_start client_start begins untold unwritten far_unwritten near_untold in
-      subst (λ (m : Between). Suffered [] m 0 server client) (sym happened)
-      (subst (λ (s : Stand server_side). Suffered [] nothing_yet 0 s client) (sym server_led)
-      (subst (λ (c : Stand client_side). Suffered [] nothing_yet 0 server_start c) (sym client_led)
-      (inl (subst (λ (s : Stand server_side). Lone [] nothing_yet 0 s client_start) (sym (dried_none server_start far_unwritten)) (inl (record {
-        at = start.0;
-        marks = [];
-        are_marks = refl;
-        marked = start.1;
-        unsent = subst (IsPlainBy Unsent) (sym begins.client_view) (record { job = tt; port = refl; run = refl });
-      }))))))
+      subst (λ (m : Between). Stood [] m 0 server client) (sym happened)
+      (subst (λ (s : Stand server_side). Stood [] nothing_yet 0 s client) (sym server_led)
+      (subst (λ (c : Stand client_side). Stood [] nothing_yet 0 server_start c) (sym client_led) (record {
+        seen = nothing_yet;
+        is_seen = seen_itself nothing_yet;
+        suffered = inl (subst (λ (s : Stand server_side). Lone [] nothing_yet 0 s client_start) (sym (dried_none server_start far_unwritten)) (inl (record {
+          at = start.0;
+          marks = [];
+          are_marks = refl;
+          marked = start.1;
+          unsent = subst (IsPlainBy Unsent) (sym begins.client_view) (record { job = tt; port = refl; run = refl });
+        })));
+      })))
   reaches (Server deed ∷ before) between happened server_start server client_start client begins untold unwritten far_unwritten near_untold server_led
       client_led takes gives ports told =
       let reached = reaches before happened.0 happened.1 server_start server_led.0 client_start client begins untold unwritten far_unwritten near_untold
       server_led.1 client_led takes.0 gives (earlier deed (server_deeds before) ports) told.0 in
-      server_turn deed (client_deeds before) (in_all moments (client_deeds before) client_start client client_led gives) (server_deeds before) ports
-      happened.0 between server_led.0 server client reached takes.1 happened.2 server_led.2 told.1
+      let there = far_sees server_led.0 server happened.0 between reached.seen reached.is_seen
+      (spare_now (client_deeds before) reached.seen (listened_in (server_deeds before)) server_led.0 client reached.suffered) deed takes.1 happened.2 in
+      record {
+        seen = there.0;
+        is_seen = there.2;
+        suffered = server_turn deed (client_deeds before) (in_all moments (client_deeds before) client_start client client_led gives) (server_deeds before)
+            ports reached.seen there.0 server_led.0 server client reached.suffered takes.1 there.1 server_led.2 told.1;
+      }
   reaches (Client deed ∷ before) between happened server_start server client_start client begins untold unwritten far_unwritten near_untold server_led
       client_led takes gives ports told =
       let reached = reaches before happened.0 happened.1 server_start server client_start client_led.0 begins untold unwritten far_unwritten near_untold
       server_led client_led.1 takes gives.0 ports told in
-      client_turn deed (client_deeds before) (in_all moments (client_deeds before) client_start client_led.0 client_led.1 gives.0) (server_deeds before)
-      ports happened.0 between server client_led.0 client reached gives.1 happened.2 client_led.2
+      let there = near_done happened.0 between reached.seen reached.is_seen (touch_in deed) happened.2 in
+      record {
+        seen = there.after;
+        is_seen = there.is_seen;
+        suffered = client_turn deed (client_deeds before) (in_all moments (client_deeds before) client_start client_led.0 client_led.1 gives.0)
+            (server_deeds before) ports reached.seen there.after server client_led.0 client reached.suffered gives.1 there.can client_led.2;
+      }
 
 -- events of a world lead to what both drives hold, or held before one of them was told
 pub breaks_are_of_worlds : BreaksAreOfWorlds
 breaks_are_of_worlds read reads b fair moments timed turns between server client did =
-    by (reaches read reads moments timed b fair turns between did.happened did.server_start server did.client_start client did.begins did.untold
-    did.unwritten did.server_unwritten did.client_untold did.server_led did.client_led did.takes did.suffers did.ports did.told)
+    let stood = reaches read reads moments timed b fair turns between did.happened did.server_start server did.client_start client did.begins did.untold
+    did.unwritten did.server_unwritten did.client_untold did.server_led did.client_led did.takes did.suffers did.ports did.told in
+    by stood.seen stood.suffered
   where
     of_world : (were : Stand server_side) (was : Stand client_side) (m : Between)
         → AreSame server were client was ⊎ (IsClientFirst server were client was ⊎ IsServerFirst server were client was)
@@ -424,12 +516,13 @@ breaks_are_of_worlds read reads b fair moments timed turns between server client
     puts = in_all moments (client_deeds turns) did.client_start client did.client_led did.suffers
 
     -- the server was told first
-    first : Precedes read reads moments timed b fair (client_deeds turns) between (listened_in (server_deeds turns)) server client → SufferingIsOfWorld read b moments turns server client
-    first p =
+    first : (m : Between) → Precedes read reads moments timed b fair (client_deeds turns) m (listened_in (server_deeds turns)) server client
+        → SufferingIsOfWorld read b moments turns server client
+    first m p =
         let were : Far = p.were.owner.end.server.view in
         let broken : break_step (clock_step p.moment were) ≡ clock_step p.moment (broke were) = broke_step p.were p.at.serves p.sends p.moment in
-        let loads = (gives_now read reads moments timed b fair (client_deeds turns) puts between (listened_in (server_deeds turns)) server client p).loads in
-        of_world p.were (unaware p.refusals p.near p.queue client.owner.lane) (behind between)
+        let loads = (gives_now read reads moments timed b fair (client_deeds turns) puts m (listened_in (server_deeds turns)) server client p).loads in
+        of_world p.were (unaware p.refusals p.near p.queue client.owner.lane) (behind m)
         (inr (inr (record {
           moment = p.moment;
           said = p.said;
@@ -437,13 +530,13 @@ breaks_are_of_worlds read reads b fair moments timed turns between server client
           far = p.far_is ∙ ap (λ (f : Far). record f { owed = p.left }) (sym broken);
           whole = ap (λ (f : Far). f.owed) broken ∙ p.whole;
           heard = p.heard;
-          more = (heard_front p.queue p.said p.heard (client.unheard ++ between.control.to_client) p.split p.late).0;
-          front = (heard_front p.queue p.said p.heard (client.unheard ++ between.control.to_client) p.split p.late).1;
+          more = (heard_front p.queue p.said p.heard (client.unheard ++ m.control.to_client) p.split p.late).0;
+          front = (heard_front p.queue p.said p.heard (client.unheard ++ m.control.to_client) p.split p.late).1;
           near = p.view;
         })))
         (steady_alike loads.op loads.decoder loads.mark client.owner.end.view p.near
-        (steady_now read reads moments timed b fair (client_deeds turns) puts between (listened_in (server_deeds turns)) server client p)
-        (steady_here read reads moments timed b fair (client_deeds turns) puts between (listened_in (server_deeds turns)) server client p))
+        (steady_now read reads moments timed b fair (client_deeds turns) puts m (listened_in (server_deeds turns)) server client p)
+        (steady_here read reads moments timed b fair (client_deeds turns) puts m (listened_in (server_deeds turns)) server client p))
         (ap (λ (f : Far). f.session.table) p.far_is) p.at p.marks p.are_marks p.marked
       where
         heard_front : (queue said heard rest : List ℕ) → queue ++ said ≡ heard ++ rest → (heard ≡ []) ⊎ (queue ≡ [])
@@ -451,9 +544,10 @@ breaks_are_of_worlds read reads b fair moments timed turns between server client
         heard_front queue said heard rest split (inl none) = (said, ap (λ o. o ++ said) (sym none))
         heard_front queue said heard rest split (inr empty) = (rest, ap (λ o. o ++ said) (sym empty) ∙ split)
 
-    by : Suffered read reads moments timed b fair (client_deeds turns) between (listened_in (server_deeds turns)) server client → SufferingIsOfWorld read b moments turns server client
-    by (inl (inl o)) = of_world (dried server) client between (inl (refl, refl)) (refl, refl) refl o.at o.marks o.are_marks o.marked
-    by (inl (inr l)) =
-        of_world (dried server) (beside l.was client) (unbroken between) (inr (inl (refl, l.view ∙ sym (fault_told l.was.end.view l.loads))))
+    by : (m : Between) → Suffered read reads moments timed b fair (client_deeds turns) m (listened_in (server_deeds turns)) server client
+        → SufferingIsOfWorld read b moments turns server client
+    by m (inl (inl o)) = of_world (dried server) client m (inl (refl, refl)) (refl, refl) refl o.at o.marks o.are_marks o.marked
+    by m (inl (inr l)) =
+        of_world (dried server) (beside l.was client) (unbroken m) (inr (inl (refl, l.view ∙ sym (fault_told l.was.end.view l.loads))))
         (subst (λ (v : Near). ReportAlike v l.was.end.view) (sym l.view) (told_alike l.was.end.view l.loads)) refl l.at l.marks l.are_marks l.marked
-    by (inr p) = first p
+    by m (inr p) = first m p

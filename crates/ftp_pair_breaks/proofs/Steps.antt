@@ -1,5 +1,5 @@
 -- A deed of either end, as where none breaks, and the world that it leads to.
-use Rattle.std.proofs.Common.{◌≡◌, ℕ, true, List, [], ◌∷◌, ◌++◌, refl, sym, ap, subst, ◌∙◌, append-nil}
+use Rattle.std.proofs.Common.{◌≡◌, ℕ, true, true≢false, List, [], ◌∷◌, ◌++◌, refl, sym, ap, subst, ◌∙◌, append-nil}
 use Rattle.ftp_control.specs.Asking.{Reset}
 use Rattle.ftp_control.specs.Deeds.{Calls, Deed, Done, Other, Stand}
 use Rattle.ftp_control.specs.Lane.{Lane, with_fate}
@@ -16,8 +16,7 @@ use Rattle.ftp_pair_world.specs.Agreement.{Order}
 use Rattle.ftp_pair_world.specs.Claims.{Beginning, IsFair, world_of}
 use Rattle.ftp_pair_world.specs.World.{Mark}
 use Rattle.ftp_pair_drives.specs.Alone.{ServerIsCalm, begun_by, reported_by, reports_in}
-use Rattle.ftp_pair_drives.specs.Between.{Between, CanTurn, Client, Far as TheServer, Has_lost, Server, with_hold}
-use Rattle.ftp_pair_drives.specs.Touches.{touch_in}
+use Rattle.ftp_pair_drives.specs.Between.{Between, CanTurn, Client, Has}
 use Rattle.ftp_pair_drives.proofs.Worlds.{LeadsOn, leads_then}
 use Rattle.ftp_pair_deeds.specs.Deeds.{ArePorts, listened_in}
 use Rattle.ftp_pair_deeds.proofs.Holding.{both, is_sound as is_whole}
@@ -29,12 +28,13 @@ use Rattle.ftp_pair_transfers.proofs.Ahead.{Holds}
 use Rattle.ftp_pair_transfers.specs.Deeds.{AreMoments, IsToldAt, ServerTransfers, begun_at, last_of, number_in}
 use Rattle.ftp_pair_transfers.specs.Refusals.{ClientTries, marked_by}
 use Rattle.ftp_pair_transfers.proofs.Beside.{Goes, GoesTo, Together}
-use Rattle.ftp_pair_transfers.proofs.Called.{BreaksNone, StaysFresh, far_fresh}
+use Rattle.ftp_pair_transfers.proofs.Called.{BreaksNone, StaysFresh}
 use Rattle.ftp_pair_transfers.proofs.Known.{AreCarried}
-use Rattle.ftp_pair_transfers.proofs.Lost.{with_lost}
 use Rattle.ftp_pair_transfers.proofs.ServerStays.{server_resets, server_stays}
 use Rattle.ftp_pair_transfers.proofs.Simulating.{Reached, client_fresh, client_goes, client_plain, known, orders_after, orders_are, server_goes}
-use Rattle.ftp_pair_breaks.proofs.Drained.{IsLone}
+use Rattle.ftp_pair_breaks.proofs.Drained.{IsLone, dried, dry}
+use Rattle.ftp_pair_breaks.proofs.Failing.{closing_is, server_told_late}
+use Rattle.ftp_pair_breaks.proofs.Seen.{Sees, dropped, sees_fresh}
 
 module _ (read : Reading) (reads : IsReading read) (moments : ℕ → ℕ) (timed : AreMoments moments) (b : Beginning) (fair : IsFair b) where
   -- after deeds of a client, a world is beside these ends
@@ -122,10 +122,10 @@ module _ (read : Reading) (reads : IsReading read) (moments : ℕ → ℕ) (time
 
   -- what a deed of the server leads to
   served : (deed : Deed server_side) (old new : Stand server_side) (deeds : List (Deed client_side)) (before : List (Deed server_side)) (p q : Between)
-      → CanTurn (Server deed) p q → (client : Stand client_side) → (o : At deeds p (listened_in before) old client)
+      (client : Stand client_side) → StaysFresh q client → (o : At deeds p (listened_in before) old client)
       → Goes read [] (begun_at moments deeds) q (listened_in (deed ∷ before)) new client (reports_in deeds) o.world → ServerServes new.owner
       → Again deeds q (listened_in (deed ∷ before)) new client o.world.marks
-  served deed old new deeds before p q can client o went serves =
+  served deed old new deeds before p q client fresh o went serves =
       let begun : List Order = begun_at moments deeds in (
         record {
           world = went.world;
@@ -137,7 +137,7 @@ module _ (read : Reading) (reads : IsReading read) (moments : ℕ → ℕ) (time
           serves = serves;
           plain = o.plain;
           sound = o.sound;
-          fresh = far_fresh p q client o.fresh (touch_in deed) can;
+          fresh = fresh;
         },
         went.marked,
       )
@@ -170,15 +170,15 @@ module _ (read : Reading) (reads : IsReading read) (moments : ℕ → ℕ) (time
         bare = λ e. ap (λ (l : Lane). l.unwritten) lane ∙ t.serves.bare (ap (λ (l : Lane). l.stands) (sym lane) ∙ e);
       })
 
-  -- a deed of the server that is told of no break
+  -- a deed of the server that is told of no break, as a world sees it
   pub server_step : (deed : Deed server_side) (old new : Stand server_side) → IsLone deed old.owner → ServerIsCalm old.owner new.owner
       → (deeds : List (Deed client_side))
-      → AreCarried (begun_at moments deeds) → (before : List (Deed server_side)) → ArePorts (deed ∷ before) → (p q : Between) → CanTurn (Server deed) p q
+      → AreCarried (begun_at moments deeds) → (before : List (Deed server_side)) → ArePorts (deed ∷ before) → (p q : Between) → Sees deed old p q
       → (client : Stand client_side) → (o : At deeds p (listened_in before) old client)
       → (did : Done deed old new) → IsToldAt deed old new did (last_of moments (number_in deeds))
       → Again deeds q (listened_in (deed ∷ before)) new client o.world.marks
   server_step (Other Failed) old new is calm deeds puts before ports p q can client o did told =
-      served (Other Failed) old new deeds before p q can client o
+      served (Other Failed) old new deeds before p q client (sees_fresh (Other Failed) old is p q client o.fresh can) o
       (subst (λ (m : Between). Goes read [] (begun_at moments deeds) m (listened_in before) new client (reports_in deeds) o.world) (sym can)
       (server_failed old new calm deeds puts before p client o did))
       (record {
@@ -187,12 +187,9 @@ module _ (read : Reading) (reads : IsReading read) (moments : ℕ → ℕ) (time
       })
   server_step (Other Break) old new is calm deeds puts before ports p q can client o did told = absurd is
   server_step (Other (Left (Reset left written))) old new is calm deeds puts before ports p q can client o did told =
-      let there : Between = with_hold TheServer Has_lost p in
-      let same : q ≡ with_lost old.owner.lane.unwritten there =
-      can.1 ∙ sym (ap (λ o. with_lost o there) is ∙ ap (λ t. record there { data_ways = record there.data_ways { to_client = t } })
-      (append-nil there.data_ways.to_client)) in
-      served (Other (Left (Reset left written))) old new deeds before p q can client o
-      (subst (λ (m : Between). Goes read [] (begun_at moments deeds) m (listened_in before) new client (reports_in deeds) o.world) (sym same)
+      served (Other (Left (Reset left written))) old new deeds before p q client
+      (sees_fresh (Other (Left (Reset left written))) old is p q client o.fresh can) o
+      (subst (λ (m : Between). Goes read [] (begun_at moments deeds) m (listened_in before) new client (reports_in deeds) o.world) (sym can.1)
       (server_resets read (begun_at moments deeds) old new client (reports_in deeds) o.world calm o.serves
       (known read reads moments timed b fair deeds p (listened_in before) old client (reports_in deeds) o puts) left written o.last o.ahead p
       (listened_in before) o.together did can.0))
@@ -201,7 +198,25 @@ module _ (read : Reading) (reads : IsReading read) (moments : ℕ → ℕ) (time
       let serves : ServerTransfers deed old.owner new.owner = (is, calm) in
       let went =
       server_goes read reads moments timed b fair deed tt old new serves deeds puts before ports p q can client (reports_in deeds) o did told in
-      served deed old new deeds before p q can client o went.0 went.1
+      served deed old new deeds before p q client (sees_fresh deed old is p q client o.fresh can) o went.0 went.1
+
+  -- the server is told of the break of what is to close: what it did not write is on its way
+  pub told_late : (old new : Stand server_side) → ServerIsCalm old.owner new.owner → Calls {side = server_side} Break old new
+      → old.owner.end.server.view.session.closing ≡ true → (deeds : List (Deed client_side)) → AreCarried (begun_at moments deeds)
+      → (before : List (Deed server_side)) (p : Between) → p.far ≡ Has → (client : Stand client_side)
+      → (o : At deeds p (listened_in before) (dried old) client) → Again deeds (dropped (dried old) p) (listened_in before) (dried new) client o.world.marks
+  told_late old new calm did closing deeds puts before p has client o =
+      let was : ServerServes old.owner = record { running = o.serves.running; none_waits = o.serves.none_waits } in
+      let is : new.owner.end.server.view ≡ clock_step did.0.0.0 old.owner.end.server.view = closing_is old new calm was did closing in
+      served (Other Break) (dried old) (dried new) deeds before p (dropped (dried old) p) client (λ called. absurd (true≢false (sym called))) o
+      (server_told_late read (begun_at moments deeds) (dried old) (dried new) client (reports_in deeds) o.world calm o.serves
+      (known read reads moments timed b fair deeds p (listened_in before) (dried old) client (reports_in deeds) o puts) did.0.0.0 o.last o.ahead p
+      (listened_in before) o.together is closing has (ap (λ (y : Stand server_side). y.unheard) did.1) (ap (λ (l : Lane). l.untold) did.0.1)
+      (ap (λ (l : Lane). (dry l).unwritten) did.0.1))
+      (record {
+        running = ap (λ (f : Far). f.session.life) is ∙ o.serves.running;
+        none_waits = ap (λ (f : Far). f.waiting) is ∙ o.serves.none_waits;
+      })
 
   -- ---- both are told at once
 

@@ -1,13 +1,14 @@
 -- What a server does between can be done where the client was not told of a break.
 use Rattle.std.proofs.Common.{◌≡◌, Bool, true, false, true≢false, [], ◌∷◌, Some, None, refl, sym, ap, ◌∙◌}
 use Rattle.ftp_control.specs.Asking.{Came, Ended as EndedBy, Reset, Shut}
-use Rattle.ftp_control.specs.Deeds.{Deed, Heard, Other, Read, Said as SaysDeed}
-use Rattle.ftp_control.specs.Machine.{Aside, Closed, End, Failed, Gave, Got, Held, Left, LetGo, Listening, Opened, Received, Waited, Wrote}
+use Rattle.ftp_control.specs.Deeds.{Deed, Heard, Other, Read, Said as SaysDeed, Stand}
+use Rattle.ftp_control.specs.Machine.{Aside, Break, Closed, End, Failed, Gave, Got, Held, Left, LetGo, Listening, Opened, Received, Waited, Wrote}
 use Rattle.ftp_server_drive.specs.Side.{Timed, server_side}
 use Rattle.ftp_pair_drives.specs.Between.{Between, Can, Far as TheServer, Has_ended, Has_lost, Hold}
 use Rattle.ftp_pair_drives.specs.Touches.{Accepts, Dials, Ends, IsDenied, IsMissed, Listens, None_of_it, Parts, Reads, Resets, Says, Takes, ToldBreak, ToldEnd, Touch, Writes, touch_in}
 use Rattle.ftp_pair_breaks.proofs.Drained.{IsLone}
 use Rattle.ftp_pair_breaks.proofs.Lagging.{unbroken}
+use Rattle.ftp_pair_breaks.proofs.Seen.{Sees}
 
 -- it dials
 abbrev is_dialled : Touch → Bool
@@ -59,3 +60,10 @@ can_unbroken Ends p q dials lost can = ((can.0, ap unbroken can.1), ap (λ (m : 
 can_unbroken Resets p q dials lost can = ((can.0, ap unbroken can.1), ap (λ (m : Between). m.near) can.1 ∙ lost)
 can_unbroken ToldEnd p q dials lost can = absurd (true≢false (sym (ap is_ended (sym lost ∙ can.0))))
 can_unbroken ToldBreak p q dials lost can = ((can.0, ap unbroken can.1), ap (λ (m : Between). m.near) can.1 ∙ lost)
+
+-- so can a deed of the server, as a world sees it
+pub sees_unbroken : (deed : Deed server_side) (server : Stand server_side) → IsLone deed server.owner → (p q : Between) → p.near ≡ Has_lost
+    → Sees deed server p q → Sees deed server (unbroken p) (unbroken q) × (q.near ≡ Has_lost)
+sees_unbroken (Other (Left (Reset left written))) server is p q lost can = ((can.0, ap unbroken can.1), ap (λ (m : Between). m.near) can.1 ∙ lost)
+sees_unbroken (Other Break) server is p q lost can = absurd is
+sees_unbroken deed server is p q lost can = can_unbroken (touch_in deed) p q (serving_dials deed server.owner is) lost can

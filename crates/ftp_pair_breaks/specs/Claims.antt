@@ -1,4 +1,4 @@
--- What is claimed of two drives of which a download's data connection breaks, for the client, the server while it gives, or both.
+-- What is claimed of two drives of which a download's data connection breaks, for the client, the server, or both.
 use Rattle.std.specs.Prelude.{◌≡◌, ◌⊎◌, ℕ, List, [], ◌++◌, length, None, Some, option_to_list}
 use Rattle.ftp_control.specs.Deeds.{Led, Stand}
 use Rattle.ftp_client_drive.specs.Side.{client_side}

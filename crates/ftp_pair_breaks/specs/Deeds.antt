@@ -1,5 +1,5 @@
 -- The deeds of one server's drive and of drives of one client of which a download's data connection breaks, at any time: the client is told so, or the server
--- while it gives, or both, in either order (RFC 959, section 3.3).
+-- while it gives or after it gave all, or both, in either order (RFC 959, section 3.3).
 use Rattle.std.specs.Prelude.{◌≡◌, ◌⊎◌, ⊤, ℕ, true, List, [], ◌∷◌, None}
 use Rattle.ftp_control.specs.Asking.{Reset}
 use Rattle.ftp_control.specs.Deeds.{Deed, Led, Other, Stand}
@@ -20,12 +20,11 @@ use Rattle.ftp_server_model.specs.Calls as far
 
 -- ---- the server
 
--- a write of its data connection fails; it is told of a break while it gives; it resets one of which none is unwritten, or of which it was told that it broke;
--- else it does what it does where none breaks
+-- a read or a write of its data connection fails; it is told of a break while it gives, or once that is to close, since it gave all or refused; else it does
+-- what it does where none breaks, and may reset one of which octets are unwritten
 abbrev pub IsYielding : Deed server_side → Held Timed → Type 0
 IsYielding (Other Failed) at = ⊤
-IsYielding (Other Break) at = far.wants at.end.server.view ≡ Want.Send
-IsYielding (Other (Left (Reset left written))) at = (at.lane.unwritten ≡ []) ⊎ (at.lane.fate ≡ Fates.Broken)
+IsYielding (Other Break) at = (far.wants at.end.server.view ≡ Want.Send) ⊎ (at.end.server.view.session.closing ≡ true)
 IsYielding deed at = IsServing deed at
 
 -- so it does, and it was not refused memory, and no device of it failed or strayed
