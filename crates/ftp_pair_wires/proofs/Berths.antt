@@ -11,7 +11,7 @@ use Rattle.ftp_control.specs.Lane.{Lane, Move, Moves, IsHad}
 use Rattle.ftp_control.specs.declared.whole.Fate.{Fate}
 use Rattle.ftp_endpoint.specs.declared.host.Host.{Host}
 use Rattle.ftp_pair_drives.specs.Between.{Awaits, Has_ended, Hold}
-use Rattle.ftp_pair_wires.specs.Berth.{Berth, IsAt, IsSeen, Knows, Ran, Steps, called_by, hold_by, mark}
+use Rattle.ftp_pair_wires.specs.Berth.{Berth, IsAt, IsSeen, Knows, Ran, Steps, called_by, hold_by, listening, mark}
 
 -- ---- known octets
 
@@ -74,6 +74,14 @@ alike old new known own stands fates same is = by old.stands refl (subst (λ s. 
         let with : Hold → Berth = λ h. record known { hold = h; came = own.came; went = own.went } in
         (seen.0, sym both.0 ∙ seen.1, sym both.1 ∙ seen.2, seen.3 ∙ ap with fates)
     by false e seen = seen
+
+-- how many ports were told
+pub counts_same : (lane : Lane) (known own : Berth) → IsAt lane known own → own.listens ≡ known.listens
+counts_same lane known own is = by lane.stands is
+  where
+    by : (stands : Bool) → IsSeen stands lane known own → own.listens ≡ known.listens
+    by true seen = ap (λ b. b.listens) seen.3
+    by false seen = ap (λ b. b.listens) seen.1
 
 -- whether the peer ended it, where it listens, and whether this end dialled
 pub stays : (lane : Lane) (known own : Berth) → IsAt lane known own → (own.ended ≡ known.ended) × (own.calls ≡ known.calls) × (own.dialled ≡ known.dialled)
@@ -185,7 +193,7 @@ same_heeds old new peer same = subst (λ b. Heeds b peer) (sym same)
 step_heeds : (asked : Asked) (old new peer : Berth) → Steps asked old new → Heeds old peer → Heeds new peer
 step_heeds (asking.Listened None) old new peer same heeds = same_heeds old new peer same heeds
 step_heeds (asking.Listened (Some port)) old new peer steps heeds =
-    same_heeds (record old { hold = Awaits port }) new peer steps.1 (record { calls = heeds.calls; ended = heeds.ended })
+    same_heeds (listening old) new peer steps.2 (record { calls = heeds.calls; ended = heeds.ended })
 step_heeds (asking.Came host left written) old new peer steps heeds =
     subst (λ b. Heeds b peer) (sym steps.3) (record { calls = heeds.calls; ended = heeds.ended })
 step_heeds asking.NotCame old new peer same heeds = same_heeds old new peer same heeds

@@ -19,7 +19,8 @@ use Rattle.ftp_control.specs.declared.whole.Rest.{Rest}
 use Rattle.ftp_pair_drives.specs.Between.{Awaits, Between, Can, Has, Hold, IsOver, IsStanding, Ways, Who}
 use Rattle.ftp_pair_drives.specs.Touches as touches
 use Rattle.ftp_pair_drives.specs.Touches.{Touch, had_by, left_by, touch_of}
-use Rattle.ftp_pair_wires.specs.Berth.{Berth, IsAt, IsSeen, Ran, Steps, between_by, called_by, dialling, handed, hold_by, mark}
+use Rattle.ftp_pair_world.specs.World.{port_at}
+use Rattle.ftp_pair_wires.specs.Berth.{Berth, IsAt, IsSeen, Ran, Steps, between_by, called_by, dialling, handed, hold_by, listening, mark}
 use Rattle.ftp_pair_wires.specs.Order.{CanGo}
 use Rattle.ftp_pair_wires.proofs.Berths.{Heeds, IsKnown, alike, all_read, appended, consumed, kept, same_some, seen_as}
 use Rattle.ftp_pair_wires.proofs.Lying.{accepts_at, breaks_at, dials_at, ends_at, listens_at, over_at, resets_at, takes_at, told_at, writes_at}
@@ -77,16 +78,20 @@ module _ (who : Who) (peer : Berth) where
       over : IsOver known.hold
       over = subst (λ (b : Berth). IsOver b.hold) ran.1 ran.2.0
 
-      last_is : last ≡ record known { hold = Awaits port }
-      last_is = ran.2.1 ∙ ap (λ (b : Berth). record b { hold = Awaits port }) ran.1
+      port_is : port ≡ port_at known.listens
+      port_is = ran.2.1 ∙ ap (λ (b : Berth). port_at b.listens) ran.1
+
+      last_is : last ≡ listening known
+      last_is = ran.2.2 ∙ ap listening ran.1
 
       by : (stands : Bool) → old.stands ≡ stands → IsSeen stands (with_asked new.asked old) last now → Found (touches.Listens (Some port)) old known now
-      by true e seen = absurd (not_awaited last.hold port seen.0 (ap (λ (b : Berth). b.hold) last_is))
+      by true e seen = absurd (not_awaited last.hold (port_at known.listens) seen.0 (ap (λ (b : Berth). b.hold) last_is))
       by false e seen = record {
         mid = known;
         is_at = subst (λ s. IsSeen s old known known) (sym e) (over, refl);
         can = λ control. inl (subst (λ n. Can who (touches.Listens (Some port)) (between_by who known peer control) (between_by who n peer control))
-            (sym (seen.1 ∙ last_is)) (listens_at who known (called_by known.dialled peer) control port over));
+            (sym (seen.1 ∙ last_is)) (subst (λ p. Can who (touches.Listens (Some p)) (between_by who known peer control) (between_by who (listening known) peer control))
+            (sym port_is) (listens_at who known (called_by known.dialled peer) control over)));
       }
 
   -- ---- it is had

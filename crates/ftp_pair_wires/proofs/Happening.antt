@@ -14,9 +14,10 @@ use Rattle.ftp_pair_drives.specs.Touches as touches
 use Rattle.ftp_pair_drives.specs.Touches.{Touch, touch_in, touch_of}
 use Rattle.ftp_pair_wires.specs.Berth.{Berth, IsAt, Ran, between_by, called_by}
 use Rattle.ftp_pair_wires.specs.Claims.{Happens, ways_at}
-use Rattle.ftp_pair_wires.specs.Order.{CanGo, WentAlone}
+use Rattle.ftp_pair_wires.specs.Order.{CanGo, CountedAlone, WentAlone}
 use Rattle.ftp_pair_wires.specs.Plain.{plain, quiet}
-use Rattle.ftp_pair_wires.proofs.Berths.{Heeds, IsKnown, alike, heeds, heeds_on, known_at, known_on, ran_split, same_berth}
+use Rattle.ftp_pair_wires.proofs.Berths.{Heeds, IsKnown, alike, counts_same, heeds, heeds_on, known_at, known_on, ran_split, same_berth}
+use Rattle.ftp_pair_wires.proofs.Counting.{counted}
 use Rattle.ftp_pair_wires.proofs.Finding.{found}
 use Rattle.ftp_pair_wires.proofs.Lying.{reads_at, says_at}
 use Rattle.ftp_pair_wires.proofs.Plainly.{led_plain, touch_plain}
@@ -165,8 +166,12 @@ module _ {end : Machine} where
 pub happens : (who : Who) (end : Machine) → Happens who end
 happens who end deeds old new first last own now peer header asked up down led at at_last before after ran knows =
     let all = told_after old.lane.asked new.lane.asked header asked (asked_in move_of deeds) before after (deeds_asked deeds (quiet old) (quiet new) led) in
+    let ran_all = subst (λ l. Ran first l last) all ran in
     record {
       led = led_plain deeds old new led;
-      went = went who peer deeds (quiet old) (quiet new) led first last own now (subst (λ l. Ran first l last) all ran) (known_at old.lane first own at)
+      went = went who peer deeds (quiet old) (quiet new) led first last own now ran_all (known_at old.lane first own at)
           (heeds old.lane first own peer at knows) at at_last up down;
+      counted = subst (λ n. CountedAlone (map plain deeds) n now.listens) (sym (counts_same old.lane first own at))
+          (subst (CountedAlone (map plain deeds) first.listens) (sym (counts_same new.lane last now at_last))
+          (counted deeds (quiet old) (quiet new) led first last ran_all));
     }

@@ -1,4 +1,5 @@
 mod Berths
+mod Counting
 mod Finding
 pub mod Happening
 pub mod Lifting

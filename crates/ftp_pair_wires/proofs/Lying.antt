@@ -4,7 +4,8 @@ use Rattle.ftp_endpoint.specs.declared.endpoint.Endpoint.{Endpoint}
 use Rattle.ftp_endpoint.specs.declared.host.Host.{Host}
 use Rattle.ftp_pair_drives.specs.Between.{Awaits, Between, Can, Far, Has, Has_ended, Has_lost, Is_called, IsOver, IsStanding, Near, Ways, Who, hold_of}
 use Rattle.ftp_pair_drives.specs.Touches as touches
-use Rattle.ftp_pair_wires.specs.Berth.{Berth, between_at, called, dialling}
+use Rattle.ftp_pair_world.specs.World.{port_at}
+use Rattle.ftp_pair_wires.specs.Berth.{Berth, between_at, called, dialling, listening}
 use Rattle.ftp_pair_wires.specs.Claims.{ways_at}
 
 -- it has none, or no more
@@ -12,10 +13,10 @@ pub over_at : (who : Who) (own peer : Berth) (control : Ways) → IsOver own.hol
 over_at Near own peer control over = over
 over_at Far own peer control over = over
 
-pub listens_at : (who : Who) (own peer : Berth) (control : Ways) (port : ℕ) → IsOver own.hold
-    → Can who (touches.Listens (Some port)) (between_at who own peer control) (between_at who (record own { hold = Awaits port }) peer control)
-listens_at Near own peer control port over = (over, refl)
-listens_at Far own peer control port over = (over, refl)
+pub listens_at : (who : Who) (own peer : Berth) (control : Ways) → IsOver own.hold
+    → Can who (touches.Listens (Some (port_at own.listens))) (between_at who own peer control) (between_at who (listening own) peer control)
+listens_at Near own peer control over = (over, refl)
+listens_at Far own peer control over = (over, refl)
 
 pub accepts_at : (who : Who) (own peer : Berth) (control : Ways) (host : Host) → own.hold ≡ Is_called
     → Can who (touches.Accepts host) (between_at who own peer control) (between_at who (record own { hold = Has }) peer control)

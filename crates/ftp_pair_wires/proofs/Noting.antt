@@ -3,7 +3,7 @@ use Rattle.std.proofs.Common.{◌≡◌, ℕ, Bool, true, false, true≢false, n
 use Rattle.ftp_endpoint.specs.declared.endpoint.Endpoint.{Endpoint}
 use Rattle.ftp_control.specs.Asking.{Asked}
 use Rattle.ftp_pair_drives.specs.Between.{Awaits, Has, Has_ended, Has_lost, Has_not, Hold, IsOver, Is_called}
-use Rattle.ftp_pair_wires.specs.Berth.{Berth, Ran, Steps, mark}
+use Rattle.ftp_pair_wires.specs.Berth.{Berth, Ran, Steps, dialling, listening, mark}
 use Rattle.ftp_pair_wires.specs.Docking.{Noted, found_at, header, is_back, is_dialled, is_ended, is_free, is_reached, moved, moved_on, noted_first, noted_in, noted_next, noted_on, port_called, told, where_so}
 use Rattle.ftp_pair_wires.specs.declared.dock.Event.{Event}
 use Rattle.ftp_pair_wires.specs.declared.dock.Event.TheVariants as Events
@@ -80,12 +80,12 @@ reached_there Has_lost (Some port) endpoint one now e = (tt, refl, the_same one 
 -- so the berth moves as what was asked wants it
 moved_steps : (event : Event) (wire : Wire) (berth now : Berth) → moved event wire berth ≡ Some now → Steps (told event wire (Some berth)) berth now
 moved_steps (Events.Listened None) wire berth now e = the_same berth now e
-moved_steps (Events.Listened (Some port)) wire berth now e = free_over berth.hold (record berth { hold = Awaits port }) now e
+moved_steps (Events.Listened (Some port)) wire berth now e = let free = free_over berth.hold (listening berth) now e in (free.0, refl, free.1)
 moved_steps (Events.Came host) wire berth now e =
     let came = called_only berth.hold (record berth { hold = Has; came = []; went = [] }) now e in (came.0, refl, refl, came.1)
 moved_steps Events.NotCame wire berth now e = the_same berth now e
 moved_steps (Events.Connected endpoint) wire berth now e =
-    let there = reached_there berth.hold berth.calls endpoint (record { hold = Has; came = []; went = []; ended = false; calls = None; dialled = true }) now e in
+    let there = reached_there berth.hold berth.calls endpoint (dialling berth) now e in
     (there.0, there.1, refl, refl, there.2)
 moved_steps (Events.NotConnected endpoint) wire berth now e = the_same berth now e
 moved_steps Events.Ended wire berth now e =

@@ -1,5 +1,5 @@
 -- Some turns of an end between two ends in memory: what it did can happen, from what lay between them to what lies there.
-use Rattle.std.proofs.Common.{◌≡◌, ℕ, Bool, true, false, true≢false, List, [], ◌∷◌, ◌++◌, length, length-append, map, Option, None, Some, is_some, refl, sym, ap, subst, ◌∙◌, arith}
+use Rattle.std.proofs.Common.{◌≡◌, ℕ, ◌+◌, ◌%◌, ◌<◌, Bool, true, false, true≢false, List, [], ◌∷◌, ◌++◌, length, length-append, map, Option, None, Some, is_some, refl, sym, ap, subst, ◌∙◌, arith}
 use Rattle.ftp_control.specs.Asking as asking
 use Rattle.ftp_control.specs.Asking.{Asked}
 use Rattle.ftp_control.specs.Carrying.{told_by}
@@ -14,8 +14,8 @@ use Rattle.ftp_pair_wires.specs.Berth.{Berth, IsAt, IsSeen, Ran, between_at, bet
 use Rattle.ftp_pair_wires.specs.Claims.{Happening, ways_at}
 use Rattle.ftp_pair_wires.specs.Docked.{asked_of}
 use Rattle.ftp_pair_wires.specs.Docking.{berth_at, header, hold_at, is_ended, is_out, known_by, left_in, noted_in, shown_end, shown_hold, went_in}
-use Rattle.ftp_pair_wires.specs.Moored.{KnowsHolder, IsKnown, Meets, berth_of, between_both, came_in, mark_in, octets_of, of_two, plain_in, told_in, told_lane}
-use Rattle.ftp_pair_wires.specs.Order.{WentAlone}
+use Rattle.ftp_pair_wires.specs.Moored.{KnowsHolder, IsKnown, Meets, berth_of, between_both, came_in, listens_of, mark_in, octets_of, of_two, plain_in, told_in, told_lane}
+use Rattle.ftp_pair_wires.specs.Order.{CountedAlone, WentAlone}
 use Rattle.ftp_pair_wires.specs.Plain.{plain, plain_lane, quiet}
 use Rattle.ftp_pair_wires.specs.declared.dock.Dock.{Dock}
 use Rattle.ftp_pair_wires.specs.declared.dock.Stay.{Stay}
@@ -85,12 +85,17 @@ unfolding end_shown
 end_is_shown true = refl
 end_is_shown false = refl
 
-berth_made : Hold → (came went : List ℕ) → Bool → Option ℕ → Bool → Berth
-berth_made hold came went ended calls dialled = record { hold = hold; came = came; went = went; ended = ended; calls = calls; dialled = dialled }
+berth_made : Hold → (came went : List ℕ) → Bool → Option ℕ → Bool → ℕ → Berth
+berth_made hold came went ended calls dialled listens =
+    record { hold = hold; came = came; went = went; ended = ended; calls = calls; dialled = dialled; listens = listens }
+
+listens_shown : Asked → ℕ
+listens_shown (asking.Listened (Some listens)) = listens
+listens_shown other = 0
 
 -- the same was shown only of the same
 found_same : (one other : Berth) → header one ≡ header other → one.dialled ≡ other.dialled → one ≡ other
-unfolding tail_of head_or came_shown went_shown calls_shown hold_shown end_shown berth_made
+unfolding tail_of head_or came_shown went_shown calls_shown hold_shown end_shown listens_shown berth_made
 found_same one other e dialled =
     let at : (n : List Asked) → Asked = λ n. head_or asking.Shut n in
     let came : one.came ≡ other.came = ap (λ l. came_shown (at l)) e in
@@ -98,12 +103,14 @@ found_same one other e dialled =
     let calls : one.calls ≡ other.calls = ap (λ l. calls_shown (at (tail_of l))) e in
     let hold : one.hold ≡ other.hold = sym (hold_is_shown one.hold) ∙ ap (λ l. hold_shown (at (tail_of (tail_of l)))) e ∙ hold_is_shown other.hold in
     let ended : one.ended ≡ other.ended = sym (end_is_shown one.ended) ∙ ap (λ l. end_shown (at (tail_of (tail_of (tail_of l))))) e ∙ end_is_shown other.ended in
-    ap (λ h. berth_made h one.came one.went one.ended one.calls one.dialled) hold
-    ∙ ap (λ c. berth_made other.hold c one.went one.ended one.calls one.dialled) came
-    ∙ ap (λ w. berth_made other.hold other.came w one.ended one.calls one.dialled) went
-    ∙ ap (λ b. berth_made other.hold other.came other.went b one.calls one.dialled) ended
-    ∙ ap (λ c. berth_made other.hold other.came other.went other.ended c one.dialled) calls
-    ∙ ap (λ d. berth_made other.hold other.came other.went other.ended other.calls d) dialled
+    let listens : one.listens ≡ other.listens = ap (λ l. listens_shown (at (tail_of (tail_of (tail_of (tail_of l)))))) e in
+    ap (λ h. berth_made h one.came one.went one.ended one.calls one.dialled one.listens) hold
+    ∙ ap (λ c. berth_made other.hold c one.went one.ended one.calls one.dialled one.listens) came
+    ∙ ap (λ w. berth_made other.hold other.came w one.ended one.calls one.dialled one.listens) went
+    ∙ ap (λ b. berth_made other.hold other.came other.went b one.calls one.dialled one.listens) ended
+    ∙ ap (λ c. berth_made other.hold other.came other.went other.ended c one.dialled one.listens) calls
+    ∙ ap (λ d. berth_made other.hold other.came other.went other.ended other.calls d one.listens) dialled
+    ∙ ap (λ n. berth_made other.hold other.came other.went other.ended other.calls other.dialled n) listens
 
 -- ---- what is seen of it
 
@@ -146,7 +153,7 @@ module _ (m : Mooring) (asked : Option (List Asked)) (agrees : KnowsHolder m)
   lane = lane_at left_in went_in asked m.stream []
 
   known : Berth
-  known = berth_at m.quay.dock.stay m.quay.dock.wire m.quay.dock.calls m.quay.dock.dialled
+  known = berth_at m.quay.dock.stay m.quay.dock.wire m.quay.dock.calls m.quay.dock.dialled m.quay.dock.listens
 
   seen_so : (stands : Bool) → (plain_in m.stream).stands ≡ stands → IsSeen stands lane known (berth_of m)
   unfolding lane known berth_made
@@ -159,18 +166,18 @@ module _ (m : Mooring) (asked : Option (List Asked)) (agrees : KnowsHolder m)
         out_is dock.stay (sym agrees ∙ stands),
         left_seen m.stream.connection.stream (is_ended other.closed) stands (marked stands) ∙ ap (λ l. Some (l ++ mark (is_ended other.closed))) (sym came),
         went_seen m.stream.connection.stream stands ∙ ap Some (sym went),
-        ap (λ h. berth_made h (berth_of m).came (berth_of m).went (is_ended other.closed) dock.calls dock.dialled) hold,
+        ap (λ h. berth_made h (berth_of m).came (berth_of m).went (is_ended other.closed) dock.calls dock.dialled dock.listens) hold,
       )
   seen_so false stands =
       let dock = m.quay.dock in
       let other = dock.wire in (
         over_is dock.stay (sym agrees ∙ stands),
-        ap (λ h. berth_made h (berth_of m).came (berth_of m).went (is_ended other.closed) dock.calls dock.dialled) (second_of (plain_in m.stream).stands stands (hold_by (plain_in m.stream).fate) (hold_at dock.stay))
-            ∙ ap (λ c. berth_made (hold_at dock.stay) c (berth_of m).went (is_ended other.closed) dock.calls dock.dialled) (second_of (plain_in m.stream).stands stands (told_in came_in m.stream) other.came.items)
-            ∙ ap (λ w. berth_made (hold_at dock.stay) other.came.items w (is_ended other.closed) dock.calls dock.dialled) (second_of (plain_in m.stream).stands stands (told_in went_in m.stream) other.went.items),
+        ap (λ h. berth_made h (berth_of m).came (berth_of m).went (is_ended other.closed) dock.calls dock.dialled dock.listens) (second_of (plain_in m.stream).stands stands (hold_by (plain_in m.stream).fate) (hold_at dock.stay))
+            ∙ ap (λ c. berth_made (hold_at dock.stay) c (berth_of m).went (is_ended other.closed) dock.calls dock.dialled dock.listens) (second_of (plain_in m.stream).stands stands (told_in came_in m.stream) other.came.items)
+            ∙ ap (λ w. berth_made (hold_at dock.stay) other.came.items w (is_ended other.closed) dock.calls dock.dialled dock.listens) (second_of (plain_in m.stream).stands stands (told_in went_in m.stream) other.went.items),
       )
 
-  is_at : IsAt (lane_at left_in went_in asked m.stream []) (berth_at m.quay.dock.stay m.quay.dock.wire m.quay.dock.calls m.quay.dock.dialled) (berth_of m)
+  is_at : IsAt (lane_at left_in went_in asked m.stream []) (berth_at m.quay.dock.stay m.quay.dock.wire m.quay.dock.calls m.quay.dock.dialled m.quay.dock.listens) (berth_of m)
   unfolding lane known
   is_at = seen_so (plain_in m.stream).stands refl
 
@@ -189,21 +196,26 @@ same_between Far a b c d control own peer to_own to_peer =
 
 -- ---- some turns
 
+-- where the peer counts none, the end counts those of both
+one_counts : (n : ℕ) → n < 16384 → (n + 0) % 16384 ≡ n
+one_counts n few = omega (arith, few)
+
 -- what an end did in some turns, as what is told is let go, and in the order in which it can happen
 pub record Turned (who : Who) {end : Machine} (deeds : List (Deed (side_of end))) (e0 e1 : end.Here) (own peer own_now peer_now : Mooring) (up down : List ℕ) : Type 0 where
   pub led : Led (map plain deeds) (quiet (held e0 (plain_in own.stream))) (quiet (held e1 (plain_in own_now.stream)))
   pub went : WentAlone who (map plain deeds) (between_both who own peer (ways_at who (read_in deeds ++ down) up))
       (between_both who own_now peer_now (ways_at who down (up ++ said_in deeds)))
+  pub counted : CountedAlone (map plain deeds) (listens_of (berth_of own) (berth_of peer)) (listens_of (berth_of own_now) (berth_of peer_now))
 
 module _ (who : Who) (end : Machine) (deeds : List (Deed (side_of end))) (e0 e1 : end.Here) (own peer own_1 peer_1 own_2 own_3 : Mooring) (up down : List ℕ)
     (meets : Meets own peer own_1 peer_1) (is_known : IsKnown own_2 own_3)
     (led : Led deeds (quiet (held e0 (told_lane own_1)))
     (quiet (held e1 (told_lane own_2)))) where
   first : Berth
-  first = berth_at own_1.quay.dock.stay own_1.quay.dock.wire own_1.quay.dock.calls own_1.quay.dock.dialled
+  first = berth_at own_1.quay.dock.stay own_1.quay.dock.wire own_1.quay.dock.calls own_1.quay.dock.dialled own_1.quay.dock.listens
 
   last : Berth
-  last = berth_at own_3.quay.dock.stay own_3.quay.dock.wire own_3.quay.dock.calls own_3.quay.dock.dialled
+  last = berth_at own_3.quay.dock.stay own_3.quay.dock.wire own_3.quay.dock.calls own_3.quay.dock.dialled own_3.quay.dock.listens
 
   undialled : own_1.quay.dock.dialled ≡ false
   undialled = meets.begins.knows.undialled
@@ -216,8 +228,8 @@ module _ (who : Who) (end : Machine) (deeds : List (Deed (side_of end))) (e0 e1 
   unfolding last
   since =
       let dock = own_3.quay.dock in
-      ran_since dock.found.items dock.log.items (berth_at dock.stay dock.wire dock.calls dock.dialled)
-      (dock.known ∙ ap (λ s. known_by s (berth_at dock.stay dock.wire dock.calls dock.dialled)) is_known.known)
+      ran_since dock.found.items dock.log.items (berth_at dock.stay dock.wire dock.calls dock.dialled dock.listens)
+      (dock.known ∙ ap (λ s. known_by s (berth_at dock.stay dock.wire dock.calls dock.dialled dock.listens)) is_known.known)
 
   asked_all : asked_of own_3.quay.dock ≡ asked_in move_of deeds ++ header first
   asked_all =
@@ -238,7 +250,7 @@ module _ (who : Who) (end : Machine) (deeds : List (Deed (side_of end))) (e0 e1 
   unfolding last
   last_at =
       let asked = Some (asked_of own_2.quay.dock) in
-      subst (λ l. IsAt l (berth_at own_3.quay.dock.stay own_3.quay.dock.wire own_3.quay.dock.calls own_3.quay.dock.dialled) (berth_of own_3))
+      subst (λ l. IsAt l (berth_at own_3.quay.dock.stay own_3.quay.dock.wire own_3.quay.dock.calls own_3.quay.dock.dialled own_3.quay.dock.listens) (berth_of own_3))
       (is_known.lane left_in went_in asked) (is_at own_3 asked is_known.agrees is_known.mark)
 
   happening : Happening who deeds (held e0 (told_lane own_1))
@@ -258,6 +270,11 @@ module _ (who : Who) (end : Machine) (deeds : List (Deed (side_of end))) (e0 e1 
   after_same control =
       ap (λ d. between_at who (called_by d (berth_of own_3)) (called_by (berth_of own_3).dialled (berth_of peer_1)) control) (sym meets.peer_undialled)
 
+  -- the end counted the ports of both
+  count_after : listens_of (berth_of own_3) (berth_of peer_1) ≡ (berth_of own_3).listens
+  count_after =
+      ap (λ n. ((berth_of own_3).listens + n) % 16384) meets.peer_listens ∙ one_counts (berth_of own_3).listens own_3.quay.dock.few
+
   pub turned : Turned who deeds e0 e1 own peer own_3 peer_1 up down
   turned = record {
     led = subst (λ l. Led (map plain deeds) (quiet (held e0 l)) (quiet (held e1 (plain_in own_3.stream)))) meets.own_lane
@@ -269,4 +286,6 @@ module _ (who : Who) (end : Machine) (deeds : List (Deed (side_of end))) (e0 e1 
         (before_same (ways_at who (read_in deeds ++ down) up))
         (subst (λ b. WentAlone who (map plain deeds) (between_by who (berth_of own_1) (berth_of peer_1) (ways_at who (read_in deeds ++ down) up)) b)
         (after_same (ways_at who down (up ++ said_in deeds))) happening.went);
+    counted = subst (λ n. CountedAlone (map plain deeds) n (listens_of (berth_of own_3) (berth_of peer_1))) meets.own_listens
+        (subst (CountedAlone (map plain deeds) (berth_of own_1).listens) (sym count_after) happening.counted);
   }

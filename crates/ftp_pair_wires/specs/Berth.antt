@@ -5,10 +5,11 @@ use Rattle.ftp_control.specs.Lane.{Lane}
 use Rattle.ftp_control.specs.declared.whole.Fate.{Fate}
 use Rattle.ftp_control.specs.declared.whole.Fate.TheVariants as Fates
 use Rattle.ftp_pair_drives.specs.Between.{Awaits, Between, Far, Has, Has_ended, Has_lost, Hold, Is_called, IsOver, Near, Ways, Who}
+use Rattle.ftp_pair_world.specs.World.{next_listen, port_at}
 
 -- How this end stands to its present or last one; the octets that its peer wrote, that were brought here and are still to be read, and those that were written
--- here and not brought to the peer yet; whether the peer closed it after the former; at which port the peer listens, if it does; and whether this end dialled
--- there
+-- here and not brought to the peer yet; whether the peer closed it after the former; at which port the peer listens, if it does; whether this end dialled there;
+-- and how many ports were listened at by either end, as far as this one counts them (`next_listen`)
 pub record Berth : Type 0 where
   pub hold : Hold
   pub came : List ℕ
@@ -16,6 +17,7 @@ pub record Berth : Type 0 where
   pub ended : Bool
   pub calls : Option ℕ
   pub dialled : Bool
+  pub listens : ℕ
 
 -- what stands after the octets that are to be read, and is no octet, while the peer may write more
 abbrev pub mark : (ended : Bool) → List ℕ
@@ -28,17 +30,21 @@ handed berth = record berth { hold = Has; came = []; went = [] }
 
 -- it dialled: nothing came or went over the new one
 abbrev pub dialling : Berth → Berth
-dialling berth = record { hold = Has; came = []; went = []; ended = false; calls = None; dialled = true }
+dialling berth = record berth { hold = Has; came = []; went = []; ended = false; calls = None; dialled = true }
+
+-- it listens at the next port
+abbrev pub listening : Berth → Berth
+listening berth = record berth { hold = Awaits (port_at berth.listens); listens = next_listen berth.listens }
 
 -- it left one so, over which so much is still to be read and to be brought on
 abbrev pub left_so : Hold → (came went : List ℕ) → Berth → Berth
 left_so hold came went berth = record berth { hold = hold; came = came; went = went }
 
--- What is asked, when it can be: a port is listened at by who has none; one comes that was dialled; one is opened to the port at which the peer listens; one is
--- left that is had.
+-- What is asked, when it can be: the next port is listened at by who has none; one comes that was dialled; one is opened to the port at which the peer listens;
+-- one is left that is had.
 abbrev pub Steps : Asked → (old new : Berth) → Type 0
 Steps (Listened None) old new = new ≡ old
-Steps (Listened (Some port)) old new = IsOver old.hold × (new ≡ record old { hold = Awaits port })
+Steps (Listened (Some port)) old new = IsOver old.hold × (port ≡ port_at old.listens) × (new ≡ listening old)
 Steps (Came host left written) old new =
     (old.hold ≡ Is_called) × (left ≡ Some (old.came ++ mark old.ended)) × (written ≡ Some old.went) × (new ≡ handed old)
 Steps NotCame old new = new ≡ old

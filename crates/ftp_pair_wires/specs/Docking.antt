@@ -4,7 +4,8 @@ use Rattle.ftp_endpoint.specs.declared.endpoint.Endpoint.{Endpoint}
 use Rattle.ftp_control.specs.Asking as asking
 use Rattle.ftp_control.specs.Asking.{Asked}
 use Rattle.ftp_pair_drives.specs.Between.{Awaits, Has, Has_ended, Has_lost, Has_not, Hold, Is_called}
-use Rattle.ftp_pair_wires.specs.Berth.{Berth, dialling, handed, left_so, mark}
+use Rattle.ftp_pair_wires.specs.Berth.{Berth, dialling, handed, left_so, listening, mark}
+use Rattle.ftp_pair_world.specs.World.{port_at}
 use Rattle.ftp_pair_wires.specs.declared.dock.Event.{Event}
 use Rattle.ftp_pair_wires.specs.declared.dock.Event.TheVariants as Events
 use Rattle.ftp_pair_wires.specs.declared.dock.Found.{Found}
@@ -32,13 +33,20 @@ is_out Stays.Out = true
 is_out other = false
 
 -- what is known of it: while the end has it, no octets
-abbrev pub berth_at : Stay → Wire → Option ℕ → (dialled : Bool) → Berth
-berth_at stay wire calls dialled =
-    record { hold = hold_at stay; came = wire.came.items; went = wire.went.items; ended = is_ended wire.closed; calls = calls; dialled = dialled }
+abbrev pub berth_at : Stay → Wire → Option ℕ → (dialled : Bool) → (listens : ℕ) → Berth
+berth_at stay wire calls dialled listens = record {
+  hold = hold_at stay;
+  came = wire.came.items;
+  went = wire.went.items;
+  ended = is_ended wire.closed;
+  calls = calls;
+  dialled = dialled;
+  listens = listens;
+}
 
 -- that it was found so, as a turn began
 abbrev pub found_at : Found × Wire → Berth
-found_at found = berth_at found.0.stay found.1 found.0.calls false
+found_at found = berth_at found.0.stay found.1 found.0.calls false found.0.listens
 
 -- ---- what was asked
 
@@ -69,7 +77,7 @@ where_so false berth = None
 -- the berth after what was asked, where that could be
 abbrev pub moved : Event → Wire → Berth → Option Berth
 moved (Events.Listened None) wire berth = Some berth
-moved (Events.Listened (Some port)) wire berth = where_so (is_free berth.hold) (record berth { hold = Awaits port })
+moved (Events.Listened (Some port)) wire berth = where_so (is_free berth.hold) (listening berth)
 moved (Events.Came host) wire berth = where_so (is_dialled berth.hold) (handed berth)
 moved Events.NotCame wire berth = Some berth
 moved (Events.Connected endpoint) wire berth = where_so (is_reached berth.hold berth.calls) (dialling berth)
@@ -104,7 +112,9 @@ port_called (Some port) endpoint = record endpoint { port = port }
 
 -- what was asked, of a data connection in that berth
 abbrev pub told : Event → Wire → Option Berth → Asked
-told (Events.Listened port) wire berth = asking.Listened port
+told (Events.Listened None) wire berth = asking.Listened None
+told (Events.Listened (Some port)) wire None = asking.Listened (Some port)
+told (Events.Listened (Some port)) wire (Some berth) = asking.Listened (Some (port_at berth.listens))
 told (Events.Came host) wire None = asking.Came host (left_in wire) (went_in wire)
 told (Events.Came host) wire (Some berth) = asking.Came host (Some (berth.came ++ mark berth.ended)) (Some berth.went)
 told Events.NotCame wire berth = asking.NotCame
@@ -131,7 +141,9 @@ shown_end true = asking.Shut
 shown_end false = asking.Lost
 
 abbrev pub header : Berth → List Asked
-header berth = asking.Ended (Some berth.came) (Some berth.went) ∷ asking.Listened berth.calls ∷ shown_hold berth.hold ∷ shown_end berth.ended ∷ []
+header berth =
+    asking.Ended (Some berth.came) (Some berth.went) ∷ asking.Listened berth.calls ∷ shown_hold berth.hold ∷ shown_end berth.ended
+    ∷ asking.Listened (Some berth.listens) ∷ []
 
 -- the berth now, if all could be asked, and what was asked, the last one first
 pub record Noted : Type 0 where

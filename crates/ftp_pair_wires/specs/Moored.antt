@@ -1,5 +1,5 @@
 -- A data connection in memory, wherever it is: with the end, or with its ports; of values of the program.
-use Rattle.std.specs.Prelude.{◌≡◌, ℕ, Bool, true, false, List, [], ◌++◌, Option, None, Some}
+use Rattle.std.specs.Prelude.{◌≡◌, ℕ, ◌+◌, ◌%◌, Bool, true, false, List, [], ◌++◌, Option, None, Some}
 use Rattle.ftp_control.specs.Asking.{Asked}
 use Rattle.ftp_control.specs.Lane.{Lane, no_lane}
 use Rattle.ftp_control_drive.specs.Standing.{lane_at}
@@ -58,11 +58,12 @@ berth_of mooring = record {
   ended = is_ended mooring.quay.dock.wire.closed;
   calls = mooring.quay.dock.calls;
   dialled = mooring.quay.dock.dialled;
+  listens = mooring.quay.dock.listens;
 }
 
--- nothing came or went yet
+-- nothing came or went yet, and no port was listened at
 abbrev pub no_berth : Berth
-no_berth = record { hold = Has_not; came = []; went = []; ended = false; calls = None; dialled = false }
+no_berth = record { hold = Has_not; came = []; went = []; ended = false; calls = None; dialled = false; listens = 0 }
 
 pub record IsFresh (mooring : Mooring) : Type 0 where
   pub berth : berth_of mooring ≡ no_berth
@@ -78,6 +79,7 @@ pub record IsStill (old new : Mooring) : Type 0 where
   pub stay : new.quay.dock.stay ≡ old.quay.dock.stay
   pub calls : new.quay.dock.calls ≡ old.quay.dock.calls
   pub dialled : new.quay.dock.dialled ≡ old.quay.dock.dialled
+  pub listens : new.quay.dock.listens ≡ old.quay.dock.listens
 
 -- this is it, and it is taken; and this one is put there
 pub record Lifts (wire : Wire) (old new : Mooring) : Type 0 where
@@ -94,6 +96,10 @@ pub record Lowers (wire : Wire) (old new : Mooring) : Type 0 where
 
 -- ---- a turn
 
+-- how many ports were listened at by both ends: one of them counts those of both
+abbrev pub listens_of : (own peer : Berth) → ℕ
+listens_of own peer = (own.listens + peer.listens) % 16384
+
 -- what lies between is the same, though octets were brought on and a dial was answered
 pub record KeepsBetween (own peer own_now peer_now : Berth) : Type 0 where
   pub own_hold : own_now.hold ≡ (called_by peer.dialled own).hold
@@ -109,13 +115,15 @@ pub record AnswersDial (dialler other dialler_now other_now : Mooring) : Type 0 
   pub other_came : (berth_of other_now).came ≡ (called_by (berth_of dialler).dialled (berth_of other)).came
   pub other_went : (berth_of other_now).went ≡ (called_by (berth_of dialler).dialled (berth_of other)).went
   pub other_dialled : (berth_of other_now).dialled ≡ (berth_of other).dialled
+  pub other_listens : (berth_of other_now).listens ≡ (berth_of other).listens
   pub other_lane : plain_in other_now.stream ≡ plain_in other.stream
 
 -- a turn of an end can begin: octets were brought on, and its ports know what they are to know
 pub record IsPrepared (own_now peer_now : Mooring) : Type 0 where
   pub agrees : KnowsHolder own_now
   pub mark : (plain_in own_now.stream).stands ≡ true → told_in mark_in own_now.stream ≡ mark (berth_of own_now).ended
-  pub asked : asked_of own_now.quay.dock ≡ header (berth_at own_now.quay.dock.stay own_now.quay.dock.wire own_now.quay.dock.calls false)
+  pub asked : asked_of own_now.quay.dock
+      ≡ header (berth_at own_now.quay.dock.stay own_now.quay.dock.wire own_now.quay.dock.calls false own_now.quay.dock.listens)
   pub known : own_now.quay.dock.spoiled ≡ false
   pub knows : Knows (berth_of own_now) (berth_of peer_now)
 
@@ -127,14 +135,18 @@ pub record Prepares (own peer own_now peer_now : Mooring) : Type 0 where
   pub own_lane : plain_in own_now.stream ≡ plain_in own.stream
   pub peer_lane : plain_in peer_now.stream ≡ plain_in peer.stream
   pub peer_dialled : (berth_of peer_now).dialled ≡ (berth_of peer).dialled
+  pub own_listens : (berth_of own_now).listens ≡ listens_of (berth_of own) (berth_of peer)
+  pub peer_listens : (berth_of peer_now).listens ≡ 0
   pub begins : IsPrepared own_now peer_now
 
--- so it is, and what lies between is the same
+-- so it is, what lies between is the same, and the end counts the ports of both
 pub record Meets (own peer own_now peer_now : Mooring) : Type 0 where
   pub carries : KeepsBetween (berth_of own) (berth_of peer) (berth_of own_now) (berth_of peer_now)
   pub own_lane : plain_in own_now.stream ≡ plain_in own.stream
   pub peer_lane : plain_in peer_now.stream ≡ plain_in peer.stream
   pub peer_undialled : (berth_of peer_now).dialled ≡ false
+  pub own_listens : (berth_of own_now).listens ≡ listens_of (berth_of own) (berth_of peer)
+  pub peer_listens : (berth_of peer_now).listens ≡ 0
   pub begins : IsPrepared own_now peer_now
 
 -- after a turn ports know where it is, and the end sees what it saw

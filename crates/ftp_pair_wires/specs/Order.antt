@@ -1,9 +1,10 @@
 -- An order of deeds in which each can happen, as connections in memory have it (RFC 959, section 2.3).
-use Rattle.std.specs.Prelude.{◌≡◌, ◌⊎◌, List, [], ◌∷◌}
+use Rattle.std.specs.Prelude.{◌≡◌, ◌⊎◌, ℕ, List, [], ◌∷◌, Some}
 use Rattle.ftp_control.specs.Deeds.{Deed}
 use Rattle.ftp_control.specs.Machine.{Machine, side_of}
 use Rattle.ftp_pair_drives.specs.Between.{Between, Can, Client, Far, Near, IsOver, Server, Turn, Who, hold_of}
-use Rattle.ftp_pair_drives.specs.Touches.{ToldBreak, Touch, touch_in}
+use Rattle.ftp_pair_drives.specs.Touches.{Listens, ToldBreak, Touch, touch_in}
+use Rattle.ftp_pair_world.specs.World.{next_listen, port_at}
 
 -- It can happen; or an end that has no data connection is told that it broke, where memory was refused or none was had.
 abbrev pub CanGo : Who → Touch → (old new : Between) → Type 0
@@ -23,3 +24,25 @@ CanTake (Client deed) old new = CanGo Near (touch_in deed) old new
 abbrev pub Went : List Turn → (first now : Between) → Type 0
 Went [] first now = now ≡ first
 Went (turn ∷ before) first now = (mid : Between) × Went before first mid × CanTake turn mid now
+
+-- ---- ports
+
+-- So many ports were told before it and after it: each is the next one of a world, whichever end listens.
+abbrev pub Counts : Touch → (old new : ℕ) → Type 0
+Counts (Listens (Some port)) old new = (port ≡ port_at old) × (new ≡ next_listen old)
+Counts touch old new = new ≡ old
+
+-- deeds of one end
+module _ {end : Machine} where
+  abbrev pub CountedAlone : List (Deed (side_of end)) → (first now : ℕ) → Type 0
+  CountedAlone [] first now = now ≡ first
+  CountedAlone (deed ∷ before) first now = (mid : ℕ) × CountedAlone before first mid × Counts (touch_in deed) mid now
+
+-- deeds of both
+abbrev pub CountsIn : Turn → (old new : ℕ) → Type 0
+CountsIn (Server deed) old new = Counts (touch_in deed) old new
+CountsIn (Client deed) old new = Counts (touch_in deed) old new
+
+abbrev pub Counted : List Turn → (first now : ℕ) → Type 0
+Counted [] first now = now ≡ first
+Counted (turn ∷ before) first now = (mid : ℕ) × Counted before first mid × CountsIn turn mid now

@@ -1,12 +1,18 @@
 // What the ports of an end know of its data connection in memory, and what was asked of them.
-ghost use Rattle.std.specs.Prelude.{◌≡◌, ◌∷◌, [], IfSome, IsTrue, None, Some, false, true};
+ghost use Rattle.std.specs.Prelude.{◌<◌, ◌≡◌, ◌+◌, ◌%◌, ◌∷◌, [], IfSome, IsTrue, None, Some, false, true};
 ghost use Rattle.ftp_control.specs.Asking.{Came, Connected, Ended as EndedBy, Listened, NotCame, NotConnected, Reset as ResetBy, Shut};
+ghost use Rattle.ftp_pair_world.specs.World.{port_at};
 ghost use Rattle.ftp_pair_wires.specs.Docking.{MovesNothing, berth_at, header, hold_at, is_back, is_ended, is_out, is_reached, known_by, left_in, noted_in, told, went_in};
 
 use crate::wire::{Closed, Wire};
 use ftp_endpoint::{Endpoint, Host};
 use http_server::Log;
 use std::alloc::Global;
+
+/// The ports that are listened at, one after another: so many, from this one on, and after the last one the first comes again (RFC 6335, section 6).
+const PORTS: u16 = 16_384;
+
+const FIRST_PORT: u16 = 49_152;
 
 /// How an end stands to its data connection, as its ports know.
 #[derive(Clone, Copy, PartialEq, Eq)]
@@ -42,6 +48,7 @@ pub enum Event {
 pub struct Found {
     pub(crate) stay: Stay,
     pub(crate) calls: Option<u16>,
+    pub(crate) listens: u16,
 }
 
 /// What the ports of an end know of its data connection in memory.
@@ -54,13 +61,16 @@ pub struct Dock {
     pub(crate) calls: Option<u16>,
     /// Whether this end dialled it there.
     pub(crate) dialled: bool,
+    /// How many ports were listened at by either end, as far as this one counts them: it counts while it has its turn.
+    pub(crate) listens: u16,
     /// Whether no turn was begun, or one was given back that was not to be.
     pub(crate) spoiled: bool,
     pub(crate) alloc: Global,
     /// How the turn found it, and what was asked since: only proofs read them.
     pub(crate) found: Log<Found, Wire>,
     pub(crate) log: Log<Event, Wire>,
-    ghost known: { (noted_in found.items log.items).berth ≡ known_by spoiled (berth_at stay wire calls dialled) },
+    ghost known: { (noted_in found.items log.items).berth ≡ known_by spoiled (berth_at stay wire calls dialled listens) },
+    ghost few: { listens < 16384 },
 }
 
 impl Dock {
@@ -74,12 +84,14 @@ impl Dock {
         ensures closed { result.wire.closed ≡ Closed.No }
         ensures calls { result.calls ≡ None }
         ensures undialled { result.dialled ≡ false }
+        ensures listens { result.listens ≡ 0 }
     {
         Dock {
             stay: Stay::Free,
             wire: Wire::new(alloc, Closed::No, most),
             calls: None,
             dialled: false,
+            listens: 0,
             spoiled: true,
             alloc,
             found: Log::new(),
@@ -87,22 +99,26 @@ impl Dock {
         }
     }
 
-    /// A turn of its end begins: the other end closed it so, and listens at this port, where it does.
-    pub(crate) fn begin(&mut self, closed: Closed, calls: Option<u16>)
+    /// A turn of its end begins: the other end closed it so, listens at this port, where it does, and counted so many ports.
+    pub(crate) fn begin(&mut self, closed: Closed, calls: Option<u16>, listens: u16)
+        requires { listens < 16384 }
         ensures stay { self.new.stay ≡ self.old.stay }
         ensures came { self.new.wire.came ≡ self.old.wire.came }
         ensures went { self.new.wire.went ≡ self.old.wire.went }
         ensures closed { self.new.wire.closed ≡ closed }
         ensures calls { self.new.calls ≡ calls }
         ensures undialled { self.new.dialled ≡ false }
+        ensures listens { self.new.listens ≡ (self.old.listens + listens) % 16384 }
         ensures known { self.new.spoiled ≡ false }
-        ensures asked { asked_of self.new ≡ header (berth_at self.new.stay self.new.wire calls false) }
+        ensures asked { asked_of self.new ≡ header (berth_at self.new.stay self.new.wire calls false self.new.listens) }
     {
         self.forget();
         self.wire.closed = closed;
+        self.listens = (self.listens + listens) % PORTS;
         let found = Found {
             stay: self.stay,
             calls,
+            listens: self.listens,
         };
         self.found = Log::new().and(&found, &self.wire);
         self.calls = calls;
@@ -116,6 +132,7 @@ impl Dock {
         ensures wire { self.new.wire ≡ self.old.wire }
         ensures calls { self.new.calls ≡ self.old.calls }
         ensures dialled { self.new.dialled ≡ self.old.dialled }
+        ensures listens { self.new.listens ≡ self.old.listens }
         ensures log { self.new.log.items ≡ [] }
         ensures found { self.new.found.items ≡ [] }
         ensures spoiled { self.new.spoiled ≡ true }
@@ -132,9 +149,24 @@ impl Dock {
         ensures stay { self.new.stay ≡ self.old.stay }
         ensures calls { self.new.calls ≡ self.old.calls }
         ensures dialled { self.new.dialled ≡ self.old.dialled }
+        ensures listens { self.new.listens ≡ self.old.listens }
     {
         self.forget();
         std::mem::replace(&mut self.wire, wire)
+    }
+
+    /// The turn of the other end begins, which counts from so many ports on.
+    pub(crate) fn hand_over(&mut self) -> u16
+        ensures count { result ≡ self.old.listens }
+        ensures few { result < 16384 }
+        ensures listens { self.new.listens ≡ 0 }
+        ensures stay { self.new.stay ≡ self.old.stay }
+        ensures wire { self.new.wire ≡ self.old.wire }
+        ensures calls { self.new.calls ≡ self.old.calls }
+        ensures dialled { self.new.dialled ≡ self.old.dialled }
+    {
+        self.forget();
+        std::mem::replace(&mut self.listens, 0)
     }
 
     /// It was dialled by the other end, where it has none.
@@ -143,6 +175,7 @@ impl Dock {
         ensures wire { self.new.wire ≡ self.old.wire }
         ensures calls { self.new.calls ≡ self.old.calls }
         ensures dialled { self.new.dialled ≡ self.old.dialled }
+        ensures listens { self.new.listens ≡ self.old.listens }
     {
         self.forget();
         self.stay = Stay::Called;
@@ -154,6 +187,7 @@ impl Dock {
         ensures wire { self.new.wire ≡ self.old.wire }
         ensures calls { self.new.calls ≡ self.old.calls }
         ensures dialled { self.new.dialled ≡ false }
+        ensures listens { self.new.listens ≡ self.old.listens }
     {
         self.forget();
         self.dialled = false;
@@ -167,7 +201,7 @@ impl Dock {
     }
 
     /// The port that it listens at, where it does.
-    pub(crate) fn listens(&self) -> Option<u16>
+    pub(crate) fn awaits(&self) -> Option<u16>
         ensures { IfSome result (λ port. self.now.stay ≡ Stay.Awaits port) }
     {
         match self.stay {
@@ -190,18 +224,27 @@ impl Dock {
         }
     }
 
-    /// Listens at this port, unless the end has a data connection.
+    /// Listens at the next port, unless the end has a data connection.
     #[tactic(auto, using(crate::proofs::Noting::noted_last))]
-    pub(crate) fn listen(&mut self, port: u16) -> Option<u16>
+    pub(crate) fn listen(&mut self) -> Option<u16>
         ensures { asked_of self.new ≡ Listened result ∷ asked_of self.old }
     {
         if self.stay == Stay::Out {
             self.note(Event::Listened(None));
             return None;
         }
+        let port = self.next_port();
         self.log = self.log.and(&Event::Listened(Some(port)), &self.wire);
         self.stay = Stay::Awaits(port);
+        self.listens = (self.listens + 1) % PORTS;
         Some(port)
+    }
+
+    /// The port that is listened at next.
+    fn next_port(&self) -> u16
+        ensures { result ≡ port_at self.now.listens }
+    {
+        FIRST_PORT + self.listens % PORTS
     }
 
     /// Whether it was dialled, and the end is still to have it.

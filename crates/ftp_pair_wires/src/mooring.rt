@@ -128,7 +128,7 @@ fn answers(dialler: &mut Mooring, other: &mut Mooring) -> bool
     true
 }
 
-/// Brings either end what the other wrote, and tells the first one what it is to know of the other in its turn.
+/// Brings either end what the other wrote, and tells the first one what it is to know of the other in its turn: it counts the ports of both.
 fn carry(own: &mut Mooring, peer: &mut Mooring) -> bool
     ensures { IsTrue result → Prepares own.old peer.old own.new peer.new }
 {
@@ -145,7 +145,9 @@ fn carry(own: &mut Mooring, peer: &mut Mooring) -> bool
     mine.closed = closed;
     own.lower(mine);
     peer.lower(theirs);
-    own.quay.dock.begin(closed, peer.quay.dock.listens());
+    let calls = peer.quay.dock.awaits();
+    let listens = peer.quay.dock.hand_over();
+    own.quay.dock.begin(closed, calls, listens);
     true
 }
 

@@ -1,5 +1,5 @@
 // The ports of an end beside data connections in memory (RFC 959, section 3.2).
-ghost use Rattle.std.specs.Prelude.{◌<◌, Some};
+ghost use Rattle.std.specs.Prelude.{Some};
 ghost use Rattle.ftp_control.specs.Asking.{Closes};
 ghost use Rattle.ftp_pair_wires.specs.Docking.{left_in, went_in};
 
@@ -9,21 +9,13 @@ use ftp_control::{Accepted, Awaited, Beside, For, Ports, Ready, Spoken, Whole};
 use ftp_endpoint::{Endpoint, Host};
 use std::alloc::Global;
 
-/// The ports that are listened at, one after another: so many, from this one on (RFC 6335, section 6).
-const PORTS: u16 = 16_384;
-
-const FIRST_PORT: u16 = 49_152;
-
 /// The ports of an end: what it has of data connections, and whether octets of its control connection came.
 #[derive(Drop)]
 pub struct Quay {
     pub(crate) dock: Dock,
     /// The host at the other end.
     peer: Host,
-    /// How many ports were listened at.
-    listens: u16,
     has_come: bool,
-    ghost few: { listens < 16384 },
 }
 
 impl Quay {
@@ -36,11 +28,11 @@ impl Quay {
         ensures closed { result.dock.wire.closed ≡ Closed.No }
         ensures calls { result.dock.calls ≡ None }
         ensures undialled { result.dock.dialled ≡ false }
+        ensures listens { result.dock.listens ≡ 0 }
     {
         Quay {
             dock: Dock::new(alloc, most),
             peer,
-            listens: 0,
             has_come: false,
         }
     }
@@ -50,15 +42,6 @@ impl Quay {
         ensures { self.new.dock ≡ self.old.dock }
     {
         self.has_come = has_come;
-    }
-
-    /// The port that is listened at next.
-    fn next_port(&mut self) -> u16
-        ensures { self.new.dock ≡ self.old.dock }
-    {
-        let port = FIRST_PORT + self.listens;
-        self.listens = (self.listens + 1) % PORTS;
-        port
     }
 
     /// Whether octets of the control connection are awaited, and there.
@@ -82,8 +65,7 @@ impl Ports for Quay {
     ghost history = { λ quay. Some (asked_of quay.dock) };
 
     fn listen(&mut self) -> Option<u16> {
-        let port = self.next_port();
-        self.dock.listen(port)
+        self.dock.listen()
     }
 
     fn accept(&mut self, hears: bool) -> Accepted<Wire> {
