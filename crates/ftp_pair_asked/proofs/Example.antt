@@ -1,8 +1,9 @@
 -- The example: a session of one operation, as both drives took turns in it.
-use Rattle.std.proofs.Common.{inl, ℕ, List, [], ◌∷◌, ◌++◌, refl, sym, ap, subst, ◌∙◌, append-nil}
+use Rattle.std.proofs.Common.{◌≡◌, inl, ℕ, List, [], ◌∷◌, ◌++◌, refl, sym, ap, subst, ◌∙◌, append-nil}
 use Rattle.ftp_control.specs.Asking.{Shut}
-use Rattle.ftp_control.specs.Deeds.{Other}
-use Rattle.ftp_client_drive.specs.Side.{Begun}
+use Rattle.ftp_control.specs.Deeds.{Deed, Heard, Other, Read, Said as Says, Stand}
+use Rattle.ftp_control.specs.Machine.{Aside, Closed, Left}
+use Rattle.ftp_client_drive.specs.Side.{Begun, client_side}
 use Rattle.ftp_client_model.specs.Calls as near
 use Rattle.ftp_operation.specs.Answer.{Path}
 use Rattle.ftp_operation.specs.declared.op.Op.{Op}
@@ -10,10 +11,12 @@ use Rattle.ftp_operation.specs.declared.op.Op.TheVariants as Ops
 use Rattle.ftp_pair_drives.specs.Alone.{ClientAttends, ClientIsCalm, IsAsking, IsServing, ServerAttends, ServerIsCalm}
 use Rattle.ftp_pair_drives.specs.Between.{Between, Client, Happened, Server, Turn, client_deeds, nothing_yet, server_deeds}
 use Rattle.ftp_pair_drives.specs.Over.{AreMidst}
+use Rattle.ftp_pair_drives.specs.Touches.{touch_in}
 use Rattle.ftp_pair_drives.proofs.Ending.{Goes}
 use Rattle.ftp_pair_drives.proofs.Example.{example_is_answered}
 use Rattle.ftp_pair_drives.proofs.Playing.{far_at, near_at}
-use Rattle.ftp_pair_wires.specs.Order.{Went}
+use Rattle.ftp_server_drive.specs.Side.{server_side}
+use Rattle.ftp_pair_wires.specs.Order.{Counted, Counts, Went}
 use Rattle.ftp_pair_wires.specs.Plain.{quiet}
 use Rattle.ftp_pair_turns.specs.Taking.{Answered, Answers, Settled, Took, ends}
 use Rattle.ftp_pair_turns.proofs.Gathering.{servers_then}
@@ -24,6 +27,32 @@ went_of : (later : List Turn) (op : Op (List ℕ)) (now : Between) → Happened 
 went_of [] op now happened = happened.2 ∙ happened.1
 went_of (Server deed ∷ rest) op now happened = (happened.0, went_of rest op happened.0 happened.1, inl happened.2)
 went_of (Client deed ∷ rest) op now happened = (happened.0, went_of rest op happened.0 happened.1, inl happened.2)
+
+-- over control alone no port is told
+serving_counts : (deed : Deed server_side) (n : ℕ) → IsServing deed → Counts (touch_in deed) n n
+serving_counts (Heard octets) n is = refl
+serving_counts (Says octets) n is = refl
+serving_counts (Read octets) n is = refl
+serving_counts (Other (Aside asked)) n is = refl
+serving_counts deed n is = absurd is
+
+asking_counts : (deed : Deed client_side) (n : ℕ) → IsAsking deed → Counts (touch_in deed) n n
+asking_counts (Heard octets) n is = refl
+asking_counts (Says octets) n is = refl
+asking_counts (Read octets) n is = refl
+asking_counts (Other (Aside own)) n is = refl
+asking_counts (Other (Left Shut)) n is = refl
+asking_counts (Other Closed) n is = refl
+asking_counts deed n is = absurd is
+
+all_counted : (turns : List Turn) (server server_now : Stand server_side) (client client_now : Stand client_side)
+    → Goes IsServing ServerIsCalm ServerAttends (server_deeds turns) server server_now
+    → Goes IsAsking ClientIsCalm ClientAttends (client_deeds turns) client client_now → Counted turns 0 0
+all_counted [] server server_now client client_now serves asks = refl
+all_counted (Server deed ∷ before) server server_now client client_now serves asks =
+    (0, all_counted before server serves.0.0 client client_now (serves.0.1, serves.1.0) asks, serving_counts deed 0 serves.1.1)
+all_counted (Client deed ∷ before) server server_now client client_now serves asks =
+    (0, all_counted before server server_now client asks.0.0 serves (asks.0.1, asks.1.0), asking_counts deed 0 asks.1.1)
 
 pub example_is_asked : ExampleIsAsked
 example_is_asked table root =
@@ -44,22 +73,24 @@ example_is_asked table root =
     let asks : Goes IsAsking ClientIsCalm ClientAttends (client_deeds p.later) (quiet begun) (quiet heard) =
     subst (λ d. Goes IsAsking ClientIsCalm ClientAttends d (quiet begun) (quiet heard)) (sym p.later_midst) p.near_goes in
     let happened : Happened (p.later ++ first ∷ []) nothing_yet = subst (λ t. Happened t nothing_yet) p.turns_are p.happened in
-    let took : Took (ends server begun nothing_yet) (ends served heard nothing_yet) = record {
+    let took : Took (ends server begun nothing_yet 0) (ends served heard nothing_yet 0) = record {
       turns = p.later;
       server_led = serves.0;
       client_led = asks.0;
       went = went_of p.later Ops.Where nothing_yet happened;
+      counted = all_counted p.later (quiet server) (quiet served) (quiet begun) (quiet heard) serves asks;
     } in
-    let last : Answers said (ends served heard nothing_yet) (ends served done nothing_yet) = record {
+    let last : Answers said (ends served heard nothing_yet 0) (ends served done nothing_yet 0) = record {
       asked = Shut;
       midst = [];
       led = a.last.0;
       went = (nothing_yet, (nothing_yet, (nothing_yet, refl, inl refl), inl refl), inl refl);
+      counted = (0, (0, (0, refl, refl), refl), refl);
       server = refl;
     } in
-    let settled : Settled said (ends server begun nothing_yet) (ends served done nothing_yet) =
-    record { mid = ends served heard nothing_yet; took = took; answers = last } in
-    let answered : Answered Ops.Where said (ends server client nothing_yet) (ends served done nothing_yet) =
+    let settled : Settled said (ends server begun nothing_yet 0) (ends served done nothing_yet 0) =
+    record { mid = ends served heard nothing_yet 0; took = took; answers = last } in
+    let answered : Answered Ops.Where said (ends server client nothing_yet 0) (ends served done nothing_yet 0) =
     record { begun = begun; begins = a.begins; settled = settled } in
     let alone : AskedBy ServerIsCalm ClientIsCalm answered = record {
       kept = a.calm;
@@ -69,10 +100,10 @@ example_is_asked table root =
       last_asks = a.last.1;
       last_midst = tt;
     } in (
-      ends server client nothing_yet,
-      ends served done nothing_yet,
+      ends server client nothing_yet 0,
+      ends served done nothing_yet 0,
       e.begins,
       refl,
-      (ends server client nothing_yet, refl, answered),
+      (ends server client nothing_yet 0, refl, answered),
       (tt, alone),
     )

@@ -1,14 +1,15 @@
 -- The examples with transfers: sessions of one operation, as both drives took turns in them.
-use Rattle.std.proofs.Common.{◌≡◌, inl, ℕ, List, [], ◌∷◌, ◌++◌, refl, sym, ap, subst, ◌∙◌}
+use Rattle.std.proofs.Common.{◌≡◌, inl, ℕ, List, [], ◌∷◌, ◌++◌, refl, sym, ap, subst, ◌∙◌, append-nil}
 use Rattle.ftp_control.specs.Deeds.{Led, Other, Stand}
 use Rattle.ftp_client_drive.specs.Side.{Begun}
 use Rattle.ftp_client_model.specs.Calls as near
 use Rattle.ftp_operation.specs.Answer.{Said}
 use Rattle.ftp_operation.specs.declared.op.Op.{Op}
-use Rattle.ftp_pair_deeds.specs.Deeds.{AreMidst, ArePorts}
+use Rattle.ftp_pair_deeds.specs.Deeds.{AreMidst, ArePorts, listened_in}
 use Rattle.ftp_pair_deeds.proofs.Along.{Went as Goes}
 use Rattle.ftp_pair_drives.specs.Alone.{ClientIsCalm, ServerIsCalm}
 use Rattle.ftp_pair_drives.specs.Between.{Client, Server, Turn, client_deeds, nothing_yet, server_deeds}
+use Rattle.ftp_pair_drives.specs.Touches.{left_by}
 use Rattle.ftp_pair_example.proofs.Ending.{IsAnswered, lies_over}
 use Rattle.ftp_pair_example.proofs.FetchPlayed.{fetch_is_answered}
 use Rattle.ftp_pair_example.proofs.Moves.{near_closes, says_answer}
@@ -20,10 +21,11 @@ use Rattle.ftp_pair_world.specs.Claims.{Beginning}
 use Rattle.ftp_server_drive.specs.Side.{server_side}
 use Rattle.ftp_pair_wires.specs.Plain.{quiet}
 use Rattle.ftp_pair_turns.specs.Taking.{Answered, Answers, Ends, Settled, Took, ends}
-use Rattle.ftp_pair_turns.proofs.Gathering.{clients_then}
+use Rattle.ftp_pair_turns.proofs.Gathering.{clients_then, servers_then}
 use Rattle.ftp_pair_asked.specs.Transfers.{AnsweredByTransfer, AreAllToldAt, AreTransferred, FetchIsAsked, PeekIsAsked, PutIsAsked}
 use Rattle.ftp_pair_asked.proofs.Breaking.{HappenedByResets, Resets, resets_of}
 use Rattle.ftp_pair_asked.proofs.Midst.{midst_numbers}
+use Rattle.ftp_pair_asked.proofs.Ports.{left_no_port, none_counts, ports_counted}
 
 -- the server's deeds after an operation was begun, each such, and told at this moment
 record Apart (moment : ℕ) (later : List Turn) (start now : Stand server_side) : Type 0 where
@@ -76,13 +78,17 @@ module _ (b : Beginning) (moments : ℕ → ℕ) (op : Op (List ℕ)) (said : Sa
       let happened : HappenedByResets (p.later ++ first ∷ []) a.there =
       subst (λ t. HappenedByResets t a.there) p.turns_are (p.happened, p.resets) in
       let went : Resets p.later nothing_yet a.there = resets_of p.later op a.there happened.0 happened.1 in
-      let took : Took (ends server begun nothing_yet) (ends served heard a.there) = record {
+      let servers : server_deeds p.turns ≡ server_deeds p.later =
+      ap server_deeds p.turns_are ∙ servers_then p.later (first ∷ []) ∙ append-nil (server_deeds p.later) in
+      let told = listened_in (server_deeds p.later) in
+      let took : Took (ends server begun nothing_yet 0) (ends served heard a.there told) = record {
         turns = p.later;
         server_led = serves.led;
         client_led = asks.0;
         went = went.0;
+        counted = ports_counted ClientIsCalm p.later (quiet begun) (quiet heard) asks.0 asks.1 (subst ArePorts servers p.ports);
       } in
-      let last : Answers said (ends served heard a.there) (ends served done over) = record {
+      let last : Answers said (ends served heard a.there told) (ends served done over told) = record {
         asked = a.asked;
         midst = [];
         led = (
@@ -91,11 +97,12 @@ module _ (b : Beginning) (moments : ℕ → ℕ) (op : Op (List ℕ)) (said : Sa
           near_closes (near.reports a.heard) a.free,
         );
         went = (over, (a.there, (a.there, refl, inl refl), inl a.can), inl refl);
+        counted = (told, (told, (told, refl, refl), none_counts (left_by a.asked) told (left_no_port a.asked)), refl);
         server = refl;
       } in
-      let settled : Settled said (ends server begun nothing_yet) (ends served done over) =
-      record { mid = ends served heard a.there; took = took; answers = last } in
-      let answered : Answered op said (ends server client nothing_yet) (ends served done over) =
+      let settled : Settled said (ends server begun nothing_yet 0) (ends served done over told) =
+      record { mid = ends served heard a.there told; took = took; answers = last } in
+      let answered : Answered op said (ends server client nothing_yet 0) (ends served done over told) =
       record { begun = begun; begins = a.does; settled = settled } in
       let by : AnsweredByTransfer ServerIsCalm ClientIsCalm (moments 0) answered = record {
         carried = a.is;
@@ -109,16 +116,16 @@ module _ (b : Beginning) (moments : ℕ → ℕ) (op : Op (List ℕ)) (said : Sa
         resets = went.1;
         last_resets = tt;
       } in (
-        ends server client nothing_yet,
-        ends served done over,
+        ends server client nothing_yet 0,
+        ends served done over told,
         record {
           begins = a.begins;
           nothing = refl;
+          listens = refl;
           server_bare = (refl, refl);
           client_bare = (refl, refl);
-          are = (ends server client nothing_yet, refl, answered);
+          are = (ends server client nothing_yet 0, refl, answered);
           by = (tt, by);
-          ports = subst (λ t. ArePorts (server_deeds t)) p.turns_are p.ports;
         },
       )
 

@@ -7,9 +7,9 @@ use Rattle.ftp_operation.specs.Answer.{Said}
 use Rattle.ftp_operation.specs.declared.op.Op.{Op}
 use Rattle.ftp_pair_drives.specs.Between.{Between, Client, Server, Turn, client_deeds, server_deeds}
 use Rattle.ftp_pair_drives.proofs.Ending.{reported_free}
-use Rattle.ftp_pair_wires.specs.Order.{Went}
+use Rattle.ftp_pair_wires.specs.Order.{Counted, Went}
 use Rattle.ftp_pair_turns.specs.Taking.{Answered, Ends, by_client}
-use Rattle.ftp_pair_turns.proofs.Gathering.{clients_then, its_own, no_others, servers_then, went_then}
+use Rattle.ftp_pair_turns.proofs.Gathering.{clients_then, counted_then, its_own, no_others, servers_then, went_then}
 use Rattle.ftp_pair_asked.specs.Sessions.{AreAsked, deeds_of, turns_of}
 
 -- either end did no more than both
@@ -62,6 +62,18 @@ pub session_went : (asked : List (Op (List ℕ) × Said)) (start now : Ends) (ar
 session_went [] start now are = ap (λ (e : Ends). e.between) are
 session_went (asked ∷ before) start now are =
     with_went asked.0 asked.1 (turns_of before start are.0 are.1) are.0 now are.2 start.between (session_went before start are.0 are.1)
+
+-- and each port that was told in it was the next one
+pub session_counted : (asked : List (Op (List ℕ) × Said)) (start now : Ends) (are : AreAsked asked start now)
+    → Counted (turns_of asked start now are) start.listens now.listens
+session_counted [] start now are = ap (λ (e : Ends). e.listens) are
+session_counted (asked ∷ before) start now are =
+    let a = are.2.settled in
+    let turns = turns_of before start are.0 are.1 in
+    let first : List Turn = Client (Other (Begun asked.0)) ∷ turns in
+    let begun : Counted first start.listens are.0.listens = (are.0.listens, session_counted before start are.0 are.1, refl) in
+    counted_then (by_client (deeds_of a.answers)) (a.took.turns ++ first) start.listens a.mid.listens now.listens a.answers.counted
+    (counted_then a.took.turns first start.listens are.0.listens a.mid.listens a.took.counted begun)
 
 module _ (op : Op (List ℕ)) (answer : Said) (mid now : Ends) (a : Answered op answer mid now) where
   -- a client that has answered is not busy

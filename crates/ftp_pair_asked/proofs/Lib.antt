@@ -6,4 +6,5 @@ pub mod Examples
 pub mod Gathering
 pub mod Happening
 pub mod Midst
+pub mod Ports
 pub mod Transferring

@@ -24,6 +24,7 @@ use Rattle.ftp_pair_transfers.proofs.Ending.{as_many}
 use Rattle.ftp_pair_world.specs.Agreement.{Order, Single}
 use Rattle.ftp_pair_world.specs.Claims.{AreAnswers, Beginning, IsFair, state_of}
 use Rattle.ftp_server_drive.specs.Side.{Timed, server_side}
+use Rattle.ftp_pair_wires.specs.Order.{Counted}
 use Rattle.ftp_pair_wires.specs.Plain.{quiet}
 use Rattle.ftp_pair_turns.specs.Taking.{Answered, Ends, by_client}
 use Rattle.ftp_pair_turns.proofs.Gathering.{clients_then}
@@ -32,8 +33,9 @@ use Rattle.ftp_pair_asked.specs.Sessions.{AreAsked, deeds_of, turns_of}
 use Rattle.ftp_pair_asked.specs.Transfers.{AnsweredByTransfer, AreAllToldAt, AreAskedByTransfer, Asks, Serves, TransferredBy, TransfersAskedAreTheDirectRun, TransfersByCounts}
 use Rattle.ftp_pair_asked.proofs.Breaking.{Resets, ServerIsUnbroken, had_unbroken, left_unbroken, resets_happen, session_resets}
 use Rattle.ftp_pair_asked.proofs.Counting.{far_calms, near_calms}
-use Rattle.ftp_pair_asked.proofs.Gathering.{far_fewer, near_fewer, answered_closed, answered_free, clients, clients_with, turns_with}
+use Rattle.ftp_pair_asked.proofs.Gathering.{far_fewer, near_fewer, answered_closed, answered_free, clients, clients_with, session_counted, turns_with}
 use Rattle.ftp_pair_asked.proofs.Midst.{midst_begins, midst_numbers, midst_reports}
+use Rattle.ftp_pair_asked.proofs.Ports.{ports_told}
 
 -- ---- a server is told of no break
 
@@ -212,7 +214,8 @@ module _ (KeepsServer : (old new : Held Timed) → Type 0) (KeepsClient : (old n
         client_led = g.asks.0;
         takes = g.serves.serves;
         gives = g.asks.1;
-        ports = t.ports;
+        ports = (ports_told ClientIsCalm turns (quiet start.client) (quiet now.client) g.asks.0 g.asks.1 now.listens
+            (subst (λ n. Counted turns n now.listens) t.listens (session_counted asked start now t.are))).1;
         told = g.serves.told;
       } in
       let told = ap length g.answers ∙ as_many moments asked ∙ ap length (sym g.orders) in

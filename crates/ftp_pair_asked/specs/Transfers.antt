@@ -7,7 +7,7 @@ use Rattle.ftp_client_model.specs.Failing.{Client as NearEnd}
 use Rattle.ftp_operation.specs.Answer.{Said}
 use Rattle.ftp_operation.specs.declared.op.Op.{Op}
 use Rattle.ftp_pair_deeds.specs.Bare.{IsBare}
-use Rattle.ftp_pair_deeds.specs.Deeds.{Along, AreMidst, ArePorts}
+use Rattle.ftp_pair_deeds.specs.Deeds.{Along, AreMidst}
 use Rattle.ftp_pair_drives.specs.Alone.{ClientIsCalm, ServerIsCalm}
 use Rattle.ftp_pair_drives.specs.Between.{Between, Client, Has, Has_lost, Turn, client_deeds, nothing_yet, server_deeds}
 use Rattle.ftp_pair_drives.specs.Claims.{Begins}
@@ -65,16 +65,16 @@ module _ (KeepsServer : (old new : Held Timed) → Type 0) (KeepsClient : (old n
   AreAskedByTransfer moments (asked ∷ before) start now are =
       AreAskedByTransfer moments before start are.0 are.1 × AnsweredByTransfer (moments (length before)) are.2
 
-  -- All that is asked of such a session: it began fairly, with nothing between both ends, and no octet of a data connection on its way or in hand; its
-  -- operations were answered so; and the ports that the server was told are those of a world, one after another
+  -- All that is asked of such a session: it began fairly, with nothing between both ends, no port told yet, and no octet of a data connection on its way or in
+  -- hand; and its operations were answered so
   pub record TransferredBy (b : Beginning) (moments : ℕ → ℕ) (asked : List (Op (List ℕ) × Said)) (start now : Ends) : Type 0 where
     pub begins : Begins b (quiet start.server) (quiet start.client)
     pub nothing : start.between ≡ nothing_yet
+    pub listens : start.listens ≡ 0
     pub server_bare : IsBare start.server.lane
     pub client_bare : IsBare start.client.lane
     pub are : AreAsked asked start now
     pub by : AreAskedByTransfer moments asked start now are
-    pub ports : ArePorts (server_deeds (turns_of asked start now are))
 
 -- neither was refused memory, and no device failed or strayed
 abbrev pub AreTransferred : (b : Beginning) (moments : ℕ → ℕ) (asked : List (Op (List ℕ) × Said)) (start now : Ends) → Type 0
@@ -84,7 +84,7 @@ AreTransferred b moments asked start now = TransferredBy ServerIsCalm ClientIsCa
 abbrev pub AreTransferredBeside : (b : Beginning) (moments : ℕ → ℕ) (asked : List (Op (List ℕ) × Said)) (start now : Ends) → Type 0
 AreTransferredBeside b moments asked start now = TransferredBy (λ old new. ⊤) (λ old new. ⊤) b moments asked start now
 
--- then the answers, and the map that the server holds, are those of the operations run directly; the order is none of the premises
+-- then the answers, and the map that the server holds, are those of the operations run directly; neither the order nor the ports are among the premises
 abbrev pub TransfersAskedAreTheDirectRun : Type 0
 TransfersAskedAreTheDirectRun =
     (b : Beginning) → IsFair b → (moments : ℕ → ℕ) → AreMoments moments → (asked : List (Op (List ℕ) × Said)) (start now : Ends)

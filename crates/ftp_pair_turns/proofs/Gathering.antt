@@ -1,7 +1,7 @@
 -- Turns of both, put together.
-use Rattle.std.proofs.Common.{◌≡◌, ℕ, suc, length, true, false, List, [], ◌∷◌, ◌++◌, Option, Some, is_some, true≢false, refl, sym, ap, subst, ◌∙◌, append_assoc, append-nil, None}
+use Rattle.std.proofs.Common.{◌≡◌, ℕ, suc, length, true, false, List, [], ◌∷◌, ◌++◌, Option, Some, is_some, true≢false, refl, sym, ap, subst, ◌∙◌, None}
 use Rattle.std.specs.Prelude.{Bool, not}
-use Rattle.ftp_control.specs.Deeds.{Deed, Ended, Heard, Led, Other, Read, Said as Says, Stand, read_by, read_in, said_by, said_in}
+use Rattle.ftp_control.specs.Deeds.{Deed, Led, Stand}
 use Rattle.ftp_control.specs.Lane.{Lane}
 use Rattle.ftp_control.specs.Machine.{Held, held}
 use Rattle.ftp_control.specs.Side.{Side}
@@ -13,7 +13,7 @@ use Rattle.ftp_operation.specs.declared.answer.Answer.{Answer}
 use Rattle.ftp_operation.specs.declared.op.Op.{Op}
 use Rattle.ftp_pair_drives.specs.Between.{Between, Client, Far, Near, Server, Turn, client_deeds, server_deeds}
 use Rattle.ftp_server_drive.specs.Side.{Timed, server_side}
-use Rattle.ftp_pair_wires.specs.Order.{Went, WentAlone}
+use Rattle.ftp_pair_wires.specs.Order.{Counted, CountedAlone, Went, WentAlone}
 use Rattle.ftp_pair_wires.specs.Plain.{quiet}
 use Rattle.ftp_pair_turns.specs.Taking.{Asks, Begins, Ends, NearTurns, Rounds, Settles, Took, by_client, ends}
 use Rattle.ftp_pair_turns.specs.declared.course.Course.{Course}
@@ -29,6 +29,11 @@ pub went_then : (later before : List Turn) (first mid now : Between) → Went la
 went_then [] before first mid now second went = subst (λ n. Went before first n) (sym second) went
 went_then (turn ∷ later) before first mid now second went = (second.0, went_then later before first mid second.0 second.1 went, second.2)
 
+pub counted_then : (later before : List Turn) (first mid now : ℕ) → Counted later mid now → Counted before first mid → Counted (later ++ before) first now
+counted_then [] before first mid now second counted = subst (λ n. Counted before first n) (sym second) counted
+counted_then (turn ∷ later) before first mid now second counted =
+    (second.0, counted_then later before first mid second.0 second.1 counted, second.2)
+
 pub servers_then : (later before : List Turn) → server_deeds (later ++ before) ≡ server_deeds later ++ server_deeds before
 servers_then [] before = refl
 servers_then (Server deed ∷ later) before = ap (λ l. deed ∷ l) (servers_then later before)
@@ -40,7 +45,7 @@ clients_then (Server deed ∷ later) before = clients_then later before
 clients_then (Client deed ∷ later) before = ap (λ l. deed ∷ l) (clients_then later before)
 
 pub took_none : (at : Ends) → Took at at
-took_none at = record { turns = []; server_led = refl; client_led = refl; went = refl }
+took_none at = record { turns = []; server_led = refl; client_led = refl; went = refl; counted = refl }
 
 pub took_then : (old mid new : Ends) → Took mid new → Took old mid → Took old new
 took_then old mid new second first = record {
@@ -50,6 +55,7 @@ took_then old mid new second first = record {
   client_led = subst (λ d. Led d (quiet {side = client_side} old.client) (quiet new.client)) (sym (clients_then second.turns first.turns))
       (led_then (client_deeds second.turns) (client_deeds first.turns) (quiet old.client) (quiet mid.client) (quiet new.client) second.client_led first.client_led);
   went = went_then second.turns first.turns old.between mid.between new.between second.went first.went;
+  counted = counted_then second.turns first.turns old.listens mid.listens new.listens second.counted first.counted;
 }
 
 -- ---- those of one end
@@ -88,24 +94,37 @@ pub far_went : (deeds : List (Deed server_side)) (first now : Between) → WentA
 far_went [] first now went = went
 far_went (deed ∷ before) first now went = (went.0, far_went before first went.0 went.1, went.2)
 
+-- so are the ports that were told in them
+pub near_counted : (deeds : List (Deed client_side)) (first now : ℕ) → CountedAlone deeds first now → Counted (by_client deeds) first now
+near_counted [] first now counted = counted
+near_counted (deed ∷ before) first now counted = (counted.0, near_counted before first counted.0 counted.1, counted.2)
+
+pub far_counted : (deeds : List (Deed server_side)) (first now : ℕ) → CountedAlone deeds first now → Counted (by_server deeds) first now
+far_counted [] first now counted = counted
+far_counted (deed ∷ before) first now counted = (counted.0, far_counted before first counted.0 counted.1, counted.2)
+
 -- what the client did alone
-pub near_took : (server : Held Timed) (old new : Held NearEnd) (first now : Between) (deeds : List (Deed client_side))
-    → Led deeds (quiet {side = client_side} old) (quiet new) → WentAlone Near deeds first now → Took (ends server old first) (ends server new now)
-near_took server old new first now deeds led went = record {
+pub near_took : (server : Held Timed) (old new : Held NearEnd) (first now : Between) (told told_now : ℕ) (deeds : List (Deed client_side))
+    → Led deeds (quiet {side = client_side} old) (quiet new) → WentAlone Near deeds first now → CountedAlone deeds told told_now
+    → Took (ends server old first told) (ends server new now told_now)
+near_took server old new first now told told_now deeds led went counted = record {
   turns = by_client deeds;
   server_led = subst (λ d. Led d (quiet {side = server_side} server) (quiet server)) (sym (no_others deeds)) refl;
   client_led = subst (λ d. Led d (quiet {side = client_side} old) (quiet new)) (sym (its_own deeds)) led;
   went = near_went deeds first now went;
+  counted = near_counted deeds told told_now counted;
 }
 
 -- and the server
-pub far_took : (client : Held NearEnd) (old new : Held Timed) (first now : Between) (deeds : List (Deed server_side))
-    → Led deeds (quiet {side = server_side} old) (quiet new) → WentAlone Far deeds first now → Took (ends old client first) (ends new client now)
-far_took client old new first now deeds led went = record {
+pub far_took : (client : Held NearEnd) (old new : Held Timed) (first now : Between) (told told_now : ℕ) (deeds : List (Deed server_side))
+    → Led deeds (quiet {side = server_side} old) (quiet new) → WentAlone Far deeds first now → CountedAlone deeds told told_now
+    → Took (ends old client first told) (ends new client now told_now)
+far_took client old new first now told told_now deeds led went counted = record {
   turns = by_server deeds;
   server_led = subst (λ d. Led d (quiet {side = server_side} old) (quiet new)) (sym (far_own deeds)) led;
   client_led = subst (λ d. Led d (quiet {side = client_side} client) (quiet client)) (sym (far_no_others deeds)) refl;
   went = far_went deeds first now went;
+  counted = far_counted deeds told told_now counted;
 }
 
 -- ---- turns of both
@@ -125,17 +144,19 @@ module _ {A : Type 0} where
   rounds_on Courses.Off old mid new second took = tt
 
   -- an operation was begun before
-  asks : (op : Op (List ℕ)) (given : Option (Answer A)) (server : Held Timed) (old begun : Held NearEnd) (first : Between) (new : Ends) → Begins op old begun
-      → Settles given (ends server begun first) new → Asks op given (ends server old first) new
-  asks op (Some answer) server old begun first new begins settled = record { begun = begun; begins = begins; settled = settled }
-  asks op None server old begun first new begins settled = tt
+  asks : (op : Op (List ℕ)) (given : Option (Answer A)) (server : Held Timed) (old begun : Held NearEnd) (first : Between) (told : ℕ) (new : Ends)
+      → Begins op old begun → Settles given (ends server begun first told) new → Asks op given (ends server old first told) new
+  asks op (Some answer) server old begun first told new begins settled = record { begun = begun; begins = begins; settled = settled }
+  asks op None server old begun first told new begins settled = tt
 
 module _ {A : Type 0} where
-  -- between both lies then what lay there before
-  pub asks_from : (op : Op (List ℕ)) (given : Option (Answer A)) (server : Held Timed) (old begun : Held NearEnd) (first there : Between) (new : Ends) → there ≡ first
-      → Begins op old begun → Settles given (ends server begun there) new → Asks op given (ends server old first) new
-  asks_from op given server old begun first there new same began settled =
-      asks op given server old begun first new began (subst (λ b. Settles given (ends server begun b) new) same settled)
+  -- between both lies then what lay there before, and as many ports were told
+  pub asks_from : (op : Op (List ℕ)) (given : Option (Answer A)) (server : Held Timed) (old begun : Held NearEnd) (first there : Between)
+      (told count : ℕ) (new : Ends) → there ≡ first → count ≡ told → Begins op old begun → Settles given (ends server begun there count) new
+      → Asks op given (ends server old first told) new
+  asks_from op given server old begun first there told count new same as_many began settled =
+      asks op given server old begun first told new began (subst (λ b. Settles given (ends server begun b told) new) same
+      (subst (λ n. Settles given (ends server begun there n) new) as_many settled))
 
 -- ---- an operation is begun
 

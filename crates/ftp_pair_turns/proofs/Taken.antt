@@ -1,44 +1,61 @@
 -- Some turns of one end, as both ends and what lies between them have it.
-use Rattle.std.proofs.Common.{◌≡◌, ℕ, List, [], ◌∷◌, ◌++◌, map, Some, refl, sym, ap, subst}
+use Rattle.std.proofs.Common.{◌≡◌, ℕ, ◌%◌, List, [], ◌++◌, map, Some, sym, ap, subst, add_comm}
 use Rattle.std.specs.Prelude.{⊤}
-use Rattle.ftp_control.specs.Deeds.{Deed, Led, Other, read_in, said_in}
-use Rattle.ftp_control.specs.Machine.{Held, held}
+use Rattle.ftp_control.specs.Deeds.{Deed, Led, read_in}
+use Rattle.ftp_control.specs.Machine.{held}
 use Rattle.ftp_control_drive.specs.Standing.{lane_at}
 use Rattle.ftp_client_drive.specs.Side.{client_machine, client_side}
 use Rattle.ftp_client_model.specs.Failing.{Client as NearEnd}
 use Rattle.ftp_operation.specs.Answer.{said_of}
 use Rattle.ftp_operation.specs.declared.answer.Answer.{Answer}
-use Rattle.ftp_pair_drives.specs.Between.{Between, Far, Near}
+use Rattle.ftp_pair_drives.specs.Between.{Far, Near}
 use Rattle.ftp_pair_wires.specs.Claims.{ways_at}
 use Rattle.ftp_pair_wires.specs.Docked.{asked_of}
 use Rattle.ftp_pair_wires.specs.Docking.{left_in, went_in}
-use Rattle.ftp_pair_wires.specs.Moored.{IsKnown, Meets, between_both, plain_in, told_lane}
-use Rattle.ftp_pair_wires.specs.Order.{Went, WentAlone}
+use Rattle.ftp_pair_wires.specs.Moored.{IsKnown, Meets, berth_of, between_both, listens_of, plain_in, told_lane}
+use Rattle.ftp_pair_wires.specs.Order.{CountedAlone, WentAlone}
 use Rattle.ftp_pair_wires.specs.Plain.{plain, plain_asked, quiet}
 use Rattle.ftp_pair_wires.specs.declared.mooring.Mooring.{Mooring}
 use Rattle.ftp_pair_wires.proofs.Turning.{Turned, turned}
-use Rattle.ftp_server_drive.specs.Side.{Timed, server_machine, server_side}
+use Rattle.ftp_server_drive.specs.Side.{Timed, server_machine}
 use Rattle.ftp_pair_turns.specs.Speaking.{Speaks}
-use Rattle.ftp_pair_turns.specs.Taking.{Answers, Ends, FarTurns, NearTurns, Took, by_client, ends, last_deeds}
+use Rattle.ftp_pair_turns.specs.Taking.{Ends, FarTurns, NearTurns, Took, ends, last_deeds}
 use Rattle.ftp_pair_turns.specs.Turning.{FarTurned, NearTurned}
 use Rattle.ftp_pair_turns.specs.declared.course.Course.{Course}
 use Rattle.ftp_pair_turns.specs.declared.course.Course.TheVariants as Courses
-use Rattle.ftp_pair_turns.proofs.Gathering.{far_took, near_took, near_went}
+use Rattle.ftp_pair_turns.proofs.Gathering.{far_took, near_counted, near_took, near_went}
+
+-- how many ports both told, whoever is named first
+abbrev told_at : (own peer : Mooring) → ℕ
+told_at own peer = listens_of (berth_of own) (berth_of peer)
+
+either_way : (own peer : Mooring) → told_at own peer ≡ told_at peer own
+either_way own peer = ap (λ n. n % 16384) (add_comm own.quay.dock.listens peer.quay.dock.listens)
+
+-- both ends, where the client has its turn, and where the server has
+abbrev near_ends : Timed → NearEnd → (own peer : Mooring) → (mine peers : List ℕ) → Ends
+near_ends server e own peer mine peers =
+    ends (held server (plain_in peer.stream)) (held e (plain_in own.stream)) (between_both Near own peer (ways_at Near mine peers)) (told_at own peer)
+
+abbrev far_ends : NearEnd → Timed → (own peer : Mooring) → (mine peers : List ℕ) → Ends
+far_ends client e own peer mine peers =
+    ends (held e (plain_in own.stream)) (held client (plain_in peer.stream)) (between_both Near peer own (ways_at Far mine peers)) (told_at peer own)
 
 module _ (own peer own_1 peer_1 own_2 own_3 : Mooring) (meets : Meets own peer own_1 peer_1) (is_known : IsKnown own_2 own_3) where
   -- ---- the client's
 
   module _ (server : Timed) (e0 e1 : NearEnd) (came left before after : List ℕ) where
     start : Ends
-    start = ends (held server (plain_in peer.stream)) (held e0 (plain_in own.stream)) (between_both Near own peer (ways_at Near came before))
+    start = near_ends server e0 own peer came before
 
     now : Ends
-    now = ends (held server (plain_in peer_1.stream)) (held e1 (plain_in own_3.stream)) (between_both Near own_3 peer_1 (ways_at Near left after))
+    now = near_ends server e1 own_3 peer_1 left after
 
     -- what it did, and in which order that can happen
     near_did : (deeds : List (Deed client_side))
         → Speaks deeds (held e0 (told_lane own_1)) (held e1 (told_lane own_2)) came left before after
         → Led (map plain deeds) (quiet {side = client_side} start.client) (quiet now.client) × WentAlone Near (map plain deeds) start.between now.between
+        × CountedAlone (map plain deeds) start.listens now.listens
     unfolding start now
     near_did deeds speaks =
         let did : Turned Near {end = client_machine} deeds e0 e1 own peer own_3 peer_1 before left =
@@ -47,12 +64,12 @@ module _ (own peer own_1 peer_1 own_2 own_3 : Mooring) (meets : Meets own peer o
           subst (λ l. WentAlone Near (map plain deeds) (between_both Near own peer (ways_at Near l before)) (between_both Near own_3 peer_1 (ways_at Near left after))) (sym speaks.read)
               (subst (λ l. WentAlone Near (map plain deeds) (between_both Near own peer (ways_at Near (read_in deeds ++ left) before)) (between_both Near own_3 peer_1 (ways_at Near left l)))
               (sym speaks.wrote) did.went),
+          did.counted,
         )
 
     near_taken : {A : Type 0} (course : Course (Answer A))
         → NearTurned course (held e0 (told_lane own_1)) (held e1 (told_lane own_2)) came left before after
-        → NearTurns course (ends (held server (plain_in peer.stream)) (held e0 (plain_in own.stream)) (between_both Near own peer (ways_at Near came before)))
-        (ends (held server (plain_in peer_1.stream)) (held e1 (plain_in own_3.stream)) (between_both Near own_3 peer_1 (ways_at Near left after)))
+        → NearTurns course (near_ends server e0 own peer came before) (near_ends server e1 own_3 peer_1 left after)
     unfolding start now
     near_taken (Courses.Over answer) answers =
         let deeds = last_deeds answers.asked (said_of answer) answers.midst in
@@ -62,12 +79,14 @@ module _ (own peer own_1 peer_1 own_2 own_3 : Mooring) (meets : Meets own peer o
           midst = map plain answers.midst;
           led = did.0;
           went = near_went (map plain deeds) start.between now.between did.1;
+          counted = near_counted (map plain deeds) start.listens now.listens did.2;
           server = ap (held server) meets.peer_lane;
         }
     near_taken Courses.On goes_on =
         let did = near_did goes_on.deeds goes_on.speaks in
-        subst (λ l. Took start (ends (held server l) now.client now.between)) (sym meets.peer_lane)
-        (near_took (held server (plain_in peer.stream)) start.client now.client start.between now.between (map plain goes_on.deeds) did.0 did.1)
+        subst (λ l. Took start (ends (held server l) now.client now.between now.listens)) (sym meets.peer_lane)
+        (near_took (held server (plain_in peer.stream)) start.client now.client start.between now.between start.listens now.listens (map plain goes_on.deeds)
+        did.0 did.1 did.2)
     near_taken Courses.Off off = tt
 
   -- ---- the server's
@@ -75,8 +94,7 @@ module _ (own peer own_1 peer_1 own_2 own_3 : Mooring) (meets : Meets own peer o
   module _ (client : NearEnd) (e0 e1 : Timed) (came left before after : List ℕ) where
     far_taken : (course : Course ⊤)
         → FarTurned course (held e0 (told_lane own_1)) (held e1 (told_lane own_2)) came left before after
-        → FarTurns course (ends (held e0 (plain_in own.stream)) (held client (plain_in peer.stream)) (between_both Near peer own (ways_at Far came before)))
-        (ends (held e1 (plain_in own_3.stream)) (held client (plain_in peer_1.stream)) (between_both Near peer_1 own_3 (ways_at Far left after)))
+        → FarTurns course (far_ends client e0 own peer came before) (far_ends client e1 own_3 peer_1 left after)
     far_taken (Courses.Over over) leaves = tt
     far_taken Courses.On goes_on =
         let deeds = goes_on.deeds in
@@ -89,8 +107,13 @@ module _ (own peer own_1 peer_1 own_2 own_3 : Mooring) (meets : Meets own peer o
         subst (λ l. WentAlone Far (map plain deeds) (between_both Far own peer (ways_at Far l before)) last) (sym speaks.read)
         (subst (λ l. WentAlone Far (map plain deeds) (between_both Far own peer (ways_at Far (read_in deeds ++ left) before)) (between_both Far own_3 peer_1 (ways_at Far left l)))
         (sym speaks.wrote) did.went) in
-        subst (λ l. Took (ends (held e0 (plain_in own.stream)) (held client (plain_in peer.stream)) first) (ends (held e1 (plain_in own_3.stream)) (held client l) last)) (sym meets.peer_lane)
-        (far_took (held client (plain_in peer.stream)) (held e0 (plain_in own.stream)) (held e1 (plain_in own_3.stream)) first last (map plain deeds) did.led went)
+        let counted : CountedAlone (map plain deeds) (told_at peer own) (told_at peer_1 own_3) =
+        subst (λ n. CountedAlone (map plain deeds) n (told_at peer_1 own_3)) (either_way own peer)
+        (subst (CountedAlone (map plain deeds) (told_at own peer)) (either_way own_3 peer_1) did.counted) in
+        let old = held e0 (plain_in own.stream) in
+        let new = held e1 (plain_in own_3.stream) in
+        subst (λ l. Took (far_ends client e0 own peer came before) (ends new (held client l) last (told_at peer_1 own_3))) (sym meets.peer_lane)
+        (far_took (held client (plain_in peer.stream)) old new first last (told_at peer own) (told_at peer_1 own_3) (map plain deeds) did.led went counted)
     far_taken Courses.Off off = tt
 
 -- the same where it was told before that octets of the control connection came
@@ -98,8 +121,7 @@ module _ (own peer own_1 peer_1 own_t own_2 own_3 : Mooring) (meets : Meets own 
     (stream : own_t.stream ≡ own_1.stream) (dock : own_t.quay.dock ≡ own_1.quay.dock) (came left before after : List ℕ) where
   pub near_told : {A : Type 0} (server : Timed) (e0 e1 : NearEnd) (course : Course (Answer A))
       → NearTurned course (held e0 (told_lane own_t)) (held e1 (told_lane own_2)) came left before after
-      → NearTurns course (ends (held server (plain_in peer.stream)) (held e0 (plain_in own.stream)) (between_both Near own peer (ways_at Near came before)))
-      (ends (held server (plain_in peer_1.stream)) (held e1 (plain_in own_3.stream)) (between_both Near own_3 peer_1 (ways_at Near left after)))
+      → NearTurns course (near_ends server e0 own peer came before) (near_ends server e1 own_3 peer_1 left after)
   near_told server e0 e1 course given =
       let end = held e1 (told_lane own_2) in
       near_taken own peer own_1 peer_1 own_2 own_3 meets is_known server e0 e1 came left before after course
@@ -108,8 +130,7 @@ module _ (own peer own_1 peer_1 own_t own_2 own_3 : Mooring) (meets : Meets own 
 
   pub far_told : (client : NearEnd) (e0 e1 : Timed) (course : Course ⊤)
       → FarTurned course (held e0 (told_lane own_t)) (held e1 (told_lane own_2)) came left before after
-      → FarTurns course (ends (held e0 (plain_in own.stream)) (held client (plain_in peer.stream)) (between_both Near peer own (ways_at Far came before)))
-      (ends (held e1 (plain_in own_3.stream)) (held client (plain_in peer_1.stream)) (between_both Near peer_1 own_3 (ways_at Far left after)))
+      → FarTurns course (far_ends client e0 own peer came before) (far_ends client e1 own_3 peer_1 left after)
   far_told client e0 e1 course given =
       let end = held e1 (told_lane own_2) in
       far_taken own peer own_1 peer_1 own_2 own_3 meets is_known client e0 e1 came left before after course

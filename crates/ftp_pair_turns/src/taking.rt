@@ -1,7 +1,7 @@
 // Both ends take turns.
 ghost use Rattle.std.specs.Prelude.{◌≡◌, IsTrue};
-ghost use Rattle.ftp_pair_turns.specs.Seating.{between_of, held_at};
-ghost use Rattle.ftp_pair_turns.specs.Taking.{Asks, Begins, FarTurns, NearTurns, Rounds, Settles, ends};
+ghost use Rattle.ftp_pair_turns.specs.Seating.{ends_of, held_at};
+ghost use Rattle.ftp_pair_turns.specs.Taking.{Asks, Begins, FarTurns, NearTurns, Rounds, Settles};
 ghost use Rattle.ftp_server_drive.specs.Side.{timed};
 
 use crate::course::Course;
@@ -34,7 +34,7 @@ where
     F: Far<A, T>,
     C: Watch,
     O: Watches<F>,
-    ensures { NearTurns result (ends (held_at (timed F.server C.told) server.old) (held_at N.client client.old) (between_of client.old server.old line.old)) (ends (held_at (timed F.server C.told) server.new) (held_at N.client client.new) (between_of client.new server.new line.new)) }
+    ensures { NearTurns result (ends_of (timed F.server C.told) N.client client.old server.old line.old) (ends_of (timed F.server C.told) N.client client.new server.new line.new) }
 {
     if !meet(&mut client.mooring, &mut server.mooring) {
         return Course::Off;
@@ -69,7 +69,7 @@ where
     F: Far<A, T>,
     C: Watch,
     O: Watches<F>,
-    ensures { FarTurns result (ends (held_at (timed F.server C.told) server.old) (held_at N.client client.old) (between_of client.old server.old line.old)) (ends (held_at (timed F.server C.told) server.new) (held_at N.client client.new) (between_of client.new server.new line.new)) }
+    ensures { FarTurns result (ends_of (timed F.server C.told) N.client client.old server.old line.old) (ends_of (timed F.server C.told) N.client client.new server.new line.new) }
 {
     if !meet(&mut server.mooring, &mut client.mooring) {
         return Course::Off;
@@ -104,7 +104,7 @@ where
     F: Far<A, T>,
     C: Watch,
     O: Watches<F>,
-    ensures { Rounds result (ends (held_at (timed F.server C.told) server.old) (held_at N.client client.old) (between_of client.old server.old line.old)) (ends (held_at (timed F.server C.told) server.new) (held_at N.client client.new) (between_of client.new server.new line.new)) }
+    ensures { Rounds result (ends_of (timed F.server C.told) N.client client.old server.old line.old) (ends_of (timed F.server C.told) N.client client.new server.new line.new) }
 {
     match server_turn::<A, T, N, F, C, O>(client, server, line, most) {
         Course::On => client_turn::<A, T, N, F, C, O>(client, server, line, most),
@@ -126,7 +126,7 @@ where
     F: Far<A, T>,
     C: Watch,
     O: Watches<F>,
-    ensures { Settles result (ends (held_at (timed F.server C.told) server.old) (held_at N.client client.old) (between_of client.old server.old line.old)) (ends (held_at (timed F.server C.told) server.new) (held_at N.client client.new) (between_of client.new server.new line.new)) }
+    ensures { Settles result (ends_of (timed F.server C.told) N.client client.old server.old line.old) (ends_of (timed F.server C.told) N.client client.new server.new line.new) }
 {
     let mut silent: u64 = 0;
     for _ in 0..TURNS {
@@ -178,7 +178,7 @@ where
     F: Far<A, T>,
     C: Watch,
     O: Watches<F>,
-    ensures { Asks op result (ends (held_at (timed F.server C.told) server.old) (held_at N.client client.old) (between_of client.old server.old line.old)) (ends (held_at (timed F.server C.told) server.new) (held_at N.client client.new) (between_of client.new server.new line.new)) }
+    ensures { Asks op result (ends_of (timed F.server C.told) N.client client.old server.old line.old) (ends_of (timed F.server C.told) N.client client.new server.new line.new) }
 {
     if !begin::<A, N>(client, op) {
         return None;
