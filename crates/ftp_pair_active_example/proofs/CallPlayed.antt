@@ -31,17 +31,17 @@ use Rattle.ftp_tree.proofs.LawLemmas.{under-stands}
 use Rattle.ftp_pair_drives.specs.Between.{Awaits, Between, Has, Has_ended, Has_not, Is_called}
 use Rattle.ftp_pair_drives.specs.Example.{example}
 use Rattle.ftp_pair_active.specs.Over.{AreOver}
-use Rattle.ftp_pair_example.specs.Example.{example_name, example_octets}
+use Rattle.ftp_pair_example.specs.Example.{HasFile, example_name, example_octets}
 use Rattle.ftp_pair_example.proofs.Moves.{endpoint, ends, far_closes, far_leaves, gets, near_leaves, one_over, takes_one, writes}
 use Rattle.ftp_pair_example.proofs.Playing.{can_take, far_in, lies, near_in, none_yet, one_stands, takes_only}
 use Rattle.ftp_pair_active_example.specs.Example.{CallIsOver, call_asked, call_how}
 use Rattle.ftp_pair_active_example.proofs.Calling.{Listens, client_first, far_first, far_logged, far_sent, fetching, near_asking, near_first, obeys, quiet, starts_so, still}
-use Rattle.ftp_pair_active_example.proofs.Ending.{both_over}
+use Rattle.ftp_pair_active_example.proofs.Ending.{IsCalled, both_over}
 use Rattle.ftp_pair_active_example.proofs.Moves.{far_dials, gives_more, near_accepts, one_more}
 use Rattle.ftp_pair_active_example.proofs.Playing.{Played, far_says, far_turn, near_is_told, near_turn}
 
 -- the operation
-abbrev fetch : Op (List ℕ)
+abbrev pub fetch : Op (List ℕ)
 fetch = Ops.Get example_name call_how
 
 -- it wants a port, names it and asks for the file
@@ -164,7 +164,31 @@ module _ (table : Table) (moments : ℕ → ℕ) where
         near_turn moments Starts begun fetch (Other End) (tt, tt) (λ before. (refl, λ ports. ports)) 1 none none server
         (near_in (one_stands [] []) near_taken []) (near_in one_over near_over []) (tt, refl) (ends near_taken refl) (refl, refl, refl) taken
 
-    -- so both are over
+    -- so it was answered
+    is_called : IsCalled (example table) moments fetch (Octets example_octets)
+    unfolding near.starts near.data_opened near.data_end answered line_heard path_on_literals
+    is_called = record {
+      first = far_first table;
+      client_first = client_first;
+      begun = near_first fetch;
+      served = far_done;
+      heard = near_over;
+      lane = one_over;
+      asked = EndedBy None None;
+      hold = Has_ended;
+      there = lies [] [] [] [] Has Has_ended;
+      begins = starts_so table moments fetch fetch_listens;
+      does = (((refl, (((λ calm. refl), (λ moved. absurd (moved refl))), inl refl)), refl, tt), refl);
+      is = tt;
+      some = refl;
+      free = refl;
+      leaves = near_leaves (near.reports near_over) refl;
+      may = (tt, refl);
+      can = (refl, refl);
+      played = takes;
+    }
+
+    -- and both are over
     is_over : (server : Stand server_side) × AreOver (example table) moments call_asked server
     unfolding near.starts near.data_opened near.data_end far.control_end answered line_heard path_on_literals
     is_over = both_over (example table) (far_first table) fetch (Octets example_octets) client_first (near_first fetch) far_done near_over moments one_over
@@ -174,5 +198,8 @@ module _ (table : Table) (moments : ℕ → ℕ) where
         refl (record { wants = refl; running = refl; none_waits = refl }) refl
 
 -- the file stands where the login sees it
+pub call_is_answered : (table : Table) (stamp : ℕ) (moments : ℕ → ℕ) → HasFile table stamp → IsCalled (example table) moments fetch (Octets example_octets)
+call_is_answered table stamp moments has = is_called table moments has.root stamp (under-stands table [] (example_name ∷ []) ∙ has.file)
+
 pub call_is_over : CallIsOver
 call_is_over table stamp moments has = is_over table moments has.root stamp (under-stands table [] (example_name ∷ []) ∙ has.file)

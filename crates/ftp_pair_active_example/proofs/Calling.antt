@@ -159,6 +159,9 @@ module _ (table : Table) (moments : ℕ → ℕ) (op : Op (List ℕ)) (is : List
     midst = [];
     are = tt;
     client_is = refl;
+    later = [];
+    turns_are = refl;
+    later_midst = refl;
     near_led = refl;
     takes = tt;
     listened_is = refl;
@@ -218,6 +221,9 @@ module _ (table : Table) (moments : ℕ → ℕ) (op : Op (List ℕ)) (is : List
         midst = Other (Listening 49152) ∷ p.midst;
         are = (p.are, tt);
         client_is = ap (λ l. Other (Listening 49152) ∷ l) p.client_is;
+        later = Client (Other (Listening 49152)) ∷ p.later;
+        turns_are = ap (λ t. Client (Other (Listening 49152)) ∷ t) p.turns_are;
+        later_midst = ap (λ l. Other (Listening 49152) ∷ l) p.later_midst;
         near_led = (near_in none_yet (near_logged op) [], p.near_led, done);
         takes = (p.takes, (tt, refl));
         listened_is = ap next_listen p.listened_is;

@@ -26,10 +26,17 @@ use Rattle.ftp_pair_drives.proofs.Playing.{Attends}
 use Rattle.ftp_pair_transfers.specs.Deeds.{IsCarried}
 use Rattle.ftp_pair_active.specs.Deeds.{ClientTransfers}
 use Rattle.ftp_pair_active.specs.Over.{AnswersByEither, AreAnswered, AreOver}
-use Rattle.ftp_pair_example.proofs.Ending.{lies_over}
+use Rattle.ftp_pair_example.proofs.Ending.{IsAnsweredBy, lies_over}
 use Rattle.ftp_pair_example.proofs.Moves.{near_closes, says_answer}
 use Rattle.ftp_pair_example.proofs.Playing.{far_in, near_in, none_yet}
 use Rattle.ftp_pair_active_example.proofs.Playing.{Played}
+
+-- ---- an operation was answered
+
+-- both did its deeds, over a data connection that either dialled
+abbrev pub IsCalled : (b : Beginning) (moments : ℕ → ℕ) (op : Op (List ℕ)) (said : Said) → Type 0
+IsCalled b moments op said =
+    IsAnsweredBy IsCarried ClientTransfers (λ start begun there server client. Played moments start begun op 1 there server client) b op said
 
 -- ---- both are over
 

@@ -34,6 +34,9 @@ pub record Played (moments : ℕ → ℕ) (start : Stand server_side) (begun : S
   pub midst : List (Deed client_side)
   pub are : AreMidst midst
   pub client_is : client_deeds turns ≡ midst ++ Other (Begun op) ∷ []
+  pub later : List Turn
+  pub turns_are : turns ≡ later ++ Client (Other (Begun op)) ∷ []
+  pub later_midst : client_deeds later ≡ midst
   pub near_led : Led midst begun client
   pub takes : AsksAlong midst begun client near_led
   pub listened_is : listened_in turns ≡ listened
@@ -62,6 +65,9 @@ module _ (moments : ℕ → ℕ) (start : Stand server_side) (begun : Stand clie
     midst = p.midst;
     are = p.are;
     client_is = p.client_is;
+    later = Server deed ∷ p.later;
+    turns_are = ap (λ t. Server deed ∷ t) p.turns_are;
+    later_midst = p.later_midst;
     near_led = p.near_led;
     takes = p.takes;
     listened_is = (quiet.0 p.turns).0 ∙ p.listened_is;
@@ -83,6 +89,9 @@ module _ (moments : ℕ → ℕ) (start : Stand server_side) (begun : Stand clie
     midst = deed ∷ p.midst;
     are = (p.are, amid.0);
     client_is = ap (λ l. deed ∷ l) p.client_is;
+    later = Client deed ∷ p.later;
+    turns_are = ap (λ t. Client deed ∷ t) p.turns_are;
+    later_midst = ap (λ l. deed ∷ l) p.later_midst;
     near_led = (at, p.near_led, done);
     takes = (p.takes, takes);
     listened_is = (quiet p.turns).0 ∙ p.listened_is;
@@ -103,6 +112,9 @@ module _ (moments : ℕ → ℕ) (start : Stand server_side) (begun : Stand clie
     midst = Other Break ∷ p.midst;
     are = (p.are, tt);
     client_is = ap (λ l. Other Break ∷ l) p.client_is;
+    later = Client (Other Break) ∷ p.later;
+    turns_are = ap (λ t. Client (Other Break) ∷ t) p.turns_are;
+    later_midst = ap (λ l. Other Break ∷ l) p.later_midst;
     near_led = (at, p.near_led, done);
     takes = (p.takes, takes);
     listened_is = p.listened_is;

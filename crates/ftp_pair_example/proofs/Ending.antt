@@ -6,13 +6,14 @@ use Rattle.ftp_control.specs.Lane.{Lane}
 use Rattle.ftp_command.specs.Line.{line_of}
 use Rattle.ftp_command.specs.declared.command.Command.TheVariants as command
 use Rattle.ftp_control.specs.Deeds.{Deed, Done, Ended, EndsHere, Heard, Led, Other, Read, Said as Says, Stand}
-use Rattle.ftp_control.specs.Machine.{Closed, Left, move_of, seen, waits}
+use Rattle.ftp_control.specs.Machine.{Closed, Held, Left, move_of, seen, waits}
 use Rattle.ftp_control.proofs.Courses.{carries}
 use Rattle.ftp_control.proofs.Idling.{carrier}
 use Rattle.ftp_control.proofs.Totals.{sums}
 use Rattle.ftp_client_drive.specs.Driving.{Drove as ClientDrove}
 use Rattle.ftp_client_drive.specs.Side.{Begun, Report, client_machine, client_side, is_under_way}
 use Rattle.ftp_client_model.specs.Calls as near
+use Rattle.ftp_client_model.specs.Failing.{Client as NearEnd}
 use Rattle.ftp_client_model.specs.View.{View as Near}
 use Rattle.ftp_client_model.specs.declared.client.Standing.TheVariants as Standings
 use Rattle.ftp_ends.specs.declared.link.Wants.TheVariants as Want
@@ -118,8 +119,10 @@ quit_drove start deeds w unwritten untold led over =
 
 -- ---- an operation was answered
 
--- both did its deeds, and the client is still to report, to leave its data connection and to be told so
-pub record IsAnswered (b : Beginning) (moments : ℕ → ℕ) (op : Op (List ℕ)) (said : Said) : Type 0 where
+-- both did such deeds of it, and the client is still to report, to leave its data connection and to be told so
+pub record IsAnsweredBy (Carries : Op (List ℕ) → Type 0) (Does : Deed client_side → (old new : Held NearEnd) → Type 0)
+    (Plays : (start : Stand server_side) (begun : Stand client_side) (there : Between) (server : Stand server_side) (client : Stand client_side) → Type 0)
+    (b : Beginning) (op : Op (List ℕ)) (said : Said) : Type 0 where
   pub first : Far
   pub client_first : Near
   pub begun : Near
@@ -131,13 +134,18 @@ pub record IsAnswered (b : Beginning) (moments : ℕ → ℕ) (op : Op (List ℕ
   pub there : Between
   pub begins : Begins b (far_in none_yet first []) (near_in none_yet client_first [])
   pub does : Done (Other (Begun op)) (near_in none_yet client_first []) (near_in none_yet begun [])
-  pub is : IsTransferred op
+  pub is : Carries op
   pub some : near.report_of heard ≡ Some said
   pub free : is_under_way (near.reports heard).job ≡ false
   pub leaves : Done (Other (Left asked)) (near_in lane (near.reports heard) []) (near_in none_yet (near.reports heard) [])
-  pub may : ClientTransfers (Other (Left asked)) (near_in lane (near.reports heard) []).owner (near_in none_yet (near.reports heard) []).owner
+  pub may : Does (Other (Left asked)) (near_in lane (near.reports heard) []).owner (near_in none_yet (near.reports heard) []).owner
   pub can : CanTurn (Client (Other (Left asked))) there (lies_over hold [] [])
-  pub played : Played moments (far_in none_yet first []) (near_in none_yet begun []) op 1 there (far_in none_yet served []) (near_in lane heard [])
+  pub played : Plays (far_in none_yet first []) (near_in none_yet begun []) there (far_in none_yet served []) (near_in lane heard [])
+
+-- the client dialled for it
+abbrev pub IsAnswered : (b : Beginning) (moments : ℕ → ℕ) (op : Op (List ℕ)) (said : Said) → Type 0
+IsAnswered b moments op said =
+    IsAnsweredBy IsTransferred ClientTransfers (λ start begun there server client. Played moments start begun op 1 there server client) b op said
 
 -- ---- both are over
 

@@ -2,7 +2,7 @@
 use Rattle.std.proofs.Common.{◌≡◌, inl, ℕ, true, false, not, if◌then◌else◌, List, [], ◌∷◌, Option, None, Some, is_some, nat_le, le-leb, leb-true, refl, sym, ap, ap₂, ◌∙◌, arith}
 use Rattle.ftp_command.specs.Line.{line_of}
 use Rattle.ftp_command.specs.declared.command.Command.TheVariants as command
-use Rattle.ftp_client_drive.specs.Side.{Begun, client_side}
+use Rattle.ftp_client_drive.specs.Side.{client_side}
 use Rattle.ftp_client_model.specs.Calls as near
 use Rattle.ftp_client_model.specs.Dialogue.{answered}
 use Rattle.ftp_client_model.specs.View.{View as Near, Sending, Told, Transferring, client}
