@@ -14,9 +14,9 @@ use Rattle.ftp_pair_transfers.specs.Deeds.{AreResets}
 use Rattle.ftp_server_drive.specs.Side.{Timed}
 use Rattle.ftp_pair_wires.specs.Order.{CanGo, Went}
 use Rattle.ftp_pair_turns.specs.Taking.{Answered, Ends, by_client}
+use Rattle.ftp_pair_asked.specs.Kinds.{AnsweredSo, AreAnsweredSo, BreaksAreResets, Kind}
 use Rattle.ftp_pair_asked.specs.Laws.{IsUnbroken}
 use Rattle.ftp_pair_asked.specs.Sessions.{AreAsked, deeds_of, turns_of}
-use Rattle.ftp_pair_asked.specs.Transfers.{AnsweredByTransfer, AreAskedByTransfer, BreaksAreResets}
 use Rattle.ftp_pair_asked.proofs.Gathering.{turns_with}
 use Rattle.ftp_pair_asked.proofs.Happening.{can}
 
@@ -104,9 +104,9 @@ resets_happen (Client deed ∷ before) now went unbroken =
 
 -- ---- sessions
 
-module _ (KeepsServer : (old new : Held Timed) → Type 0) (KeepsClient : (old new : Held NearEnd) → Type 0) where
+module _ (kind : Kind) (KeepsServer : (old new : Held Timed) → Type 0) (KeepsClient : (old new : Held NearEnd) → Type 0) where
   module _ (moment : ℕ) (op : Op (List ℕ)) (answer : Said) (before : List Turn) (mid now : Ends) (a : Answered op answer mid now)
-      (by : AnsweredByTransfer KeepsServer KeepsClient moment a) where
+      (by : AnsweredSo kind KeepsServer KeepsClient moment a) where
     with_resets : (start : Between) → Resets before start mid.between → Resets (turns_with op answer before mid now a) start now.between
     with_resets start went =
         let took = a.settled.took in
@@ -118,7 +118,7 @@ module _ (KeepsServer : (old new : Held Timed) → Type 0) (KeepsClient : (old n
 
   -- so it is of a session
   pub session_resets : (moments : ℕ → ℕ) (asked : List (Op (List ℕ) × Said)) (start now : Ends) (are : AreAsked asked start now)
-      → AreAskedByTransfer KeepsServer KeepsClient moments asked start now are → Resets (turns_of asked start now are) start.between now.between
+      → AreAnsweredSo kind KeepsServer KeepsClient moments asked start now are → Resets (turns_of asked start now are) start.between now.between
   session_resets moments [] start now are by = (ap (λ (e : Ends). e.between) are, tt)
   session_resets moments (asked ∷ before) start now are by =
       with_resets (moments (length before)) asked.0 asked.1 (turns_of before start are.0 are.1) are.0 now are.2 by.1 start.between

@@ -1,5 +1,5 @@
 -- The example: a session of one operation, as both drives took turns in it.
-use Rattle.std.proofs.Common.{◌≡◌, inl, ℕ, List, [], ◌∷◌, ◌++◌, refl, sym, ap, subst, ◌∙◌, append-nil}
+use Rattle.std.proofs.Common.{inl, ℕ, List, [], ◌∷◌, ◌++◌, refl, sym, ap, subst, ◌∙◌, append-nil}
 use Rattle.ftp_control.specs.Asking.{Shut}
 use Rattle.ftp_control.specs.Deeds.{Deed, Heard, Other, Read, Said as Says, Stand}
 use Rattle.ftp_control.specs.Machine.{Aside, Closed, Left}

@@ -1,142 +1,220 @@
 -- The examples with transfers: sessions of one operation, as both drives took turns in them.
-use Rattle.std.proofs.Common.{◌≡◌, inl, ℕ, List, [], ◌∷◌, ◌++◌, refl, sym, ap, subst, ◌∙◌, append-nil}
-use Rattle.ftp_control.specs.Deeds.{Led, Other, Stand}
-use Rattle.ftp_client_drive.specs.Side.{Begun}
+use Rattle.std.proofs.Common.{◌≡◌, inl, ℕ, List, [], ◌∷◌, ◌++◌, refl, sym, ap, subst, ◌∙◌, append-nil, Some}
+use Rattle.ftp_control.specs.Deeds.{Deed, Led, Other, Stand}
+use Rattle.ftp_control.specs.Machine.{Closed, Held}
+use Rattle.ftp_client_drive.specs.Side.{Begun, Report, client_side}
 use Rattle.ftp_client_model.specs.Calls as near
+use Rattle.ftp_client_model.specs.Failing.{Client as NearEnd}
 use Rattle.ftp_operation.specs.Answer.{Said}
 use Rattle.ftp_operation.specs.declared.op.Op.{Op}
-use Rattle.ftp_pair_deeds.specs.Deeds.{AreMidst, ArePorts, listened_in}
+use Rattle.ftp_pair_deeds.specs.Deeds.{Along, AreMidst, ArePorts, listened_in}
 use Rattle.ftp_pair_deeds.proofs.Along.{Went as Goes}
 use Rattle.ftp_pair_drives.specs.Alone.{ClientIsCalm, ServerIsCalm}
-use Rattle.ftp_pair_drives.specs.Between.{Client, Server, Turn, client_deeds, nothing_yet, server_deeds}
+use Rattle.ftp_pair_drives.specs.Between.{Between, Client, Server, Turn, client_deeds, nothing_yet, server_deeds}
 use Rattle.ftp_pair_drives.specs.Touches.{left_by}
-use Rattle.ftp_pair_example.proofs.Ending.{IsAnswered, lies_over}
+use Rattle.ftp_pair_example.proofs.Ending.{IsAnswered, IsAnsweredBy, lies_over}
 use Rattle.ftp_pair_example.proofs.FetchPlayed.{fetch_is_answered}
 use Rattle.ftp_pair_example.proofs.Moves.{near_closes, says_answer}
 use Rattle.ftp_pair_example.proofs.PeekPlayed.{peek_is_answered}
-use Rattle.ftp_pair_example.proofs.Playing.{far_in, near_in, none_yet}
+use Rattle.ftp_pair_example.proofs.Playing.{Played, far_in, near_in, none_yet}
 use Rattle.ftp_pair_example.proofs.PutPlayed.{put_is_answered}
-use Rattle.ftp_pair_transfers.specs.Deeds.{AreToldAt, ClientTransfers, IsToldAt, ServesAlong, last_of, number_in}
+use Rattle.ftp_pair_transfers.specs.Deeds.{AreToldAt, ClientTransfers, IsToldAt, last_of, number_in}
 use Rattle.ftp_pair_world.specs.Claims.{Beginning}
-use Rattle.ftp_server_drive.specs.Side.{server_side}
-use Rattle.ftp_pair_wires.specs.Plain.{quiet}
+use Rattle.ftp_server_drive.specs.Side.{Timed, server_side}
+use Rattle.ftp_pair_wires.specs.Order.{Counted}
 use Rattle.ftp_pair_turns.specs.Taking.{Answered, Answers, Ends, Settled, Took, ends}
 use Rattle.ftp_pair_turns.proofs.Gathering.{clients_then, servers_then}
-use Rattle.ftp_pair_asked.specs.Transfers.{AnsweredByTransfer, AreAllToldAt, AreTransferred, FetchIsAsked, PeekIsAsked, PutIsAsked}
+use Rattle.ftp_pair_asked.specs.Kinds.{AnsweredSo, AreAllToldAt, Does, IsSession, Kind}
+use Rattle.ftp_pair_asked.specs.Transfers.{AreTransferred, FetchIsAsked, PeekIsAsked, PutIsAsked, transfers}
 use Rattle.ftp_pair_asked.proofs.Breaking.{HappenedByResets, Resets, resets_of}
 use Rattle.ftp_pair_asked.proofs.Midst.{midst_numbers}
 use Rattle.ftp_pair_asked.proofs.Ports.{left_no_port, none_counts, ports_counted}
 
--- the server's deeds after an operation was begun, each such, and told at this moment
-record Apart (moment : ℕ) (later : List Turn) (start now : Stand server_side) : Type 0 where
-  led : Led (server_deeds later) start now
-  serves : ServesAlong (server_deeds later) start now led
-  told : AreAllToldAt moment (server_deeds later) start now led
+-- ---- the deeds of both after an operation was begun
 
--- of deeds of which the first one began an operation
-abbrev AreApart : (moments : ℕ → ℕ) (later turns : List Turn) (start now : Stand server_side) → Type 0
-AreApart moments later turns start now =
-    (led : Led (server_deeds turns) start now) → ServesAlong (server_deeds turns) start now led → AreToldAt moments turns start now led
-    → Apart (moments 0) later start now
+-- the server's, each such, and told at this moment
+module _ (Is : Deed server_side → (old new : Held Timed) → Type 0) where
+  pub record Apart (moment : ℕ) (later : List Turn) (start now : Stand server_side) : Type 0 where
+    pub led : Led (server_deeds later) start now
+    pub serves : Along Is (server_deeds later) start now led
+    pub told : AreAllToldAt moment (server_deeds later) start now led
 
-apart : (moments : ℕ → ℕ) (op : Op (List ℕ)) (later : List Turn) (start now : Stand server_side) → AreMidst (client_deeds later)
-    → AreApart moments later (later ++ Client (Other (Begun op)) ∷ []) start now
-apart moments op [] start now midst led serves told = record { led = led; serves = tt; told = tt }
-apart moments op (Server deed ∷ later) start now midst led serves told =
-    let begun : List Turn = Client (Other (Begun op)) ∷ [] in
-    let rest = apart moments op later start led.0 midst led.1 serves.0 told.0 in
-    let same : last_of moments (number_in (client_deeds (later ++ begun))) ≡ moments 0 =
-    ap (λ d. last_of moments (number_in d)) (clients_then later begun)
-    ∙ ap (last_of moments) (midst_numbers (client_deeds later) (client_deeds begun) midst) in
-    record {
-      led = (led.0, rest.led, led.2);
-      serves = (rest.serves, serves.1);
-      told = (rest.told, subst (λ m. IsToldAt deed led.0 now led.2 m) same told.1);
-    }
-apart moments op (Client deed ∷ later) start now midst led serves told =
-    let rest = apart moments op later start now midst.0 led serves told in record { led = rest.led; serves = rest.serves; told = rest.told }
+  -- of deeds of which the first one began an operation
+  pub apart : (moments : ℕ → ℕ) (op : Op (List ℕ)) (later : List Turn) (start now : Stand server_side) → AreMidst (client_deeds later)
+      → (led : Led (server_deeds (later ++ Client (Other (Begun op)) ∷ [])) start now)
+      → Along Is (server_deeds (later ++ Client (Other (Begun op)) ∷ [])) start now led
+      → AreToldAt moments (later ++ Client (Other (Begun op)) ∷ []) start now led → Apart (moments 0) later start now
+  apart moments op [] start now midst led serves told = record { led = led; serves = tt; told = tt }
+  apart moments op (Server deed ∷ later) start now midst led serves told =
+      let begun : List Turn = Client (Other (Begun op)) ∷ [] in
+      let rest = apart moments op later start led.0 midst led.1 serves.0 told.0 in
+      let same : last_of moments (number_in (client_deeds (later ++ begun))) ≡ moments 0 =
+      ap (λ d. last_of moments (number_in d)) (clients_then later begun)
+      ∙ ap (last_of moments) (midst_numbers (client_deeds later) (client_deeds begun) midst) in
+      record {
+        led = (led.0, rest.led, led.2);
+        serves = (rest.serves, serves.1);
+        told = (rest.told, subst (λ m. IsToldAt deed led.0 now led.2 m) same told.1);
+      }
+  apart moments op (Client deed ∷ later) start now midst led serves told =
+      let rest = apart moments op later start now midst.0 led serves told in record { led = rest.led; serves = rest.serves; told = rest.told }
 
-module _ (b : Beginning) (moments : ℕ → ℕ) (op : Op (List ℕ)) (said : Said) (a : IsAnswered b moments op said) where
+-- all of them, of this kind, and in an order
+module _ (kind : Kind) where
+  pub record Plays (moment : ℕ) (start : Stand server_side) (begun : Stand client_side) (there : Between) (server : Stand server_side)
+      (client : Stand client_side) : Type 0 where
+    pub later : List Turn
+    pub serves : Apart (Does {side = server_side} kind.Serves ServerIsCalm) moment later start server
+    pub asks : Goes (Does {side = client_side} kind.Asks ClientIsCalm) (client_deeds later) begun client
+    pub midst : AreMidst (client_deeds later)
+    pub went : Resets later nothing_yet there
+    pub told : ℕ
+    pub counted : Counted later 0 told
+
+-- deeds of both that can happen, of which the first one began an operation, are such
+module _ (kind : Kind) (moments : ℕ → ℕ) (op : Op (List ℕ)) (start : Stand server_side) (begun : Stand client_side) (there : Between)
+    (server : Stand server_side) (client : Stand client_side) (later turns : List Turn) (are : turns ≡ later ++ Client (Other (Begun op)) ∷ [])
+    (midst : AreMidst (client_deeds later)) (told : ℕ) where
+  abbrev FarDoes : Deed server_side → (old new : Held Timed) → Type 0
+  FarDoes = Does {side = server_side} kind.Serves ServerIsCalm
+
+  abbrev NearDoes : Deed client_side → (old new : Held NearEnd) → Type 0
+  NearDoes = Does {side = client_side} kind.Asks ClientIsCalm
+
+  abbrev IsApart : List Turn → Type 0
+  IsApart all =
+      (led : Led (server_deeds all) start server) → Along FarDoes (server_deeds all) start server led → AreToldAt moments all start server led
+      → Apart FarDoes (moments 0) later start server
+
+  pub plays : (led : Led (server_deeds turns) start server) → Along FarDoes (server_deeds turns) start server led
+      → AreToldAt moments turns start server led → Goes NearDoes (client_deeds later) begun client → HappenedByResets turns there → Counted later 0 told
+      → Plays kind (moments 0) start begun there server client
+  plays led serves timely asks happens counted =
+      let happened : HappenedByResets (later ++ Client (Other (Begun op)) ∷ []) there = subst (λ t. HappenedByResets t there) are happens in
+      record {
+        later = later;
+        serves = subst IsApart (sym are) (apart FarDoes moments op later start server midst) led serves timely;
+        asks = asks;
+        midst = midst;
+        went = resets_of later op there happened.0 happened.1;
+        told = told;
+        counted = counted;
+      }
+
+-- ---- a session of one operation
+
+module _ (kind : Kind)
+    (Stands : (start : Stand server_side) (begun : Stand client_side) (there : Between) (server : Stand server_side) (client : Stand client_side) → Type 0)
+    (b : Beginning) (op : Op (List ℕ)) (said : Said) (a : IsAnsweredBy kind.Carries (Does {side = client_side} kind.Asks ClientIsCalm) Stands b op said)
+    (moments : ℕ → ℕ)
+    (p : Plays kind (moments 0) (far_in none_yet a.first []) (near_in none_yet a.begun []) a.there (far_in none_yet a.served [])
+    (near_in a.lane a.heard [])) where
+  -- the ends as it begins, as the operation was begun, as it was answered, and then
+  abbrev server : Held Timed
+  server = (far_in none_yet a.first []).owner
+
+  abbrev served : Held Timed
+  served = (far_in none_yet a.served []).owner
+
+  abbrev heard : Held NearEnd
+  heard = (near_in a.lane a.heard []).owner
+
+  abbrev starts : Ends
+  starts = ends server (near_in none_yet a.client_first []).owner nothing_yet 0
+
+  abbrev started : Ends
+  started = ends server (near_in none_yet a.begun []).owner nothing_yet 0
+
+  abbrev done : Ends
+  done = ends served heard a.there p.told
+
+  abbrev over : Ends
+  over = ends served (near_in none_yet (near.data_closed (near.reports a.heard)) []).owner (lies_over a.hold [] []) p.told
+
+  abbrev took : Took started done
+  took = record { turns = p.later; server_led = p.serves.led; client_led = p.asks.0; went = p.went.0; counted = p.counted }
+
+  abbrev last : Answers said done over
+  last = record {
+    asked = a.asked;
+    midst = [];
+    led = (
+      near_in none_yet (near.reports a.heard) [],
+      (near_in a.lane (near.reports a.heard) [], (near_in a.lane a.heard [], refl, says_answer a.lane a.heard said a.some), a.leaves),
+      near_closes (near.reports a.heard) a.free,
+    );
+    went = (lies_over a.hold [] [], (a.there, (a.there, refl, inl refl), inl a.can), inl refl);
+    counted = (p.told, (p.told, (p.told, refl, refl), none_counts (left_by a.asked) p.told (left_no_port a.asked)), refl);
+    server = refl;
+  }
+
+  abbrev settled : Settled said started over
+  settled = record { mid = done; took = took; answers = last }
+
+  abbrev answered : Answered op said starts over
+  answered = record { begun = started.client; begins = a.does; settled = settled }
+
   -- so turns of both are such a session
-  is_asked : (start : Ends) × (now : Ends) × AreTransferred b moments ((op, said) ∷ []) start now
-  is_asked =
-      let p = a.played in
-      let over = lies_over a.hold [] [] in
-      let server = (far_in none_yet a.first []).owner in
-      let served = (far_in none_yet a.served []).owner in
-      let client = (near_in none_yet a.client_first []).owner in
-      let begun = (near_in none_yet a.begun []).owner in
-      let heard = (near_in a.lane a.heard []).owner in
-      let done = (near_in none_yet (near.data_closed (near.reports a.heard)) []).owner in
-      let first : Turn = Client (Other (Begun op)) in
-      let midst : AreMidst (client_deeds p.later) = subst AreMidst (sym p.later_midst) p.are in
-      let serves : Apart (moments 0) p.later (quiet server) (quiet served) =
-      subst (λ t. AreApart moments p.later t (quiet server) (quiet served)) (sym p.turns_are)
-      (apart moments op p.later (quiet server) (quiet served) midst) p.far_led p.gives p.told in
-      let asks : Goes ClientTransfers (client_deeds p.later) (quiet begun) (quiet heard) =
-      subst (λ d. Goes ClientTransfers d (quiet begun) (quiet heard)) (sym p.later_midst) (p.near_led, p.takes) in
-      let happened : HappenedByResets (p.later ++ first ∷ []) a.there =
-      subst (λ t. HappenedByResets t a.there) p.turns_are (p.happened, p.resets) in
-      let went : Resets p.later nothing_yet a.there = resets_of p.later op a.there happened.0 happened.1 in
-      let servers : server_deeds p.turns ≡ server_deeds p.later =
-      ap server_deeds p.turns_are ∙ servers_then p.later (first ∷ []) ∙ append-nil (server_deeds p.later) in
-      let told = listened_in (server_deeds p.later) in
-      let took : Took (ends server begun nothing_yet 0) (ends served heard a.there told) = record {
-        turns = p.later;
-        server_led = serves.led;
-        client_led = asks.0;
-        went = went.0;
-        counted = ports_counted ClientIsCalm p.later (quiet begun) (quiet heard) asks.0 asks.1 (subst ArePorts servers p.ports);
-      } in
-      let last : Answers said (ends served heard a.there told) (ends served done over told) = record {
-        asked = a.asked;
-        midst = [];
-        led = (
-          near_in none_yet (near.reports a.heard) [],
-          (near_in a.lane (near.reports a.heard) [], (near_in a.lane a.heard [], refl, says_answer a.lane a.heard said a.some), a.leaves),
-          near_closes (near.reports a.heard) a.free,
-        );
-        went = (over, (a.there, (a.there, refl, inl refl), inl a.can), inl refl);
-        counted = (told, (told, (told, refl, refl), none_counts (left_by a.asked) told (left_no_port a.asked)), refl);
-        server = refl;
-      } in
-      let settled : Settled said (ends server begun nothing_yet 0) (ends served done over told) =
-      record { mid = ends served heard a.there told; took = took; answers = last } in
-      let answered : Answered op said (ends server client nothing_yet 0) (ends served done over told) =
-      record { begun = begun; begins = a.does; settled = settled } in
-      let by : AnsweredByTransfer ServerIsCalm ClientIsCalm (moments 0) answered = record {
+  pub is_asked : kind.Asks (Other (Report (Some said))) heard → kind.Asks (Other Closed) (near_in none_yet (near.reports a.heard) []).owner
+      → (start : Ends) × (now : Ends) × IsSession kind b moments ((op, said) ∷ []) start now
+  is_asked reports closes =
+      let so : AnsweredSo kind ServerIsCalm ClientIsCalm (moments 0) answered = record {
         carried = a.is;
         kept = refl;
-        serves = serves.serves;
-        told = serves.told;
-        asks = asks.1;
-        midst = midst;
-        last_asks = (((tt, (tt, refl)), a.may), (tt, refl));
+        serves = p.serves.serves;
+        told = p.serves.told;
+        asks = p.asks.1;
+        midst = p.midst;
+        last_asks = (((tt, (reports, refl)), a.may), (closes, refl));
         last_midst = tt;
-        resets = went.1;
+        resets = p.went.1;
         last_resets = tt;
       } in (
-        ends server client nothing_yet 0,
-        ends served done over told,
+        starts,
+        over,
         record {
           begins = a.begins;
           nothing = refl;
           listens = refl;
           server_bare = (refl, refl);
           client_bare = (refl, refl);
-          are = (ends server client nothing_yet 0, refl, answered);
-          by = (tt, by);
+          are = (starts, refl, answered);
+          by = (tt, so);
         },
       )
 
+-- ---- those over passive data connections
+
+-- turns of both, of which the client dialled
+dials : (b : Beginning) (moments : ℕ → ℕ) (op : Op (List ℕ)) (said : Said) (a : IsAnswered b moments op said)
+    → Plays transfers (moments 0) (far_in none_yet a.first []) (near_in none_yet a.begun []) a.there (far_in none_yet a.served []) (near_in a.lane a.heard [])
+dials b moments op said a =
+    let p = a.played in
+    let first = far_in none_yet a.first [] in
+    let begun = near_in none_yet a.begun [] in
+    let heard = near_in a.lane a.heard [] in
+    let asks : Goes ClientTransfers (client_deeds p.later) begun heard =
+    subst (λ d. Goes ClientTransfers d begun heard) (sym p.later_midst) (p.near_led, p.takes) in
+    let servers : server_deeds p.turns ≡ server_deeds p.later =
+    ap server_deeds p.turns_are ∙ servers_then p.later (Client (Other (Begun op)) ∷ []) ∙ append-nil (server_deeds p.later) in
+    plays transfers moments op first begun a.there (far_in none_yet a.served []) heard p.later p.turns p.turns_are
+    (subst AreMidst (sym p.later_midst) p.are) (listened_in (server_deeds p.later)) p.far_led p.gives p.told asks (p.happened, p.resets)
+    (ports_counted ClientIsCalm p.later begun heard asks.0 asks.1 (subst ArePorts servers p.ports))
+
+passive_is_asked : (b : Beginning) (moments : ℕ → ℕ) (op : Op (List ℕ)) (said : Said) → IsAnswered b moments op said
+    → (start : Ends) × (now : Ends) × AreTransferred b moments ((op, said) ∷ []) start now
+passive_is_asked b moments op said a =
+    is_asked transfers (λ start begun there server client. Played moments start begun op 1 there server client) b op said a moments
+    (dials b moments op said a) tt tt
+
 -- a file is fetched
 pub fetch_is_asked : FetchIsAsked
-fetch_is_asked table stamp moments has = is_asked _ moments _ _ (fetch_is_answered table stamp moments has)
+fetch_is_asked table stamp moments has = passive_is_asked _ moments _ _ (fetch_is_answered table stamp moments has)
 
 -- its first octet is
 pub peek_is_asked : PeekIsAsked
-peek_is_asked table stamp moments has = is_asked _ moments _ _ (peek_is_answered table stamp moments has)
+peek_is_asked table stamp moments has = passive_is_asked _ moments _ _ (peek_is_answered table stamp moments has)
 
 -- another is put in its place
 pub put_is_asked : PutIsAsked
-put_is_asked table stamp moments has room = is_asked _ moments _ _ (put_is_answered table stamp moments has room)
+put_is_asked table stamp moments has room = passive_is_asked _ moments _ _ (put_is_answered table stamp moments has room)

@@ -7,4 +7,5 @@ pub mod Gathering
 pub mod Happening
 pub mod Midst
 pub mod Ports
+pub mod Sessions
 pub mod Transferring

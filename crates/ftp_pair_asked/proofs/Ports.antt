@@ -13,7 +13,7 @@ use Rattle.ftp_pair_transfers.specs.Deeds.{IsAsking}
 use Rattle.ftp_pair_world.specs.World.{next_listen, port_at}
 use Rattle.ftp_server_drive.specs.Side.{server_side}
 use Rattle.ftp_pair_wires.specs.Order.{Counted, Counts}
-use Rattle.ftp_pair_asked.specs.Transfers.{Asks}
+use Rattle.ftp_pair_asked.specs.Kinds.{Does}
 
 -- ---- what tells no port
 
@@ -26,7 +26,7 @@ pub none_counts : (touch : Touch) (n : ℕ) → IsNoPort touch → Counts touch 
 none_counts (Listens (Some port)) n none = absurd none
 none_counts touch n none = refl
 
-counts_none : (touch : Touch) (old new : ℕ) → IsNoPort touch → Counts touch old new → new ≡ old
+pub counts_none : (touch : Touch) (old new : ℕ) → IsNoPort touch → Counts touch old new → new ≡ old
 counts_none (Listens (Some port)) old new none counts = absurd none
 counts_none touch old new none counts = counts
 
@@ -76,7 +76,7 @@ server_counts deed before ports = (ports, refl)
 module _ (Keeps : (old new : Held NearEnd) → Type 0) where
   -- where each was the next one, they are those of a world
   pub ports_told : (turns : List Turn) (start now : Stand client_side) (led : Led (client_deeds turns) start now)
-      → Along (Asks Keeps) (client_deeds turns) start now led → (told : ℕ) → Counted turns 0 told → AreTold (server_deeds turns) told
+      → Along (Does IsAsking Keeps) (client_deeds turns) start now led → (told : ℕ) → Counted turns 0 told → AreTold (server_deeds turns) told
   ports_told [] start now led asks told counted = (sym counted, tt)
   ports_told (Server deed ∷ before) start now led asks told counted =
       server_told deed (server_deeds before) counted.0 told (ports_told before start now led asks counted.0 counted.1) counted.2
@@ -87,7 +87,7 @@ module _ (Keeps : (old new : Held NearEnd) → Type 0) where
 
   -- and where they are, each was the next one
   pub ports_counted : (turns : List Turn) (start now : Stand client_side) (led : Led (client_deeds turns) start now)
-      → Along (Asks Keeps) (client_deeds turns) start now led → ArePorts (server_deeds turns) → Counted turns 0 (listened_in (server_deeds turns))
+      → Along (Does IsAsking Keeps) (client_deeds turns) start now led → ArePorts (server_deeds turns) → Counted turns 0 (listened_in (server_deeds turns))
   ports_counted [] start now led asks ports = refl
   ports_counted (Server deed ∷ before) start now led asks ports =
       let last = server_counts deed (server_deeds before) ports in

@@ -1,44 +1,24 @@
--- Sessions with transfers, put together: the direct run.
-use Rattle.std.proofs.Common.{◌≡◌, ℕ, suc, ◌^◌, ◌<◌, false, List, [], ◌∷◌, ◌++◌, length, refl, sym, ap, subst, ◌∙◌, append-nil, arith}
-use Rattle.std.specs.Prelude.{⊤}
-use Rattle.ftp_control.specs.Deeds.{Deed, Led, Other, Stand}
-use Rattle.ftp_control.specs.Side.{Side}
+-- Sessions with transfers: the direct run.
+use Rattle.std.proofs.Common.{◌≡◌, ℕ, false, List}
+use Rattle.ftp_control.specs.Deeds.{Deed, Other}
 use Rattle.ftp_control.specs.Machine.{Break, Held, Left, Opened, Refused}
-use Rattle.ftp_client_drive.specs.Side.{Begun, client_side}
-use Rattle.ftp_client_model.specs.Calls.{is_busy}
+use Rattle.ftp_client_drive.specs.Side.{Begun}
 use Rattle.ftp_client_model.specs.Failing.{Client as NearEnd}
-use Rattle.ftp_operation.specs.Answer.{Said}
 use Rattle.ftp_operation.specs.declared.op.Op.{Op}
-use Rattle.ftp_pair_deeds.specs.Deeds.{Along, AreMidst}
-use Rattle.ftp_pair_deeds.proofs.Along.{Went as Goes}
-use Rattle.ftp_pair_drives.specs.Alone.{ClientIsCalm, ServerIsCalm, reports_in}
-use Rattle.ftp_pair_drives.specs.Between.{Client, Server, Turn, client_deeds, nothing_yet, server_deeds}
-use Rattle.ftp_pair_drives.specs.Claims.{Begins}
-use Rattle.ftp_pair_drives.specs.Over.{answers_of}
+use Rattle.ftp_pair_drives.specs.Alone.{ClientIsCalm}
 use Rattle.ftp_pair_drives.specs.Touches.{touch_in}
 use Rattle.ftp_pair_transfers.specs.Claims.{DidTransfer}
-use Rattle.ftp_pair_transfers.specs.Deeds.{AreMoments, AreToldAt, IsAsking, IsServing, IsToldAt, begun_at, last_of, number_in}
-use Rattle.ftp_pair_transfers.specs.Over.{orders_at}
+use Rattle.ftp_pair_transfers.specs.Deeds.{IsAsking, IsServing, IsTransferred}
 use Rattle.ftp_pair_transfers.proofs.Concluding.{transfers_are_the_direct_run}
-use Rattle.ftp_pair_transfers.proofs.Ending.{as_many}
-use Rattle.ftp_pair_world.specs.Agreement.{Order, Single}
-use Rattle.ftp_pair_world.specs.Claims.{AreAnswers, Beginning, IsFair, state_of}
 use Rattle.ftp_server_drive.specs.Side.{Timed, server_side}
-use Rattle.ftp_pair_wires.specs.Order.{Counted}
 use Rattle.ftp_pair_wires.specs.Plain.{quiet}
-use Rattle.ftp_pair_turns.specs.Taking.{Answered, Ends, by_client}
-use Rattle.ftp_pair_turns.proofs.Gathering.{clients_then}
 use Rattle.ftp_pair_asked.specs.Laws.{IsUnbroken}
-use Rattle.ftp_pair_asked.specs.Sessions.{AreAsked, deeds_of, turns_of}
-use Rattle.ftp_pair_asked.specs.Transfers.{AnsweredByTransfer, AreAllToldAt, AreAskedByTransfer, Asks, Serves, TransferredBy, TransfersAskedAreTheDirectRun, TransfersByCounts}
-use Rattle.ftp_pair_asked.proofs.Breaking.{Resets, ServerIsUnbroken, had_unbroken, left_unbroken, resets_happen, session_resets}
-use Rattle.ftp_pair_asked.proofs.Counting.{far_calms, near_calms}
-use Rattle.ftp_pair_asked.proofs.Gathering.{far_fewer, near_fewer, answered_closed, answered_free, clients, clients_with, session_counted, turns_with}
-use Rattle.ftp_pair_asked.proofs.Midst.{midst_begins, midst_numbers, midst_reports}
+use Rattle.ftp_pair_asked.specs.Transfers.{TransfersAskedAreTheDirectRun, TransfersByCounts, transfers}
+use Rattle.ftp_pair_asked.proofs.Breaking.{had_unbroken, left_unbroken}
 use Rattle.ftp_pair_asked.proofs.Ports.{ports_told}
+use Rattle.ftp_pair_asked.proofs.Sessions.{Concludes, are_by_counts, are_the_direct_run}
 
--- ---- a server is told of no break
-
+-- a server is told of no break
 serving_unbroken : (deed : Deed server_side) (at : Held Timed) → IsServing deed at → IsUnbroken (touch_in deed)
 serving_unbroken (Other Break) at is = absurd is
 serving_unbroken (Other (Opened host asked at_first so_far rest)) at is = had_unbroken asked
@@ -46,222 +26,34 @@ serving_unbroken (Other (Refused asked)) at is = had_unbroken asked
 serving_unbroken (Other (Left asked)) at is = left_unbroken asked
 serving_unbroken deed at is = tt
 
-module _ (Keeps : (old new : Held Timed) → Type 0) where
-  server_unbroken : (turns : List Turn) (start now : Stand server_side) → Goes (Serves Keeps) (server_deeds turns) start now → ServerIsUnbroken turns
-  server_unbroken [] start now serves = tt
-  server_unbroken (Server deed ∷ before) start now serves =
-      (server_unbroken before start serves.0.0 (serves.0.1, serves.1.0), serving_unbroken deed serves.0.0.owner serves.1.1.0)
-  server_unbroken (Client deed ∷ before) start now serves = server_unbroken before start now serves
+-- such an operation may be begun
+may_begin : (op : Op (List ℕ)) (at : Held NearEnd) → IsTransferred op → at.end.view.closing ≡ false → IsAsking (Other (Begun op)) at
+may_begin op at is none = (is, none)
 
--- ---- the deeds of either
-
--- one list of a client's deeds after another
-module _ (Keeps : (old new : Held NearEnd) → Type 0) where
-  goes_then : (more before : List (Deed client_side)) (start mid now : Stand client_side) → Goes (Asks Keeps) more mid now → Goes (Asks Keeps) before start mid
-      → Goes (Asks Keeps) (more ++ before) start now
-  goes_then [] before start mid now second first = subst (λ n. Goes (Asks Keeps) before start n) (sym second.0) first
-  goes_then (deed ∷ more) before start mid now second first =
-      let rest = goes_then more before start mid second.0.0 (second.0.1, second.1.0) first in
-      ((second.0.0, rest.0, second.0.2), (rest.1, second.1.1))
-
-module _ (Keeps : (old new : Held Timed) → Type 0) (moments : ℕ → ℕ) where
-  -- the server's deeds among those of both, each such, and told at these moments
-  record Served (turns : List Turn) (start now : Stand server_side) : Type 0 where
-    led : Led (server_deeds turns) start now
-    serves : Along (Serves Keeps) (server_deeds turns) start now led
-    told : AreToldAt moments turns start now led
-
-  -- deeds of both after others, in whose midst no operation was begun
-  served_then : (moment : ℕ) (later before : List Turn) (start mid now : Stand server_side) (led : Led (server_deeds later) mid now)
-      → Along (Serves Keeps) (server_deeds later) mid now led → AreAllToldAt moment (server_deeds later) mid now led → AreMidst (client_deeds later)
-      → last_of moments (number_in (client_deeds before)) ≡ moment → Served before start mid → Served (later ++ before) start now
-  served_then moment [] before start mid now led serves told midst is first = subst (λ n. Served before start n) (sym led) first
-  served_then moment (Server deed ∷ later) before start mid now led serves told midst is first =
-      let rest = served_then moment later before start mid led.0 led.1 serves.0 told.0 midst is first in
-      let same : last_of moments (number_in (client_deeds (later ++ before))) ≡ moment =
-      ap (λ d. last_of moments (number_in d)) (clients_then later before)
-      ∙ ap (last_of moments) (midst_numbers (client_deeds later) (client_deeds before) midst) ∙ is in
-      record {
-        led = (led.0, rest.led, led.2);
-        serves = (rest.serves, serves.1);
-        told = (rest.told, subst (λ m. IsToldAt deed led.0 now led.2 m) (sym same) told.1);
-      }
-  served_then moment (Client deed ∷ later) before start mid now led serves told midst is first =
-      let rest = served_then moment later before start mid now led serves told midst.0 is first in
-      record { led = rest.led; serves = rest.serves; told = rest.told }
-
-  -- the client's alone after others
-  served_beside : (deeds : List (Deed client_side)) (before : List Turn) (start now : Stand server_side) → Served before start now
-      → Served (by_client deeds ++ before) start now
-  served_beside [] before start now first = first
-  served_beside (deed ∷ deeds) before start now first =
-      let rest = served_beside deeds before start now first in record { led = rest.led; serves = rest.serves; told = rest.told }
-
--- ---- sessions
-
-module _ (KeepsServer : (old new : Held Timed) → Type 0) (KeepsClient : (old new : Held NearEnd) → Type 0) (moments : ℕ → ℕ) where
-  -- what is so of all deeds of a session
-  record Gathered (turns : List Turn) (asked : List (Op (List ℕ) × Said)) (start now : Ends) : Type 0 where
-    serves : Served KeepsServer moments turns (quiet start.server) (quiet now.server)
-    asks : Goes (Asks KeepsClient) (client_deeds turns) (quiet start.client) (quiet now.client)
-    number : number_in (client_deeds turns) ≡ length asked
-    orders : begun_at moments (client_deeds turns) ≡ orders_at moments asked
-    answers : reports_in (client_deeds turns) ≡ answers_of asked
-    free : is_busy now.client.end.view ≡ false
-    closed : now.client.end.view.closing ≡ false
-
-  module _ (op : Op (List ℕ)) (answer : Said) (turns : List Turn) (asked : List (Op (List ℕ) × Said)) (start mid now : Ends)
-      (a : Answered op answer mid now) (by : AnsweredByTransfer KeepsServer KeepsClient (moments (length asked)) a) (g : Gathered turns asked start mid) where
-    abbrev last : List (Deed client_side)
-    last = deeds_of a.settled.answers
-
-    abbrev earlier : List (Deed client_side)
-    earlier = Other (Begun op) ∷ client_deeds turns
-
-    client_goes : Goes (Asks KeepsClient) (clients_with op answer turns mid now a) (quiet start.client) (quiet now.client)
-    client_goes =
-        let took = a.settled.took in
-        let first : Goes (Asks KeepsClient) earlier (quiet start.client) (quiet a.begun) =
-        ((quiet mid.client, g.asks.0, a.begins), (g.asks.1, ((by.carried, g.closed), by.kept))) in
-        goes_then KeepsClient last (client_deeds took.turns ++ earlier) (quiet start.client) (quiet a.settled.mid.client) (quiet now.client)
-        (a.settled.answers.led, by.last_asks)
-        (goes_then KeepsClient (client_deeds took.turns) earlier (quiet start.client) (quiet a.begun) (quiet a.settled.mid.client)
-        (took.client_led, by.asks) first)
-
-    server_serves : Served KeepsServer moments (turns_with op answer turns mid now a) (quiet start.server) (quiet now.server)
-    server_serves =
-        let took = a.settled.took in
-        let earlier : List Turn = Client (Other (Begun op)) ∷ turns in
-        let begun : Served KeepsServer moments earlier (quiet start.server) (quiet mid.server) =
-        record { led = g.serves.led; serves = g.serves.serves; told = g.serves.told } in
-        served_beside KeepsServer moments last (took.turns ++ earlier) (quiet start.server) (quiet now.server)
-        (subst (λ h. Served KeepsServer moments (took.turns ++ earlier) (quiet start.server) (quiet h)) (sym a.settled.answers.server)
-        (served_then KeepsServer moments (moments (length asked)) took.turns earlier (quiet start.server) (quiet mid.server)
-        (quiet a.settled.mid.server) took.server_led by.serves by.told by.midst (ap moments g.number) begun))
-
-    number_is : number_in (clients_with op answer turns mid now a) ≡ suc (length asked)
-    number_is =
-        midst_numbers a.settled.answers.midst (client_deeds a.settled.took.turns ++ earlier) by.last_midst
-        ∙ midst_numbers (client_deeds a.settled.took.turns) earlier by.midst ∙ ap suc g.number
-
-    orders_are : begun_at moments (clients_with op answer turns mid now a) ≡ orders_at moments ((op, answer) ∷ asked)
-    orders_are =
-        append-nil _ ∙ append-nil _ ∙ append-nil _
-        ∙ midst_begins moments a.settled.answers.midst (client_deeds a.settled.took.turns ++ earlier) by.last_midst
-        ∙ midst_begins moments (client_deeds a.settled.took.turns) earlier by.midst
-        ∙ ap (λ n. begun_at moments (client_deeds turns) ++ Single op (moments n) ∷ []) g.number
-        ∙ ap (λ l. l ++ Single op (moments (length asked)) ∷ []) g.orders
-
-    answers_are : reports_in (clients_with op answer turns mid now a) ≡ answers_of ((op, answer) ∷ asked)
-    answers_are =
-        append-nil _ ∙ append-nil _
-        ∙ ap (λ l. l ++ answer ∷ []) (midst_reports a.settled.answers.midst (client_deeds a.settled.took.turns ++ earlier) by.last_midst
-        ∙ midst_reports (client_deeds a.settled.took.turns) earlier by.midst ∙ append-nil _ ∙ g.answers)
-
-    one_more : Gathered (turns_with op answer turns mid now a) ((op, answer) ∷ asked) start now
-    one_more =
-        let near = clients op answer turns mid now a in
-        record {
-          serves = server_serves;
-          asks = subst (λ d. Goes (Asks KeepsClient) d (quiet start.client) (quiet now.client)) (sym near) client_goes;
-          number = ap number_in near ∙ number_is;
-          orders = ap (begun_at moments) near ∙ orders_are;
-          answers = ap reports_in near ∙ answers_are;
-          free = answered_free op answer mid now a;
-          closed = answered_closed op answer mid now a;
-        }
-
-  gathered : (b : Beginning) (asked : List (Op (List ℕ) × Said)) (start now : Ends) → Begins b (quiet start.server) (quiet start.client)
-      → (are : AreAsked asked start now) → AreAskedByTransfer KeepsServer KeepsClient moments asked start now are
-      → Gathered (turns_of asked start now are) asked start now
-  gathered b [] start now begins are by =
-      let none : Gathered [] [] start start = record {
-        serves = record { led = refl; serves = tt; told = tt };
-        asks = (refl, tt);
-        number = refl;
-        orders = refl;
-        answers = refl;
-        free = ap is_busy begins.client_view;
-        closed = ap (λ v. v.closing) begins.client_view;
-      } in
-      subst (λ n. Gathered [] [] start n) (sym are) none
-  gathered b (asked ∷ before) start now begins are by =
-      one_more asked.0 asked.1 (turns_of before start are.0 are.1) before start are.0 now are.2 by.1 (gathered b before start are.0 begins are.1 by.0)
-
--- so it is concluded, whatever the ends kept, where neither was refused memory, and no device failed or strayed
-module _ (KeepsServer : (old new : Held Timed) → Type 0) (KeepsClient : (old new : Held NearEnd) → Type 0) where
-  concludes : (b : Beginning) → IsFair b → (moments : ℕ → ℕ) → AreMoments moments → (asked : List (Op (List ℕ) × Said)) (start now : Ends)
-      → (t : TransferredBy KeepsServer KeepsClient b moments asked start now)
-      → Gathered ServerIsCalm ClientIsCalm moments (turns_of asked start now t.are) asked start now
-      → AreAnswers (state_of b) (orders_at moments asked) (answers_of asked) now.server.end.server.view.session.table
-  concludes b fair moments timed asked start now t g =
-      let turns = turns_of asked start now t.are in
-      let went : Resets turns nothing_yet now.between =
-      subst (λ w. Resets turns w now.between) t.nothing (session_resets KeepsServer KeepsClient moments asked start now t.are t.by) in
-      let happens = resets_happen turns now.between went
-      (server_unbroken ServerIsCalm turns (quiet start.server) (quiet now.server) (g.serves.led, g.serves.serves)) in
-      let did : DidTransfer b moments turns now.between (quiet now.server) (quiet now.client) = record {
-        server_start = quiet start.server;
-        client_start = quiet start.client;
-        begins = t.begins;
-        untold = t.server_bare.1;
-        unwritten = t.client_bare.0;
-        server_unwritten = t.server_bare.0;
-        client_untold = t.client_bare.1;
-        happened = happens.0;
-        resets = happens.1;
-        server_led = g.serves.led;
-        client_led = g.asks.0;
-        takes = g.serves.serves;
-        gives = g.asks.1;
-        ports = (ports_told ClientIsCalm turns (quiet start.client) (quiet now.client) g.asks.0 g.asks.1 now.listens
-            (subst (λ n. Counted turns n now.listens) t.listens (session_counted asked start now t.are))).1;
-        told = g.serves.told;
-      } in
-      let told = ap length g.answers ∙ as_many moments asked ∙ ap length (sym g.orders) in
-      let table = now.server.end.server.view.session.table in
-      let direct = transfers_are_the_direct_run b fair moments timed turns now.between (quiet now.server) (quiet now.client) did g.free told in
-      subst (λ (r : List Said). AreAnswers (state_of b) (orders_at moments asked) r table) g.answers
-      (subst (λ (o : List Order). AreAnswers (state_of b) o (reports_in (client_deeds turns)) table) g.orders direct)
+-- such deeds are the direct run
+transferring : Concludes transfers
+transferring b fair moments timed turns asked start now begins server_bare client_bare happened counted g told =
+    let did : DidTransfer b moments turns now.between (quiet now.server) (quiet now.client) = record {
+      server_start = quiet start.server;
+      client_start = quiet start.client;
+      begins = begins;
+      untold = server_bare.1;
+      unwritten = client_bare.0;
+      server_unwritten = server_bare.0;
+      client_untold = client_bare.1;
+      happened = happened.0;
+      resets = happened.1;
+      server_led = g.serves.led;
+      client_led = g.asks.0;
+      takes = g.serves.serves;
+      gives = g.asks.1;
+      ports = (ports_told ClientIsCalm turns (quiet start.client) (quiet now.client) g.asks.0 g.asks.1 now.listens counted).1;
+      told = g.serves.told;
+    } in
+    transfers_are_the_direct_run b fair moments timed turns now.between (quiet now.server) (quiet now.client) did g.free told
 
 pub transfers_asked_are_the_direct_run : TransfersAskedAreTheDirectRun
-transfers_asked_are_the_direct_run b fair moments timed asked start now t =
-    let g = gathered ServerIsCalm ClientIsCalm moments b asked start now t.begins t.are t.by in
-    concludes ServerIsCalm ClientIsCalm b fair moments timed asked start now t g
-
--- ---- by counts
-
--- deeds that are such, and keep this
-module _ {side : Side} (Is : Deed side → side.End → Type 0) (Keeps : (old new : side.End) → Type 0) where
-  kept_along : (deeds : List (Deed side)) (start now : Stand side) (led : Led deeds start now) → Along (λ deed old new. Is deed old × ⊤) deeds start now led
-      → Along (λ deed old new. Keeps old new) deeds start now led → Along (λ deed old new. Is deed old × Keeps old new) deeds start now led
-  kept_along [] start now led such kept = tt
-  kept_along (deed ∷ before) start now led such kept = (kept_along before start led.0 led.1 such.0 kept.0, (such.1.0, kept.1))
+transfers_asked_are_the_direct_run = are_the_direct_run transfers may_begin serving_unbroken transferring
 
 pub transfers_by_counts : TransfersByCounts
-transfers_by_counts b fair moments timed asked start now t counts refusals few =
-    let turns = turns_of asked start now t.are in
-    let g = gathered (λ old new. ⊤) (λ old new. ⊤) moments b asked start now t.begins t.are t.by in
-    let far_few : length (server_deeds turns) < 2 ^ 60 = omega (arith, far_fewer turns, few) in
-    let near_few : length (client_deeds turns) < 2 ^ 60 = omega (arith, near_fewer turns, few) in
-    let server = quiet {side = server_side} start.server in
-    let client = quiet {side = client_side} start.client in
-    let calm : Gathered ServerIsCalm ClientIsCalm moments turns asked start now = record {
-      serves = record {
-        led = g.serves.led;
-        serves = kept_along IsServing ServerIsCalm (server_deeds turns) server (quiet now.server) g.serves.led g.serves.serves
-            (far_calms (server_deeds turns) server (quiet now.server) g.serves.led counts far_few);
-        told = g.serves.told;
-      };
-      asks = (
-        g.asks.0,
-        kept_along IsAsking ClientIsCalm (client_deeds turns) client (quiet now.client) g.asks.0 g.asks.1
-            (near_calms (client_deeds turns) client (quiet now.client) g.asks.0 refusals near_few),
-      );
-      number = g.number;
-      orders = g.orders;
-      answers = g.answers;
-      free = g.free;
-      closed = g.closed;
-    } in
-    concludes (λ old new. ⊤) (λ old new. ⊤) b fair moments timed asked start now t calm
+transfers_by_counts = are_by_counts transfers may_begin serving_unbroken transferring

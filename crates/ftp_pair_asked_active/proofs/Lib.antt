@@ -1,0 +1,3 @@
+pub mod Concluding
+pub mod Example
+pub mod Ports

@@ -1,0 +1,37 @@
+-- What is claimed of sessions of turns in which files were put and fetched, and listings, over data connections that either dials (RFC 959, section 3.2).
+use Rattle.std.specs.Prelude.{ℕ, List}
+use Rattle.ftp_operation.specs.Answer.{Said}
+use Rattle.ftp_operation.specs.declared.op.Op.{Op}
+use Rattle.ftp_pair_active.specs.Deeds.{IsAsking, IsCarried, IsServing}
+use Rattle.ftp_pair_active_example.specs.Example.{call_asked}
+use Rattle.ftp_pair_drives.specs.Example.{example}
+use Rattle.ftp_pair_example.specs.Example.{HasFile}
+use Rattle.ftp_pair_world.specs.Claims.{Beginning}
+use Rattle.ftp_tree.specs.Tree.{Table}
+use Rattle.ftp_pair_turns.specs.Taking.{Ends}
+use Rattle.ftp_pair_asked.specs.Kinds.{AreByCounts, AreTheDirectRun, IsSession, Kind}
+
+-- operations, and deeds of either end, as they are where either listens and the other dials
+abbrev pub either : Kind
+either = record { Carries = IsCarried; Serves = IsServing; Asks = IsAsking }
+
+-- neither was refused memory, and no device failed or strayed
+abbrev pub AreEither : (b : Beginning) (moments : ℕ → ℕ) (asked : List (Op (List ℕ) × Said)) (start now : Ends) → Type 0
+AreEither b moments asked start now = IsSession either b moments asked start now
+
+-- then the answers, and the map that the server holds, are those of the operations run directly
+abbrev pub EitherAskedAreTheDirectRun : Type 0
+EitherAskedAreTheDirectRun = AreTheDirectRun either
+
+-- so it is where the counts of both ends are in the end what they were, and fewer than 2^60 deeds were done
+abbrev pub EitherByCounts : Type 0
+EitherByCounts = AreByCounts either
+
+-- ---- an example
+
+-- of every map that has a root and a file, and at any moment, there is such a session: somebody logs in and fetches the file, over a data connection that the
+-- server dials after EPRT
+abbrev pub CallIsAsked : Type 0
+CallIsAsked =
+    (table : Table) (stamp : ℕ) (moments : ℕ → ℕ) → HasFile table stamp
+    → (start : Ends) × (now : Ends) × AreEither (example table) moments call_asked start now
