@@ -6,9 +6,10 @@ use Rattle.ftp_client_drive.specs.Side.{Begun}
 use Rattle.ftp_client_model.specs.Failing.{Client as NearEnd}
 use Rattle.ftp_operation.specs.declared.op.Op.{Op}
 use Rattle.ftp_pair_active.specs.Claims.{DidEither}
-use Rattle.ftp_pair_active.specs.Deeds.{IsAsking, IsCarried, IsServing}
+use Rattle.ftp_pair_active.specs.Deeds.{IsAsking, IsServing}
 use Rattle.ftp_pair_active.proofs.Concluding.{either_are_the_direct_run}
 use Rattle.ftp_pair_drives.specs.Touches.{touch_in}
+use Rattle.ftp_pair_transfers.specs.Deeds.{IsCarried}
 use Rattle.ftp_server_drive.specs.Side.{Timed, server_side}
 use Rattle.ftp_pair_wires.specs.Plain.{quiet}
 use Rattle.ftp_pair_asked.specs.Laws.{IsUnbroken}
@@ -41,6 +42,7 @@ concluding b fair moments timed turns asked start now begins server_bare client_
       server_unwritten = server_bare.0;
       client_untold = client_bare.1;
       happened = happened.0;
+      resets = happened.1;
       server_led = g.serves.led;
       client_led = g.asks.0;
       serves = g.serves.serves;

@@ -1,11 +1,13 @@
--- What is claimed of sessions of turns in which files were put and fetched, and listings, over data connections that either dials (RFC 959, section 3.2).
+-- What is claimed of sessions of turns in which files were put, fetched and peeked into, and listings, over data connections that either dials (RFC 959, section
+-- 3.2).
 use Rattle.std.specs.Prelude.{ℕ, List}
 use Rattle.ftp_operation.specs.Answer.{Said}
 use Rattle.ftp_operation.specs.declared.op.Op.{Op}
-use Rattle.ftp_pair_active.specs.Deeds.{IsAsking, IsCarried, IsServing}
+use Rattle.ftp_pair_active.specs.Deeds.{IsAsking, IsServing}
 use Rattle.ftp_pair_active_example.specs.Example.{call_asked}
 use Rattle.ftp_pair_drives.specs.Example.{example}
 use Rattle.ftp_pair_example.specs.Example.{HasFile}
+use Rattle.ftp_pair_transfers.specs.Deeds.{IsCarried}
 use Rattle.ftp_pair_world.specs.Claims.{Beginning}
 use Rattle.ftp_tree.specs.Tree.{Table}
 use Rattle.ftp_pair_turns.specs.Taking.{Ends}
