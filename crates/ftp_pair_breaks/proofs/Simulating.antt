@@ -330,8 +330,8 @@ module _ (read : Reading) (reads : IsReading read) (moments : ℕ → ℕ) (time
       lags_still deeds puts p q (listened_in before) (listened_in (deed ∷ before)) old new client l got there.1 (sees_fresh deed old is p q client l.fresh can)
 
   -- one that is told of the break of what is to close
-  lone_late : (deeds : List (Deed client_side)) → AskAll (begun_at moments deeds) → (before : List (Deed server_side)) (p : Between) (old new : Stand server_side)
-      (client : Stand client_side) → Lone deeds p (listened_in before) (dried old) client → ServerIsCalm old.owner new.owner
+  lone_late : (deeds : List (Deed client_side)) → AskAll (begun_at moments deeds) → (before : List (Deed server_side)) (p : Between)
+      (old new : Stand server_side) (client : Stand client_side) → Lone deeds p (listened_in before) (dried old) client → ServerIsCalm old.owner new.owner
       → old.owner.end.server.view.session.closing ≡ true → p.far ≡ Has → Calls {side = server_side} Break old new
       → Lone deeds (dropped (dried old) p) (listened_in before) (dried new) client
   lone_late deeds puts before p old new client (inl o) calm closing has did =
