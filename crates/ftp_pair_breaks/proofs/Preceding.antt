@@ -215,7 +215,7 @@ module _ (read : Reading) (reads : IsReading read) (moments : ℕ → ℕ) (time
     f = server.owner.end.server.view
 
     -- it wants nothing
-    far_nothing : far.wants f ≡ Want.Nothing
+    pub far_nothing : far.wants f ≡ Want.Nothing
     far_nothing = ap far.wants p.far_is ∙ ap (λ l. far.wants (record (clock_step p.moment (broke p.were.owner.end.server.view)) {
       owed = p.left;
       session = record (broke p.were.owner.end.server.view).session { life = l };

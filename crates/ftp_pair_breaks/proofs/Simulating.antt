@@ -78,21 +78,21 @@ none_lost octets m none =
     ap (λ o. with_lost o m) none ∙ ap (λ t. record m { data_ways = record m.data_ways { to_client = t } }) (append-nil m.data_ways.to_client)
 
 module _ (read : Reading) (reads : IsReading read) (moments : ℕ → ℕ) (timed : AreMoments moments) (b : Beginning) (fair : IsFair b) where
-  abbrev W : (deeds : List (Deed client_side)) (between : Between) (count : ℕ) (server : Stand server_side) (client : Stand client_side) → Type 0
+  abbrev pub W : (deeds : List (Deed client_side)) (between : Between) (count : ℕ) (server : Stand server_side) (client : Stand client_side) → Type 0
   W deeds between count server client = Whole read reads moments timed b fair deeds between count server client
 
-  abbrev L : (deeds : List (Deed client_side)) (between : Between) (count : ℕ) (server : Stand server_side) (client : Stand client_side) → Type 0
+  abbrev pub L : (deeds : List (Deed client_side)) (between : Between) (count : ℕ) (server : Stand server_side) (client : Stand client_side) → Type 0
   L deeds between count server client = Lags read reads moments timed b fair deeds between count server client
 
-  abbrev P : (deeds : List (Deed client_side)) (between : Between) (count : ℕ) (server : Stand server_side) (client : Stand client_side) → Type 0
+  abbrev pub P : (deeds : List (Deed client_side)) (between : Between) (count : ℕ) (server : Stand server_side) (client : Stand client_side) → Type 0
   P deeds between count server client = Precedes read reads moments timed b fair deeds between count server client
 
   -- a world is beside both drives, or beside the server's and a client that was not told of a break
-  abbrev Lone : (deeds : List (Deed client_side)) (between : Between) (count : ℕ) (server : Stand server_side) (client : Stand client_side) → Type 0
+  abbrev pub Lone : (deeds : List (Deed client_side)) (between : Between) (count : ℕ) (server : Stand server_side) (client : Stand client_side) → Type 0
   Lone deeds between count server client = W deeds between count server client ⊎ L deeds between count server client
 
   -- so it is of the server's as if it had nothing unwritten of what it was told that it broke; or the server was told first
-  abbrev Suffered : (deeds : List (Deed client_side)) (between : Between) (count : ℕ) (server : Stand server_side) (client : Stand client_side) → Type 0
+  abbrev pub Suffered : (deeds : List (Deed client_side)) (between : Between) (count : ℕ) (server : Stand server_side) (client : Stand client_side) → Type 0
   Suffered deeds between count server client = Lone deeds between count (dried server) client ⊎ P deeds between count server client
 
   -- ---- a deed of the client, where a world is beside both
@@ -274,7 +274,7 @@ module _ (read : Reading) (reads : IsReading read) (moments : ℕ → ℕ) (time
       ]
 
   -- so it is where the server was told first
-  client_turn : (deed : Deed client_side) (deeds : List (Deed client_side)) → AskAll (begun_at moments deeds) → (before : List (Deed server_side))
+  pub client_turn : (deed : Deed client_side) (deeds : List (Deed client_side)) → AskAll (begun_at moments deeds) → (before : List (Deed server_side))
       → ArePorts before → (p q : Between) (server : Stand server_side) (old new : Stand client_side) → Suffered deeds p (listened_in before) server old
       → ClientSuffers deed old.owner new.owner → CanTurn (Client deed) p q → Done deed old new
       → Suffered (deed ∷ deeds) q (listened_in before) server new

@@ -1,0 +1,189 @@
+-- A client of an upload is told of the break of its data connection, beside which a world stands: of one that still gives, or that gave all and did not write all.
+-- From then on that world is beside one that was not told.
+use Rattle.std.proofs.Common.{◌≡◌, inl, inr, ℕ, Bool, true, false, List, [], ◌∷◌, ◌++◌, refl, sym, ap, ap₂, subst, ◌∙◌}
+use Rattle.ftp_control.specs.Deeds.{Calls, Deed, Other, Stand}
+use Rattle.ftp_control.specs.Lane.{Lane, with_fate}
+use Rattle.ftp_control.specs.Machine.{Break}
+use Rattle.ftp_control.specs.declared.whole.Fate.TheVariants as Fates
+use Rattle.ftp_client_drive.specs.Side.{client_side}
+use Rattle.ftp_client_model.specs.Calls as near
+use Rattle.ftp_client_model.specs.Calls.{data_closed, data_fault, is_busy}
+use Rattle.ftp_client_model.specs.View.{View as Near}
+use Rattle.ftp_client_model.specs.declared.client.ClientLink.TheVariants as NearData
+use Rattle.ftp_client_model.specs.declared.client.Ending.TheVariants as Endings
+use Rattle.ftp_ends.specs.Octets.{has_octets}
+use Rattle.ftp_ends.specs.declared.link.Wants.TheVariants as Want
+use Rattle.ftp_server_drive.specs.Side.{server_side}
+use Rattle.ftp_server_model.specs.Calls.{is_upload}
+use Rattle.ftp_server_model.specs.Machine.{IsReading, Reading}
+use Rattle.ftp_pair_world.specs.Claims.{Beginning, IsFair, state_of}
+use Rattle.ftp_pair_world.specs.World.{World}
+use Rattle.ftp_pair_agreement.proofs.Chunks.{both_empty}
+use Rattle.ftp_pair_drives.specs.Alone.{ClientIsCalm}
+use Rattle.ftp_pair_drives.specs.Between.{Between, Can, Near as TheClient, with_hold}
+use Rattle.ftp_pair_drives.specs.Touches.{ToldBreak}
+use Rattle.ftp_pair_drives.proofs.Taken.{taken, taken_wants}
+use Rattle.ftp_pair_deeds.proofs.Fresh.{Fresh}
+use Rattle.ftp_pair_deeds.proofs.Holding.{both, is_called, unclosed}
+use Rattle.ftp_pair_deeds.proofs.NearForms.{busy_same, no_close}
+use Rattle.ftp_pair_transfers.specs.Deeds.{AreMoments, begun_at}
+use Rattle.ftp_pair_transfers.proofs.Called.{StaysFresh}
+use Rattle.ftp_pair_transfers.proofs.Known.{AreCarried, Known, Lifting}
+use Rattle.ftp_pair_transfers.proofs.Simulating.{known, runs}
+use Rattle.ftp_pair_breaks.proofs.ClientBroken.{broken_lane}
+use Rattle.ftp_pair_breaks.proofs.Faults.{closing_same}
+use Rattle.ftp_pair_breaks.proofs.Lagging.{Whole, beside, is_failed, unbroken}
+use Rattle.ftp_pair_breaks.proofs.Steps.{Again, idle_again}
+use Rattle.ftp_pair_breaks.proofs.Unsent.{AskAll, all_carried}
+use Rattle.ftp_pair_cuts.proofs.Climbing.{HasGiven, world_given}
+use Rattle.ftp_pair_cuts.proofs.Lifting.{Lifts, fault_begun, form, lifts_plain}
+use Rattle.ftp_pair_cuts.proofs.Notes.{begun}
+use Rattle.ftp_pair_cuts.proofs.UpLagging.{Spent, UpLags}
+
+module _ (read : Reading) (reads : IsReading read) (moments : ℕ → ℕ) (timed : AreMoments moments) (b : Beginning) (fair : IsFair b)
+    (deeds : List (Deed client_side)) (puts : AskAll (begun_at moments deeds)) (p q : Between) (count : ℕ) (server : Stand server_side)
+    (old new : Stand client_side) (o : Whole read reads moments timed b fair deeds p count server old) (calm : ClientIsCalm old.owner new.owner)
+    (can : Can TheClient ToldBreak p q) (did : Calls {side = client_side} Break old new) where
+  abbrev w : World
+  w = o.at.world
+
+  abbrev v : Near
+  v = old.owner.end.view
+
+  abbrev u : Near
+  u = new.owner.end.view
+
+  carried : AreCarried (begun_at moments deeds)
+  carried = all_carried (begun_at moments deeds) puts
+
+  known_now : Known w
+  known_now = known read reads moments timed b fair deeds p count server old _ o.at carried
+
+  told_is : u ≡ data_fault v
+  told_is = did.0.0.0.0 calm
+
+  lane : new.owner.lane ≡ with_fate Fates.Broken old.owner.lane
+  lane = did.0.1
+
+  spent : Spent new.owner.lane
+  spent = record {
+    dry = broken_lane old.owner.lane new.owner.lane lane;
+    takes = record { bare = λ e. ap (λ (l : Lane). l.untold) lane ∙ o.at.together.takes.bare (ap (λ (l : Lane). l.stands) (sym lane) ∙ e) };
+    known = ap (λ (l : Lane). is_failed l.fate) lane;
+    bare = λ e. ap (λ (l : Lane). l.unwritten) lane ∙ o.at.together.gives.bare (ap (λ (l : Lane). l.stands) (sym lane) ∙ e);
+  }
+
+  -- so the world lags
+  lags : Lifts v u → (v.closing ≡ true → has_octets old.owner.lane.unwritten ≡ true)
+      → UpLags read reads moments timed b fair (Other Break ∷ deeds) q count server new
+  lags lifts due =
+      let whole : unbroken q ≡ p = ap unbroken can.1 ∙ ap (λ h. with_hold TheClient h p) (sym can.0) in
+      let same : beside old.owner new ≡ old = ap (beside old.owner) did.1 in
+      let got : Again read reads moments timed b fair (Other Break ∷ deeds) (unbroken q) count server (beside old.owner new) w.marks =
+      subst (λ (c : Stand client_side). Again read reads moments timed b fair (Other Break ∷ deeds) (unbroken q) count server c w.marks) (sym same)
+      (subst (λ (m : Between). Again read reads moments timed b fair (Other Break ∷ deeds) m count server old w.marks) (sym whole)
+      (idle_again read reads moments timed b fair (Other Break) deeds o.at refl refl)) in
+      record {
+        was = old.owner;
+        at = got.0;
+        lifts = lifts;
+        due = due;
+        hold = ap (λ (m : Between). m.near) can.1;
+        lane = spent;
+        marks = o.marks;
+        are_marks = (o.marks, o.are_marks, inl refl);
+        marked = got.1 ∙ o.marked;
+        unsent = o.unsent;
+        fresh = fresh;
+      }
+    where
+      fresh : StaysFresh q new
+      fresh called =
+          let f = o.at.fresh (ap is_called (sym (ap (λ (m : Between). m.far) can.1)) ∙ called) in
+          record {
+            plain = lifts_plain v u lifts Fresh f.plain;
+            untold = ap (λ (l : Lane). l.untold) lane ∙ f.untold;
+            none = ap (λ (m : Between). m.data_ways.to_client) can.1 ∙ f.none;
+          }
+
+  -- ---- one that still gives
+
+  module _ (wants : near.wants v ≡ Want.Send) where
+    open_now : v.closing ≡ false
+    open_now = no_close v Want.Send wants refl
+
+    taken_is : w.near ≡ taken v
+    taken_is = o.at.together.beside.near ∙ unclosed (taken v) open_now
+
+    l : Lifting w
+    l = known_now.sends (ap near.wants taken_is ∙ taken_wants v ∙ wants)
+
+    near_is : w.near ≡ v
+    near_is = taken_is ∙ busy_same v (ap is_busy (sym taken_is) ∙ ap is_busy l.near)
+
+    is : v ≡ begun l.op l.count (l.octet ∷ l.more) NearData.Open false l.mark w.near
+    is = sym near_is ∙ l.near
+
+    told_lifts : Lifts v u
+    told_lifts = record {
+      op = l.op;
+      all = l.count;
+      left = l.octet ∷ l.more;
+      mark = l.mark;
+      near = form l.op l.count (l.octet ∷ l.more) NearData.Open false l.mark w.near v is;
+      link = NearData.Over Endings.Broken;
+      closed = false;
+      told = told_is ∙ ap data_fault (is ∙ ap (begun l.op l.count (l.octet ∷ l.more) NearData.Open false l.mark) near_is)
+          ∙ fault_begun l.op l.count (l.octet ∷ l.more) l.mark v;
+      kind = inl (ap (λ (n : Near). n.connection) is, ap (λ (n : Near). n.closing) is, refl, refl, refl);
+    }
+
+    pub told_giving : UpLags read reads moments timed b fair (Other Break ∷ deeds) q count server new
+    told_giving = lags told_lifts (λ e. absurd (both e open_now))
+
+  -- ---- one that gave all, and did not write all
+
+  module _ (closing : v.closing ≡ true) (due : has_octets old.owner.lane.unwritten ≡ true) where
+    takes : is_upload w.far.session.connection ≡ true
+    takes = by (is_upload w.far.session.connection) refl
+      where
+        by : (takes : Bool) → is_upload w.far.session.connection ≡ takes → is_upload w.far.session.connection ≡ true
+        by true is = is
+        by false is =
+            let none = both_empty p.data_ways.to_server old.owner.lane.unwritten
+            (both_empty server.owner.lane.untold (p.data_ways.to_server ++ old.owner.lane.unwritten)
+            (sym o.at.together.beside.rising ∙ known_now.still is)).1 in
+            absurd (both due (ap has_octets none.1))
+
+    g : HasGiven w
+    g =
+        world_given read reads (state_of b) (begun_at moments deeds) carried w (runs read reads moments timed b fair deeds p count server old _ o.at carried)
+        o.at.together.beside.control o.at.together.beside.unready (known_now.takes takes (o.at.together.keeping.shut closing))
+
+    same : taken v ≡ v
+    same = busy_same v (ap is_busy (sym o.at.together.beside.near) ∙ ap is_busy g.near)
+
+    given_is : v ≡ begun g.op g.all [] (NearData.Over Endings.Ours) true g.mark w.near
+    given_is =
+        ap (λ (n : Near). record n { closing = v.closing }) (ap data_closed (sym same) ∙ sym o.at.together.beside.near ∙ g.near)
+        ∙ ap (λ c. begun g.op g.all [] (NearData.Over Endings.Ours) c g.mark w.near) closing
+
+    closes_lifts : Lifts v u
+    closes_lifts =
+        let near : v ≡ begun g.op g.all [] v.connection v.closing g.mark v =
+        form g.op g.all [] (NearData.Over Endings.Ours) true g.mark w.near v given_is in
+        let over : v.connection ≡ NearData.Over Endings.Ours = ap (λ (n : Near). n.connection) given_is in
+        record {
+          op = g.op;
+          all = g.all;
+          left = [];
+          mark = g.mark;
+          near = near;
+          link = NearData.Over Endings.Ours;
+          closed = true;
+          told = told_is ∙ closing_same v closing ∙ near ∙ ap₂ (λ c d. begun g.op g.all [] c d g.mark v) over closing;
+          kind = inr (over, closing, refl, refl);
+        }
+
+    pub told_closing : UpLags read reads moments timed b fair (Other Break ∷ deeds) q count server new
+    told_closing = lags closes_lifts (λ e. due)

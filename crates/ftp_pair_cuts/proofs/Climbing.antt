@@ -1,0 +1,229 @@
+-- What is so of a world whose server takes octets of an upload: its client has no final reply; and one that has closed the link has given all.
+use Rattle.std.proofs.Common.{◌≡◌, inl, inr, ℕ, Bool, true, false, true≢false, List, [], ◌∷◌, Option, None, refl, sym, ap, ◌∙◌}
+use Rattle.ftp_client_model.specs.Plan.{count_of}
+use Rattle.ftp_client_model.specs.View.{View as Near}
+use Rattle.ftp_client_model.specs.declared.client.ClientLink.TheVariants as NearData
+use Rattle.ftp_client_model.specs.declared.client.Ending.TheVariants as Endings
+use Rattle.ftp_client_model.specs.declared.client.Replied.{Replied}
+use Rattle.ftp_client_model.specs.declared.client.Replied.TheVariants as Replies
+use Rattle.ftp_direct.specs.Direct.{State}
+use Rattle.ftp_endpoint.specs.declared.host.Host.{Host}
+use Rattle.ftp_operation.specs.Answer.{Said}
+use Rattle.ftp_operation.specs.declared.op.Op.{Op}
+use Rattle.ftp_path.specs.Path.{Names}
+use Rattle.ftp_server_model.specs.Calls.{is_upload}
+use Rattle.ftp_server_model.specs.Machine.{IsReading, Reading}
+use Rattle.ftp_server_model.specs.View.{Session, Transfer}
+use Rattle.ftp_server_model.specs.declared.session.Pending.{Pending}
+use Rattle.ftp_server_model.specs.declared.session.ServerLink.{ServerLink}
+use Rattle.ftp_pair_world.specs.Agreement.{Order}
+use Rattle.ftp_pair_world.specs.Events.{ControlToClient, is_closed_by_near, pushed}
+use Rattle.ftp_pair_world.specs.World.{ClosedByNear, Mark, Stands, World}
+use Rattle.ftp_pair_dialogues.specs.Fetches.{Ask, IsAsk, Rise, busy, linked}
+use Rattle.ftp_pair_dialogues.specs.Stage.{Way}
+use Rattle.ftp_pair_agreement.specs.Cut.{PlacedAt}
+use Rattle.ftp_pair_agreement.specs.Follows.{Phase}
+use Rattle.ftp_pair_agreement.specs.Over.{OverRuns}
+use Rattle.ftp_pair_agreement.specs.Rising.{Declined, Lift, Offered, Risen, Rising, Settled, Unjoined, lifts, sending}
+use Rattle.ftp_pair_agreement.specs.Runs.{IsFetching, IsFetchingOn}
+use Rattle.ftp_pair_agreement.specs.Stages.{Answers, Aside as LeavesAside, AtFetch, Awaits, Carries, Closed, Course, Dialled, Dials, Dismissed, Early, Ended, Given as GaveAll, Giving, Holds, Leaving, LinkLeft, LinkOpen, LinkParting, Lost, PortAsked, PortDenied, PortSaid, PortTaken, PortTold, PortWanted, Ported, Refusing, Restarts, Retrieves, Rises, Severed, Tells, Unaccepted, Unclosed, Unopened, early_far, far_link, gives_on, tie_of}
+use Rattle.ftp_pair_agreement.proofs.FetchRuns.{pushed_client, serving_first}
+use Rattle.ftp_pair_agreement.proofs.FetchServed.{leads_still}
+use Rattle.ftp_pair_agreement.proofs.FetchWants.{rises_or_none}
+use Rattle.ftp_pair_agreement.proofs.Rests.{near_form}
+use Rattle.ftp_pair_agreement.proofs.Still.{IsSeen, IsStill, seen_placed}
+use Rattle.ftp_pair_agreement.proofs.UploadData.{AtRise}
+use Rattle.ftp_pair_data.proofs.Known.{beside}
+use Rattle.ftp_pair_data.proofs.Running.{free_still, not_lost, under_still}
+use Rattle.ftp_pair_transfers.proofs.Halting.{halt_stands, halt_unclosed}
+use Rattle.ftp_pair_transfers.proofs.Known.{AreCarried, aside_rests, gives_none, is_ready, last_carried}
+use Rattle.ftp_pair_transfers.proofs.Running.{not_trailing}
+use Rattle.ftp_pair_breaks.proofs.Feeding.{is_final}
+
+-- ---- the client
+
+-- its upload was begun, and its final reply is not in
+pub record Climbing (w : World) : Type 0 where
+  pub op : Op (List ℕ)
+  pub replied : Replied
+  pub left : List ℕ
+  pub mark : Option ℕ
+  pub job : w.near.job ≡ sending op replied left mark
+  pub unfinal : is_final replied ≡ false
+
+-- it has given all of its upload, and closed the link
+pub record HasGiven (w : World) : Type 0 where
+  pub op : Op (List ℕ)
+  pub all : count_of op ≡ None
+  pub mark : Option ℕ
+  pub near : w.near ≡ busy (sending op Replies.Begun [] mark) (NearData.Over Endings.Ours) w.near
+
+-- ---- by stages
+
+-- none are taken before its command, nor in a download
+early_takes : (host : Host) (early : Early) → is_upload (early_far host early) ≡ false
+early_takes host (Dialled true) = refl
+early_takes host (Dialled false) = refl
+early_takes host (Ported port) = refl
+
+carry_takes : (listed : Bool) (course : Course) → is_upload (far_link (gives_on listed course) (tie_of course)) ≡ false
+carry_takes listed (Giving begun octet more) = gives_none listed (octet ∷ more)
+carry_takes listed (GaveAll heard true) = refl
+carry_takes listed (GaveAll heard false) = refl
+carry_takes listed (Ended begun clean) = refl
+carry_takes listed (Severed begun) = refl
+carry_takes listed (Refusing why Unclosed) = refl
+carry_takes listed (Refusing why Closed) = refl
+carry_takes listed (Refusing why (Lost clean)) = refl
+carry_takes listed Unopened = refl
+
+module _ (read : Reading) (state : State) (ask : Ask) (good : IsAsk ask) (own : List Mark) where
+  abbrev At : Way → World → Type 0
+  At way b = AtFetch state ask read own way b
+
+  stage_climbs : (w : World) → PlacedAt At w → is_upload w.far.session.connection ≡ true → Climbing w
+  stage_climbs w s takes = by_here s.here
+    where
+      of : IsSeen s.base w
+      of = seen_placed At w s
+
+      never : (link : ServerLink Transfer) (closing : Bool) (pending : Pending Names) → s.base.far.session ≡ linked link closing pending s.base.far.session
+          → is_upload link ≡ false → Climbing w
+      never link closing pending is none = absurd (true≢false (sym takes ∙ ap (λ (t : Session). is_upload t.connection) (of.session ∙ is) ∙ none))
+
+      by_lift : (rise : Rise) (lift : Lift) → Holds state ask own (Rises rise lift) s.way s.base → Climbing w
+      by_lift rise Offered h = record {
+        op = ask.op;
+        replied = Replies.Nothing;
+        left = _;
+        mark = None;
+        job = of.job ∙ ap (λ (n : Near). n.job) h.near;
+        unfinal = refl;
+      }
+      by_lift rise (Rising past octet more came queue mark notes) h = record {
+        op = ask.op;
+        replied = Replies.Begun;
+        left = octet ∷ more;
+        mark = mark;
+        job = of.job ∙ ap (λ (n : Near). n.job) h.near;
+        unfinal = refl;
+      }
+      by_lift rise (Risen past closed came queue mark notes) h = record {
+        op = ask.op;
+        replied = Replies.Begun;
+        left = [];
+        mark = mark;
+        job = of.job ∙ ap (λ (n : Near). n.job) h.near;
+        unfinal = refl;
+      }
+      by_lift rise (Settled begun mark notes fate left after) h = never _ _ _ h.session refl
+      by_lift rise (Declined why door) h = never _ _ _ h.session refl
+      by_lift rise Unjoined h = never _ _ _ h.session refl
+
+      by_leaving : (said : Said) (leaves : Leaving) → Holds state ask own (Answers said leaves) s.way s.base → Climbing w
+      by_leaving said (LeavesAside closes connection pending) h = never connection _ _ h.session (aside_rests connection h.fine.1).0
+      by_leaving said LinkOpen h = never _ _ _ h.session refl
+      by_leaving said LinkLeft h = never _ _ _ h.session refl
+      by_leaving said LinkParting h = never _ _ _ h.session refl
+
+      by_here : At s.way s.base → Climbing w
+      by_here (inl l) =
+          absurd (true≢false (sym takes
+          ∙ (aside_rests w.far.session.connection (leads_still read state ask good.plan own s.base w s.way of l).0.far.aside).0))
+      by_here (inr (PortAsked closing, h)) = never _ _ _ h.session refl
+      by_here (inr (PortTold port, h)) = never _ _ _ h.session refl
+      by_here (inr (Dials port, h)) = never _ _ _ h.session refl
+      by_here (inr (PortWanted connection pending, h)) = never connection _ _ h.session (aside_rests connection h.fine).0
+      by_here (inr (PortSaid port connection pending, h)) = never connection _ _ h.session (aside_rests connection h.fine.0).0
+      by_here (inr (PortTaken port closing, h)) = never _ _ _ h.session refl
+      by_here (inr (PortDenied port connection, h)) = never connection _ _ h.session (aside_rests connection h.fine.0).0
+      by_here (inr (Restarts at restart early, h)) = never _ _ _ h.session (early_takes s.base.near.here early)
+      by_here (inr (Retrieves early, h)) = never _ _ _ h.session (early_takes s.base.near.here early)
+      by_here (inr (Awaits port begun, h)) = never _ _ _ h.session refl
+      by_here (inr (Unaccepted port, h)) = never _ _ _ h.session refl
+      by_here (inr (Dismissed port why, h)) = never _ _ _ h.session refl
+      by_here (inr (Carries c, h)) = never _ _ _ h.session (carry_takes ask.listed c.course)
+      by_here (inr (Rises rise lift, h)) = by_lift rise lift h
+      by_here (inr (Tells rise said after, h)) = never _ _ _ h.session refl
+      by_here (inr (Answers said leaves, h)) = by_leaving said leaves h
+
+  -- one that lasts, and whose link the client alone has closed
+  stage_given : (w : World) → PlacedAt (AtRise read state ask own) w → w.link ≡ ClosedByNear → HasGiven w
+  stage_given w s closed = by_lift s.here.lift s.here.rises s.here.holds
+    where
+      link_is : w.link ≡ s.base.link
+      link_is = ap (λ (u : World). u.link) s.is ∙ (beside s.base s.way s.cut).0
+
+      by_lift : (lift : Lift) → lifts lift ≡ true → Holds state ask own (Rises s.here.rise lift) s.way s.base → HasGiven w
+      by_lift (Rising past octet more came queue mark notes) rises h =
+          absurd (true≢false (sym (ap is_closed_by_near closed) ∙ ap is_closed_by_near (link_is ∙ h.link)))
+      by_lift (Risen past false came queue mark notes) rises h =
+          absurd (true≢false (sym (ap is_closed_by_near closed) ∙ ap is_closed_by_near (link_is ∙ h.link)))
+      by_lift (Risen past true came queue mark notes) rises h = record {
+        op = ask.op;
+        all = h.ready.2.all;
+        mark = mark;
+        near = near_form s.base w (seen_placed (AtRise read state ask own) w s) _ _ h.near;
+      }
+      by_lift Offered rises h = absurd (true≢false (sym rises))
+      by_lift (Settled started mark notes fate left after) rises h = absurd (true≢false (sym rises))
+      by_lift (Declined why door) rises h = absurd (true≢false (sym rises))
+      by_lift Unjoined rises h = absurd (true≢false (sym rises))
+
+-- ---- in a world
+
+module _ (read : Reading) (reads : IsReading read) (from : State) (begun : List Order) (puts : AreCarried begun) (w : World)
+    (runs : OverRuns read from begun w) (control : w.control ≡ Stands)
+    (unready : is_closed_by_near w.link ≡ true → is_ready w.far.session.connection ≡ false) where
+  fetching_climbs : (u : World) → IsFetching read from begun u → is_upload u.far.session.connection ≡ true → Climbing u
+  fetching_climbs u f takes = stage_climbs read f.now f.ask f.is_ask f.own u f.stands takes
+
+  -- one whose client hears octets while the server takes
+  pub pushed_climbs : (count : ℕ) → is_upload w.far.session.connection ≡ true → Climbing (pushed read ControlToClient count w)
+  pushed_climbs count takes = by runs
+    where
+      new : World
+      new = pushed read ControlToClient count w
+
+      still : IsStill w → Climbing new
+      still is = absurd (true≢false (sym takes ∙ (aside_rests w.far.session.connection is.far.aside).0))
+
+      by_phase : Phase read from begun w → Climbing new
+      by_phase (inl (linked, inl free)) = still (free_still read from begun w free)
+      by_phase (inl (linked, inr under)) = still (under_still read from begun w under)
+      by_phase (inr lost) = absurd (not_lost read from begun w control lost)
+
+      by : OverRuns read from begun w → Climbing new
+      by (inl (inl f)) = by_phase f.phase
+      by (inl (inr (inl on))) =
+          elim (pushed_client read reads from begun count w on.fetching w (serving_first read reads from begun w on)) [
+            | inl f ↦ fetching_climbs new f takes
+            | inr halts ↦
+                let f = on.fetching in absurd (true≢false (sym takes ∙ (halt_stands f.now f.ask f.own new halts).untaken))
+          ]
+      by (inl (inr (inr (inl trailing)))) = absurd (not_trailing read reads from begun puts w unready trailing)
+      by (inl (inr (inr (inr on)))) =
+          let h = on.halting in absurd (true≢false (sym takes ∙ (halt_stands h.now h.ask h.own w h.stands).untaken))
+      by (inr (inl trying)) = absurd (last_carried trying.going.done _ begun trying.going.begun_is puts)
+      by (inr (inr tailing)) = absurd (last_carried tailing.going.done _ begun tailing.going.begun_is puts)
+
+  -- one whose link the client alone has closed
+  pub world_given : w.link ≡ ClosedByNear → HasGiven w
+  world_given closed = by runs
+    where
+      on_way : IsFetchingOn read from begun w → HasGiven w
+      on_way on =
+          let f = on.fetching in
+          elim (rises_or_none read f.now f.ask f.is_ask.plan f.own w f.stands on.lasts) [
+            | inl climbing ↦ stage_given read f.now f.ask f.is_ask f.own w climbing closed
+            | inr none ↦ absurd (true≢false (sym (ap is_closed_by_near closed) ∙ none.closed))
+          ]
+
+      by : OverRuns read from begun w → HasGiven w
+      by (inl (inl f)) = absurd (true≢false (sym (ap is_closed_by_near closed) ∙ ap is_closed_by_near f.unlinked.link))
+      by (inl (inr (inl on))) = on_way on
+      by (inl (inr (inr (inl trailing)))) = absurd (not_trailing read reads from begun puts w unready trailing)
+      by (inl (inr (inr (inr on)))) =
+          let h = on.halting in absurd (true≢false (sym (ap is_closed_by_near closed) ∙ halt_unclosed h.now h.ask h.own w h.stands))
+      by (inr (inl trying)) = absurd (last_carried trying.going.done _ begun trying.going.begun_is puts)
+      by (inr (inr tailing)) = absurd (last_carried tailing.going.done _ begun tailing.going.begun_is puts)

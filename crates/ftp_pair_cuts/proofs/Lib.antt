@@ -1,0 +1,14 @@
+pub mod Late
+pub mod Notes
+pub mod Seen
+pub mod ServerCut
+pub mod Climbing
+pub mod Lifting
+pub mod UpLagging
+pub mod Written
+pub mod Marking
+pub mod ClientTold
+pub mod Serving
+pub mod Simulating
+pub mod Concluding
+pub mod Ending

@@ -1,0 +1,268 @@
+-- A server that takes octets of an upload is told of the break of its data connection, which the client has left: an event of a world, by which it installs what
+-- came, and which tells a client of a world that still gives, too.
+use Rattle.std.proofs.Common.{◌≡◌, ℕ, true, false, true≢false, not, List, [], ◌++◌, Option, Some, None, option_to_list, refl, sym, ap, ap₂, subst, ◌∙◌}
+use Rattle.std.specs.Prelude.{if◌then◌else◌}
+use Rattle.ftp_control.specs.Deeds.{Calls, Stand}
+use Rattle.ftp_control.specs.Lane.{Lane, with_fate}
+use Rattle.ftp_control.specs.Machine.{Break}
+use Rattle.ftp_control.specs.declared.whole.Fate.TheVariants as Fates
+use Rattle.ftp_client_drive.specs.Side.{client_side}
+use Rattle.ftp_client_model.specs.Calls as near
+use Rattle.ftp_client_model.specs.Calls.{data_closed, report_of}
+use Rattle.ftp_client_model.specs.View.{View as Near}
+use Rattle.ftp_direct.specs.declared.refusal.Refusal.{Refusal}
+use Rattle.ftp_ends.specs.declared.link.Wants.TheVariants as Want
+use Rattle.ftp_operation.specs.Answer.{Said}
+use Rattle.ftp_path.specs.Path.{Names}
+use Rattle.ftp_server_drive.specs.Side.{server_side}
+use Rattle.ftp_server_model.specs.Calls as far
+use Rattle.ftp_server_model.specs.Calls.{break_step, breaks, clock_step, is_upload}
+use Rattle.ftp_server_model.specs.Machine.{Reading, at_break, end_refusal, ends_by, later}
+use Rattle.ftp_server_model.specs.View.{Session, Transfer, View as Far}
+use Rattle.ftp_server_model.specs.declared.reply.FixedReply.{FixedReply}
+use Rattle.ftp_server_model.specs.declared.reply.FixedReply.TheVariants as Texts
+use Rattle.ftp_server_model.specs.declared.session.Keep.{Keep}
+use Rattle.ftp_server_model.specs.declared.session.ServerLink.{ServerLink}
+use Rattle.ftp_server_model.specs.declared.session.ServerLink.TheVariants as Data
+use Rattle.ftp_server_model.specs.declared.session.Transfer.TheVariants as Transfers
+use Rattle.ftp_wire.specs.Decoder.{broken}
+use Rattle.ftp_pair_world.specs.Agreement.{Order}
+use Rattle.ftp_pair_world.specs.Events.{Break as Breaks, broken_by, is_gone, lends_none, link_breaks}
+use Rattle.ftp_pair_world.specs.Serving.{after_event}
+use Rattle.ftp_pair_world.specs.World.{Broken, World, gone, marked_last, port_at, with_mark}
+use Rattle.ftp_pair_drives.specs.Alone.{ServerIsCalm}
+use Rattle.ftp_pair_drives.specs.Between.{Between, Has_lost}
+use Rattle.ftp_pair_drives.proofs.Calm.{first_is_calm}
+use Rattle.ftp_pair_drives.proofs.Taken.{taken}
+use Rattle.ftp_pair_drives.proofs.Worlds.{LeadsOn, one_leads}
+use Rattle.ftp_pair_data.specs.Ahead.{accepts, is_asked, is_open}
+use Rattle.ftp_pair_data.proofs.Ahead.{closed_is}
+use Rattle.ftp_pair_data.proofs.Served.{Runs, after_settles, far_wants, rests, settled}
+use Rattle.ftp_pair_deeds.proofs.FarForms.{no_close, none_later}
+use Rattle.ftp_pair_deeds.proofs.Holding.{both, is_false}
+use Rattle.ftp_pair_deeds.proofs.Stands.{ServerServes}
+use Rattle.ftp_pair_transfers.specs.Ahead.{Ahead, Level, Listened, Listens, Opens, Parted, far_ahead}
+use Rattle.ftp_pair_transfers.proofs.Ahead.{FarSettles, far_settles, left_rests, next_ahead}
+use Rattle.ftp_pair_transfers.proofs.Beside.{GoesTo, Takes, Together, is_taking}
+use Rattle.ftp_pair_transfers.proofs.FarForms.{Takes as TakesUpload, is_receive, receives_upload, upload_takes}
+use Rattle.ftp_pair_transfers.proofs.Known.{is_near_held}
+use Rattle.ftp_pair_transfers.proofs.Settling.{far_held}
+
+-- ---- what a break leaves
+
+-- what came is installed or refused: no other data connection is had, and the session runs as before
+ends_shut : (why : Option Refusal) (moment : ℕ) (path : Names) (keep : Keep) (octets : List ℕ) (text : FixedReply) (s : Session)
+    → ((ends_by why moment path keep octets text s).0.connection ≡ s.connection) × ((ends_by why moment path keep octets text s).0.life ≡ s.life)
+ends_shut (Some why) moment path keep octets text s = (refl, refl)
+ends_shut None moment path keep octets text s = (refl, refl)
+
+transfer_shut : (moment : ℕ) (transfer : Transfer) (s : Session)
+    → ((at_break moment transfer s).0.connection ≡ s.connection) × ((at_break moment transfer s).0.life ≡ s.life)
+transfer_shut moment (Transfers.Upload path keep d) s =
+    ends_shut (end_refusal path keep (broken d).content s) moment path keep (broken d).content Texts.Broken s
+transfer_shut moment Transfers.OverLimit s = (refl, refl)
+transfer_shut moment (Transfers.Download rest) s = (refl, refl)
+transfer_shut moment (Transfers.Listing rest) s = (refl, refl)
+
+-- it is let go, no line comes to wait, and the session runs as before
+record LetsGo (old new : Far) : Type 0 where
+  free : new.session.connection ≡ Data.Free
+  waiting : new.waiting ≡ old.waiting
+  life : new.session.life ≡ old.session.life
+
+-- of a server that takes octets, and wants no close
+break_lets : (v : Far) → v.session.closing ≡ false → is_upload v.session.connection ≡ true → LetsGo v (break_step v)
+break_lets v unclosed takes = by v.session.connection refl takes
+  where
+    by : (link : ServerLink Transfer) → v.session.connection ≡ link → is_upload link ≡ true → LetsGo v (break_step v)
+    by (Data.Transferring transfer) is e =
+        let step : break_step v ≡ breaks (Data.Transferring transfer) v = ap₂ (λ c l. breaks (if c then Data.Free else l) v) unclosed is in
+        let shut = transfer_shut v.footing.moment transfer (record v.session { connection = Data.Free }) in
+        record {
+          free = ap (λ (f : Far). f.session.connection) step ∙ shut.0;
+          waiting = ap (λ (f : Far). f.waiting) step;
+          life = ap (λ (f : Far). f.session.life) step ∙ shut.1;
+        }
+    by Data.Free is e = absurd (true≢false (sym e))
+    by (Data.Asked verb) is e = absurd (true≢false (sym e))
+    by (Data.Active endpoint) is e = absurd (true≢false (sym e))
+    by Data.Passive is e = absurd (true≢false (sym e))
+    by Data.Ready is e = absurd (true≢false (sym e))
+    by (Data.Opening transfer way) is e = absurd (true≢false (sym e))
+
+-- ---- the client that is left beside
+
+-- a world's client after the break, and that of a drive: it has left its end, of which nothing comes and nothing is unwritten; and what lies between
+pub record Remains (w : World) (client after : Stand client_side) (between next : Between) : Type 0 where
+  pub view : Near
+  pub told : broken_by w.link (lends_none w) ≡ record (lends_none w) { near = view; far = far.data_fault w.far }
+  pub stands : is_gone w.link ≡ false
+  pub holds : view ≡ data_closed (taken after.owner.end.view)
+  pub none : report_of view ≡ None
+  pub unclosed : view.closing ≡ false
+  pub rest : rests (near.wants (data_closed view)) ≡ true
+  pub reports : report_of after.owner.end.view ≡ report_of client.owner.end.view
+  pub unheard : after.unheard ≡ client.unheard
+  pub not_taking : is_taking after.owner.lane ≡ false
+  pub takes : Takes after.owner.lane
+  pub written : after.owner.lane.unwritten ≡ []
+  pub control : next.control ≡ between.control
+  pub dry : next.data_ways.to_server ≡ []
+  pub lost : next.far ≡ Has_lost
+
+module _ (read : Reading) (begun : List Order) (old new : Stand server_side) (client after : Stand client_side) (reports : List Said) (w : World)
+    (calm : ServerIsCalm old.owner new.owner) (before : ServerServes old.owner) where
+  abbrev v : Far
+  v = old.owner.end.server.view
+
+  abbrev u : Far
+  u = new.owner.end.server.view
+
+  -- one that wants octets takes those of an upload
+  pub takes_octets : far.wants v ≡ Want.Receive → is_upload v.session.connection ≡ true
+  takes_octets wants =
+      sym (receives_upload v.session.connection) ∙ ap is_receive (sym (far_wants v before.running (no_close v Want.Receive wants refl)))
+      ∙ ap is_receive wants
+
+  pub takes_form : far.wants v ≡ Want.Receive → TakesUpload v.session.connection
+  takes_form wants = upload_takes v.session.connection (takes_octets wants)
+
+  module _ (moment : ℕ) (between next : Between) (told : ℕ) (did : Calls {side = server_side} Break old new) (wants : far.wants v ≡ Want.Receive)
+      (timed : is_upload w.far.session.connection ≡ true → w.far.footing.moment ≡ did.0.0.0)
+      (t : Together read begun moment Level between told old client reports w) (r : Remains w client after between next)
+      (none_untold : old.owner.lane.untold ≡ []) (none_unwritten : old.owner.lane.unwritten ≡ []) where
+    unclosed : v.session.closing ≡ false
+    unclosed = no_close v Want.Receive wants refl
+
+    takes : is_upload v.session.connection ≡ true
+    takes = takes_octets wants
+
+    far_is : w.far ≡ clock_step moment v
+    far_is = t.beside.far ∙ ap (clock_step moment) (closed_is v unclosed)
+
+    -- at the moment that it was told
+    far_at : w.far ≡ clock_step did.0.0.0 v
+    far_at =
+        far_is ∙ ap (λ m. clock_step m v) (sym (ap (λ (f : Far). f.footing.moment) far_is)
+        ∙ timed (ap (λ (f : Far). is_upload f.session.connection) far_is ∙ takes))
+
+    -- the drive's server is told the same
+    there : far.data_fault w.far ≡ u
+    unfolding far.data_fault
+    there =
+        let acts = did.0.0.3 in
+        let calls = did.0.0.4 in
+        let first : did.0.0.1.counts ≡ old.owner.end.server.counts =
+        first_is_calm old.owner.end.server.counts did.0.0.1.counts new.owner.end.server.counts acts.counted calls.counted calm in
+        let mid : did.0.0.1.view ≡ clock_step did.0.0.0 v = acts.done first ∙ none_later (clock_step did.0.0.0 v) before.none_waits in
+        ap (λ f. later (break_step f)) (far_at ∙ sym mid) ∙ sym (calls.done (calm ∙ sym first))
+
+    lets : LetsGo (clock_step did.0.0.0 v) u
+    unfolding far.data_fault
+    lets =
+        let f : Far = clock_step did.0.0.0 v in
+        let l = break_lets f unclosed takes in
+        subst (LetsGo f) (sym (sym there ∙ ap (λ x. later (break_step x)) far_at ∙ none_later (break_step f) (l.waiting ∙ before.none_waits))) l
+
+    freed : u.session.connection ≡ Data.Free
+    freed = lets.free
+
+    runs : Runs u
+    runs = record { running = lets.life ∙ before.running; none_waits = lets.waiting ∙ before.none_waits }
+
+    -- the link is gone, and the operation is marked
+    abbrev now : World
+    now = record (gone (record (lends_none w) { near = r.view; far = far.data_fault w.far })) { marks = marked_last (Broken w.came) w.marks }
+
+    breaks_now : link_breaks (lends_none w) ≡ now
+    breaks_now = ap (λ x. with_mark (Broken w.came) (gone x)) r.told
+
+    leads : LeadsOn read [] w (settled now)
+    leads =
+        one_leads read Breaks w (settled now) tt (
+          ap not r.stands,
+          sym (ap after_event breaks_now ∙ after_settles now r.rest (subst Runs (sym there) runs)),
+        )
+
+    s : FarSettles now (settled now)
+    s = far_settles now r.none r.unclosed refl
+
+    abbrev port : ℕ
+    port = port_at w.listens
+
+    unasked : is_asked (far.data_fault w.far).session.connection ≡ false
+    unasked = ap (λ (x : Far). is_asked x.session.connection) there ∙ ap is_asked freed
+
+    lane_then : new.owner.lane ≡ with_fate Fates.Broken old.owner.lane
+    lane_then = did.0.1
+
+    untold : new.owner.lane.untold ≡ []
+    untold = ap (λ (l : Lane). l.untold) lane_then ∙ none_untold
+
+    unwritten : new.owner.lane.unwritten ≡ []
+    unwritten = ap (λ (l : Lane). l.unwritten) lane_then ∙ none_unwritten
+
+    held_not : is_near_held (settled now).link ≡ true → ⊥
+    held_not e = true≢false (sym (far_held now r.unclosed e))
+
+    unheld : is_near_held (settled now).link ≡ false
+    unheld = is_false (is_near_held (settled now).link) held_not
+
+    pub server_cut : GoesTo read [] begun next told new after reports (marked_last (Broken w.came) w.marks) w
+    server_cut =
+        let b = t.beside in
+        record {
+          world = settled now;
+          leads = leads;
+          moment = u.footing.moment;
+          ahead = Level;
+          marked = s.same.marks;
+          together = record {
+            beside = record {
+              fits = ap is_asked freed;
+              near = s.near ∙ r.holds;
+              far = s.far ∙ ap (λ a. far_ahead (next_ahead a port) (far.data_fault w.far)) unasked ∙ ap (far_ahead Level) there;
+              to_server = s.same.to_server ∙ b.to_server
+                  ∙ ap₂ (λ (y : Stand server_side) c. y.unheard ++ c.to_server) (sym did.1) (sym r.control);
+              to_client = s.same.to_client ∙ b.to_client ∙ ap₂ (λ o c. o ++ c.to_client) (sym r.unheard) (sym r.control);
+              rising = s.same.data_to_server ∙ ap₂ (λ a o. [] ++ (a ++ o)) (sym r.dry) (sym r.written)
+                  ∙ ap (λ o. o ++ (next.data_ways.to_server ++ after.owner.lane.unwritten)) (sym untold);
+              falling = λ e. absurd (both e r.not_taking);
+              listens = subst (λ a. Listened (next_ahead a port) w.listens (settled now).listens) unasked s.listens ∙ b.listens;
+              reported = s.reports ∙ b.reported ∙ ap (λ o. reports ++ option_to_list o) (sym r.reports);
+              control = s.same.control ∙ b.control;
+              unready = λ e. absurd (both e s.same.link);
+              cutoff = s.same.cutoff ∙ b.cutoff;
+            };
+            holds = record {
+              shut = λ e. ap is_open freed;
+              had = λ e. absurd (both e (ap is_open freed));
+              called = λ c e. absurd (both e (ap accepts freed));
+              opened = λ e. absurd (true≢false (sym e));
+            };
+            comes = record { bare = λ e. untold; spare = λ e. untold; over = λ e. untold; shut = λ e. ap is_open freed };
+            serves = record { spare = λ e. unwritten; bare = λ e. unwritten };
+            takes = r.takes;
+            gives = record { spare = λ e. r.written; bare = λ e. r.written };
+            keeping = record { had = λ e. absurd (held_not e); shut = λ e. unheld; over = λ e. unheld };
+            twin = λ e. absurd (true≢false (sym e));
+          };
+        }
+
+    pub cut_serves : ServerServes new.owner
+    cut_serves = record { running = runs.running; none_waits = runs.none_waits }
+
+  -- a server that takes octets is ahead by nothing
+  pub cut_at : (moment : ℕ) (ahead : Ahead) (between next : Between) (told : ℕ) (did : Calls {side = server_side} Break old new)
+      → far.wants v ≡ Want.Receive
+      → (is_upload w.far.session.connection ≡ true → w.far.footing.moment ≡ did.0.0.0) → Together read begun moment ahead between told old client reports w
+      → Remains w client after between next → old.owner.lane.untold ≡ [] → old.owner.lane.unwritten ≡ []
+      → GoesTo read [] begun next told new after reports (marked_last (Broken w.came) w.marks) w × ServerServes new.owner
+  cut_at moment Level between next told did wants timed t r none_untold none_unwritten = (
+    server_cut moment between next told did wants timed t r none_untold none_unwritten,
+    cut_serves moment between next told did wants timed t r none_untold none_unwritten,
+  )
+  cut_at moment Opens between next told did wants timed t r none_untold none_unwritten = absurd (both t.beside.fits (takes_form wants).alone)
+  cut_at moment (Listens other) between next told did wants timed t r none_untold none_unwritten = absurd (both t.beside.fits (takes_form wants).unasked)
+  cut_at moment (Parted accepted) between next told did wants timed t r none_untold none_unwritten =
+      absurd (both (takes_octets wants) (left_rests accepted v.session.connection t.beside.fits).0)

@@ -1,0 +1,308 @@
+-- A server that takes octets of an upload fails, and is told of the break: beside a world, or beside one whose client was not told.
+use Rattle.std.proofs.Common.{◌≡◌, ◌⊎◌, inl, inr, ℕ, true, false, true≢false, List, [], ◌∷◌, ◌++◌, refl, sym, ap, subst, ◌∙◌, append-nil}
+use Rattle.ftp_control.specs.Deeds.{Calls, Deed, Other, Stand}
+use Rattle.ftp_control.specs.Lane.{Lane, with_fate}
+use Rattle.ftp_control.specs.Machine.{Break, Failed}
+use Rattle.ftp_control.specs.declared.whole.Fate.TheVariants as Fates
+use Rattle.ftp_client_drive.specs.Side.{client_side}
+use Rattle.ftp_client_model.specs.Calls as near
+use Rattle.ftp_client_model.specs.Calls.{data_closed, is_sound, report_of}
+use Rattle.ftp_client_model.specs.View.{View as Near}
+use Rattle.ftp_ends.specs.declared.link.Wants.TheVariants as Want
+use Rattle.ftp_server_drive.specs.Side.{server_side}
+use Rattle.ftp_server_model.specs.Calls as far
+use Rattle.ftp_server_model.specs.Calls.{clock_step, is_upload}
+use Rattle.ftp_server_model.specs.Machine.{IsReading, Reading}
+use Rattle.ftp_server_model.specs.View.{Session, Transfer, View as Far}
+use Rattle.ftp_server_model.specs.declared.session.Life.TheVariants as Lives
+use Rattle.ftp_server_model.specs.declared.session.ServerLink.{ServerLink}
+use Rattle.ftp_server_model.specs.declared.session.ServerLink.TheVariants as Data
+use Rattle.ftp_server_model.specs.declared.session.Transfer.TheVariants as Transfers
+use Rattle.ftp_pair_world.specs.Agreement.{Order}
+use Rattle.ftp_pair_world.specs.Claims.{Beginning, IsFair, state_of, world_of}
+use Rattle.ftp_pair_world.specs.Events.{broken_by, is_gone, lends_none}
+use Rattle.ftp_pair_world.specs.World.{Broken, ClosedByNear, Mark, Opened, World, marked_last}
+use Rattle.ftp_pair_drives.specs.Alone.{ServerIsCalm, reports_in}
+use Rattle.ftp_pair_drives.specs.Between.{Between, Can, Far as TheServer, Has_ended, Has_lost, Hold}
+use Rattle.ftp_pair_drives.specs.Touches.{ToldBreak}
+use Rattle.ftp_pair_drives.proofs.Taken.{taken_none}
+use Rattle.ftp_pair_drives.proofs.Worlds.{LeadsOn, leads_then}
+use Rattle.ftp_pair_data.proofs.Served.{far_wants, rests}
+use Rattle.ftp_pair_deeds.proofs.FarForms.{no_close}
+use Rattle.ftp_pair_deeds.proofs.Holding.{both, is_called, is_false, is_had, is_sound as is_kept, unclosed}
+use Rattle.ftp_pair_deeds.proofs.Plain.{IsPlainly}
+use Rattle.ftp_pair_deeds.proofs.Stands.{ServerServes}
+use Rattle.ftp_pair_transfers.specs.Ahead.{Ahead, Fits, Level, Listens, Opens, Parted, far_ahead}
+use Rattle.ftp_pair_transfers.specs.Deeds.{AreMoments, begun_at, last_of, number_in}
+use Rattle.ftp_pair_transfers.proofs.Ahead.{Holds, left_rests}
+use Rattle.ftp_pair_transfers.proofs.Beside.{GoesTo, is_taking, rested}
+use Rattle.ftp_pair_transfers.proofs.Called.{StaysFresh}
+use Rattle.ftp_pair_transfers.proofs.FarForms.{is_receive, receives_upload, upload_takes}
+use Rattle.ftp_pair_transfers.proofs.Known.{AreCarried, Known, is_giving, is_near_held}
+use Rattle.ftp_pair_transfers.proofs.Running.{world_timed}
+use Rattle.ftp_pair_transfers.proofs.ServerStays.{server_stays}
+use Rattle.ftp_pair_transfers.proofs.Simulating.{asks, known, runs}
+use Rattle.ftp_pair_breaks.proofs.Lagging.{Lags, Whole, beside, feeds, unbroken}
+use Rattle.ftp_pair_breaks.proofs.Steps.{Again, At, idle_again}
+use Rattle.ftp_pair_breaks.proofs.Unsent.{AskAll, Unsent, all_carried}
+use Rattle.ftp_pair_cuts.specs.Deeds.{IsOut}
+use Rattle.ftp_pair_cuts.proofs.Lifting.{IsClosing, StillGives, closes_alike, gives_fault, lifts_none, lifts_plain, lifts_rest, lifts_sound, lifts_taken, was_none}
+use Rattle.ftp_pair_cuts.proofs.Seen.{dry}
+use Rattle.ftp_pair_cuts.proofs.ServerCut.{Remains, cut_at}
+use Rattle.ftp_pair_cuts.proofs.UpLagging.{UpLags, link_closed, link_open, near_is, plainly}
+
+-- ---- a server that takes octets
+
+-- it has an upload under way
+pub wants_upload : (v : Far) → v.session.life ≡ Lives.Running → far.wants v ≡ Want.Receive → is_upload v.session.connection ≡ true
+wants_upload v running wants =
+    sym (receives_upload v.session.connection) ∙ ap is_receive (sym (far_wants v running (no_close v Want.Receive wants refl))) ∙ ap is_receive wants
+
+-- so has a world's
+ahead_upload : (ahead : Ahead) (moment : ℕ) (v : Far) → Fits ahead v.session.connection → is_upload v.session.connection ≡ true
+    → is_upload (clock_step moment (far_ahead ahead v)).session.connection ≡ true
+ahead_upload Level moment v fits takes = takes
+ahead_upload Opens moment v fits takes = absurd (both fits (upload_takes v.session.connection takes).alone)
+ahead_upload (Listens port) moment v fits takes = absurd (both fits (upload_takes v.session.connection takes).unasked)
+ahead_upload (Parted accepted) moment v fits takes = absurd (both takes (left_rests accepted v.session.connection fits).0)
+
+-- one that gives, or over whose link nothing was asked for, takes none
+giving_takes : (link : ServerLink Transfer) → is_giving link ≡ true → is_upload link ≡ false
+giving_takes (Data.Transferring (Transfers.Download rest)) e = refl
+giving_takes (Data.Transferring (Transfers.Listing rest)) e = refl
+giving_takes (Data.Transferring (Transfers.Upload path keep d)) e = absurd (true≢false (sym e))
+giving_takes (Data.Transferring Transfers.OverLimit) e = absurd (true≢false (sym e))
+giving_takes Data.Free e = refl
+giving_takes (Data.Asked verb) e = refl
+giving_takes (Data.Active endpoint) e = refl
+giving_takes Data.Passive e = refl
+giving_takes Data.Ready e = refl
+giving_takes (Data.Opening transfer way) e = refl
+
+-- ---- the client has left
+
+-- it has it no more
+out_lost : (hold : Hold) → IsOut hold → is_had hold ≡ false
+out_lost Has_ended out = refl
+out_lost Has_lost out = refl
+out_lost hold out = absurd out
+
+module _ (read : Reading) (reads : IsReading read) (moments : ℕ → ℕ) (timed : AreMoments moments) (b : Beginning) (fair : IsFair b) where
+  -- a world is beside a server that did something and a client, with these marks
+  again_cut : (deeds : List (Deed client_side)) {between : Between} {count : ℕ} {server : Stand server_side} {old : Stand client_side}
+      (o : At read reads moments timed b fair deeds between count server old) (marks : List (List Mark)) (next : Between) (told : Stand server_side)
+      (new : Stand client_side) → GoesTo read [] (begun_at moments deeds) next count told new (reports_in deeds) marks o.world → ServerServes told.owner
+      → is_sound new.owner.end.view.standing ≡ true → IsPlainly new.owner.end.view → StaysFresh next new
+      → Again read reads moments timed b fair deeds next count told new marks
+  again_cut deeds {between} {count} {server} {old} o marks next told new went serves sound plain fresh =
+      let begun : List Order = begun_at moments deeds in (
+        record {
+          world = went.world;
+          leads = subst (λ l. LeadsOn read l (world_of b) went.world) (append-nil begun)
+              (leads_then read begun [] (world_of b) o.world went.world o.leads went.leads);
+          last = went.moment;
+          ahead = went.ahead;
+          together = went.together;
+          serves = serves;
+          plain = plain;
+          sound = sound;
+          fresh = fresh;
+        },
+        went.marked,
+      )
+
+  module _ (deeds : List (Deed client_side)) (puts : AskAll (begun_at moments deeds)) (p : Between) (count : ℕ) (old new : Stand server_side)
+      (client : Stand client_side) (calm : ServerIsCalm old.owner new.owner) (o : At read reads moments timed b fair deeds p count old client) where
+    abbrev w : World
+    w = o.world
+
+    carried : AreCarried (begun_at moments deeds)
+    carried = all_carried (begun_at moments deeds) puts
+
+    -- a read of it fails: it is told of nothing
+    pub failed_again : Calls {side = server_side} Failed old new → Again read reads moments timed b fair deeds p count new client w.marks
+    failed_again did =
+        let lane : new.owner.lane ≡ with_fate Fates.Failed old.owner.lane = did.0.1.0 in
+        let view : new.owner.end.server.view ≡ old.owner.end.server.view = ap (λ at. at.server.view) did.0.0 in
+        let session : new.owner.end.server.view.session ≡ old.owner.end.server.view.session = ap (λ (v : Far). v.session) view in
+        let t = o.together in
+        again_cut deeds o w.marks p new client
+        (server_stays read (begun_at moments deeds) old new client (reports_in deeds) w calm o.serves
+        (known read reads moments timed b fair deeds p count old client (reports_in deeds) o carried) o.last o.ahead o.ahead p p
+        count count t
+        (subst (λ (s : Session). Fits o.ahead s.connection) (sym session) t.beside.fits) (ap (λ f. clock_step o.last (far_ahead o.ahead f)) (sym view)) (λ l. l)
+        (λ e. e) (ap (λ (s : Stand server_side). s.unheard ++ p.control.to_server) (sym did.1)) refl
+        (ap (λ (l : Lane). l.untold ++ (p.data_ways.to_server ++ client.owner.lane.unwritten)) (sym lane))
+        (ap (λ (l : Lane). client.owner.lane.untold ++ (p.data_ways.to_client ++ l.unwritten)) (sym lane)) refl
+        (subst (λ (s : Session). Holds o.ahead p.far s) (sym session) t.holds)
+        (record {
+          bare = λ e. ap (λ (l : Lane). l.untold) lane ∙ t.comes.bare (ap (λ (l : Lane). l.stands) (sym lane) ∙ e);
+          spare = λ e. ap (λ (l : Lane). l.untold) lane ∙ t.comes.spare e;
+          over = λ e. absurd (both (ap (λ (l : Lane). is_kept l.fate) lane) e);
+          shut = λ e. absurd (both (ap (λ (l : Lane). is_kept l.fate) lane) e);
+        })
+        (record {
+          spare = λ e. ap (λ (l : Lane). l.unwritten) lane ∙ t.serves.spare e;
+          bare = λ e. ap (λ (l : Lane). l.unwritten) lane ∙ t.serves.bare (ap (λ (l : Lane). l.stands) (sym lane) ∙ e);
+        }))
+        (record {
+          running = ap (λ at. at.server.view.session.life) did.0.0 ∙ o.serves.running;
+          none_waits = ap (λ at. at.server.view.waiting) did.0.0 ∙ o.serves.none_waits;
+        }) o.sound o.plain o.fresh
+
+    -- ---- it is told of the break
+
+    module _ (q : Between) (after : Stand client_side) (did : Calls {side = server_side} Break old new)
+        (wants : far.wants old.owner.end.server.view ≡ Want.Receive) (told : did.0.0.0 ≡ last_of moments (number_in deeds)) (r : Remains w client after p (dry q))
+        (untold : old.owner.lane.untold ≡ []) (unwritten : old.owner.lane.unwritten ≡ []) where
+      -- a world is beside both again, and its link is broken; a break marks
+      pub cut_again : is_sound after.owner.end.view.standing ≡ true → IsPlainly after.owner.end.view → StaysFresh (dry q) after
+          → Again read reads moments timed b fair (Other Break ∷ deeds) (dry q) count new after (marked_last (Broken w.came) w.marks)
+      cut_again sound plain fresh =
+          let t = o.together in
+          let went = cut_at read (begun_at moments deeds) old new client after (reports_in deeds) w calm o.serves o.last o.ahead p (dry q) count did wants
+          (λ takes. world_timed read reads (state_of b) moments deeds carried w
+          (runs read reads moments timed b fair deeds p count old client (reports_in deeds) o carried)
+          t.beside.control t.beside.unready takes ∙ sym told) t r untold unwritten in
+          let got = again_cut deeds o (marked_last (Broken w.came) w.marks) (dry q) new after went.0 went.1 sound plain fresh in
+          let idle = idle_again read reads moments timed b fair (Other Break) deeds got.0 refl refl in
+          (idle.0, idle.1 ∙ got.1)
+
+  -- ---- a server that takes, beside a world
+
+  module _ (deeds : List (Deed client_side)) (puts : AskAll (begun_at moments deeds)) (p q : Between) (count : ℕ) (old new : Stand server_side)
+      (client : Stand client_side) (calm : ServerIsCalm old.owner new.owner) (wants : far.wants old.owner.end.server.view ≡ Want.Receive) where
+    -- so has its world's server an upload under way
+    world_upload : {m : Between} {c : Stand client_side} (o : At read reads moments timed b fair deeds m count old c)
+        → is_upload o.world.far.session.connection ≡ true
+    world_upload o =
+        ap (λ (f : Far). is_upload f.session.connection) o.together.beside.far
+        ∙ ahead_upload o.ahead o.last old.owner.end.server.view o.together.beside.fits (wants_upload old.owner.end.server.view o.serves.running wants)
+
+    -- then no world's client takes octets of a download that broke
+    pub lags_never : Lags read reads moments timed b fair deeds p count old client → ⊥
+    lags_never l =
+        let takes : is_upload l.at.world.far.session.connection ≡ true = world_upload l.at in
+        elim (feeds read reads moments timed b fair deeds puts p count old client l).far [
+          | inl free ↦ both takes (ap is_upload free)
+          | inr going ↦ by_link takes going.1
+        ]
+      where
+        by_link : {link : ServerLink Transfer} {Empty : Type 0} → is_upload link ≡ true → (is_giving link ≡ true) ⊎ ((link ≡ Data.Ready) × Empty) → ⊥
+        by_link {link} takes (inl gives) = both takes (giving_takes link gives)
+        by_link takes (inr ready) = both takes (ap is_upload ready.0)
+
+    -- ---- it is told of the break
+
+    module _ (did : Calls {side = server_side} Break old new) (told : did.0.0.0 ≡ last_of moments (number_in deeds)) (untold : old.owner.lane.untold ≡ [])
+        (unwritten : old.owner.lane.unwritten ≡ []) (can : Can TheServer ToldBreak p q) (left : client.owner.lane.stands ≡ false) where
+      lost : q.far ≡ Has_lost
+      lost = ap (λ (m : Between). m.far) can.1
+
+      fresh : StaysFresh (dry q) client
+      fresh called = absurd (both called (ap is_called lost))
+
+      not_taking : is_taking client.owner.lane ≡ false
+      not_taking = ap (λ s. is_taking (record client.owner.lane { stands = s })) left
+
+      -- where a world is beside both: its client alone has closed the link
+      pub whole_cut : Whole read reads moments timed b fair deeds p count old client → IsOut p.near
+          → Whole read reads moments timed b fair (Other Break ∷ deeds) (dry q) count new client
+      whole_cut o out =
+          let w : World = o.at.world in
+          let t = o.at.together in
+          let carried = all_carried (begun_at moments deeds) puts in
+          let known_now : Known w = known read reads moments timed b fair deeds p count old client _ o.at carried in
+          let link : w.link ≡ ClosedByNear = known_now.takes (world_upload o.at)
+          (is_false (is_near_held w.link) (λ e. both (t.keeping.had e) (out_lost p.near out))) in
+          let open_near : w.near.closing ≡ false = ap (λ (n : Near). n.closing) t.beside.near in
+          let r : Remains w client client p (dry q) = record {
+            view = w.near;
+            told = ap (λ l. broken_by l (lends_none w)) link;
+            stands = ap is_gone link;
+            holds = t.beside.near;
+            none = ap report_of t.beside.near ∙ taken_none client.owner.end.view;
+            unclosed = open_near;
+            rest = ap (λ n. rests (near.wants n)) (unclosed w.near open_near) ∙ (rested o.at.last o.at.ahead p count old client _ w t.beside o.at.serves
+                (asks read reads moments timed b fair deeds p count old client _ o.at carried)).near_rests;
+            reports = refl;
+            unheard = refl;
+            not_taking = not_taking;
+            takes = t.takes;
+            written = t.gives.bare left;
+            control = ap (λ (m : Between). m.control) can.1;
+            dry = refl;
+            lost = lost;
+          } in
+          let got = cut_again deeds puts p count old new client calm o.at q client did wants told r untold unwritten o.at.sound o.at.plain fresh in
+          record {
+            at = got.0;
+            marks = marked_last (Broken w.came) o.marks;
+            are_marks = (o.marks, o.are_marks, inr (w.came, refl));
+            marked = got.1 ∙ ap (marked_last (Broken w.came)) o.marked;
+            unsent = o.unsent;
+          }
+
+      -- where it is beside a client that was not told: it is told too, or has closed the link
+      module _ (l : UpLags read reads moments timed b fair deeds p count old client) where
+        abbrev n : Near
+        n = l.was.end.view
+
+        abbrev u : Near
+        u = client.owner.end.view
+
+        abbrev there : World
+        there = l.at.world
+
+        near_there : there.near ≡ data_closed n
+        near_there = near_is read reads moments timed b fair deeds puts p count old client l
+
+        -- with this client then
+        remains : (view : Near) → broken_by there.link (lends_none there) ≡ record (lends_none there) { near = view; far = far.data_fault there.far }
+            → is_gone there.link ≡ false → view ≡ data_closed u → Remains there (beside l.was client) client (unbroken p) (dry q)
+        remains view told stands is = record {
+          view = view;
+          told = told;
+          stands = stands;
+          holds = is ∙ ap data_closed (sym (lifts_taken n u l.lifts));
+          none = ap report_of is ∙ lifts_none n u l.lifts;
+          unclosed = ap (λ (m : Near). m.closing) is;
+          rest = ap (λ m. rests (near.wants (data_closed m))) is ∙ lifts_rest n u l.lifts;
+          reports = lifts_none n u l.lifts ∙ sym (was_none n u l.lifts);
+          unheard = refl;
+          not_taking = not_taking;
+          takes = l.lane.takes;
+          written = l.lane.bare left;
+          control = ap (λ (m : Between). m.control) can.1;
+          dry = refl;
+          lost = lost;
+        }
+
+        still_gives : StillGives n l.lifts.left l.lifts.link l.lifts.closed → Remains there (beside l.was client) client (unbroken p) (dry q)
+        still_gives gives =
+            let link : there.link ≡ Opened = link_open read reads moments timed b fair deeds puts p count old client l gives in
+            let same : there.near ≡ n = near_there ∙ unclosed n gives.1 in
+            let fault : near.data_fault there.near ≡ u = ap near.data_fault same ∙ gives_fault n u l.lifts gives in
+            remains u
+            (ap (λ k. broken_by k (lends_none there)) link ∙ ap (λ m. record (lends_none there) { near = m; far = far.data_fault there.far }) fault)
+            (ap is_gone link) (sym (unclosed u (ap (λ (m : Near). m.closing) l.lifts.told ∙ gives.4)))
+
+        has_closed : IsClosing n l.lifts.left l.lifts.link → Remains there (beside l.was client) client (unbroken p) (dry q)
+        has_closed closes =
+            let link : there.link ≡ ClosedByNear = link_closed read reads moments timed b fair deeds puts p count old client l closes in
+            remains there.near (ap (λ k. broken_by k (lends_none there)) link) (ap is_gone link) (near_there ∙ closes_alike n u l.lifts closes)
+
+        pub lag_cut : Whole read reads moments timed b fair (Other Break ∷ deeds) (dry q) count new client
+        lag_cut =
+            let got = cut_again deeds puts (unbroken p) count old new (beside l.was client) calm l.at q client did wants told
+            (elim l.lifts.kind [
+              | inl gives ↦ still_gives gives
+              | inr closes ↦ has_closed closes
+            ]) untold unwritten (lifts_sound n u l.lifts) (plainly read reads moments timed b fair deeds puts p count old client l) fresh in
+            record {
+              at = got.0;
+              marks = marked_last (Broken there.came) l.marks;
+              are_marks = (l.marks, l.are_marks, inr (there.came, refl));
+              marked = got.1 ∙ ap (marked_last (Broken there.came)) l.marked;
+              unsent = lifts_plain n u l.lifts Unsent l.unsent;
+            }

@@ -1,0 +1,83 @@
+-- What is claimed of two drives of which data connections break, those of uploads too.
+use Rattle.std.specs.Prelude.{◌≡◌, ◌⊎◌, ℕ, List, [], ◌++◌, length, None, Some, option_to_list}
+use Rattle.ftp_control.specs.Deeds.{Led, Stand}
+use Rattle.ftp_client_drive.specs.Side.{client_side}
+use Rattle.ftp_client_model.specs.Calls.{control_end, data_closed, data_fault, report_of, reports}
+use Rattle.ftp_pair_breaks.specs.Claims.{ReportAlike}
+use Rattle.ftp_pair_breaks.specs.Deeds.{AreMarks}
+use Rattle.ftp_pair_cuts.specs.Deeds.{AreToldLate, GivesAlong, LosesAlong, marking}
+use Rattle.ftp_pair_drives.specs.Alone.{reports_in}
+use Rattle.ftp_pair_drives.specs.Between.{Between, Happened, Turn, client_deeds, server_deeds}
+use Rattle.ftp_pair_drives.specs.Claims.{Begins}
+use Rattle.ftp_pair_deeds.specs.Deeds.{ArePorts}
+use Rattle.ftp_pair_transfers.specs.Deeds.{AreMoments, AreToldAt, begun_at}
+use Rattle.ftp_pair_transfers.specs.Refusals.{HoldsMarked}
+use Rattle.ftp_pair_world.specs.Agreement.{Agrees, Leads}
+use Rattle.ftp_pair_world.specs.Claims.{AreTimed, Beginning, IsFair, state_of, world_of}
+use Rattle.ftp_pair_world.specs.Events.{Event}
+use Rattle.ftp_pair_world.specs.World.{Mark, World}
+use Rattle.ftp_server_drive.specs.Side.{server_side}
+use Rattle.ftp_server_model.specs.Machine.{IsReading, Reading}
+
+-- one server's drive and drives of one client did these deeds in this order, each when it could be done, and at these moments; as they began no octet of a
+-- data connection was on its way or in hand
+pub record DidCut (b : Beginning) (moments : ℕ → ℕ) (turns : List Turn) (between : Between) (server : Stand server_side)
+    (client : Stand client_side) : Type 0 where
+  pub server_start : Stand server_side
+  pub client_start : Stand client_side
+  pub begins : Begins b server_start client_start
+  pub untold : server_start.owner.lane.untold ≡ []
+  pub unwritten : client_start.owner.lane.unwritten ≡ []
+  pub server_unwritten : server_start.owner.lane.unwritten ≡ []
+  pub client_untold : client_start.owner.lane.untold ≡ []
+  pub happened : Happened turns between
+  pub server_led : Led (server_deeds turns) server_start server
+  pub client_led : Led (client_deeds turns) client_start client
+  pub takes : LosesAlong (server_deeds turns) server_start server server_led
+  pub gives : GivesAlong (client_deeds turns) client_start client client_led
+  pub ports : ArePorts (server_deeds turns)
+  pub told : AreToldAt moments turns server_start server server_led
+  pub late : AreToldLate moments turns between happened server_start server server_led client_start client client_led
+
+-- Events of a world lead from the beginning to one that holds what the server holds and what the client holds, or held before it was told of a break that a
+-- world tells later: once the server has let the data connection go, or was told of it too. It has marks of these deeds; they began the same operations at these
+-- moments.
+pub record CutIsOfWorld (read : Reading) (b : Beginning) (moments : ℕ → ℕ) (turns : List Turn) (server : Stand server_side)
+    (client : Stand client_side) : Type 0 where
+  pub events : List Event
+  pub timed : AreTimed events
+  pub world : World
+  pub leads : Leads read (world_of b) events (begun_at moments (client_deeds turns)) world
+  pub marks : List (List Mark)
+  pub are_marks : AreMarks (marking turns) marks
+  pub was : Stand client_side
+  pub is : (was ≡ client) ⊎ (client.owner.end.view ≡ data_fault was.owner.end.view)
+  pub alike : ReportAlike client.owner.end.view was.owner.end.view
+  pub both : HoldsMarked marks server was (reports_in (client_deeds turns)) world
+  pub near : world.near ≡ data_closed (reports was.owner.end.view)
+
+-- so it is of any such deeds
+abbrev pub CutsAreOfWorlds : Type 0
+CutsAreOfWorlds =
+    (read : Reading) → IsReading read → (b : Beginning) → IsFair b → (moments : ℕ → ℕ) → AreMoments moments
+    → (turns : List Turn) (between : Between) (server : Stand server_side) (client : Stand client_side)
+    → DidCut b moments turns between server client → CutIsOfWorld read b moments turns server client
+
+-- so reports and map agree with what was begun, a report that was not taken yet among them: an operation is cut only where an end was told of a
+-- break
+abbrev pub CutsAgree : Type 0
+CutsAgree =
+    (b : Beginning) → IsFair b → (moments : ℕ → ℕ) → AreMoments moments
+    → (turns : List Turn) (between : Between) (server : Stand server_side) (client : Stand client_side)
+    → DidCut b moments turns between server client → (marks : List (List Mark)) × AreMarks (marking turns) marks
+    × Agrees (state_of b) (begun_at moments (client_deeds turns)) marks None
+    (reports_in (client_deeds turns) ++ option_to_list (report_of client.owner.end.view)) server.owner.end.server.view.session.table
+
+-- so they do where both ends are told then, whatever was on its way, that the control connection ended: an operation that has no report is lost
+abbrev pub CutsPartingAgree : Type 0
+CutsPartingAgree =
+    (b : Beginning) → IsFair b → (moments : ℕ → ℕ) → AreMoments moments
+    → (turns : List Turn) (between : Between) (server : Stand server_side) (client : Stand client_side)
+    → DidCut b moments turns between server client → (marks : List (List Mark)) × AreMarks (marking turns) marks
+    × Agrees (state_of b) (begun_at moments (client_deeds turns)) marks (Some (length marks))
+    (reports_in (client_deeds turns) ++ option_to_list (report_of (control_end client.owner.end.view))) server.owner.end.server.view.session.table

@@ -1,0 +1,86 @@
+-- The deeds of one server's drive and of drives of one client of which data connections break, those of uploads too: an end is told so (RFC 959, section 3.3).
+use Rattle.std.specs.Prelude.{◌≡◌, ◌⊎◌, ⊤, ℕ, true, false, List, [], ◌∷◌}
+use Rattle.ftp_control.specs.Asking.{Reset}
+use Rattle.ftp_control.specs.Deeds.{Deed, Done, Led, Other, Stand}
+use Rattle.ftp_control.specs.Machine.{Break, Failed, Held, Left}
+use Rattle.ftp_control.specs.declared.whole.Fate.TheVariants as Fates
+use Rattle.ftp_client_drive.specs.Side.{client_side}
+use Rattle.ftp_client_model.specs.Calls as near
+use Rattle.ftp_client_model.specs.Failing.{Client}
+use Rattle.ftp_ends.specs.declared.link.Wants.TheVariants as Want
+use Rattle.ftp_pair_deeds.specs.Deeds.{Along}
+use Rattle.ftp_pair_drives.specs.Alone.{ClientIsCalm, ServerIsCalm}
+use Rattle.ftp_pair_drives.specs.Between.{Between, Client as ByClient, Has_ended, Has_lost, Happened, Hold, Server as ByServer, Turn, client_deeds, server_deeds}
+use Rattle.ftp_pair_transfers.specs.Deeds.{last_of, number_in}
+use Rattle.ftp_pair_breaks.specs.Deeds.{IsSuffering, IsYielding}
+use Rattle.ftp_server_drive.specs.Side.{Timed, server_side}
+use Rattle.ftp_server_model.specs.Calls as far
+
+-- ---- the server
+
+-- while it takes octets a read fails, and it is told of the break, once it was told all that came, where it has nothing to write; else it does what it does
+-- where downloads alone break
+abbrev pub IsLosing : Deed server_side → Held Timed → Type 0
+IsLosing (Other Failed) at = IsYielding (Other Failed) at ⊎ (far.wants at.end.server.view ≡ Want.Receive)
+IsLosing (Other Break) at =
+    IsYielding (Other Break) at ⊎ ((far.wants at.end.server.view ≡ Want.Receive) × (at.lane.untold ≡ []) × (at.lane.unwritten ≡ []))
+IsLosing deed at = IsYielding deed at
+
+-- so it does, and it was not refused memory, and no device of it failed or strayed
+abbrev pub ServerLoses : Deed server_side → (old new : Held Timed) → Type 0
+ServerLoses deed old new = IsLosing deed old × ServerIsCalm old new
+
+abbrev pub LosesAlong : (deeds : List (Deed server_side)) (start now : Stand server_side) → Led deeds start now → Type 0
+LosesAlong deeds start now led = Along ServerLoses deeds start now led
+
+-- ---- the client
+
+-- it is told of the break of a data connection that failed while it gives octets, or while it is to close it, of which octets may be unwritten; it resets one of
+-- which it was told so; else it does what it does where downloads alone break
+abbrev pub IsGiving : Deed client_side → Held Client → Type 0
+IsGiving (Other Break) at =
+    IsSuffering (Other Break) at ⊎ ((at.lane.fate ≡ Fates.Failed) × ((near.wants at.end.view ≡ Want.Send) ⊎ (at.end.view.closing ≡ true)))
+IsGiving (Other (Left (Reset left written))) at = IsSuffering (Other (Left (Reset left written))) at ⊎ (at.lane.fate ≡ Fates.Broken)
+IsGiving deed at = IsSuffering deed at
+
+-- so it does, and it was not refused memory
+abbrev pub ClientGives : Deed client_side → (old new : Held Client) → Type 0
+ClientGives deed old new = IsGiving deed old × ClientIsCalm old new
+
+abbrev pub GivesAlong : (deeds : List (Deed client_side)) (start now : Stand client_side) → Led deeds start now → Type 0
+GivesAlong deeds start now led = Along ClientGives deeds start now led
+
+-- ---- both
+
+-- it ended the data connection, or has lost it
+abbrev pub IsOut : Hold → Type 0
+IsOut Has_ended = ⊤
+IsOut Has_lost = ⊤
+IsOut hold = ⊥
+
+-- where the server takes octets it is told of a break only once the client has left that data connection, by its end or by a reset, and right before it of this
+-- moment
+abbrev pub IsToldLate : ℕ → (deed : Deed server_side) (between : Between) (client : Stand client_side) (old new : Stand server_side) → Done deed old new
+    → Type 0
+IsToldLate moment (Other Break) between client old new did =
+    far.wants old.owner.end.server.view ≡ Want.Receive
+    → IsOut between.near × (client.owner.lane.stands ≡ false) × (did.0.0.0 ≡ moment)
+IsToldLate moment deed between client old new did = ⊤
+
+-- so it is of each, and the moment is that of the operation that was begun last
+abbrev pub AreToldLate : (moments : ℕ → ℕ) (turns : List Turn) (between : Between) → Happened turns between
+    → (server_start server : Stand server_side) → Led (server_deeds turns) server_start server
+    → (client_start client : Stand client_side) → Led (client_deeds turns) client_start client → Type 0
+AreToldLate moments [] between happened server_start server server_led client_start client client_led = ⊤
+AreToldLate moments (ByServer deed ∷ before) between happened server_start server server_led client_start client client_led =
+    AreToldLate moments before happened.0 happened.1 server_start server_led.0 server_led.1 client_start client client_led
+    × IsToldLate (last_of moments (number_in (client_deeds before))) deed happened.0 client server_led.0 server server_led.2
+AreToldLate moments (ByClient deed ∷ before) between happened server_start server server_led client_start client client_led =
+    AreToldLate moments before happened.0 happened.1 server_start server server_led client_start client_led.0 client_led.1
+
+-- those that may mark an operation: what the client did, and breaks that the server was told of
+abbrev pub marking : List Turn → List (Deed client_side)
+marking [] = []
+marking (ByServer (Other Break) ∷ before) = Other Break ∷ marking before
+marking (ByServer deed ∷ before) = marking before
+marking (ByClient deed ∷ before) = deed ∷ marking before

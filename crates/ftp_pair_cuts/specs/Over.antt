@@ -1,0 +1,74 @@
+-- Drives that are over, of which data connections broke, those of uploads too: what the contracts of one server's drive and of a client's drives tell, each after
+-- the operation that it answers, put together.
+use Rattle.std.specs.Prelude.{◌≡◌, ℕ, List, [], ◌∷◌, ◌++◌, None}
+use Rattle.ftp_control.specs.Asking.{Asked}
+use Rattle.ftp_control.specs.Deeds.{Deed, Ended, Led, Other, Stand}
+use Rattle.ftp_control.specs.Machine.{Left}
+use Rattle.ftp_client_drive.specs.Side.{Begun, client_side}
+use Rattle.ftp_operation.specs.Answer.{Said}
+use Rattle.ftp_operation.specs.declared.op.Op.{Op}
+use Rattle.ftp_server_drive.specs.Driving.{Drove as ServerDrove}
+use Rattle.ftp_server_drive.specs.Side.{server_side}
+use Rattle.ftp_pair_world.specs.Agreement.{Agrees}
+use Rattle.ftp_pair_world.specs.Claims.{Beginning, IsFair, state_of}
+use Rattle.ftp_pair_world.specs.World.{Mark}
+use Rattle.ftp_pair_drives.specs.Between.{Between, Happened, Turn, client_deeds, server_deeds}
+use Rattle.ftp_pair_drives.specs.Claims.{Begins}
+use Rattle.ftp_pair_drives.specs.Over.{Answers, answers_of, deeds_of_drive, deeds_of_server}
+use Rattle.ftp_pair_deeds.specs.Deeds.{AreMidst, ArePorts}
+use Rattle.ftp_pair_transfers.specs.Deeds.{AreMoments, AreToldAt}
+use Rattle.ftp_pair_transfers.specs.Over.{orders_at}
+use Rattle.ftp_pair_breaks.specs.Deeds.{AreMarks}
+use Rattle.ftp_pair_cuts.specs.Deeds.{AreToldLate, GivesAlong, LosesAlong, marking}
+
+-- ---- the client
+
+-- operations and their answers, the last one first: before each was reported nothing was, and no other operation begun
+abbrev pub AreAnswered : List (Op (List ℕ) × Said) → (start now : Stand client_side) → Type 0
+AreAnswered [] start now = now ≡ start
+AreAnswered (asked ∷ before) start now = (mid : Stand client_side) × AreAnswered before start mid ×
+    (a : Answers asked.0 asked.1 mid now) × AreMidst a.drove.did.deeds
+
+abbrev pub deeds_in : (asked : List (Op (List ℕ) × Said)) (start now : Stand client_side) → AreAnswered asked start now → List (Deed client_side)
+deeds_in [] start now put = []
+deeds_in (asked ∷ before) start now put = deeds_of_drive put.2.drove ++ (Other (Begun asked.0) ∷ deeds_in before start put.0 put.1)
+
+-- ---- both
+
+-- The contracts of the drives, and an order of their deeds in which each can happen, and at these moments; as they began no octet of a data connection was
+-- on its way or in hand. The server's drive did the same until it was told that the control connection ended; then it was over, and left the data connection
+-- that it still had, if it had one.
+pub record AreOver (b : Beginning) (moments : ℕ → ℕ) (asked : List (Op (List ℕ) × Said)) (server : Stand server_side) : Type 0 where
+  pub server_start : Stand server_side
+  pub client_start : Stand client_side
+  pub client : Stand client_side
+  pub begins : Begins b server_start client_start
+  pub untold : server_start.owner.lane.untold ≡ []
+  pub unwritten : client_start.owner.lane.unwritten ≡ []
+  pub server_unwritten : server_start.owner.lane.unwritten ≡ []
+  pub client_untold : client_start.owner.lane.untold ≡ []
+  pub drove : ServerDrove server_start server
+  pub put : AreAnswered asked client_start client
+  pub turns : List Turn
+  pub between : Between
+  pub happened : Happened turns between
+  pub closed : Asked
+  pub server_is : deeds_of_server drove ≡ Other (Left closed) ∷ Ended ∷ server_deeds turns
+  pub client_is : client_deeds turns ≡ deeds_in asked client_start client put
+  pub last : Stand server_side
+  pub server_led : Led (server_deeds turns) server_start last
+  pub server_end : Led (Other (Left closed) ∷ Ended ∷ []) last server
+  pub client_led : Led (client_deeds turns) client_start client
+  pub takes : LosesAlong (server_deeds turns) server_start last server_led
+  pub gives : GivesAlong (client_deeds turns) client_start client client_led
+  pub ports : ArePorts (server_deeds turns)
+  pub told : AreToldAt moments turns server_start last server_led
+  pub late : AreToldLate moments turns between happened server_start last server_led client_start client client_led
+
+-- the answers that a client's drives gave, and the map that the server's drive left, agree with the operations, with marks of these deeds: each is the direct
+-- run's where its dial did not fail and no end was told of a break
+abbrev pub CutDrivesAgree : Type 0
+CutDrivesAgree =
+    (b : Beginning) → IsFair b → (moments : ℕ → ℕ) → AreMoments moments → (asked : List (Op (List ℕ) × Said)) (server : Stand server_side)
+    → (over : AreOver b moments asked server) → (marks : List (List Mark)) × AreMarks (marking over.turns) marks
+    × Agrees (state_of b) (orders_at moments asked) marks None (answers_of asked) server.owner.end.server.view.session.table
