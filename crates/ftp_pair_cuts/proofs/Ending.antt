@@ -1,6 +1,6 @@
 -- The deeds of drives that are over, of which data connections broke, put together.
 use Rattle.std.proofs.Common.{◌≡◌, ℕ, suc, false, List, [], ◌∷◌, ◌++◌, length, None, refl, sym, ap, subst, ◌∙◌, append-nil, option_to_list}
-use Rattle.ftp_control.specs.Deeds.{Deed, Other, Stand}
+use Rattle.ftp_control.specs.Deeds.{Other, Stand}
 use Rattle.ftp_client_drive.specs.Side.{Begun, client_side}
 use Rattle.ftp_client_model.specs.Calls.{is_busy, report_of}
 use Rattle.ftp_operation.specs.Answer.{Said}
@@ -12,11 +12,10 @@ use Rattle.ftp_pair_world.specs.Claims.{Beginning, state_of}
 use Rattle.ftp_pair_drives.specs.Alone.{reports_in}
 use Rattle.ftp_pair_drives.specs.Between.{client_deeds}
 use Rattle.ftp_pair_drives.specs.Claims.{Begins}
-use Rattle.ftp_pair_drives.specs.Over.{answers_of, deeds_of_drive}
+use Rattle.ftp_pair_drives.specs.Over.{answers_of}
 use Rattle.ftp_pair_drives.proofs.Concluding.{ends_keep_the_map}
 use Rattle.ftp_pair_drives.proofs.Ending.{reported_free}
 use Rattle.ftp_pair_drives.proofs.Taken.{free_none}
-use Rattle.ftp_pair_deeds.proofs.Along.{Went}
 use Rattle.ftp_pair_transfers.specs.Deeds.{begun_at, number_in}
 use Rattle.ftp_pair_transfers.specs.Over.{orders_at}
 use Rattle.ftp_pair_transfers.proofs.Ending.{midst_begins, midst_numbers, midst_reports}

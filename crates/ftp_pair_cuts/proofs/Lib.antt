@@ -12,3 +12,4 @@ pub mod Serving
 pub mod Simulating
 pub mod Concluding
 pub mod Ending
+pub mod Unmarked

@@ -1,9 +1,7 @@
--- A server that takes octets of an upload fails, and is told of the break: beside a world, or beside one whose client was not told.
-use Rattle.std.proofs.Common.{◌≡◌, ◌⊎◌, inl, inr, ℕ, true, false, true≢false, List, [], ◌∷◌, ◌++◌, refl, sym, ap, subst, ◌∙◌, append-nil}
+-- A server that takes octets of an upload is told of the break: beside a world, or beside one whose client was not told.
+use Rattle.std.proofs.Common.{◌≡◌, ◌⊎◌, inl, inr, ℕ, true, false, true≢false, List, [], ◌∷◌, refl, sym, ap, subst, ◌∙◌, append-nil}
 use Rattle.ftp_control.specs.Deeds.{Calls, Deed, Other, Stand}
-use Rattle.ftp_control.specs.Lane.{Lane, with_fate}
-use Rattle.ftp_control.specs.Machine.{Break, Failed}
-use Rattle.ftp_control.specs.declared.whole.Fate.TheVariants as Fates
+use Rattle.ftp_control.specs.Machine.{Break}
 use Rattle.ftp_client_drive.specs.Side.{client_side}
 use Rattle.ftp_client_model.specs.Calls as near
 use Rattle.ftp_client_model.specs.Calls.{data_closed, is_sound, report_of}
@@ -13,7 +11,7 @@ use Rattle.ftp_server_drive.specs.Side.{server_side}
 use Rattle.ftp_server_model.specs.Calls as far
 use Rattle.ftp_server_model.specs.Calls.{clock_step, is_upload}
 use Rattle.ftp_server_model.specs.Machine.{IsReading, Reading}
-use Rattle.ftp_server_model.specs.View.{Session, Transfer, View as Far}
+use Rattle.ftp_server_model.specs.View.{Transfer, View as Far}
 use Rattle.ftp_server_model.specs.declared.session.Life.TheVariants as Lives
 use Rattle.ftp_server_model.specs.declared.session.ServerLink.{ServerLink}
 use Rattle.ftp_server_model.specs.declared.session.ServerLink.TheVariants as Data
@@ -29,18 +27,17 @@ use Rattle.ftp_pair_drives.proofs.Taken.{taken_none}
 use Rattle.ftp_pair_drives.proofs.Worlds.{LeadsOn, leads_then}
 use Rattle.ftp_pair_data.proofs.Served.{far_wants, rests}
 use Rattle.ftp_pair_deeds.proofs.FarForms.{no_close}
-use Rattle.ftp_pair_deeds.proofs.Holding.{both, is_called, is_false, is_had, is_sound as is_kept, unclosed}
+use Rattle.ftp_pair_deeds.proofs.Holding.{both, is_called, is_false, is_had, unclosed}
 use Rattle.ftp_pair_deeds.proofs.Plain.{IsPlainly}
 use Rattle.ftp_pair_deeds.proofs.Stands.{ServerServes}
 use Rattle.ftp_pair_transfers.specs.Ahead.{Ahead, Fits, Level, Listens, Opens, Parted, far_ahead}
 use Rattle.ftp_pair_transfers.specs.Deeds.{AreMoments, begun_at, last_of, number_in}
-use Rattle.ftp_pair_transfers.proofs.Ahead.{Holds, left_rests}
+use Rattle.ftp_pair_transfers.proofs.Ahead.{left_rests}
 use Rattle.ftp_pair_transfers.proofs.Beside.{GoesTo, is_taking, rested}
 use Rattle.ftp_pair_transfers.proofs.Called.{StaysFresh}
 use Rattle.ftp_pair_transfers.proofs.FarForms.{is_receive, receives_upload, upload_takes}
 use Rattle.ftp_pair_transfers.proofs.Known.{AreCarried, Known, is_giving, is_near_held}
 use Rattle.ftp_pair_transfers.proofs.Running.{world_timed}
-use Rattle.ftp_pair_transfers.proofs.ServerStays.{server_stays}
 use Rattle.ftp_pair_transfers.proofs.Simulating.{asks, known, runs}
 use Rattle.ftp_pair_breaks.proofs.Lagging.{Lags, Whole, beside, feeds, unbroken}
 use Rattle.ftp_pair_breaks.proofs.Steps.{Again, At, idle_again}
@@ -67,7 +64,7 @@ ahead_upload (Listens port) moment v fits takes = absurd (both fits (upload_take
 ahead_upload (Parted accepted) moment v fits takes = absurd (both takes (left_rests accepted v.session.connection fits).0)
 
 -- one that gives, or over whose link nothing was asked for, takes none
-giving_takes : (link : ServerLink Transfer) → is_giving link ≡ true → is_upload link ≡ false
+pub giving_takes : (link : ServerLink Transfer) → is_giving link ≡ true → is_upload link ≡ false
 giving_takes (Data.Transferring (Transfers.Download rest)) e = refl
 giving_takes (Data.Transferring (Transfers.Listing rest)) e = refl
 giving_takes (Data.Transferring (Transfers.Upload path keep d)) e = absurd (true≢false (sym e))
@@ -118,37 +115,6 @@ module _ (read : Reading) (reads : IsReading read) (moments : ℕ → ℕ) (time
 
     carried : AreCarried (begun_at moments deeds)
     carried = all_carried (begun_at moments deeds) puts
-
-    -- a read of it fails: it is told of nothing
-    pub failed_again : Calls {side = server_side} Failed old new → Again read reads moments timed b fair deeds p count new client w.marks
-    failed_again did =
-        let lane : new.owner.lane ≡ with_fate Fates.Failed old.owner.lane = did.0.1.0 in
-        let view : new.owner.end.server.view ≡ old.owner.end.server.view = ap (λ at. at.server.view) did.0.0 in
-        let session : new.owner.end.server.view.session ≡ old.owner.end.server.view.session = ap (λ (v : Far). v.session) view in
-        let t = o.together in
-        again_cut deeds o w.marks p new client
-        (server_stays read (begun_at moments deeds) old new client (reports_in deeds) w calm o.serves
-        (known read reads moments timed b fair deeds p count old client (reports_in deeds) o carried) o.last o.ahead o.ahead p p
-        count count t
-        (subst (λ (s : Session). Fits o.ahead s.connection) (sym session) t.beside.fits) (ap (λ f. clock_step o.last (far_ahead o.ahead f)) (sym view)) (λ l. l)
-        (λ e. e) (ap (λ (s : Stand server_side). s.unheard ++ p.control.to_server) (sym did.1)) refl
-        (ap (λ (l : Lane). l.untold ++ (p.data_ways.to_server ++ client.owner.lane.unwritten)) (sym lane))
-        (ap (λ (l : Lane). client.owner.lane.untold ++ (p.data_ways.to_client ++ l.unwritten)) (sym lane)) refl
-        (subst (λ (s : Session). Holds o.ahead p.far s) (sym session) t.holds)
-        (record {
-          bare = λ e. ap (λ (l : Lane). l.untold) lane ∙ t.comes.bare (ap (λ (l : Lane). l.stands) (sym lane) ∙ e);
-          spare = λ e. ap (λ (l : Lane). l.untold) lane ∙ t.comes.spare e;
-          over = λ e. absurd (both (ap (λ (l : Lane). is_kept l.fate) lane) e);
-          shut = λ e. absurd (both (ap (λ (l : Lane). is_kept l.fate) lane) e);
-        })
-        (record {
-          spare = λ e. ap (λ (l : Lane). l.unwritten) lane ∙ t.serves.spare e;
-          bare = λ e. ap (λ (l : Lane). l.unwritten) lane ∙ t.serves.bare (ap (λ (l : Lane). l.stands) (sym lane) ∙ e);
-        }))
-        (record {
-          running = ap (λ at. at.server.view.session.life) did.0.0 ∙ o.serves.running;
-          none_waits = ap (λ at. at.server.view.waiting) did.0.0 ∙ o.serves.none_waits;
-        }) o.sound o.plain o.fresh
 
     -- ---- it is told of the break
 

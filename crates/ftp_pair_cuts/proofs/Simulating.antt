@@ -2,35 +2,44 @@
 use Rattle.std.proofs.Common.{◌≡◌, ◌⊎◌, inl, inr, ℕ, Bool, true, false, true≢false, List, [], ◌∷◌, ◌++◌, option_to_list, refl, sym, ap, ap₂, subst, ◌∙◌}
 use Rattle.ftp_control.specs.Asking.{Reset}
 use Rattle.ftp_control.specs.Deeds.{Calls, Deed, Done, Led, Other, Stand}
-use Rattle.ftp_control.specs.Machine.{Aside, Break, Failed, Left}
+use Rattle.ftp_control.specs.Lane.{Lane}
+use Rattle.ftp_control.specs.Machine.{Aside, Break, Left}
 use Rattle.ftp_control.specs.declared.whole.Fate.TheVariants as Fates
 use Rattle.ftp_client_drive.specs.Side.{Starting, client_side}
 use Rattle.ftp_client_model.specs.Calls as near
-use Rattle.ftp_client_model.specs.Calls.{data_closed, data_fault, report_of, reports}
+use Rattle.ftp_client_model.specs.Calls.{data_closed, report_of, reports}
 use Rattle.ftp_client_model.specs.View.{View as Near}
 use Rattle.ftp_ends.specs.Octets.{has_octets}
 use Rattle.ftp_ends.specs.declared.link.Wants.TheVariants as Want
 use Rattle.ftp_server_drive.specs.Side.{server_side}
 use Rattle.ftp_server_model.specs.Calls as far
+use Rattle.ftp_server_model.specs.Calls.{break_step, clock_step}
 use Rattle.ftp_server_model.specs.Machine.{IsReading, Reading}
+use Rattle.ftp_server_model.specs.View.{View as Far}
 use Rattle.ftp_pair_world.specs.Claims.{Beginning, IsFair, world_of}
 use Rattle.ftp_pair_world.specs.World.{Mark}
-use Rattle.ftp_pair_drives.specs.Alone.{ServerIsCalm, begun_by}
+use Rattle.ftp_pair_drives.specs.Alone.{ServerIsCalm, begun_by, reports_in}
 use Rattle.ftp_pair_drives.specs.Between.{Between, Can, CanTurn, Client, Far as TheServer, Happened, Has_ended, Has_lost, Hold, Near as TheClient, Server, Turn, client_deeds, nothing_yet, server_deeds}
 use Rattle.ftp_pair_drives.specs.Claims.{Begins}
 use Rattle.ftp_pair_drives.specs.Touches.{ToldBreak, touch_in}
 use Rattle.ftp_pair_drives.proofs.Taken.{reports_is, taken}
 use Rattle.ftp_pair_drives.proofs.Worlds.{LeadsOn}
 use Rattle.ftp_pair_deeds.specs.Deeds.{ArePorts, listened_in}
+use Rattle.ftp_pair_data.proofs.Known.{is_receive}
+use Rattle.ftp_pair_deeds.proofs.Holding.{both}
 use Rattle.ftp_pair_deeds.proofs.Plain.{IsPlainBy}
 use Rattle.ftp_pair_transfers.specs.Deeds.{AreMoments, AreToldAt, IsToldAt, begun_at, last_of, number_in}
 use Rattle.ftp_pair_transfers.proofs.Called.{far_fresh}
 use Rattle.ftp_pair_transfers.proofs.Reaching.{earlier, starts_so}
-use Rattle.ftp_pair_breaks.specs.Claims.{ReportAlike}
+use Rattle.ftp_pair_breaks.specs.Claims.{AreSame, IsClientFirst, IsServerFirst, ReportAlike}
 use Rattle.ftp_pair_breaks.specs.Deeds.{AreMarks, IsSuffering, IsYielding}
-use Rattle.ftp_pair_breaks.proofs.Lagging.{Whole, beside, unbroken}
+use Rattle.ftp_pair_breaks.proofs.BothBroken.{broke, broke_step, sends_far}
+use Rattle.ftp_pair_breaks.proofs.Drained.{BreaksNot, dried, dried_none, dried_step, dried_told}
+use Rattle.ftp_pair_breaks.proofs.Lagging.{Lags, Whole, beside, unbroken}
+use Rattle.ftp_pair_breaks.proofs.Preceding.{Precedes, behind, far_nothing, gives_now, steady_here, steady_now, unaware}
 use Rattle.ftp_pair_breaks.proofs.Simulating as breaking
 use Rattle.ftp_pair_breaks.proofs.Steps.{At, server_step}
+use Rattle.ftp_pair_breaks.proofs.Unaware.{steady_alike, steady_open, steady_wants}
 use Rattle.ftp_pair_breaks.proofs.Unbroken.{can_unbroken, serving_dials}
 use Rattle.ftp_pair_breaks.proofs.Unsent.{AskAll, Unsent, all_carried, both_all}
 use Rattle.ftp_pair_breaks.proofs.Untold.{fault_told, told_alike}
@@ -40,8 +49,9 @@ use Rattle.ftp_pair_cuts.proofs.ClientTold.{told_closing, told_giving}
 use Rattle.ftp_pair_cuts.proofs.Lifting.{closes_alike, gives_fault, lifts_alike, lifts_none, lifts_taken, was_none, was_taken}
 use Rattle.ftp_pair_cuts.proofs.Marking.{same_begun, same_number, same_reports}
 use Rattle.ftp_pair_cuts.proofs.Seen.{Seen, dry, far_seen, is_left, lost_dry, near_seen, seen_held, seen_whole}
-use Rattle.ftp_pair_cuts.proofs.Serving.{failed_again, lag_cut, lags_never, whole_cut}
-use Rattle.ftp_pair_cuts.proofs.UpLagging.{UpLags, up_lag_step}
+use Rattle.ftp_pair_cuts.proofs.Serving.{giving_takes, lag_cut, lags_never, whole_cut}
+use Rattle.ftp_pair_cuts.proofs.UpLagging.{UpLags, takes_up, up_lag_step}
+use Rattle.ftp_pair_cuts.proofs.Unmarked.{suffered_too}
 use Rattle.ftp_pair_cuts.proofs.Written.{IsWritten, deed_written, is_break, is_broken}
 
 -- ---- what was begun
@@ -74,7 +84,7 @@ module _ (read : Reading) (reads : IsReading read) (moments : ℕ → ℕ) (time
   abbrev Suffered : (deeds : List (Deed client_side)) (between : Between) (count : ℕ) (server : Stand server_side) (client : Stand client_side) → Type 0
   Suffered deeds between count server client = breaking.Suffered read reads moments timed b fair deeds between count server client
 
-  -- a world is beside both drives, or beside one that was not told of the break of a download; between it may lie dry
+  -- a world is beside both drives, or was before one was told of the break of a download; between it may lie dry
   record Beside (deeds : List (Deed client_side)) (between : Between) (count : ℕ) (server : Stand server_side) (client : Stand client_side) : Type 0 where
     middle : Between
     seen : Seen between middle
@@ -84,12 +94,15 @@ module _ (read : Reading) (reads : IsReading read) (moments : ℕ → ℕ) (time
   -- or it is beside a client that was not told of the break of an upload
   abbrev Cut : (deeds : List (Deed client_side)) (between : Between) (count : ℕ) (server : Stand server_side) (client : Stand client_side) → Type 0
   Cut deeds between count server client =
-      Beside deeds between count server client ⊎ UpLags read reads moments timed b fair deeds between count server client
+      Beside deeds between count server client ⊎ UpLags read reads moments timed b fair deeds between count (dried server) client
 
   -- ---- a deed of the client
 
-  module _ (deeds : List (Deed client_side)) (puts : AskAll (begun_at moments deeds)) (p q : Between) (count : ℕ) (server : Stand server_side)
-      (old new : Stand client_side) (o : Beside deeds p count server old) where
+  module _ (deeds : List (Deed client_side)) (puts : AskAll (begun_at moments deeds)) (before : List (Deed server_side)) (ports : ArePorts before)
+      (p q : Between) (server : Stand server_side) (old new : Stand client_side) (o : Beside deeds p (listened_in before) server old) where
+    abbrev count : ℕ
+    count = listened_in before
+
     -- as where downloads alone break
     suffers_on : (deed : Deed client_side) → (is_break deed ≡ true → old.owner.lane.unwritten ≡ []) → IsSuffering deed old.owner
         → ClientGives deed old.owner new.owner → CanTurn (Client deed) p q → Done deed old new → Cut (deed ∷ deeds) q count server new
@@ -99,8 +112,8 @@ module _ (read : Reading) (reads : IsReading read) (moments : ℕ → ℕ) (time
           middle = there.0;
           seen = there.1;
           written = deed_written deed old new none did o.written;
-          suffered = breaking.client_turn read reads moments timed b fair deed deeds puts o.middle there.0 count server old new o.suffered (is, gives.1) there.2
-              did;
+          suffered = breaking.client_turn read reads moments timed b fair deed deeds puts before ports o.middle there.0 server old new o.suffered (is, gives.1)
+              there.2 did;
         })
 
     -- it is told of the break of an upload
@@ -109,17 +122,26 @@ module _ (read : Reading) (reads : IsReading read) (moments : ℕ → ℕ) (time
         → Cut (Other Break ∷ deeds) q count server new
     told_on is gives can did = by (subst (λ (m : Between). Suffered deeds m count server old) (seen_held p o.middle o.seen can.0) o.suffered) is.1
       where
-        by_closing : old.owner.end.view.closing ≡ true → Whole read reads moments timed b fair deeds p count server old → (octets : List ℕ)
+        by_closing : old.owner.end.view.closing ≡ true → Whole read reads moments timed b fair deeds p count (dried server) old → (octets : List ℕ)
             → old.owner.lane.unwritten ≡ octets → Cut (Other Break ∷ deeds) q count server new
         by_closing closing w [] none = suffers_on (Other Break) (λ e. none) (is.0, none, inr closing) gives can did
         by_closing closing w (octet ∷ more) some =
-            inr (told_closing read reads moments timed b fair deeds puts p q count server old new w gives.1 can did closing (ap has_octets some))
+            inr (told_closing read reads moments timed b fair deeds puts p q count (dried server) old new w gives.1 can did closing (ap has_octets some))
 
         by : Suffered deeds p count server old → (near.wants old.owner.end.view ≡ Want.Send) ⊎ (old.owner.end.view.closing ≡ true)
             → Cut (Other Break ∷ deeds) q count server new
-        by (inl w) (inl sends) = inr (told_giving read reads moments timed b fair deeds puts p q count server old new w gives.1 can did sends)
-        by (inl w) (inr closing) = by_closing closing w old.owner.lane.unwritten refl
-        by (inr l) other = absurd (true≢false (ap is_lost (sym l.hold ∙ can.0)))
+        by (inl (inl w)) (inl sends) =
+            inr (told_giving read reads moments timed b fair deeds puts p q count (dried server) old new w gives.1 can did sends)
+        by (inl (inl w)) (inr closing) = by_closing closing w old.owner.lane.unwritten refl
+        by (inl (inr l)) other = absurd (true≢false (ap is_lost (sym l.hold ∙ can.0)))
+        by (inr l) other =
+            let g = (gives_now read reads moments timed b fair deeds puts p count server old l).loads in
+            let steady = steady_now read reads moments timed b fair deeds puts p count server old l in
+            elim other [
+              | inl sends ↦
+                  absurd (true≢false (ap is_receive (sym (steady_wants g.op g.all g.decoder g.mark old.owner.end.view steady) ∙ sends)))
+              | inr closing ↦ absurd (true≢false (sym closing ∙ steady_open g.op g.all g.decoder g.mark old.owner.end.view steady))
+            ]
 
     beside_step : (deed : Deed client_side) → ClientGives deed old.owner new.owner → CanTurn (Client deed) p q → Done deed old new
         → Cut (deed ∷ deeds) q count server new
@@ -136,12 +158,13 @@ module _ (read : Reading) (reads : IsReading read) (moments : ℕ → ℕ) (time
         ]
     beside_step deed is can did = suffers_on deed (λ e. absurd (true≢false (sym e))) is.0 is can did
 
-  client_turn : (deed : Deed client_side) (deeds : List (Deed client_side)) → AskAll (begun_at moments deeds) → (p q : Between) (count : ℕ)
-      (server : Stand server_side) (old new : Stand client_side) → Cut deeds p count server old → ClientGives deed old.owner new.owner
-      → CanTurn (Client deed) p q → Done deed old new → Cut (deed ∷ deeds) q count server new
-  client_turn deed deeds puts p q count server old new (inl o) is can did = beside_step deeds puts p q count server old new o deed is can did
-  client_turn deed deeds puts p q count server old new (inr l) is can did =
-      inr (up_lag_step read reads moments timed b fair deeds puts p count server old l deed q new is can did)
+  client_turn : (deed : Deed client_side) (deeds : List (Deed client_side)) → AskAll (begun_at moments deeds) → (before : List (Deed server_side))
+      → ArePorts before → (p q : Between) (server : Stand server_side) (old new : Stand client_side) → Cut deeds p (listened_in before) server old
+      → ClientGives deed old.owner new.owner → CanTurn (Client deed) p q → Done deed old new → Cut (deed ∷ deeds) q (listened_in before) server new
+  client_turn deed deeds puts before ports p q server old new (inl o) is can did =
+      beside_step deeds puts before ports p q server old new o deed is can did
+  client_turn deed deeds puts before ports p q server old new (inr l) is can did =
+      inr (up_lag_step read reads moments timed b fair deeds puts p (listened_in before) (dried server) old l deed q new is can did)
 
   -- ---- a deed of the server
 
@@ -153,23 +176,41 @@ module _ (read : Reading) (reads : IsReading read) (moments : ℕ → ℕ) (time
   module _ (deeds : List (Deed client_side)) (puts : AskAll (begun_at moments deeds)) (before : List (Deed server_side)) (p q : Between)
       (old new : Stand server_side) (client : Stand client_side) where
     -- as where downloads alone break
-    yields_on : (deed : Deed server_side) → ArePorts (deed ∷ before) → Cut deeds p (listened_in before) old client → IsYielding deed old.owner
-        → ServerLoses deed old.owner new.owner → CanTurn (Server deed) p q → (did : Done deed old new)
-        → IsToldAt deed old new did (last_of moments (number_in deeds)) → Cut deeds q (listened_in (deed ∷ before)) new client
-    yields_on deed ports (inl o) is loses can did told =
+    yields_on : (deed : Deed server_side) → ArePorts (deed ∷ before) → Beside deeds p (listened_in before) old client → IsYielding deed old.owner
+        → ServerIsCalm old.owner new.owner → CanTurn (Server deed) p q → (did : Done deed old new)
+        → IsToldAt deed old new did (last_of moments (number_in deeds)) → Beside deeds q (listened_in (deed ∷ before)) new client
+    yields_on deed ports o is calm can did told =
         let there = far_seen (touch_in deed) p q o.middle o.seen can in
-        inl (record {
+        record {
           middle = there.0;
           seen = there.1;
           written = o.written;
-          suffered = breaking.server_turn read reads moments timed b fair deed deeds puts before ports o.middle there.0 old new client o.suffered (is, loses.1)
+          suffered = breaking.server_turn read reads moments timed b fair deed deeds puts before ports o.middle there.0 old new client o.suffered (is, calm)
               there.2 did told;
-        })
-    yields_on deed ports (inr l) is loses can did told =
-        let there = can_unbroken (touch_in deed) p q (serving_dials deed old.owner is) l.hold can in
-        let got = server_step read reads moments timed b fair deed old new (is, loses.1) deeds (all_carried (begun_at moments deeds) puts) before ports
-        (unbroken p) (unbroken q) there.0 (beside l.was client) l.at did told in
-        inr (record {
+        }
+
+    -- a break marks nothing then
+    breaks_on : Beside deeds q (listened_in before) new client → Beside (Other Break ∷ deeds) q (listened_in before) new client
+    breaks_on o = record {
+      middle = o.middle;
+      seen = o.seen;
+      written = o.written;
+      suffered = suffered_too read reads moments timed b fair deeds o.middle (listened_in before) client new o.suffered;
+    }
+
+    -- beside a client that was told
+    up_lags_on : (deed : Deed server_side) → BreaksNot deed → ArePorts (deed ∷ before)
+        → UpLags read reads moments timed b fair deeds p (listened_in before) (dried old) client
+        → IsYielding deed old.owner → ServerIsCalm old.owner new.owner → CanTurn (Server deed) p q → (did : Done deed old new)
+        → IsToldAt deed old new did (last_of moments (number_in deeds))
+        → UpLags read reads moments timed b fair deeds q (listened_in (deed ∷ before)) (dried new) client
+    up_lags_on deed kept ports l is calm can did told =
+        let step = dried_step old new deed kept is did in
+        let there = can_unbroken (touch_in deed) p q (serving_dials deed (dried old).owner step.0) l.hold can in
+        let got = server_step read reads moments timed b fair deed (dried old) (dried new) step.0 calm deeds (all_carried (begun_at moments deeds) puts) before
+        ports (unbroken p) (unbroken q) there.0 (beside l.was client) l.at step.1
+        (dried_told old new deed kept is did (last_of moments (number_in deeds)) told) in
+        record {
           was = l.was;
           at = got.0;
           lifts = l.lifts;
@@ -181,33 +222,16 @@ module _ (read : Reading) (reads : IsReading read) (moments : ℕ → ℕ) (time
           marked = got.1 ∙ l.marked;
           unsent = l.unsent;
           fresh = far_fresh p q client l.fresh (touch_in deed) can;
-        })
+        }
 
-    -- a read of it fails
-    failed_on : ServerIsCalm old.owner new.owner → far.wants old.owner.end.server.view ≡ Want.Receive → Calls {side = server_side} Failed old new
-        → Cut deeds p (listened_in before) old client → Cut deeds p (listened_in before) new client
-    failed_on calm wants did (inl o) = inl (record { middle = o.middle; seen = o.seen; written = o.written; suffered = by o.suffered })
-      where
-        by : Suffered deeds o.middle (listened_in before) old client → Suffered deeds o.middle (listened_in before) new client
-        by (inl w) =
-            let got = failed_again read reads moments timed b fair deeds puts o.middle (listened_in before) old new client calm w.at did in
-            inl (record { at = got.0; marks = w.marks; are_marks = w.are_marks; marked = got.1 ∙ w.marked; unsent = w.unsent })
-        by (inr l) = absurd (lags_never read reads moments timed b fair deeds puts o.middle q (listened_in before) old new client calm wants l)
-    failed_on calm wants did (inr l) =
-        let got = failed_again read reads moments timed b fair deeds puts (unbroken p) (listened_in before) old new (beside l.was client) calm l.at did in
-        inr (record {
-          was = l.was;
-          at = got.0;
-          lifts = l.lifts;
-          due = l.due;
-          hold = l.hold;
-          lane = l.lane;
-          marks = l.marks;
-          are_marks = l.are_marks;
-          marked = got.1 ∙ l.marked;
-          unsent = l.unsent;
-          fresh = l.fresh;
-        })
+    -- no server gives then
+    up_lags_take : UpLags read reads moments timed b fair deeds p (listened_in before) (dried old) client
+        → far.wants old.owner.end.server.view ≡ Want.Send → ⊥
+    up_lags_take l sends =
+        let gives = sends_far read (begun_at moments deeds) (dried old) (beside l.was client) (reports_in deeds) l.at.world l.at.serves sends l.at.last
+        l.at.ahead (unbroken p) (listened_in before) l.at.together in
+        both (takes_up read reads moments timed b fair deeds puts p (listened_in before) (dried old) client l)
+        (giving_takes l.at.world.far.session.connection gives)
 
     -- it is told of the break
     cut_on : ServerIsCalm old.owner new.owner → (wants : far.wants old.owner.end.server.view ≡ Want.Receive) → (did : Calls {side = server_side} Break old new)
@@ -219,18 +243,35 @@ module _ (read : Reading) (reads : IsReading read) (moments : ℕ → ℕ) (time
         left : is_left q.near ≡ true
         left = ap (λ (m : Between). is_left m.near) can.1 ∙ out_left p.near late.0
 
+        -- none is unwritten
+        old_dried : dried old ≡ old
+        old_dried = dried_none old unwritten
+
+        new_dried : dried new ≡ new
+        new_dried = dried_none new (ap (λ (x : Lane). x.unwritten) did.0.1 ∙ unwritten)
+
         beside_dry : IsWritten client.owner.lane → Whole read reads moments timed b fair (Other Break ∷ deeds) (dry q) (listened_in before) new client
             → Beside (Other Break ∷ deeds) q (listened_in before) new client
-        beside_dry written w =
-            record { middle = dry q; seen = lost_dry q left (ap (λ (m : Between). m.far) can.1); written = written; suffered = inl w }
+        beside_dry written w = record {
+          middle = dry q;
+          seen = lost_dry q left (ap (λ (m : Between). m.far) can.1);
+          written = written;
+          suffered = inl (inl (subst (λ (s : Stand server_side). Whole read reads moments timed b fair (Other Break ∷ deeds) (dry q) (listened_in before) s
+              client) (sym new_dried) w));
+        }
 
         by_suffered : IsWritten client.owner.lane → Suffered deeds p (listened_in before) old client
             → Beside (Other Break ∷ deeds) q (listened_in before) new client
-        by_suffered written (inl w) =
+        by_suffered written (inl (inl w)) =
             beside_dry written (whole_cut read reads moments timed b fair deeds puts p q (listened_in before) old new client calm wants did late.2 untold
-            unwritten can late.1 w late.0)
+            unwritten can late.1
+            (subst (λ (s : Stand server_side). Whole read reads moments timed b fair deeds p (listened_in before) s client) old_dried w) late.0)
+        by_suffered written (inl (inr l)) =
+            absurd (lags_never read reads moments timed b fair deeds puts p q (listened_in before) old new client calm wants
+            (subst (λ (s : Stand server_side). Lags read reads moments timed b fair deeds p (listened_in before) s client) old_dried l))
         by_suffered written (inr l) =
-            absurd (lags_never read reads moments timed b fair deeds puts p q (listened_in before) old new client calm wants l)
+            absurd (true≢false (ap is_receive
+            (sym wants ∙ far_nothing read reads moments timed b fair deeds puts p (listened_in before) old client l)))
 
         by : Cut deeds p (listened_in before) old client → Beside (Other Break ∷ deeds) q (listened_in before) new client
         by (inl o) =
@@ -238,24 +279,25 @@ module _ (read : Reading) (reads : IsReading read) (moments : ℕ → ℕ) (time
             (subst (λ (m : Between). Suffered deeds m (listened_in before) old client) (seen_whole p o.middle o.seen can.0) o.suffered)
         by (inr l) =
             beside_dry (λ e. l.lane.bare late.1)
-            (lag_cut read reads moments timed b fair deeds puts p q (listened_in before) old new client calm wants did late.2 untold unwritten can late.1 l)
+            (lag_cut read reads moments timed b fair deeds puts p q (listened_in before) old new client calm wants did late.2 untold unwritten can late.1
+            (subst (λ (s : Stand server_side). UpLags read reads moments timed b fair deeds p (listened_in before) s client) old_dried l))
 
     server_turn : (deed : Deed server_side) → ArePorts (deed ∷ before) → Cut deeds p (listened_in before) old client → ServerLoses deed old.owner new.owner
         → CanTurn (Server deed) p q → (did : Done deed old new) → IsToldAt deed old new did (last_of moments (number_in deeds))
         → IsToldLate (last_of moments (number_in deeds)) deed p client old new did
         → Cut (marked_deeds deed deeds) q (listened_in (deed ∷ before)) new client
-    server_turn (Other Failed) ports o is can did told late =
+    server_turn (Other Break) ports (inl o) is can did told late =
         elim is.0 [
-          | inl yields ↦ yields_on (Other Failed) ports o yields is can did told
-          | inr wants ↦
-              subst (λ (m : Between). Cut deeds m (listened_in before) new client) (sym can) (failed_on is.1 wants did o)
+          | inl yields ↦ inl (breaks_on (yields_on (Other Break) ports o yields is.1 can did told))
+          | inr breaks ↦ cut_on is.1 breaks.0 did breaks.1 breaks.2 can (late breaks.0) (inl o)
         ]
-    server_turn (Other Break) ports o is can did told late =
+    server_turn (Other Break) ports (inr l) is can did told late =
         elim is.0 [
-          | inl yields ↦ absurd yields
-          | inr breaks ↦ cut_on is.1 breaks.0 did breaks.1 breaks.2 can (late breaks.0) o
+          | inl yields ↦ absurd (up_lags_take l yields)
+          | inr breaks ↦ cut_on is.1 breaks.0 did breaks.1 breaks.2 can (late breaks.0) (inr l)
         ]
-    server_turn deed ports o is can did told late = yields_on deed ports o is.0 is can did told
+    server_turn deed ports (inl o) is can did told late = inl (yields_on deed ports o is.0 is.1 can did told)
+    server_turn deed ports (inr l) is can did told late = inr (up_lags_on deed tt ports l is.0 is.1 can did told)
 
   -- ---- one after another
 
@@ -275,6 +317,13 @@ module _ (read : Reading) (reads : IsReading read) (moments : ℕ → ℕ) (time
   reaches [] between happened server_start server client_start client begins untold unwritten far_unwritten near_untold server_led client_led takes gives
       ports told late =
       let start = starts_so read reads moments timed b fair server_start client_start begins untold unwritten far_unwritten near_untold in
+      let whole : Whole read reads moments timed b fair [] nothing_yet 0 server_start client_start = record {
+        at = start.0;
+        marks = [];
+        are_marks = refl;
+        marked = start.1;
+        unsent = subst (IsPlainBy Unsent) (sym begins.client_view) (record { job = tt; port = refl; run = refl });
+      } in
       subst (λ (m : Between). Cut [] m 0 server client) (sym happened)
       (subst (λ (s : Stand server_side). Cut [] nothing_yet 0 s client) (sym server_led)
       (subst (λ (c : Stand client_side). Cut [] nothing_yet 0 server_start c) (sym client_led)
@@ -282,13 +331,8 @@ module _ (read : Reading) (reads : IsReading read) (moments : ℕ → ℕ) (time
         middle = nothing_yet;
         seen = inl refl;
         written = λ e. unwritten;
-        suffered = inl (record {
-          at = start.0;
-          marks = [];
-          are_marks = refl;
-          marked = start.1;
-          unsent = subst (IsPlainBy Unsent) (sym begins.client_view) (record { job = tt; port = refl; run = refl });
-        });
+        suffered = inl (inl (subst (λ (s : Stand server_side). Whole read reads moments timed b fair [] nothing_yet 0 s client_start)
+            (sym (dried_none server_start far_unwritten)) whole));
       }))))
   reaches (Server deed ∷ before) between happened server_start server client_start client begins untold unwritten far_unwritten near_untold server_led
       client_led takes gives ports told late =
@@ -308,24 +352,32 @@ module _ (read : Reading) (reads : IsReading read) (moments : ℕ → ℕ) (time
       let reached = reaches before happened.0 happened.1 server_start server client_start client_led.0 begins untold unwritten far_unwritten near_untold
       server_led client_led.1 takes gives.0 ports told late in
       client_turn deed (marking before)
-      (subst AskAll (sym (same_begun moments before)) (in_all moments (client_deeds before) client_start client_led.0 client_led.1 gives.0)) happened.0 between
-      (listened_in (server_deeds before)) server client_led.0 client reached gives.1 happened.2 client_led.2
+      (subst AskAll (sym (same_begun moments before)) (in_all moments (client_deeds before) client_start client_led.0 client_led.1 gives.0))
+      (server_deeds before) ports happened.0 between server client_led.0 client reached gives.1 happened.2 client_led.2
 
--- events of a world lead to what both drives hold, or to what the client held before it was told
+-- events of a world lead to what both drives hold, or held before one of them was told
 pub cuts_are_of_worlds : CutsAreOfWorlds
 cuts_are_of_worlds read reads b fair moments timed turns between server client did =
     by (reaches read reads moments timed b fair turns between did.happened did.server_start server did.client_start client did.begins did.untold
     did.unwritten did.server_unwritten did.client_untold did.server_led did.client_led did.takes did.gives did.ports did.told did.late)
   where
+    deeds : List (Deed client_side)
+    deeds = marking turns
+
     count : ℕ
     count = listened_in (server_deeds turns)
 
-    of_world : (was : Stand client_side) → (was ≡ client) ⊎ (client.owner.end.view ≡ data_fault was.owner.end.view)
-        → ReportAlike client.owner.end.view was.owner.end.view → (m : Between) (held : Stand client_side)
-        → (o : At read reads moments timed b fair (marking turns) m count server held) (marks : List (List Mark)) → AreMarks (marking turns) marks
+    -- what was begun asks for all
+    puts : AskAll (begun_at moments deeds)
+    puts = subst AskAll (sym (same_begun moments turns)) (in_all moments (client_deeds turns) did.client_start client did.client_led did.gives)
+
+    of_world : (were : Stand server_side) (was held : Stand client_side) (m : Between)
+        → AreSame server were client was ⊎ (IsClientFirst server were client was ⊎ IsServerFirst server were client was)
+        → ReportAlike client.owner.end.view was.owner.end.view → server.owner.end.server.view.session.table ≡ were.owner.end.server.view.session.table
+        → (o : At read reads moments timed b fair deeds m count were held) (marks : List (List Mark)) → AreMarks deeds marks
         → o.world.marks ≡ marks → data_closed (taken held.owner.end.view) ≡ data_closed (taken was.owner.end.view)
         → report_of held.owner.end.view ≡ report_of was.owner.end.view → CutIsOfWorld read b moments turns server client
-    of_world was is alike m held o marks are marked near report =
+    of_world were was held m is alike table o marks are marked near report =
         let s = o.together.beside in
         let leads = subst (λ l. LeadsOn read l (world_of b) o.world) (same_begun moments turns) o.leads in
         let near_is : o.world.near ≡ data_closed (reports was.owner.end.view) =
@@ -337,9 +389,11 @@ cuts_are_of_worlds read reads b fair moments timed turns between server client d
           leads = leads.leads;
           marks = marks;
           are_marks = are;
+          were = were;
           was = was;
           is = is;
           alike = alike;
+          table = table;
           both = record {
             moment = o.last;
             ahead = o.ahead;
@@ -354,28 +408,60 @@ cuts_are_of_worlds read reads b fair moments timed turns between server client d
           near = near_is;
         }
 
-    by_lag : UpLags read reads moments timed b fair (marking turns) between count server client → CutIsOfWorld read b moments turns server client
+    by_lag : UpLags read reads moments timed b fair deeds between count (dried server) client → CutIsOfWorld read b moments turns server client
     by_lag l =
         let n : Near = l.was.end.view in
         let u : Near = client.owner.end.view in
         elim l.lifts.kind [
           | inl gives ↦
-              of_world (beside l.was client) (inr (sym (gives_fault n u l.lifts gives))) (lifts_alike n u l.lifts) (unbroken between) (beside l.was client) l.at
-              l.marks l.are_marks l.marked refl refl
+              of_world (dried server) (beside l.was client) (beside l.was client) (unbroken between) (inr (inl (refl, sym (gives_fault n u l.lifts gives))))
+              (lifts_alike n u l.lifts) refl l.at l.marks l.are_marks l.marked refl refl
           | inr closes ↦
-              of_world client (inl refl) (refl, refl) (unbroken between) (beside l.was client) l.at l.marks l.are_marks l.marked
+              of_world (dried server) client (beside l.was client) (unbroken between) (inl (refl, refl)) (refl, refl) refl l.at l.marks l.are_marks l.marked
               (ap data_closed (was_taken n u l.lifts) ∙ closes_alike n u l.lifts closes ∙ ap data_closed (sym (lifts_taken n u l.lifts)))
               (was_none n u l.lifts ∙ sym (lifts_none n u l.lifts))
         ]
 
-    by_suffered : (m : Between) → breaking.Suffered read reads moments timed b fair (marking turns) m count server client
-        → CutIsOfWorld read b moments turns server client
-    by_suffered m (inl o) = of_world client (inl refl) (refl, refl) m client o.at o.marks o.are_marks o.marked refl refl
-    by_suffered m (inr l) =
-        of_world (beside l.was client) (inr (l.view ∙ sym (fault_told l.was.end.view l.loads)))
-        (subst (λ (v : Near). ReportAlike v l.was.end.view) (sym l.view) (told_alike l.was.end.view l.loads)) (unbroken m) (beside l.was client) l.at l.marks
-        l.are_marks l.marked refl refl
+    -- the server was told first
+    first : (m : Between) → Precedes read reads moments timed b fair deeds m count server client → CutIsOfWorld read b moments turns server client
+    first m p =
+        let were : Far = p.were.owner.end.server.view in
+        let broken : break_step (clock_step p.moment were) ≡ clock_step p.moment (broke were) = broke_step p.were p.at.serves p.sends p.moment in
+        let loads = (gives_now read reads moments timed b fair deeds puts m count server client p).loads in
+        let front = heard_front p.queue p.said p.heard (client.unheard ++ m.control.to_client) p.split p.late in
+        let was : Stand client_side = unaware p.refusals p.near p.queue client.owner.lane in
+        of_world p.were was was (behind m)
+        (inr (inr (record {
+          moment = p.moment;
+          said = p.said;
+          left = p.left;
+          far = p.far_is ∙ ap (λ (f : Far). record f { owed = p.left }) (sym broken);
+          whole = ap (λ (f : Far). f.owed) broken ∙ p.whole;
+          heard = p.heard;
+          more = front.0;
+          front = front.1;
+          near = p.view;
+        })))
+        (steady_alike loads.op loads.decoder loads.mark client.owner.end.view p.near
+        (steady_now read reads moments timed b fair deeds puts m count server client p)
+        (steady_here read reads moments timed b fair deeds puts m count server client p))
+        (ap (λ (f : Far). f.session.table) p.far_is) p.at p.marks p.are_marks p.marked refl refl
+      where
+        heard_front : (queue said heard rest : List ℕ) → queue ++ said ≡ heard ++ rest → (heard ≡ []) ⊎ (queue ≡ [])
+            → (more : List ℕ) × (said ≡ heard ++ more)
+        heard_front queue said heard rest split (inl none) = (said, ap (λ o. o ++ said) (sym none))
+        heard_front queue said heard rest split (inr empty) = (rest, ap (λ o. o ++ said) (sym empty) ∙ split)
 
-    by : Cut read reads moments timed b fair (marking turns) between count server client → CutIsOfWorld read b moments turns server client
+    by_suffered : (m : Between) → breaking.Suffered read reads moments timed b fair deeds m count server client
+        → CutIsOfWorld read b moments turns server client
+    by_suffered m (inl (inl o)) =
+        of_world (dried server) client client m (inl (refl, refl)) (refl, refl) refl o.at o.marks o.are_marks o.marked refl refl
+    by_suffered m (inl (inr l)) =
+        of_world (dried server) (beside l.was client) (beside l.was client) (unbroken m)
+        (inr (inl (refl, l.view ∙ sym (fault_told l.was.end.view l.loads))))
+        (subst (λ (v : Near). ReportAlike v l.was.end.view) (sym l.view) (told_alike l.was.end.view l.loads)) refl l.at l.marks l.are_marks l.marked refl refl
+    by_suffered m (inr p) = first m p
+
+    by : Cut read reads moments timed b fair deeds between count server client → CutIsOfWorld read b moments turns server client
     by (inl o) = by_suffered o.middle o.suffered
     by (inr l) = by_lag l

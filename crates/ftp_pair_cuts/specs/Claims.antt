@@ -2,8 +2,8 @@
 use Rattle.std.specs.Prelude.{◌≡◌, ◌⊎◌, ℕ, List, [], ◌++◌, length, None, Some, option_to_list}
 use Rattle.ftp_control.specs.Deeds.{Led, Stand}
 use Rattle.ftp_client_drive.specs.Side.{client_side}
-use Rattle.ftp_client_model.specs.Calls.{control_end, data_closed, data_fault, report_of, reports}
-use Rattle.ftp_pair_breaks.specs.Claims.{ReportAlike}
+use Rattle.ftp_client_model.specs.Calls.{control_end, data_closed, report_of, reports}
+use Rattle.ftp_pair_breaks.specs.Claims.{AreSame, IsClientFirst, IsServerFirst, ReportAlike}
 use Rattle.ftp_pair_breaks.specs.Deeds.{AreMarks}
 use Rattle.ftp_pair_cuts.specs.Deeds.{AreToldLate, GivesAlong, LosesAlong, marking}
 use Rattle.ftp_pair_drives.specs.Alone.{reports_in}
@@ -39,9 +39,9 @@ pub record DidCut (b : Beginning) (moments : ℕ → ℕ) (turns : List Turn) (b
   pub told : AreToldAt moments turns server_start server server_led
   pub late : AreToldLate moments turns between happened server_start server server_led client_start client client_led
 
--- Events of a world lead from the beginning to one that holds what the server holds and what the client holds, or held before it was told of a break that a
--- world tells later: once the server has let the data connection go, or was told of it too. It has marks of these deeds; they began the same operations at these
--- moments.
+-- Events of a world lead from the beginning to one that holds what the server holds and what the client holds, or what both held before one of them was told of
+-- a break that a world tells later: once the server has let the data connection go, or the other was told, too. It has marks of these deeds; they began the
+-- same operations at these moments.
 pub record CutIsOfWorld (read : Reading) (b : Beginning) (moments : ℕ → ℕ) (turns : List Turn) (server : Stand server_side)
     (client : Stand client_side) : Type 0 where
   pub events : List Event
@@ -50,10 +50,12 @@ pub record CutIsOfWorld (read : Reading) (b : Beginning) (moments : ℕ → ℕ)
   pub leads : Leads read (world_of b) events (begun_at moments (client_deeds turns)) world
   pub marks : List (List Mark)
   pub are_marks : AreMarks (marking turns) marks
+  pub were : Stand server_side
   pub was : Stand client_side
-  pub is : (was ≡ client) ⊎ (client.owner.end.view ≡ data_fault was.owner.end.view)
+  pub is : AreSame server were client was ⊎ (IsClientFirst server were client was ⊎ IsServerFirst server were client was)
   pub alike : ReportAlike client.owner.end.view was.owner.end.view
-  pub both : HoldsMarked marks server was (reports_in (client_deeds turns)) world
+  pub table : server.owner.end.server.view.session.table ≡ were.owner.end.server.view.session.table
+  pub both : HoldsMarked marks were was (reports_in (client_deeds turns)) world
   pub near : world.near ≡ data_closed (reports was.owner.end.view)
 
 -- so it is of any such deeds

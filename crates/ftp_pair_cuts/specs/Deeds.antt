@@ -2,7 +2,7 @@
 use Rattle.std.specs.Prelude.{◌≡◌, ◌⊎◌, ⊤, ℕ, true, false, List, [], ◌∷◌}
 use Rattle.ftp_control.specs.Asking.{Reset}
 use Rattle.ftp_control.specs.Deeds.{Deed, Done, Led, Other, Stand}
-use Rattle.ftp_control.specs.Machine.{Break, Failed, Held, Left}
+use Rattle.ftp_control.specs.Machine.{Break, Held, Left}
 use Rattle.ftp_control.specs.declared.whole.Fate.TheVariants as Fates
 use Rattle.ftp_client_drive.specs.Side.{client_side}
 use Rattle.ftp_client_model.specs.Calls as near
@@ -18,10 +18,9 @@ use Rattle.ftp_server_model.specs.Calls as far
 
 -- ---- the server
 
--- while it takes octets a read fails, and it is told of the break, once it was told all that came, where it has nothing to write; else it does what it does
--- where downloads alone break
+-- while it takes octets it is told of a break, once it was told all that came, where it has nothing to write; else it does what it does where downloads alone
+-- break
 abbrev pub IsLosing : Deed server_side → Held Timed → Type 0
-IsLosing (Other Failed) at = IsYielding (Other Failed) at ⊎ (far.wants at.end.server.view ≡ Want.Receive)
 IsLosing (Other Break) at =
     IsYielding (Other Break) at ⊎ ((far.wants at.end.server.view ≡ Want.Receive) × (at.lane.untold ≡ []) × (at.lane.unwritten ≡ []))
 IsLosing deed at = IsYielding deed at
