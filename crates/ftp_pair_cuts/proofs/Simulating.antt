@@ -19,17 +19,18 @@ use Rattle.ftp_server_model.specs.View.{View as Far}
 use Rattle.ftp_pair_world.specs.Claims.{Beginning, IsFair, world_of}
 use Rattle.ftp_pair_world.specs.World.{Mark}
 use Rattle.ftp_pair_drives.specs.Alone.{ServerIsCalm, begun_by, reports_in}
-use Rattle.ftp_pair_drives.specs.Between.{Between, Can, CanTurn, Client, Far as TheServer, Happened, Has_ended, Has_lost, Hold, Near as TheClient, Server, Turn, client_deeds, nothing_yet, server_deeds}
+use Rattle.ftp_pair_drives.specs.Between.{Between, Can, CanTurn, Client, Far as TheServer, Happened, Has, Has_ended, Has_lost, Hold, Near as TheClient, Server, Turn, client_deeds, nothing_yet, server_deeds}
 use Rattle.ftp_pair_drives.specs.Claims.{Begins}
 use Rattle.ftp_pair_drives.specs.Touches.{ToldBreak, touch_in}
 use Rattle.ftp_pair_drives.proofs.Taken.{reports_is, taken}
 use Rattle.ftp_pair_drives.proofs.Worlds.{LeadsOn}
 use Rattle.ftp_pair_deeds.specs.Deeds.{ArePorts, listened_in}
 use Rattle.ftp_pair_data.proofs.Known.{is_receive}
-use Rattle.ftp_pair_deeds.proofs.Holding.{both}
+use Rattle.ftp_pair_deeds.proofs.Holding.{both, is_called, is_had}
 use Rattle.ftp_pair_deeds.proofs.Plain.{IsPlainBy}
 use Rattle.ftp_pair_transfers.specs.Deeds.{AreMoments, AreToldAt, IsToldAt, begun_at, last_of, number_in}
-use Rattle.ftp_pair_transfers.proofs.Called.{far_fresh}
+use Rattle.ftp_pair_transfers.proofs.Called.{StaysFresh}
+use Rattle.ftp_pair_transfers.proofs.Lost.{IsSeen, far_done, near_done, seen_itself}
 use Rattle.ftp_pair_transfers.proofs.Reaching.{earlier, starts_so}
 use Rattle.ftp_pair_breaks.specs.Claims.{AreSame, IsClientFirst, IsServerFirst, ReportAlike}
 use Rattle.ftp_pair_breaks.specs.Deeds.{AreMarks, IsSuffering, IsYielding}
@@ -38,9 +39,10 @@ use Rattle.ftp_pair_breaks.proofs.Drained.{BreaksNot, dried, dried_none, dried_s
 use Rattle.ftp_pair_breaks.proofs.Lagging.{Lags, Whole, beside, unbroken}
 use Rattle.ftp_pair_breaks.proofs.Preceding.{Precedes, behind, far_nothing, gives_now, steady_here, steady_now, unaware}
 use Rattle.ftp_pair_breaks.proofs.Simulating as breaking
-use Rattle.ftp_pair_breaks.proofs.Steps.{At, server_step}
+use Rattle.ftp_pair_breaks.proofs.Seen.{Sees, dropped, far_sees, sees_fresh}
+use Rattle.ftp_pair_breaks.proofs.Steps.{Again, At, idle_again, server_step, told_late}
 use Rattle.ftp_pair_breaks.proofs.Unaware.{steady_alike, steady_open, steady_wants}
-use Rattle.ftp_pair_breaks.proofs.Unbroken.{can_unbroken, serving_dials}
+use Rattle.ftp_pair_breaks.proofs.Unbroken.{sees_unbroken}
 use Rattle.ftp_pair_breaks.proofs.Unsent.{AskAll, Unsent, all_carried, both_all}
 use Rattle.ftp_pair_breaks.proofs.Untold.{fault_told, told_alike}
 use Rattle.ftp_pair_cuts.specs.Claims.{CutIsOfWorld, CutsAreOfWorlds}
@@ -48,7 +50,7 @@ use Rattle.ftp_pair_cuts.specs.Deeds.{AreToldLate, ClientGives, GivesAlong, IsOu
 use Rattle.ftp_pair_cuts.proofs.ClientTold.{told_closing, told_giving}
 use Rattle.ftp_pair_cuts.proofs.Lifting.{closes_alike, gives_fault, lifts_alike, lifts_none, lifts_taken, was_none, was_taken}
 use Rattle.ftp_pair_cuts.proofs.Marking.{same_begun, same_number, same_reports}
-use Rattle.ftp_pair_cuts.proofs.Seen.{Seen, dry, far_seen, is_left, lost_dry, near_seen, seen_held, seen_whole}
+use Rattle.ftp_pair_cuts.proofs.Seen.{Seen, dry, is_left, lost_dry, near_seen, seen_far, seen_held, seen_whole, sees_seen}
 use Rattle.ftp_pair_cuts.proofs.Serving.{giving_takes, lag_cut, lags_never, whole_cut}
 use Rattle.ftp_pair_cuts.proofs.UpLagging.{UpLags, takes_up, up_lag_step}
 use Rattle.ftp_pair_cuts.proofs.Unmarked.{suffered_too}
@@ -177,10 +179,10 @@ module _ (read : Reading) (reads : IsReading read) (moments : ℕ → ℕ) (time
       (old new : Stand server_side) (client : Stand client_side) where
     -- as where downloads alone break
     yields_on : (deed : Deed server_side) → ArePorts (deed ∷ before) → Beside deeds p (listened_in before) old client → IsYielding deed old.owner
-        → ServerIsCalm old.owner new.owner → CanTurn (Server deed) p q → (did : Done deed old new)
+        → ServerIsCalm old.owner new.owner → Sees deed (dried old) p q → (did : Done deed old new)
         → IsToldAt deed old new did (last_of moments (number_in deeds)) → Beside deeds q (listened_in (deed ∷ before)) new client
     yields_on deed ports o is calm can did told =
-        let there = far_seen (touch_in deed) p q o.middle o.seen can in
+        let there = sees_seen deed (dried old) p q o.middle o.seen can in
         record {
           middle = there.0;
           seen = there.1;
@@ -199,30 +201,35 @@ module _ (read : Reading) (reads : IsReading read) (moments : ℕ → ℕ) (time
     }
 
     -- beside a client that was told
+    up_lags_still : (l : UpLags read reads moments timed b fair deeds p (listened_in before) (dried old) client) → (count : ℕ)
+        → Again read reads moments timed b fair deeds (unbroken q) count (dried new) (beside l.was client) l.at.world.marks → q.near ≡ Has_lost
+        → StaysFresh q client → UpLags read reads moments timed b fair deeds q count (dried new) client
+    up_lags_still l count got hold fresh = record {
+      was = l.was;
+      at = got.0;
+      lifts = l.lifts;
+      due = l.due;
+      hold = hold;
+      lane = l.lane;
+      marks = l.marks;
+      are_marks = l.are_marks;
+      marked = got.1 ∙ l.marked;
+      unsent = l.unsent;
+      fresh = fresh;
+    }
+
     up_lags_on : (deed : Deed server_side) → BreaksNot deed → ArePorts (deed ∷ before)
         → UpLags read reads moments timed b fair deeds p (listened_in before) (dried old) client
-        → IsYielding deed old.owner → ServerIsCalm old.owner new.owner → CanTurn (Server deed) p q → (did : Done deed old new)
+        → IsYielding deed old.owner → ServerIsCalm old.owner new.owner → Sees deed (dried old) p q → (did : Done deed old new)
         → IsToldAt deed old new did (last_of moments (number_in deeds))
         → UpLags read reads moments timed b fair deeds q (listened_in (deed ∷ before)) (dried new) client
     up_lags_on deed kept ports l is calm can did told =
         let step = dried_step old new deed kept is did in
-        let there = can_unbroken (touch_in deed) p q (serving_dials deed (dried old).owner step.0) l.hold can in
+        let there = sees_unbroken deed (dried old) step.0 p q l.hold can in
         let got = server_step read reads moments timed b fair deed (dried old) (dried new) step.0 calm deeds (all_carried (begun_at moments deeds) puts) before
         ports (unbroken p) (unbroken q) there.0 (beside l.was client) l.at step.1
         (dried_told old new deed kept is did (last_of moments (number_in deeds)) told) in
-        record {
-          was = l.was;
-          at = got.0;
-          lifts = l.lifts;
-          due = l.due;
-          hold = there.1;
-          lane = l.lane;
-          marks = l.marks;
-          are_marks = l.are_marks;
-          marked = got.1 ∙ l.marked;
-          unsent = l.unsent;
-          fresh = far_fresh p q client l.fresh (touch_in deed) can;
-        }
+        up_lags_still l (listened_in (deed ∷ before)) got there.1 (sees_fresh deed (dried old) step.0 p q client l.fresh can)
 
     -- no server gives then
     up_lags_take : UpLags read reads moments timed b fair deeds p (listened_in before) (dried old) client
@@ -232,6 +239,31 @@ module _ (read : Reading) (reads : IsReading read) (moments : ℕ → ℕ) (time
         l.at.ahead (unbroken p) (listened_in before) l.at.together in
         both (takes_up read reads moments timed b fair deeds puts p (listened_in before) (dried old) client l)
         (giving_takes l.at.world.far.session.connection gives)
+
+    -- the break of what is to close is told, which marks nothing
+    up_lags_late : (l : UpLags read reads moments timed b fair deeds p (listened_in before) (dried old) client) → ServerIsCalm old.owner new.owner
+        → old.owner.end.server.view.session.closing ≡ true → p.far ≡ Has → q ≡ dropped (dried old) p → Calls {side = server_side} Break old new
+        → UpLags read reads moments timed b fair (Other Break ∷ deeds) q (listened_in before) (dried new) client
+    up_lags_late l calm closing has is did =
+        let late = told_late read reads moments timed b fair old new calm did closing deeds (all_carried (begun_at moments deeds) puts) before (unbroken p) has
+        (beside l.was client) l.at in
+        let got : Again read reads moments timed b fair deeds (unbroken q) (listened_in before) (dried new) (beside l.was client) l.at.world.marks =
+        subst (λ (m : Between). Again read reads moments timed b fair deeds (unbroken m) (listened_in before) (dried new) (beside l.was client)
+        l.at.world.marks) (sym is) late in
+        let too = idle_again read reads moments timed b fair (Other Break) deeds got.0 refl refl in
+        record {
+          was = l.was;
+          at = too.0;
+          lifts = l.lifts;
+          due = l.due;
+          hold = ap (λ (m : Between). m.near) is ∙ l.hold;
+          lane = l.lane;
+          marks = l.marks;
+          are_marks = (l.marks, l.are_marks, inl refl);
+          marked = too.1 ∙ got.1 ∙ l.marked;
+          unsent = l.unsent;
+          fresh = λ called. absurd (true≢false (sym called ∙ ap (λ (m : Between). is_called m.far) is));
+        }
 
     -- it is told of the break
     cut_on : ServerIsCalm old.owner new.owner → (wants : far.wants old.owner.end.server.view ≡ Want.Receive) → (did : Calls {side = server_side} Break old new)
@@ -282,22 +314,91 @@ module _ (read : Reading) (reads : IsReading read) (moments : ℕ → ℕ) (time
             (lag_cut read reads moments timed b fair deeds puts p q (listened_in before) old new client calm wants did late.2 untold unwritten can late.1
             (subst (λ (s : Stand server_side). UpLags read reads moments timed b fair deeds p (listened_in before) s client) old_dried l))
 
-    server_turn : (deed : Deed server_side) → ArePorts (deed ∷ before) → Cut deeds p (listened_in before) old client → ServerLoses deed old.owner new.owner
+  -- ---- as a world sees what lies between
+
+  record Stood (deeds : List (Deed client_side)) (between : Between) (count : ℕ) (server : Stand server_side) (client : Stand client_side) : Type 0 where
+    sight : Between
+    is_seen : IsSeen between sight
+    cut : Cut deeds sight count server client
+
+  module _ (deeds : List (Deed client_side)) (puts : AskAll (begun_at moments deeds)) (before : List (Deed server_side)) (p q s : Between)
+      (is_seen : IsSeen p s) (old new : Stand server_side) (client : Stand client_side) where
+    -- octets are unwritten only where the server has a data connection
+    beside_spare : Beside deeds s (listened_in before) old client → is_had s.far ≡ false → (dried old).owner.lane.unwritten ≡ []
+    beside_spare o e =
+        breaking.spare_now read reads moments timed b fair deeds o.middle (listened_in before) old client o.suffered
+        (ap is_had (seen_far s o.middle o.seen) ∙ e)
+
+    -- what is told late is of a client that left
+    seen_late : (deed : Deed server_side) (did : Done deed old new) (moment : ℕ) → IsToldLate moment deed p client old new did
+        → IsToldLate moment deed s client old new did
+    seen_late (Other Break) did moment late = λ wants. (subst IsOut (sym is_seen.near) (late wants).0, (late wants).1, (late wants).2)
+    seen_late deed did moment late = tt
+
+    -- it is told of the break of an upload
+    cuts : ServerIsCalm old.owner new.owner → (wants : far.wants old.owner.end.server.view ≡ Want.Receive) → (did : Calls {side = server_side} Break old new)
+        → old.owner.lane.untold ≡ [] → old.owner.lane.unwritten ≡ [] → Can TheServer ToldBreak p q
+        → IsToldLate (last_of moments (number_in deeds)) (Other Break) p client old new did
+        → Cut deeds s (listened_in before) old client → Stood (Other Break ∷ deeds) q (listened_in before) new client
+    cuts calm wants did untold unwritten can late o =
+        let there = far_done p q s is_seen ToldBreak can in
+        record {
+          sight = there.after;
+          is_seen = there.is_seen;
+          cut = cut_on deeds puts before s there.after old new client calm wants did untold unwritten there.can
+              (seen_late (Other Break) did (last_of moments (number_in deeds)) late wants) o;
+        }
+
+    -- beside both it does what it does where downloads alone break
+    beside_turn : (deed : Deed server_side) → ArePorts (deed ∷ before) → (o : Beside deeds s (listened_in before) old client) → IsYielding deed old.owner
+        → ServerIsCalm old.owner new.owner → CanTurn (Server deed) p q → (did : Done deed old new)
+        → IsToldAt deed old new did (last_of moments (number_in deeds))
+        → (t : Between) × IsSeen q t × Beside deeds t (listened_in (deed ∷ before)) new client
+    beside_turn deed ports o is calm can did told =
+        let there = far_sees old new p q s is_seen (beside_spare o) deed (is, calm) can in
+        (there.0, there.2, yields_on deeds puts before s there.0 old new client deed ports o is calm there.1 did told)
+
+    -- so it does beside a client that was told
+    up_lags_turn : (deed : Deed server_side) → BreaksNot deed → ArePorts (deed ∷ before)
+        → (l : UpLags read reads moments timed b fair deeds s (listened_in before) (dried old) client) → IsYielding deed old.owner
+        → ServerIsCalm old.owner new.owner → CanTurn (Server deed) p q → (did : Done deed old new)
+        → IsToldAt deed old new did (last_of moments (number_in deeds)) → Stood deeds q (listened_in (deed ∷ before)) new client
+    up_lags_turn deed kept ports l is calm can did told =
+        let there = far_sees old new p q s is_seen l.at.together.serves.spare deed (is, calm) can in
+        record {
+          sight = there.0;
+          is_seen = there.2;
+          cut = inr (up_lags_on deeds puts before s there.0 old new client deed kept ports l is calm there.1 did told);
+        }
+
+    server_turn : (deed : Deed server_side) → ArePorts (deed ∷ before) → Cut deeds s (listened_in before) old client → ServerLoses deed old.owner new.owner
         → CanTurn (Server deed) p q → (did : Done deed old new) → IsToldAt deed old new did (last_of moments (number_in deeds))
         → IsToldLate (last_of moments (number_in deeds)) deed p client old new did
-        → Cut (marked_deeds deed deeds) q (listened_in (deed ∷ before)) new client
+        → Stood (marked_deeds deed deeds) q (listened_in (deed ∷ before)) new client
     server_turn (Other Break) ports (inl o) is can did told late =
         elim is.0 [
-          | inl yields ↦ inl (breaks_on (yields_on (Other Break) ports o yields is.1 can did told))
-          | inr breaks ↦ cut_on is.1 breaks.0 did breaks.1 breaks.2 can (late breaks.0) (inl o)
+          | inl yields ↦
+              let got = beside_turn (Other Break) ports o yields is.1 can did told in
+              record { sight = got.0; is_seen = got.1; cut = inl (breaks_on deeds puts before s got.0 old new client got.2) }
+          | inr breaks ↦ cuts is.1 breaks.0 did breaks.1 breaks.2 can late (inl o)
         ]
     server_turn (Other Break) ports (inr l) is can did told late =
         elim is.0 [
-          | inl yields ↦ absurd (up_lags_take l yields)
-          | inr breaks ↦ cut_on is.1 breaks.0 did breaks.1 breaks.2 can (late breaks.0) (inr l)
+          | inl yields ↦
+              let there = far_sees old new p q s is_seen l.at.together.serves.spare (Other Break) (yields, is.1) can in
+              elim there.1 [
+                | inl sends ↦ absurd (up_lags_take deeds puts before s there.0 old new client l sends.0)
+                | inr closing ↦ record {
+                  sight = there.0;
+                  is_seen = there.2;
+                  cut = inr (up_lags_late deeds puts before s there.0 old new client l is.1 closing.0 closing.1 closing.2 did);
+                }
+              ]
+          | inr breaks ↦ cuts is.1 breaks.0 did breaks.1 breaks.2 can late (inr l)
         ]
-    server_turn deed ports (inl o) is can did told late = inl (yields_on deed ports o is.0 is.1 can did told)
-    server_turn deed ports (inr l) is can did told late = inr (up_lags_on deed tt ports l is.0 is.1 can did told)
+    server_turn deed ports (inl o) is can did told late =
+        let got = beside_turn deed ports o is.0 is.1 can did told in record { sight = got.0; is_seen = got.1; cut = inl got.2 }
+    server_turn deed ports (inr l) is can did told late = up_lags_turn deed tt ports l is.0 is.1 can did told
 
   -- ---- one after another
 
@@ -313,7 +414,7 @@ module _ (read : Reading) (reads : IsReading read) (moments : ℕ → ℕ) (time
       → LosesAlong (server_deeds turns) server_start server server_led → GivesAlong (client_deeds turns) client_start client client_led
       → ArePorts (server_deeds turns) → AreToldAt moments turns server_start server server_led
       → AreToldLate moments turns between happened server_start server server_led client_start client client_led
-      → Cut (marking turns) between (listened_in (server_deeds turns)) server client
+      → Stood (marking turns) between (listened_in (server_deeds turns)) server client
   reaches [] between happened server_start server client_start client begins untold unwritten far_unwritten near_untold server_led client_led takes gives
       ports told late =
       let start = starts_so read reads moments timed b fair server_start client_start begins untold unwritten far_unwritten near_untold in
@@ -324,23 +425,26 @@ module _ (read : Reading) (reads : IsReading read) (moments : ℕ → ℕ) (time
         marked = start.1;
         unsent = subst (IsPlainBy Unsent) (sym begins.client_view) (record { job = tt; port = refl; run = refl });
       } in
-      subst (λ (m : Between). Cut [] m 0 server client) (sym happened)
-      (subst (λ (s : Stand server_side). Cut [] nothing_yet 0 s client) (sym server_led)
-      (subst (λ (c : Stand client_side). Cut [] nothing_yet 0 server_start c) (sym client_led)
-      (inl (record {
-        middle = nothing_yet;
-        seen = inl refl;
-        written = λ e. unwritten;
-        suffered = inl (inl (subst (λ (s : Stand server_side). Whole read reads moments timed b fair [] nothing_yet 0 s client_start)
-            (sym (dried_none server_start far_unwritten)) whole));
-      }))))
+      subst (λ (m : Between). Stood [] m 0 server client) (sym happened)
+      (subst (λ (s : Stand server_side). Stood [] nothing_yet 0 s client) (sym server_led)
+      (subst (λ (c : Stand client_side). Stood [] nothing_yet 0 server_start c) (sym client_led) (record {
+        sight = nothing_yet;
+        is_seen = seen_itself nothing_yet;
+        cut = inl (record {
+          middle = nothing_yet;
+          seen = inl refl;
+          written = λ e. unwritten;
+          suffered = inl (inl (subst (λ (s : Stand server_side). Whole read reads moments timed b fair [] nothing_yet 0 s client_start)
+              (sym (dried_none server_start far_unwritten)) whole));
+        });
+      })))
   reaches (Server deed ∷ before) between happened server_start server client_start client begins untold unwritten far_unwritten near_untold server_led
       client_led takes gives ports told late =
       let reached = reaches before happened.0 happened.1 server_start server_led.0 client_start client begins untold unwritten far_unwritten near_untold
       server_led.1 client_led takes.0 gives (earlier deed (server_deeds before) ports) told.0 late.0 in
-      subst (λ d. Cut d between (listened_in (deed ∷ server_deeds before)) server client) (sym (marked_is deed before))
-      (server_turn (marking before) (asked before client_start client client_led gives) (server_deeds before) happened.0 between server_led.0 server client deed
-      ports reached takes.1 happened.2 server_led.2
+      subst (λ d. Stood d between (listened_in (deed ∷ server_deeds before)) server client) (sym (marked_is deed before))
+      (server_turn (marking before) (asked before client_start client client_led gives) (server_deeds before) happened.0 between reached.sight
+      reached.is_seen server_led.0 server client deed ports reached.cut takes.1 happened.2 server_led.2
       (subst (λ k. IsToldAt deed server_led.0 server server_led.2 (last_of moments k)) (sym (same_number before)) told.1)
       (subst (λ k. IsToldLate (last_of moments k) deed happened.0 client server_led.0 server server_led.2) (sym (same_number before)) late.1))
     where
@@ -351,15 +455,21 @@ module _ (read : Reading) (reads : IsReading read) (moments : ℕ → ℕ) (time
       client_led takes gives ports told late =
       let reached = reaches before happened.0 happened.1 server_start server client_start client_led.0 begins untold unwritten far_unwritten near_untold
       server_led client_led.1 takes gives.0 ports told late in
-      client_turn deed (marking before)
-      (subst AskAll (sym (same_begun moments before)) (in_all moments (client_deeds before) client_start client_led.0 client_led.1 gives.0))
-      (server_deeds before) ports happened.0 between server client_led.0 client reached gives.1 happened.2 client_led.2
+      let there = near_done happened.0 between reached.sight reached.is_seen (touch_in deed) happened.2 in
+      record {
+        sight = there.after;
+        is_seen = there.is_seen;
+        cut = client_turn deed (marking before)
+            (subst AskAll (sym (same_begun moments before)) (in_all moments (client_deeds before) client_start client_led.0 client_led.1 gives.0))
+            (server_deeds before) ports reached.sight there.after server client_led.0 client reached.cut gives.1 there.can client_led.2;
+      }
 
 -- events of a world lead to what both drives hold, or held before one of them was told
 pub cuts_are_of_worlds : CutsAreOfWorlds
 cuts_are_of_worlds read reads b fair moments timed turns between server client did =
-    by (reaches read reads moments timed b fair turns between did.happened did.server_start server did.client_start client did.begins did.untold
-    did.unwritten did.server_unwritten did.client_untold did.server_led did.client_led did.takes did.gives did.ports did.told did.late)
+    let stood = reaches read reads moments timed b fair turns between did.happened did.server_start server did.client_start client did.begins did.untold
+    did.unwritten did.server_unwritten did.client_untold did.server_led did.client_led did.takes did.gives did.ports did.told did.late in
+    by stood.sight stood.cut
   where
     deeds : List (Deed client_side)
     deeds = marking turns
@@ -408,16 +518,16 @@ cuts_are_of_worlds read reads b fair moments timed turns between server client d
           near = near_is;
         }
 
-    by_lag : UpLags read reads moments timed b fair deeds between count (dried server) client → CutIsOfWorld read b moments turns server client
-    by_lag l =
+    by_lag : (m : Between) → UpLags read reads moments timed b fair deeds m count (dried server) client → CutIsOfWorld read b moments turns server client
+    by_lag m l =
         let n : Near = l.was.end.view in
         let u : Near = client.owner.end.view in
         elim l.lifts.kind [
           | inl gives ↦
-              of_world (dried server) (beside l.was client) (beside l.was client) (unbroken between) (inr (inl (refl, sym (gives_fault n u l.lifts gives))))
+              of_world (dried server) (beside l.was client) (beside l.was client) (unbroken m) (inr (inl (refl, sym (gives_fault n u l.lifts gives))))
               (lifts_alike n u l.lifts) refl l.at l.marks l.are_marks l.marked refl refl
           | inr closes ↦
-              of_world (dried server) client (beside l.was client) (unbroken between) (inl (refl, refl)) (refl, refl) refl l.at l.marks l.are_marks l.marked
+              of_world (dried server) client (beside l.was client) (unbroken m) (inl (refl, refl)) (refl, refl) refl l.at l.marks l.are_marks l.marked
               (ap data_closed (was_taken n u l.lifts) ∙ closes_alike n u l.lifts closes ∙ ap data_closed (sym (lifts_taken n u l.lifts)))
               (was_none n u l.lifts ∙ sym (lifts_none n u l.lifts))
         ]
@@ -462,6 +572,6 @@ cuts_are_of_worlds read reads b fair moments timed turns between server client d
         (subst (λ (v : Near). ReportAlike v l.was.end.view) (sym l.view) (told_alike l.was.end.view l.loads)) refl l.at l.marks l.are_marks l.marked refl refl
     by_suffered m (inr p) = first m p
 
-    by : Cut read reads moments timed b fair deeds between count server client → CutIsOfWorld read b moments turns server client
-    by (inl o) = by_suffered o.middle o.suffered
-    by (inr l) = by_lag l
+    by : (m : Between) → Cut read reads moments timed b fair deeds m count server client → CutIsOfWorld read b moments turns server client
+    by m (inl o) = by_suffered o.middle o.suffered
+    by m (inr l) = by_lag m l
