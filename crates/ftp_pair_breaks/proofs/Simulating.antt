@@ -245,19 +245,19 @@ module _ (read : Reading) (reads : IsReading read) (moments : ℕ → ℕ) (time
               ]
 
     -- as where none breaks
-    steps_on : (deed : Deed client_side) → BreaksNone deed → ClientSuffers deed old.owner new.owner → ClientTries deed old.owner new.owner
-        → Marks deed o.marks (marked_by deed o.marks) → CanTurn (Client deed) p q → Done deed old new → Lone (deed ∷ deeds) q count server new
+    pub steps_on : (deed : Deed client_side) → BreaksNone deed → ClientSuffers deed old.owner new.owner → ClientTries deed old.owner new.owner
+        → Marks deed o.marks (marked_by deed o.marks) → CanTurn (Client deed) p q → Done deed old new → W (deed ∷ deeds) q count server new
     steps_on deed unbroken is tries marks can did =
-        inl (on deed (marked_by deed o.marks) marks (marked_by deed w.marks) (ap (marked_by deed) o.marked)
+        on deed (marked_by deed o.marks) marks (marked_by deed w.marks) (ap (marked_by deed) o.marked)
         (client_step read reads moments timed b fair deed unbroken old new tries deeds carried p q can count server o.at did)
-        (stays_unsent deed unbroken is did))
+        (stays_unsent deed unbroken is did)
 
     whole_step : (deed : Deed client_side) → ClientSuffers deed old.owner new.owner → CanTurn (Client deed) p q → Done deed old new
         → Lone (deed ∷ deeds) q count server new
     whole_step (Other (Left (Reset left written))) is can did = inl (resets_on left written is can did)
     whole_step (Other Break) is can did = breaks_on is can did
-    whole_step (Other (Aside (Starting op))) is can did = steps_on (Other (Aside (Starting op))) tt is (is.0.0, is.1) refl can did
-    whole_step deed is can did = steps_on deed tt is (is.0, is.1) refl can did
+    whole_step (Other (Aside (Starting op))) is can did = inl (steps_on (Other (Aside (Starting op))) tt is (is.0.0, is.1) refl can did)
+    whole_step deed is can did = inl (steps_on deed tt is (is.0, is.1) refl can did)
 
   -- ---- one after another
 

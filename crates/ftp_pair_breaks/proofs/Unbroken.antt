@@ -11,7 +11,7 @@ use Rattle.ftp_pair_breaks.proofs.Lagging.{unbroken}
 use Rattle.ftp_pair_breaks.proofs.Seen.{Sees}
 
 -- it dials
-abbrev is_dialled : Touch → Bool
+abbrev pub is_dialled : Touch → Bool
 is_dialled (Dials endpoint) = true
 is_dialled touch = false
 
