@@ -10,6 +10,9 @@ pub mod Marking
 pub mod ClientTold
 pub mod Serving
 pub mod Simulating
+pub mod Reaching
 pub mod Concluding
 pub mod Ending
 pub mod Unmarked
+pub mod Leaving
+pub mod LeavingServed

@@ -23,17 +23,17 @@ use Rattle.ftp_pair_world.specs.World.{Broken, ClosedByNear, Mark, Opened, World
 use Rattle.ftp_pair_drives.specs.Alone.{ServerIsCalm, reports_in}
 use Rattle.ftp_pair_drives.specs.Between.{Between, Can, Far as TheServer, Has_ended, Has_lost, Hold}
 use Rattle.ftp_pair_drives.specs.Touches.{ToldBreak}
-use Rattle.ftp_pair_drives.proofs.Taken.{taken_none}
+use Rattle.ftp_pair_drives.proofs.Taken.{taken, taken_none}
 use Rattle.ftp_pair_drives.proofs.Worlds.{LeadsOn, leads_then}
 use Rattle.ftp_pair_data.proofs.Served.{far_wants, rests}
 use Rattle.ftp_pair_deeds.proofs.FarForms.{no_close}
 use Rattle.ftp_pair_deeds.proofs.Holding.{both, is_called, is_false, is_had, unclosed}
-use Rattle.ftp_pair_deeds.proofs.Plain.{IsPlainly}
+use Rattle.ftp_pair_deeds.proofs.Plain.{IsPlainBy, IsPlainly}
 use Rattle.ftp_pair_deeds.proofs.Stands.{ServerServes}
 use Rattle.ftp_pair_transfers.specs.Ahead.{Ahead, Fits, Level, Listens, Opens, Parted, far_ahead}
 use Rattle.ftp_pair_transfers.specs.Deeds.{AreMoments, begun_at, last_of, number_in}
 use Rattle.ftp_pair_transfers.proofs.Ahead.{left_rests}
-use Rattle.ftp_pair_transfers.proofs.Beside.{GoesTo, is_taking, rested}
+use Rattle.ftp_pair_transfers.proofs.Beside.{GoesTo, Takes, is_taking, rested}
 use Rattle.ftp_pair_transfers.proofs.Called.{StaysFresh}
 use Rattle.ftp_pair_transfers.proofs.FarForms.{is_receive, receives_upload, upload_takes}
 use Rattle.ftp_pair_transfers.proofs.Known.{AreCarried, Known, is_giving, is_near_held}
@@ -43,6 +43,7 @@ use Rattle.ftp_pair_breaks.proofs.Lagging.{Lags, Whole, beside, feeds, unbroken}
 use Rattle.ftp_pair_breaks.proofs.Steps.{Again, At, idle_again}
 use Rattle.ftp_pair_breaks.proofs.Unsent.{AskAll, Unsent, all_carried}
 use Rattle.ftp_pair_cuts.specs.Deeds.{IsOut}
+use Rattle.ftp_pair_cuts.proofs.Leaving.{gone, lost}
 use Rattle.ftp_pair_cuts.proofs.Lifting.{IsClosing, StillGives, closes_alike, gives_fault, lifts_none, lifts_plain, lifts_rest, lifts_sound, lifts_taken, was_none}
 use Rattle.ftp_pair_cuts.proofs.Seen.{dry}
 use Rattle.ftp_pair_cuts.proofs.ServerCut.{Remains, cut_at}
@@ -77,6 +78,44 @@ giving_takes Data.Ready e = refl
 giving_takes (Data.Opening transfer way) e = refl
 
 -- ---- the client has left
+
+-- it is beside a world as one of which nothing comes or goes, and what lies between
+pub record Out (client after : Stand client_side) (p next : Between) : Type 0 where
+  pub view : after.owner.end.view ≡ client.owner.end.view
+  pub unheard : after.unheard ≡ client.unheard
+  pub not_taking : is_taking after.owner.lane ≡ false
+  pub takes : Takes after.owner.lane
+  pub written : after.owner.lane.unwritten ≡ []
+  pub control : next.control ≡ p.control
+  pub dry : next.data_ways.to_server ≡ []
+  pub lost : next.far ≡ Has_lost
+
+module _ (client : Stand client_side) (p q : Between) (can : Can TheServer ToldBreak p q) where
+  -- where its data connection stands no more
+  pub out_left : client.owner.lane.stands ≡ false → Takes client.owner.lane → client.owner.lane.unwritten ≡ [] → Out client client p (dry q)
+  out_left left takes written = record {
+    view = refl;
+    unheard = refl;
+    not_taking = ap (λ s. is_taking (record client.owner.lane { stands = s })) left;
+    takes = takes;
+    written = written;
+    control = ap (λ (m : Between). m.control) can.1;
+    dry = refl;
+    lost = ap (λ (m : Between). m.far) can.1;
+  }
+
+  -- where it stands still
+  pub out_gone : Out client (gone client) p (lost q)
+  out_gone = record {
+    view = refl;
+    unheard = refl;
+    not_taking = refl;
+    takes = record { bare = λ e. refl };
+    written = refl;
+    control = ap (λ (m : Between). m.control) can.1;
+    dry = refl;
+    lost = ap (λ (m : Between). m.far) can.1;
+  }
 
 -- it has it no more
 out_lost : (hold : Hold) → IsOut hold → is_had hold ≡ false
@@ -118,19 +157,19 @@ module _ (read : Reading) (reads : IsReading read) (moments : ℕ → ℕ) (time
 
     -- ---- it is told of the break
 
-    module _ (q : Between) (after : Stand client_side) (did : Calls {side = server_side} Break old new)
-        (wants : far.wants old.owner.end.server.view ≡ Want.Receive) (told : did.0.0.0 ≡ last_of moments (number_in deeds)) (r : Remains w client after p (dry q))
+    module _ (next : Between) (after : Stand client_side) (did : Calls {side = server_side} Break old new)
+        (wants : far.wants old.owner.end.server.view ≡ Want.Receive) (told : did.0.0.0 ≡ last_of moments (number_in deeds)) (r : Remains w client after p next)
         (untold : old.owner.lane.untold ≡ []) (unwritten : old.owner.lane.unwritten ≡ []) where
       -- a world is beside both again, and its link is broken; a break marks
-      pub cut_again : is_sound after.owner.end.view.standing ≡ true → IsPlainly after.owner.end.view → StaysFresh (dry q) after
-          → Again read reads moments timed b fair (Other Break ∷ deeds) (dry q) count new after (marked_last (Broken w.came) w.marks)
+      pub cut_again : is_sound after.owner.end.view.standing ≡ true → IsPlainly after.owner.end.view → StaysFresh next after
+          → Again read reads moments timed b fair (Other Break ∷ deeds) next count new after (marked_last (Broken w.came) w.marks)
       cut_again sound plain fresh =
           let t = o.together in
-          let went = cut_at read (begun_at moments deeds) old new client after (reports_in deeds) w calm o.serves o.last o.ahead p (dry q) count did wants
+          let went = cut_at read (begun_at moments deeds) old new client after (reports_in deeds) w calm o.serves o.last o.ahead p next count did wants
           (λ takes. world_timed read reads (state_of b) moments deeds carried w
           (runs read reads moments timed b fair deeds p count old client (reports_in deeds) o carried)
           t.beside.control t.beside.unready takes ∙ sym told) t r untold unwritten in
-          let got = again_cut deeds o (marked_last (Broken w.came) w.marks) (dry q) new after went.0 went.1 sound plain fresh in
+          let got = again_cut deeds o (marked_last (Broken w.came) w.marks) next new after went.0 went.1 sound plain fresh in
           let idle = idle_again read reads moments timed b fair (Other Break) deeds got.0 refl refl in
           (idle.0, idle.1 ∙ got.1)
 
@@ -161,52 +200,53 @@ module _ (read : Reading) (reads : IsReading read) (moments : ℕ → ℕ) (time
     -- ---- it is told of the break
 
     module _ (did : Calls {side = server_side} Break old new) (told : did.0.0.0 ≡ last_of moments (number_in deeds)) (untold : old.owner.lane.untold ≡ [])
-        (unwritten : old.owner.lane.unwritten ≡ []) (can : Can TheServer ToldBreak p q) (left : client.owner.lane.stands ≡ false) where
-      lost : q.far ≡ Has_lost
-      lost = ap (λ (m : Between). m.far) can.1
+        (unwritten : old.owner.lane.unwritten ≡ []) (after : Stand client_side) (next : Between) (out : Out client after p next) where
+      fresh : StaysFresh next after
+      fresh called = absurd (both called (ap is_called out.lost))
 
-      fresh : StaysFresh (dry q) client
-      fresh called = absurd (both called (ap is_called lost))
-
-      not_taking : is_taking client.owner.lane ≡ false
-      not_taking = ap (λ s. is_taking (record client.owner.lane { stands = s })) left
+      sound_then : is_sound client.owner.end.view.standing ≡ true → is_sound after.owner.end.view.standing ≡ true
+      sound_then sound = ap (λ (n : Near). is_sound n.standing) out.view ∙ sound
 
       -- where a world is beside both: its client alone has closed the link
-      pub whole_cut : Whole read reads moments timed b fair deeds p count old client → IsOut p.near
-          → Whole read reads moments timed b fair (Other Break ∷ deeds) (dry q) count new client
-      whole_cut o out =
+      pub whole_cut : Whole read reads moments timed b fair deeds p count old client → IsOut p.near ⊎ (client.owner.end.view.closing ≡ true)
+          → Whole read reads moments timed b fair (Other Break ∷ deeds) next count new after
+      whole_cut o is_out =
           let w : World = o.at.world in
           let t = o.at.together in
           let carried = all_carried (begun_at moments deeds) puts in
           let known_now : Known w = known read reads moments timed b fair deeds p count old client _ o.at carried in
-          let link : w.link ≡ ClosedByNear = known_now.takes (world_upload o.at)
-          (is_false (is_near_held w.link) (λ e. both (t.keeping.had e) (out_lost p.near out))) in
+          let not_held : is_near_held w.link ≡ false = elim is_out [
+            | inl left ↦ is_false (is_near_held w.link) (λ e. both (t.keeping.had e) (out_lost p.near left))
+            | inr closing ↦ t.keeping.shut closing
+          ] in
+          let link : w.link ≡ ClosedByNear = known_now.takes (world_upload o.at) not_held in
           let open_near : w.near.closing ≡ false = ap (λ (n : Near). n.closing) t.beside.near in
-          let r : Remains w client client p (dry q) = record {
+          let r : Remains w client after p next = record {
             view = w.near;
             told = ap (λ l. broken_by l (lends_none w)) link;
             stands = ap is_gone link;
-            holds = t.beside.near;
+            holds = t.beside.near ∙ ap (λ n. data_closed (taken n)) (sym out.view);
             none = ap report_of t.beside.near ∙ taken_none client.owner.end.view;
             unclosed = open_near;
             rest = ap (λ n. rests (near.wants n)) (unclosed w.near open_near) ∙ (rested o.at.last o.at.ahead p count old client _ w t.beside o.at.serves
                 (asks read reads moments timed b fair deeds p count old client _ o.at carried)).near_rests;
-            reports = refl;
-            unheard = refl;
-            not_taking = not_taking;
-            takes = t.takes;
-            written = t.gives.bare left;
-            control = ap (λ (m : Between). m.control) can.1;
-            dry = refl;
-            lost = lost;
+            reports = ap report_of out.view;
+            unheard = out.unheard;
+            not_taking = out.not_taking;
+            takes = out.takes;
+            written = out.written;
+            control = out.control;
+            dry = out.dry;
+            lost = out.lost;
           } in
-          let got = cut_again deeds puts p count old new client calm o.at q client did wants told r untold unwritten o.at.sound o.at.plain fresh in
+          let got = cut_again deeds puts p count old new client calm o.at next after did wants told r untold unwritten (sound_then o.at.sound)
+          (subst IsPlainly (sym out.view) o.at.plain) fresh in
           record {
             at = got.0;
             marks = marked_last (Broken w.came) o.marks;
             are_marks = (o.marks, o.are_marks, inr (w.came, refl));
             marked = got.1 ∙ ap (marked_last (Broken w.came)) o.marked;
-            unsent = o.unsent;
+            unsent = subst (IsPlainBy Unsent) (sym out.view) o.unsent;
           }
 
       -- where it is beside a client that was not told: it is told too, or has closed the link
@@ -225,26 +265,26 @@ module _ (read : Reading) (reads : IsReading read) (moments : ℕ → ℕ) (time
 
         -- with this client then
         remains : (view : Near) → broken_by there.link (lends_none there) ≡ record (lends_none there) { near = view; far = far.data_fault there.far }
-            → is_gone there.link ≡ false → view ≡ data_closed u → Remains there (beside l.was client) client (unbroken p) (dry q)
+            → is_gone there.link ≡ false → view ≡ data_closed u → Remains there (beside l.was client) after (unbroken p) next
         remains view told stands is = record {
           view = view;
           told = told;
           stands = stands;
-          holds = is ∙ ap data_closed (sym (lifts_taken n u l.lifts));
+          holds = is ∙ ap data_closed (sym (lifts_taken n u l.lifts)) ∙ ap (λ m. data_closed (taken m)) (sym out.view);
           none = ap report_of is ∙ lifts_none n u l.lifts;
           unclosed = ap (λ (m : Near). m.closing) is;
           rest = ap (λ m. rests (near.wants (data_closed m))) is ∙ lifts_rest n u l.lifts;
-          reports = lifts_none n u l.lifts ∙ sym (was_none n u l.lifts);
-          unheard = refl;
-          not_taking = not_taking;
-          takes = l.lane.takes;
-          written = l.lane.bare left;
-          control = ap (λ (m : Between). m.control) can.1;
-          dry = refl;
-          lost = lost;
+          reports = ap report_of out.view ∙ lifts_none n u l.lifts ∙ sym (was_none n u l.lifts);
+          unheard = out.unheard;
+          not_taking = out.not_taking;
+          takes = out.takes;
+          written = out.written;
+          control = out.control;
+          dry = out.dry;
+          lost = out.lost;
         }
 
-        still_gives : StillGives n l.lifts.left l.lifts.link l.lifts.closed → Remains there (beside l.was client) client (unbroken p) (dry q)
+        still_gives : StillGives n l.lifts.left l.lifts.link l.lifts.closed → Remains there (beside l.was client) after (unbroken p) next
         still_gives gives =
             let link : there.link ≡ Opened = link_open read reads moments timed b fair deeds puts p count old client l gives in
             let same : there.near ≡ n = near_there ∙ unclosed n gives.1 in
@@ -253,22 +293,23 @@ module _ (read : Reading) (reads : IsReading read) (moments : ℕ → ℕ) (time
             (ap (λ k. broken_by k (lends_none there)) link ∙ ap (λ m. record (lends_none there) { near = m; far = far.data_fault there.far }) fault)
             (ap is_gone link) (sym (unclosed u (ap (λ (m : Near). m.closing) l.lifts.told ∙ gives.4)))
 
-        has_closed : IsClosing n l.lifts.left l.lifts.link → Remains there (beside l.was client) client (unbroken p) (dry q)
+        has_closed : IsClosing n l.lifts.left l.lifts.link → Remains there (beside l.was client) after (unbroken p) next
         has_closed closes =
             let link : there.link ≡ ClosedByNear = link_closed read reads moments timed b fair deeds puts p count old client l closes in
             remains there.near (ap (λ k. broken_by k (lends_none there)) link) (ap is_gone link) (near_there ∙ closes_alike n u l.lifts closes)
 
-        pub lag_cut : Whole read reads moments timed b fair (Other Break ∷ deeds) (dry q) count new client
+        pub lag_cut : Whole read reads moments timed b fair (Other Break ∷ deeds) next count new after
         lag_cut =
-            let got = cut_again deeds puts (unbroken p) count old new (beside l.was client) calm l.at q client did wants told
+            let got = cut_again deeds puts (unbroken p) count old new (beside l.was client) calm l.at next after did wants told
             (elim l.lifts.kind [
               | inl gives ↦ still_gives gives
               | inr closes ↦ has_closed closes
-            ]) untold unwritten (lifts_sound n u l.lifts) (plainly read reads moments timed b fair deeds puts p count old client l) fresh in
+            ]) untold unwritten (sound_then (lifts_sound n u l.lifts))
+            (subst IsPlainly (sym out.view) (plainly read reads moments timed b fair deeds puts p count old client l)) fresh in
             record {
               at = got.0;
               marks = marked_last (Broken there.came) l.marks;
               are_marks = (l.marks, l.are_marks, inr (there.came, refl));
               marked = got.1 ∙ ap (marked_last (Broken there.came)) l.marked;
-              unsent = lifts_plain n u l.lifts Unsent l.unsent;
+              unsent = subst (IsPlainBy Unsent) (sym out.view) (lifts_plain n u l.lifts Unsent l.unsent);
             }

@@ -1,5 +1,5 @@
 -- The deeds of one server's drive and of drives of one client of which data connections break, those of uploads too: an end is told so (RFC 959, section 3.3).
-use Rattle.std.specs.Prelude.{◌≡◌, ◌⊎◌, ⊤, ℕ, true, false, List, [], ◌∷◌}
+use Rattle.std.specs.Prelude.{◌≡◌, ◌⊎◌, ⊤, ℕ, true, List, [], ◌∷◌}
 use Rattle.ftp_control.specs.Asking.{Reset}
 use Rattle.ftp_control.specs.Deeds.{Deed, Done, Led, Other, Stand}
 use Rattle.ftp_control.specs.Machine.{Break, Held, Left}
@@ -57,13 +57,13 @@ IsOut Has_ended = ⊤
 IsOut Has_lost = ⊤
 IsOut hold = ⊥
 
--- where the server takes octets it is told of a break only once the client has left that data connection, by its end or by a reset, and right before it of this
--- moment
+-- where the server takes octets it is told of a break only once the client has left that data connection, by its end or by a reset, was told of the break, or
+-- has it still and is to close it, since it gave all; and right before it is told this moment
 abbrev pub IsToldLate : ℕ → (deed : Deed server_side) (between : Between) (client : Stand client_side) (old new : Stand server_side) → Done deed old new
     → Type 0
 IsToldLate moment (Other Break) between client old new did =
     far.wants old.owner.end.server.view ≡ Want.Receive
-    → IsOut between.near × (client.owner.lane.stands ≡ false) × (did.0.0.0 ≡ moment)
+    → (IsOut between.near ⊎ ((client.owner.end.view.closing ≡ true) × (client.owner.lane.stands ≡ true))) × (did.0.0.0 ≡ moment)
 IsToldLate moment deed between client old new did = ⊤
 
 -- so it is of each, and the moment is that of the operation that was begun last
