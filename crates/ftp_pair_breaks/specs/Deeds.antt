@@ -55,7 +55,7 @@ SuffersAlong deeds start now led = Along ClientSuffers deeds start now led
 
 -- ---- the marks
 
--- a break marks the operation that was begun last, unless it came as the client was to close anyway; it says how many octets had come
+-- a break may mark the operation that was begun last: it broke at some octet, and the law leaves open at which
 abbrev pub Marks : Deed client_side → (old new : List (List Mark)) → Type 0
 Marks (Other Break) old new = (new ≡ old) ⊎ ((came : ℕ) × (new ≡ marked_last (Broken came) old))
 Marks deed old new = new ≡ marked_by deed old
