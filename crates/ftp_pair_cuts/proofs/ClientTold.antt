@@ -1,5 +1,5 @@
--- A client of an upload is told of the break of its data connection, beside which a world stands: of one that still gives, or that gave all and did not write all.
--- From then on that world is beside one that was not told.
+-- A client of an upload, beside which a world stands, is told of the break of its data connection: it still gives, or it gave all and did not write all. From
+-- then on that world is beside one that was not told.
 use Rattle.std.proofs.Common.{◌≡◌, inl, inr, ℕ, Bool, true, false, List, [], ◌∷◌, ◌++◌, refl, sym, ap, ap₂, subst, ◌∙◌}
 use Rattle.ftp_control.specs.Deeds.{Calls, Deed, Other, Stand}
 use Rattle.ftp_control.specs.Lane.{Lane, with_fate}

@@ -1,4 +1,5 @@
--- What the server does while its client has still to leave the data connection of which the server was told that it broke: a world is beside one that has left it.
+-- What the server does while its client has still to leave the data connection of which the server was told that it broke: a world is beside one that has left
+-- it.
 use Rattle.std.proofs.Common.{◌≡◌, ℕ, true, false, true≢false, List, ◌∷◌, Some, None, refl, sym, ap, ◌∙◌}
 use Rattle.ftp_control.specs.Asking.{Reset}
 use Rattle.ftp_control.specs.Deeds.{Deed, Done, Other, Stand}
@@ -41,7 +42,7 @@ can_lost Resets p q dials left can = ((can.0, ap lost can.1), ap (λ (m : Betwee
 can_lost ToldEnd p q dials left can = ((ap out_hold can.0, refl, ap lost can.2), ap (λ (m : Between). is_left m.far) can.2 ∙ left)
 can_lost ToldBreak p q dials left can = absurd (true≢false (sym left ∙ ap is_left can.0))
 
--- so can a deed of the server, as a world sees it
+-- so can what a world of downloads sees
 sees_lost : (deed : Deed server_side) (server : Stand server_side) → IsLone deed server.owner → (p q : Between) → is_left p.far ≡ true
     → Sees deed server p q → Sees deed server (lost p) (lost q) × (is_left q.far ≡ true)
 sees_lost (Other (Left (Reset left written))) server is p q out can = ((can.0, ap lost can.1), ap (λ (m : Between). is_left m.far) can.1)

@@ -10,7 +10,6 @@ pub mod Marking
 pub mod ClientTold
 pub mod Serving
 pub mod Simulating
-pub mod Reaching
 pub mod Concluding
 pub mod Ending
 pub mod Unmarked

@@ -1,5 +1,5 @@
--- A client of an upload that heard its 150: what it hears before its final reply are numbers of octets that are held, and how its link stands is of no matter to
--- that.
+-- A client of an upload that heard its 150: what it hears before its final reply are numbers of octets that are held, and how its link stands is of no matter
+-- to that.
 use Rattle.std.proofs.Common.{◌≡◌, ◌⊎◌, inl, inr, ℕ, ◌==◌, ◌&&◌, Bool, true, false, true≢false, List, [], ◌∷◌, ◌++◌, Option, Some, None, refl, sym, ap, subst, ◌∙◌}
 use Rattle.std.specs.Prelude.{if◌then◌else◌}
 use Rattle.ftp_ends.specs.Ear.{ear_out, ear_step}

@@ -4,9 +4,9 @@ use Rattle.ftp_control.specs.Asking.{Reset}
 use Rattle.ftp_control.specs.Deeds.{Deed, Other, Stand}
 use Rattle.ftp_control.specs.Machine.{Break, Left}
 use Rattle.ftp_server_drive.specs.Side.{server_side}
-use Rattle.ftp_pair_drives.specs.Between.{Between, Can, Far as TheServer, Has, Has_lost, Hold, IsStanding, Is_called, Near as TheClient, Who}
+use Rattle.ftp_pair_drives.specs.Between.{Between, Can, Far as TheServer, Has, Has_lost, Hold, Is_called, Near as TheClient, Who}
 use Rattle.ftp_pair_drives.specs.Touches.{Accepts, Dials, Ends, IsDenied, IsMissed, Listens, None_of_it, Parts, Reads, Resets, Says, Takes, ToldBreak, ToldEnd, Touch, Writes, touch_in}
-use Rattle.ftp_pair_breaks.proofs.Seen.{IsTold, Sees, dropped}
+use Rattle.ftp_pair_breaks.proofs.Seen.{Sees}
 
 -- nothing is on its way to the server
 abbrev pub dry : Between → Between
@@ -40,6 +40,10 @@ seen_held p m (inl same) has = same
 seen_held p m (inr s) has = absurd (true≢false (sym s.1.near ∙ ap is_left has))
 
 -- how both ends stand is seen
+pub seen_far : (p m : Between) → Seen p m → m.far ≡ p.far
+seen_far p m (inl same) = ap (λ (b : Between). b.far) same
+seen_far p m (inr s) = ap (λ (b : Between). b.far) s.0
+
 pub seen_near : (p m : Between) → Seen p m → m.near ≡ p.near
 seen_near p m (inl same) = ap (λ (b : Between). b.near) same
 seen_near p m (inr s) = ap (λ (b : Between). b.near) s.0
@@ -127,38 +131,22 @@ far_seen touch p q m (inr s) can = subst (SeenOn TheServer touch q) (sym s.0) (f
 pub lost_dry : (q : Between) → is_left q.near ≡ true → q.far ≡ Has_lost → Seen q (dry q)
 lost_dry q near far = inr (refl, record { near = near; far = ap is_left far })
 
--- ---- a deed of the server, as a world sees it that sees what the server did not write
+-- ---- a deed of the server, as a world of downloads sees it
 
--- how the server stands is seen
-pub seen_far : (p m : Between) → Seen p m → m.far ≡ p.far
-seen_far p m (inl same) = ap (λ (b : Between). b.far) same
-seen_far p m (inr s) = ap (λ (b : Between). b.far) s.0
-
--- what a deed of the server's does there is seen
-abbrev pub SeesSeen : (deed : Deed server_side) (server : Stand server_side) (q m : Between) → Type 0
-SeesSeen deed server q m = (n : Between) × Seen q n × Sees deed server m n
-
--- it leaves its data connection
-resets_seen : (server : Stand server_side) (p q m : Between) → Seen p m → IsStanding p.far → q ≡ dropped server p → Seen q (dropped server m)
-resets_seen server p q m (inl same) stands is = inl (ap (dropped server) same ∙ sym is)
-resets_seen server p q m (inr s) stands is = inr (
-  ap (dropped server) s.0 ∙ ap dry (sym is),
-  record { near = ap (λ (b : Between). is_left b.near) is ∙ s.1.near; far = ap (λ (b : Between). is_left b.far) is },
-)
-
--- it is told of a break
-told_seen : (server : Stand server_side) (p q m : Between) → Seen p m → IsTold server p q → SeesSeen (Other Break) server q m
-told_seen server p q m seen (inl sends) =
-    (q, inl refl, subst (λ (b : Between). IsTold server b q) (sym (seen_whole p m seen sends.1.0)) (inl sends))
-told_seen server p q m seen (inr closing) =
-    (q, inl refl, subst (λ (b : Between). IsTold server b q) (sym (seen_whole p m seen closing.1)) (inr closing))
-
--- so it is of each
-pub sees_seen : (deed : Deed server_side) (server : Stand server_side) (p q m : Between) → Seen p m → Sees deed server p q → SeesSeen deed server q m
-sees_seen (Other (Left (Reset left written))) server p q m seen can = (
-  dropped server m,
-  resets_seen server p q m seen can.0 can.1,
-  (subst IsStanding (sym (seen_far p m seen)) can.0, refl),
-)
-sees_seen (Other Break) server p q m seen can = told_seen server p q m seen can
-sees_seen deed server p q m seen can = far_seen (touch_in deed) p q m seen can
+-- what it drops is on its way to the client
+pub sees_seen : (deed : Deed server_side) (server : Stand server_side) (p q m : Between) → Seen p m → Sees deed server p q
+    → (n : Between) × Seen q n × Sees deed server m n
+sees_seen deed server p q m (inl same) can = (q, inl refl, subst (λ b. Sees deed server b q) (sym same) can)
+sees_seen deed server p q m (inr s) can = subst (λ b. (n : Between) × Seen q n × Sees deed server b n) (sym s.0) (by deed can)
+  where
+    by : (deed : Deed server_side) → Sees deed server p q → (n : Between) × Seen q n × Sees deed server (dry p) n
+    by (Other (Left (Reset left written))) can = (
+      dry q,
+      inr (refl, record { near = ap (λ (b : Between). is_left b.near) can.1 ∙ s.1.near; far = ap (λ (b : Between). is_left b.far) can.1 }),
+      (can.0, ap dry can.1),
+    )
+    by (Other Break) can = absurd (elim can [
+      | inl sends ↦ true≢false (sym s.1.far ∙ ap is_left sends.1.0)
+      | inr closing ↦ true≢false (sym s.1.far ∙ ap is_left closing.1)
+    ])
+    by deed can = far_dry p q s.1 (touch_in deed) can

@@ -1,5 +1,5 @@
--- A server that takes octets of an upload is told of the break of its data connection, which the client has left: an event of a world, by which it installs what
--- came, and which tells a client of a world that still gives, too.
+-- A server that takes octets of an upload is told of the break of its data connection, which the client has left: an event of a world, by which it installs
+-- what came, and which tells a client of a world that still gives, too.
 use Rattle.std.proofs.Common.{◌≡◌, ℕ, true, false, true≢false, not, List, [], ◌++◌, Option, Some, None, option_to_list, refl, sym, ap, ap₂, subst, ◌∙◌}
 use Rattle.std.specs.Prelude.{if◌then◌else◌}
 use Rattle.ftp_control.specs.Deeds.{Calls, Stand}

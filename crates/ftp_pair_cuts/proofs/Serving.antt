@@ -7,6 +7,7 @@ use Rattle.ftp_client_model.specs.Calls as near
 use Rattle.ftp_client_model.specs.Calls.{data_closed, is_sound, report_of}
 use Rattle.ftp_client_model.specs.View.{View as Near}
 use Rattle.ftp_ends.specs.declared.link.Wants.TheVariants as Want
+use Rattle.ftp_operation.specs.Answer.{Said}
 use Rattle.ftp_server_drive.specs.Side.{server_side}
 use Rattle.ftp_server_model.specs.Calls as far
 use Rattle.ftp_server_model.specs.Calls.{clock_step, is_upload}
@@ -21,19 +22,19 @@ use Rattle.ftp_pair_world.specs.Claims.{Beginning, IsFair, state_of, world_of}
 use Rattle.ftp_pair_world.specs.Events.{broken_by, is_gone, lends_none}
 use Rattle.ftp_pair_world.specs.World.{Broken, ClosedByNear, Mark, Opened, World, marked_last}
 use Rattle.ftp_pair_drives.specs.Alone.{ServerIsCalm, reports_in}
-use Rattle.ftp_pair_drives.specs.Between.{Between, Can, Far as TheServer, Has_ended, Has_lost, Hold}
+use Rattle.ftp_pair_drives.specs.Between.{Between, Can, Far as TheServer, Has, Has_ended, Has_lost, Hold}
 use Rattle.ftp_pair_drives.specs.Touches.{ToldBreak}
 use Rattle.ftp_pair_drives.proofs.Taken.{taken, taken_none}
 use Rattle.ftp_pair_drives.proofs.Worlds.{LeadsOn, leads_then}
 use Rattle.ftp_pair_data.proofs.Served.{far_wants, rests}
-use Rattle.ftp_pair_deeds.proofs.FarForms.{no_close}
+use Rattle.ftp_pair_deeds.proofs.FarForms.{no_close, told_passive}
 use Rattle.ftp_pair_deeds.proofs.Holding.{both, is_called, is_false, is_had, unclosed}
 use Rattle.ftp_pair_deeds.proofs.Plain.{IsPlainBy, IsPlainly}
 use Rattle.ftp_pair_deeds.proofs.Stands.{ServerServes}
 use Rattle.ftp_pair_transfers.specs.Ahead.{Ahead, Fits, Level, Listens, Opens, Parted, far_ahead}
 use Rattle.ftp_pair_transfers.specs.Deeds.{AreMoments, begun_at, last_of, number_in}
 use Rattle.ftp_pair_transfers.proofs.Ahead.{left_rests}
-use Rattle.ftp_pair_transfers.proofs.Beside.{GoesTo, Takes, is_taking, rested}
+use Rattle.ftp_pair_transfers.proofs.Beside.{GoesTo, Takes, Together, is_taking, rested}
 use Rattle.ftp_pair_transfers.proofs.Called.{StaysFresh}
 use Rattle.ftp_pair_transfers.proofs.FarForms.{is_receive, receives_upload, upload_takes}
 use Rattle.ftp_pair_transfers.proofs.Known.{AreCarried, Known, is_giving, is_near_held}
@@ -76,6 +77,21 @@ giving_takes (Data.Active endpoint) e = refl
 giving_takes Data.Passive e = refl
 giving_takes Data.Ready e = refl
 giving_takes (Data.Opening transfer way) e = refl
+
+-- one that has its data connection, and is to close it, is not one whose world takes octets
+pub shut_takes : (read : Reading) (begun : List Order) (server : Stand server_side) (client : Stand client_side) (reports : List Said) (w : World)
+    → server.owner.end.server.view.session.closing ≡ true → (moment : ℕ) (ahead : Ahead) (between : Between) (told : ℕ) → between.far ≡ Has
+    → Together read begun moment ahead between told server client reports w → is_upload w.far.session.connection ≡ true → ⊥
+shut_takes read begun server client reports w closing moment Level between told has t takes =
+    let v : Far = server.owner.end.server.view in
+    both (upload_takes v.session.connection (ap (λ (f : Far). is_upload f.session.connection) (sym t.beside.far) ∙ takes)).opened (t.holds.shut closing)
+shut_takes read begun server client reports w closing moment Opens between told has t takes =
+    both (t.holds.opened refl) (ap is_called has)
+shut_takes read begun server client reports w closing moment (Listens port) between told has t takes =
+    let v : Far = server.owner.end.server.view in
+    both takes (ap (λ (f : Far). is_upload f.session.connection) t.beside.far ∙ ap is_upload (told_passive v.session.connection t.beside.fits port v))
+shut_takes read begun server client reports w closing moment (Parted accepted) between told has t takes =
+    both takes (ap (λ (f : Far). is_upload f.session.connection) t.beside.far)
 
 -- ---- the client has left
 

@@ -1,5 +1,5 @@
--- A client that was told of the break of its upload while the server's drive still takes: a world tells its client later, once the server is told of it too; until
--- then its client is one that was not told, beside the same control connection.
+-- A client that was told of the break of its upload while the server's drive still takes: a world tells its client later, once the server is told of it too;
+-- until then its client is one that was not told, beside the same control connection.
 use Rattle.std.proofs.Common.{◌≡◌, inl, inr, ℕ, ◌<◌, Bool, true, false, true≢false, List, [], ◌∷◌, ◌++◌, length, take, Option, Some, None, refl, sym, ap, ap₂, subst, ◌∙◌, append_assoc, arith}
 use Rattle.std.proofs.lemmas.List.{take-append-le}
 use Rattle.ftp_control.specs.Asking.{Asked, Connected, Ended as EndedBy, NotConnected, Reset, Shut}
@@ -82,7 +82,8 @@ abbrev viewed : Near → Held Client → Held Client
 viewed view was = record was { end = record was.end { view = view } }
 
 -- a final reply is not in
-unfinal_past : (op : Op (List ℕ)) (replied : Replied) (left : List ℕ) (mark : Option ℕ) → is_final replied ≡ false → is_past (sending op replied left mark) ≡ false
+unfinal_past : (op : Op (List ℕ)) (replied : Replied) (left : List ℕ) (mark : Option ℕ) → is_final replied ≡ false
+    → is_past (sending op replied left mark) ≡ false
 unfinal_past op Replies.Nothing left mark e = refl
 unfinal_past op Replies.Begun left mark e = refl
 unfinal_past op (Replies.Final code) left mark e = absurd (true≢false e)

@@ -34,8 +34,8 @@ LosesAlong deeds start now led = Along ServerLoses deeds start now led
 
 -- ---- the client
 
--- it is told of the break of a data connection that failed while it gives octets, or while it is to close it, of which octets may be unwritten; it resets one of
--- which it was told so; else it does what it does where downloads alone break
+-- it is told of the break of a data connection that failed while it gives octets, or while it is to close it, of which octets may be unwritten; it resets one
+-- of which it was told so; else it does what it does where downloads alone break
 abbrev pub IsGiving : Deed client_side → Held Client → Type 0
 IsGiving (Other Break) at =
     IsSuffering (Other Break) at ⊎ ((at.lane.fate ≡ Fates.Failed) × ((near.wants at.end.view ≡ Want.Send) ⊎ (at.end.view.closing ≡ true)))

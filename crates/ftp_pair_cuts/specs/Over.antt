@@ -1,5 +1,5 @@
--- Drives that are over, of which data connections broke, those of uploads too: what the contracts of one server's drive and of a client's drives tell, each after
--- the operation that it answers, put together.
+-- Drives that are over, of which data connections broke, those of uploads too: what the contracts of one server's drive and of a client's drives tell, each
+-- after the operation that it answers, put together.
 use Rattle.std.specs.Prelude.{◌≡◌, ℕ, List, [], ◌∷◌, ◌++◌, None}
 use Rattle.ftp_control.specs.Asking.{Asked}
 use Rattle.ftp_control.specs.Deeds.{Deed, Ended, Led, Other, Stand}

@@ -8,8 +8,8 @@ pub fn uploads_break_late()
     ensures { UploadsBreakLate }
 {}
 
-/// One server's drive and drives of one client, of which data connections break, those of uploads too, leave what a list of the world's events leads to from the
-/// beginning, with marks of these breaks.
+/// One server's drive and drives of one client, of which data connections break, those of uploads too, leave what a list of the world's events leads to from
+/// the beginning, with marks of these breaks.
 pub fn cuts_are_of_worlds()
     ensures { CutsAreOfWorlds }
 {}
