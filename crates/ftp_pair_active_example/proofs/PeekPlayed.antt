@@ -37,19 +37,19 @@ use Rattle.ftp_pair_drives.specs.Example.{example}
 use Rattle.ftp_pair_drives.proofs.Playing.{ear_after}
 use Rattle.ftp_ends.specs.RowWords.{here}
 use Rattle.ftp_pair_active.specs.Over.{AreOver}
-use Rattle.ftp_pair_example.specs.Example.{example_name, example_octets}
+use Rattle.ftp_pair_example.specs.Example.{HasFile, example_name, example_octets}
 use Rattle.ftp_pair_example.proofs.Moves.{endpoint, far_closes, gets, takes_one, writes}
 use Rattle.ftp_pair_example.proofs.Peeking.{Heeds, far_resets, near_breaks, near_fails, near_resets, one_broken, one_failed}
 use Rattle.ftp_pair_example.proofs.Playing.{can_take, far_in, lies, near_in, none_yet, one_stands, takes_only}
 use Rattle.ftp_pair_active_example.specs.Example.{CallIsPeek, call_how, peek_asked}
 use Rattle.ftp_pair_active_example.proofs.Calling.{Listens, client_first, far_first, far_logged, far_sent, fetching, near_asking, near_first, obeys, quiet, starts_so, still}
-use Rattle.ftp_pair_active_example.proofs.Ending.{both_over}
+use Rattle.ftp_pair_active_example.proofs.Ending.{IsCalled, both_over}
 use Rattle.ftp_pair_active_example.proofs.Moves.{far_dials, gives_more, near_accepts, one_more}
 use Rattle.ftp_pair_active_example.proofs.Peeking.{far_hears_line}
 use Rattle.ftp_pair_active_example.proofs.Playing.{Played, far_says, far_turn, near_is_broken, near_is_told, near_says, near_turn}
 
 -- the operation
-abbrev peek : Op (List ℕ)
+abbrev pub peek : Op (List ℕ)
 peek = Ops.Peek example_name 1 call_how
 
 -- it wants a port, names it and asks for the file
@@ -190,7 +190,31 @@ module _ (table : Table) (moments : ℕ → ℕ) where
         ((refl, refl, refl), refl) (near_breaks n) refl (refl, refl) fails in
         near_is_told moments Starts begun peek 1 [] [] Has_lost Has_lost [] down server one_broken near_broken refl refl told
 
-    -- so both are over
+    -- so it was answered
+    is_called : IsCalled (example table) moments peek (Octets (104 ∷ []))
+    unfolding near.starts near.data_opened answered line_heard path_on_literals
+    is_called = record {
+      first = far_first table;
+      client_first = client_first;
+      begun = near_first peek;
+      served = far_done;
+      heard = near_over;
+      lane = one_broken;
+      asked = Reset None None;
+      hold = Has_lost;
+      there = lies [] [] [] [] Has_lost Has_lost;
+      begins = starts_so table moments peek peek_listens;
+      does = (((refl, (((λ calm. refl), (λ moved. absurd (moved refl))), inl refl)), refl, tt), refl);
+      is = omega arith;
+      some = refl;
+      free = refl;
+      leaves = near_resets (near.reports near_over);
+      may = ((refl, refl), refl);
+      can = (tt, refl);
+      played = hears;
+    }
+
+    -- and both are over
     is_over : (server : Stand server_side) × AreOver (example table) moments peek_asked server
     unfolding near.starts near.data_opened far.control_end answered line_heard path_on_literals
     is_over = both_over (example table) (far_first table) peek (Octets (104 ∷ [])) client_first (near_first peek) far_done near_over moments one_broken
@@ -200,5 +224,8 @@ module _ (table : Table) (moments : ℕ → ℕ) where
         refl (record { wants = refl; running = refl; none_waits = refl }) refl
 
 -- the file stands where the login sees it
+pub peek_is_answered : (table : Table) (stamp : ℕ) (moments : ℕ → ℕ) → HasFile table stamp → IsCalled (example table) moments peek (Octets (104 ∷ []))
+peek_is_answered table stamp moments has = is_called table moments has.root stamp (under-stands table [] (example_name ∷ []) ∙ has.file)
+
 pub call_is_peek : CallIsPeek
 call_is_peek table stamp moments has = is_over table moments has.root stamp (under-stands table [] (example_name ∷ []) ∙ has.file)

@@ -1,4 +1,4 @@
--- The example: a session of one operation over a data connection that the server dials, as both drives took turns in it.
+-- The examples: sessions of one operation over a data connection that the server dials, as both drives took turns in them.
 use Rattle.std.proofs.Common.{ℕ, List, [], ◌∷◌, ◌++◌, sym, subst, ◌∙◌}
 use Rattle.ftp_control.specs.Deeds.{Other}
 use Rattle.ftp_client_drive.specs.Side.{Begun}
@@ -7,6 +7,7 @@ use Rattle.ftp_operation.specs.declared.op.Op.{Op}
 use Rattle.ftp_pair_active.specs.Deeds.{ClientTransfers, listened_in}
 use Rattle.ftp_pair_active_example.proofs.CallPlayed.{call_is_answered}
 use Rattle.ftp_pair_active_example.proofs.Ending.{IsCalled}
+use Rattle.ftp_pair_active_example.proofs.PeekPlayed.{peek_is_answered}
 use Rattle.ftp_pair_active_example.proofs.Playing.{Played}
 use Rattle.ftp_pair_deeds.specs.Deeds.{AreMidst}
 use Rattle.ftp_pair_deeds.proofs.Along.{Went as Goes}
@@ -16,7 +17,7 @@ use Rattle.ftp_pair_world.specs.Claims.{Beginning}
 use Rattle.ftp_pair_wires.specs.Order.{Counted}
 use Rattle.ftp_pair_turns.specs.Taking.{Ends}
 use Rattle.ftp_pair_asked.proofs.Examples.{Plays, is_asked, plays}
-use Rattle.ftp_pair_asked_active.specs.Either.{AreEither, CallIsAsked, either}
+use Rattle.ftp_pair_asked_active.specs.Either.{AreEither, CallIsAsked, CallPeekIsAsked, either}
 use Rattle.ftp_pair_asked_active.proofs.Ports.{ports_counted}
 
 -- the deed that begins an operation tells no port
@@ -49,3 +50,7 @@ either_is_asked b moments op said a =
 -- a file is fetched
 pub call_is_asked : CallIsAsked
 call_is_asked table stamp moments has = either_is_asked _ moments _ _ (call_is_answered table stamp moments has)
+
+-- its first octet is
+pub call_peek_is_asked : CallPeekIsAsked
+call_peek_is_asked table stamp moments has = either_is_asked _ moments _ _ (peek_is_answered table stamp moments has)

@@ -1,10 +1,10 @@
--- What is claimed of sessions of turns in which files were put, fetched and peeked into, and listings, over data connections that either dials (RFC 959, section
--- 3.2).
+-- What is claimed of sessions of turns in which files were put, fetched and peeked into, and listings, over data connections that either dials (RFC 959,
+-- section 3.2).
 use Rattle.std.specs.Prelude.{ℕ, List}
 use Rattle.ftp_operation.specs.Answer.{Said}
 use Rattle.ftp_operation.specs.declared.op.Op.{Op}
 use Rattle.ftp_pair_active.specs.Deeds.{IsAsking, IsServing}
-use Rattle.ftp_pair_active_example.specs.Example.{call_asked}
+use Rattle.ftp_pair_active_example.specs.Example.{call_asked, peek_asked}
 use Rattle.ftp_pair_drives.specs.Example.{example}
 use Rattle.ftp_pair_example.specs.Example.{HasFile}
 use Rattle.ftp_pair_transfers.specs.Deeds.{IsCarried}
@@ -29,7 +29,7 @@ EitherAskedAreTheDirectRun = AreTheDirectRun either
 abbrev pub EitherByCounts : Type 0
 EitherByCounts = AreByCounts either
 
--- ---- an example
+-- ---- examples
 
 -- of every map that has a root and a file, and at any moment, there is such a session: somebody logs in and fetches the file, over a data connection that the
 -- server dials after EPRT
@@ -37,3 +37,9 @@ abbrev pub CallIsAsked : Type 0
 CallIsAsked =
     (table : Table) (stamp : ℕ) (moments : ℕ → ℕ) → HasFile table stamp
     → (start : Ends) × (now : Ends) × AreEither (example table) moments call_asked start now
+
+-- or he peeks into it so: its first octet comes, he sends ABOR, and the server resets the data connection
+abbrev pub CallPeekIsAsked : Type 0
+CallPeekIsAsked =
+    (table : Table) (stamp : ℕ) (moments : ℕ → ℕ) → HasFile table stamp
+    → (start : Ends) × (now : Ends) × AreEither (example table) moments peek_asked start now

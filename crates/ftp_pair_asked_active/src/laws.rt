@@ -1,5 +1,5 @@
 //! Laws of sessions of turns: functions that do nothing, whose contracts are the claims of `specs/`.
-ghost use Rattle.ftp_pair_asked_active.specs.Either.{CallIsAsked, EitherAskedAreTheDirectRun, EitherByCounts};
+ghost use Rattle.ftp_pair_asked_active.specs.Either.{CallIsAsked, CallPeekIsAsked, EitherAskedAreTheDirectRun, EitherByCounts};
 
 /// The answers that were given, one operation after another, and the map that is left, are those of the operations run directly, where files were put and
 /// fetched, and listings, over passive and active data connections.
@@ -12,7 +12,8 @@ pub fn either_by_counts()
     ensures { EitherByCounts }
 {}
 
-/// A session meets what is asked of one: a file is fetched over a data connection that the server dials.
-pub fn a_call_is_asked()
-    ensures { CallIsAsked }
+/// Sessions meet what is asked of one: a file is fetched over a data connection that the server dials, and one is peeked into.
+pub fn calls_are_asked()
+    ensures fetched { CallIsAsked }
+    ensures peeked { CallPeekIsAsked }
 {}
