@@ -41,7 +41,7 @@ use Rattle.ftp_pair_drives.specs.Claims.{Begins}
 use Rattle.ftp_pair_drives.specs.Example.{example}
 use Rattle.ftp_pair_drives.proofs.Playing.{Attends, ear_after, is_silent, no_events}
 use Rattle.ftp_pair_example.proofs.Moves.{accepts, dials, endpoint, listens, port_text}
-use Rattle.ftp_pair_example.proofs.Playing.{Played, can_take, far_in, far_obeys, far_says, far_turn, lies, near_in, near_is_told, near_says, near_turn, none_yet, one_stands, takes_only}
+use Rattle.ftp_pair_example.proofs.Playing.{Kind, PlayedBy, can_take, far_in, far_obeys, far_says, far_turn, lies, near_in, near_is_told, near_says, near_turn, none_yet, one_stands, takes_only}
 
 -- what an end holds as it owes nothing more
 abbrev pub quiet : Far → Far
@@ -113,7 +113,7 @@ module _ (op : Op (List ℕ)) where
 
 -- ---- deed by deed
 
-module _ (table : Table) (moments : ℕ → ℕ) (op : Op (List ℕ)) (is : Dials op) where
+module _ (kind : Kind) (none : kind.Keeps [] nothing_yet refl) (table : Table) (moments : ℕ → ℕ) (op : Op (List ℕ)) (is : Dials op) where
   -- where both begin
   abbrev Starts : Stand server_side
   Starts = far_in none_yet (far_first table) []
@@ -123,14 +123,14 @@ module _ (table : Table) (moments : ℕ → ℕ) (op : Op (List ℕ)) (is : Dial
 
   -- deeds led there
   abbrev Leads : ℕ → Between → Stand server_side → Stand client_side → Type 0
-  Leads listened between server client = Played moments Starts begun op listened between server client
+  Leads listened between server client = PlayedBy kind moments Starts begun op listened between server client
 
   -- the operation is begun
   begins : Leads 0 (lies [] [] [] [] Has_not Has_not) Starts begun
   begins = record {
     turns = Client (Other (Begun op)) ∷ [];
     happened = (nothing_yet, refl, refl);
-    resets = tt;
+    resets = kind.near_keeps (Other (Begun op)) tt [] nothing_yet (lies [] [] [] [] Has_not Has_not) refl refl none;
     far_led = refl;
     gives = tt;
     midst = [];
@@ -197,13 +197,16 @@ module _ (table : Table) (moments : ℕ → ℕ) (op : Op (List ℕ)) (is : Dial
     has_port : Leads 1 (lies [] [] [] [] Has_not (Awaits 49152)) (far_in none_yet (far_told table) []) (near_in none_yet (still (near_logged op)) [])
     has_port =
         let p = wants_port in
+        let asked = far_in none_yet (far_asked table) [] in
+        let before = lies [] [] [] [] Has_not Has_not in
+        let there = lies [] [] [] [] Has_not (Awaits 49152) in
         let done = listens 49152 (far_asked table) (far_told table) refl refl (ap (told_by table) (sym port_text)) in
         record {
           turns = Server (Other (Listening 49152)) ∷ p.turns;
-          happened = (lies [] [] [] [] Has_not Has_not, p.happened, (tt, refl));
-          resets = p.resets;
-          far_led = (far_in none_yet (far_asked table) [], p.far_led, done);
-          gives = (p.gives, (tt, refl));
+          happened = (before, p.happened, (tt, refl));
+          resets = kind.far_keeps (Other (Listening 49152)) p.turns before there p.happened (tt, refl) p.resets;
+          far_led = (asked, p.far_led, done);
+          gives = (p.gives, kind.gives (Other (Listening 49152)) asked.owner (far_in none_yet (far_told table) []).owner (tt, refl));
           midst = p.midst;
           are = p.are;
           client_is = p.client_is;
@@ -246,6 +249,7 @@ module _ (table : Table) (moments : ℕ → ℕ) (op : Op (List ℕ)) (is : Dial
         (far_in none_yet v []) open_far open_near (refl, refl) (accepts here v (far_ready table) refl refl refl refl) (refl, refl) dialled in
         near_says moments Starts begun op 1 [] [] Has Has [] [] open_far (one_stands [] []) (near_open op) accepted
 
-  -- both began as a session does
-  pub starts_so : Begins (example table) Starts (near_in none_yet client_first [])
-  starts_so = record { server_view = refl; server_unheard = refl; client_view = refl; client_unheard = refl }
+-- both began as a session does
+pub starts_so : (table : Table) (moments : ℕ → ℕ) (op : Op (List ℕ)) → Dials op
+    → Begins (example table) (far_in none_yet (far_first table) []) (near_in none_yet client_first [])
+starts_so table moments op is = record { server_view = refl; server_unheard = refl; client_view = refl; client_unheard = refl }

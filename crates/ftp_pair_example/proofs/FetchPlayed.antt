@@ -46,7 +46,7 @@ use Rattle.ftp_pair_example.specs.Example.{FetchHasQuit, FetchIsOver, HasFile, e
 use Rattle.ftp_pair_example.proofs.Calling.{Dials, client_first, far_bye, far_done, far_first, far_ready, near_first, quiet, reaches, starts_so, still}
 use Rattle.ftp_pair_example.proofs.Ending.{IsAnswered, both_over, both_quit, quits}
 use Rattle.ftp_pair_example.proofs.Moves.{ends, far_closes, far_leaves, gets, gives, near_leaves, one_over, takes_one, writes}
-use Rattle.ftp_pair_example.proofs.Playing.{Played, can_take, far_in, far_obeys, far_says, far_turn, lies, near_in, near_is_told, near_turn, none_yet, one_stands, takes_only}
+use Rattle.ftp_pair_example.proofs.Playing.{Played, can_take, far_in, far_obeys, far_says, far_turn, lies, near_in, near_is_told, near_turn, none_yet, one_stands, takes_only, transferring}
 
 -- the operation
 abbrev fetch : Op (List ℕ)
@@ -120,7 +120,8 @@ module _ (table : Table) (moments : ℕ → ℕ) where
         far_obeys moments Starts begun fetch 1 [] [] Has Has [] retr (one_stands [] []) (far_ready table) far_sent (line_of (command.Retr example_name))
         (command.Retr example_name)
         (near_in (one_stands [] []) (still near_open) []) at refl refl refl refl
-        (λ read reads. reads_stated read (command.Retr example_name) reads tt refl) (rw file refl) (reaches table moments fetch fetch_dials root)
+        (λ read reads. reads_stated read (command.Retr example_name) reads tt refl) (rw file refl)
+        (reaches transferring tt table moments fetch fetch_dials root)
 
     -- the file is given and written, 150 and 226 are said, and the server ends the data connection
     sends : Leads 1 (lies [] (far_sent.owed ++ far_given.owed) [] example_octets Has Has_ended)

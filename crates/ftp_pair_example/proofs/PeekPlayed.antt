@@ -50,7 +50,7 @@ use Rattle.ftp_pair_example.proofs.Calling.{Dials, client_first, far_bye, far_do
 use Rattle.ftp_pair_example.proofs.Ending.{IsAnswered, both_over, both_quit, quits}
 use Rattle.ftp_pair_example.proofs.Moves.{far_closes, gets, gives, takes_one, writes}
 use Rattle.ftp_pair_example.proofs.Peeking.{Heeds, far_hears_line, far_resets, more_stands, near_breaks, near_fails, near_resets, one_broken, one_failed}
-use Rattle.ftp_pair_example.proofs.Playing.{Played, can_take, far_in, far_obeys, far_says, far_turn, lies, near_in, near_is_broken, near_is_told, near_says, near_turn, none_yet, one_stands, takes_only}
+use Rattle.ftp_pair_example.proofs.Playing.{Played, can_take, far_in, far_obeys, far_says, far_turn, lies, near_in, near_is_broken, near_is_told, near_says, near_turn, none_yet, one_stands, takes_only, transferring}
 
 -- the operation
 abbrev peek : Op (List ℕ)
@@ -127,7 +127,7 @@ module _ (table : Table) (moments : ℕ → ℕ) where
         far_obeys moments Starts begun peek 1 [] [] Has Has [] retr (one_stands [] []) (far_ready table) far_sent (line_of (command.Retr example_name))
         (command.Retr example_name)
         (near_in (one_stands [] []) (still near_open) []) at refl refl refl refl
-        (λ read reads. reads_stated read (command.Retr example_name) reads tt refl) (rw file refl) (reaches table moments peek peek_dials root)
+        (λ read reads. reads_stated read (command.Retr example_name) reads tt refl) (rw file refl) (reaches transferring tt table moments peek peek_dials root)
 
     -- 150 is said, the first octet is given and written, and the client hears 150 and takes the octet
     peeks : Leads 1 (lies [] [] [] [] Has Has) (far_in more_stands far_half []) (near_in (one_stands [] []) near_enough [])

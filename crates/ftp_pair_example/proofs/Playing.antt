@@ -2,11 +2,12 @@
 use Rattle.std.proofs.Common.{◌≡◌, inl, ℕ, ◌<◌, Bool, true, false, true≢false, ◌&&◌, List, [], ◌∷◌, ◌++◌, length, take, drop, None, refl, sym, ap, subst, ◌∙◌, append-nil, arith}
 use Rattle.ftp_control.specs.Deeds.{Deed, Done, Heard, HearsNext, Led, Other, Read, ReadsNext, Said as Says, Says as SaysNext, Stand}
 use Rattle.ftp_control.specs.Lane.{Lane, no_lane}
-use Rattle.ftp_control.specs.Machine.{Aside, Break, End, seen}
+use Rattle.ftp_control.specs.Machine.{Aside, Break, End, Held, seen}
 use Rattle.ftp_control.specs.declared.whole.Fate.TheVariants as Fates
 use Rattle.ftp_control.specs.declared.whole.Rest.TheVariants as Rests
 use Rattle.ftp_client_drive.specs.Side.{Begun, Starting, client_side}
 use Rattle.ftp_client_model.specs.Calls as near
+use Rattle.ftp_client_model.specs.Failing.{Client as NearEnd}
 use Rattle.ftp_client_model.specs.View.{View as Near}
 use Rattle.ftp_command.specs.declared.command.Command.{Command}
 use Rattle.ftp_ends.specs.Ear.{ear_out, ear_step}
@@ -14,7 +15,7 @@ use Rattle.ftp_ends.specs.declared.link.Wants.{Wants}
 use Rattle.ftp_ends.specs.declared.link.Wants.TheVariants as Want
 use Rattle.ftp_nvt.specs.Lines.{line}
 use Rattle.ftp_operation.specs.declared.op.Op.{Op}
-use Rattle.ftp_server_drive.specs.Side.{server_side}
+use Rattle.ftp_server_drive.specs.Side.{Timed, server_side}
 use Rattle.ftp_server_model.specs.Far.{Server as ServerEnd}
 use Rattle.ftp_server_model.specs.Machine.{IsReading, Reading, heard_line, may_hear}
 use Rattle.ftp_server_model.specs.View.{View as Far, line_limit}
@@ -22,8 +23,8 @@ use Rattle.ftp_server_model.specs.declared.heard.HeardLine.TheVariants.{Asks}
 use Rattle.ftp_tree.specs.Change.{never_strayed}
 use Rattle.ftp_pair_drives.specs.Between.{Between, CanTurn, Client, Happened, Has_lost, Hold, Server, Turn, client_deeds, server_deeds}
 use Rattle.ftp_pair_drives.proofs.Playing.{Attends, ear_after, far_at, far_ending, far_hears, far_reading, far_saying, is_silent}
-use Rattle.ftp_pair_deeds.specs.Deeds.{AreMidst, ArePorts, IsMidst, listened_in}
-use Rattle.ftp_pair_transfers.specs.Deeds.{AreResets, AreToldAt, AsksAlong, ClientTransfers, IsToldAt, ServerTransfers, ServesAlong, last_of, number_in}
+use Rattle.ftp_pair_deeds.specs.Deeds.{Along, AreMidst, ArePorts, IsMidst, listened_in}
+use Rattle.ftp_pair_transfers.specs.Deeds.{AreResets, AreToldAt, ClientTransfers, IsToldAt, ServerTransfers, last_of, number_in}
 
 -- ---- stands beside a data connection
 
@@ -69,26 +70,6 @@ lies up down go come near_hold far_hold = record {
 
 -- ---- deeds of both
 
--- the client began an operation, and then both did deeds; the server was told so many ports
-pub record Played (moments : ℕ → ℕ) (start : Stand server_side) (begun : Stand client_side) (op : Op (List ℕ)) (listened : ℕ) (between : Between)
-    (server : Stand server_side) (client : Stand client_side) : Type 0 where
-  pub turns : List Turn
-  pub happened : Happened turns between
-  pub resets : AreResets turns between happened
-  pub far_led : Led (server_deeds turns) start server
-  pub gives : ServesAlong (server_deeds turns) start server far_led
-  pub midst : List (Deed client_side)
-  pub are : AreMidst midst
-  pub client_is : client_deeds turns ≡ midst ++ Other (Begun op) ∷ []
-  pub later : List Turn
-  pub turns_are : turns ≡ later ++ Client (Other (Begun op)) ∷ []
-  pub later_midst : client_deeds later ≡ midst
-  pub near_led : Led midst begun client
-  pub takes : AsksAlong midst begun client near_led
-  pub listened_is : listened_in (server_deeds turns) ≡ listened
-  pub ports : ArePorts (server_deeds turns)
-  pub told : AreToldAt moments turns start server far_led
-
 -- a deed that tells no port
 abbrev pub TellsNoPort : Deed server_side → Type 0
 TellsNoPort deed = (before : List (Deed server_side)) → (listened_in (deed ∷ before) ≡ listened_in before) × (ArePorts before → ArePorts (deed ∷ before))
@@ -119,15 +100,64 @@ pub near_resets : (deed : Deed client_side) → IsUnbroken deed → (before : Li
 near_resets (Other Break) unbroken before old new happened can resets = absurd unbroken
 near_resets deed unbroken before old new happened can resets = resets
 
-module _ (moments : ℕ → ℕ) (start : Stand server_side) (begun : Stand client_side) (op : Op (List ℕ)) where
-  -- a deed of the server
-  pub far_turn : (deed : Deed server_side) → IsQuiet deed → (listened : ℕ) (old new : Between) (at next : Stand server_side) (client : Stand client_side)
-      → ServerTransfers deed at.owner next.owner → Done deed at next → CanTurn (Server deed) old new
-      → Played moments start begun op listened old at client → Played moments start begun op listened new next client
-  far_turn deed quiet listened old new at next client gives done can p = record {
+-- what is asked of each deed of either end, as where nothing breaks or less; and what is kept of their turns, whatever is done as where nothing breaks
+pub record Kind : Type 1 where
+  pub Gives : Deed server_side → (old new : Held Timed) → Type 0
+  pub Takes : Deed client_side → (old new : Held NearEnd) → Type 0
+  pub gives : (deed : Deed server_side) (old new : Held Timed) → ServerTransfers deed old new → Gives deed old new
+  pub takes : (deed : Deed client_side) (old new : Held NearEnd) → IsMidst deed → IsUnbroken deed → ClientTransfers deed old new → Takes deed old new
+  pub Keeps : (turns : List Turn) (between : Between) → Happened turns between → Type 0
+  pub far_keeps : (deed : Deed server_side) (before : List Turn) (old new : Between) (happened : Happened before old) (can : CanTurn (Server deed) old new)
+      → Keeps before old happened → Keeps (Server deed ∷ before) new (old, happened, can)
+  pub near_keeps : (deed : Deed client_side) → IsUnbroken deed → (before : List Turn) (old new : Between) (happened : Happened before old)
+      (can : CanTurn (Client deed) old new) → Keeps before old happened → Keeps (Client deed ∷ before) new (old, happened, can)
+
+-- the client began an operation, and then both did deeds of a kind; the server was told so many ports
+pub record PlayedBy (kind : Kind) (moments : ℕ → ℕ) (start : Stand server_side) (begun : Stand client_side) (op : Op (List ℕ)) (listened : ℕ)
+    (between : Between) (server : Stand server_side) (client : Stand client_side) : Type 0 where
+  pub turns : List Turn
+  pub happened : Happened turns between
+  pub resets : kind.Keeps turns between happened
+  pub far_led : Led (server_deeds turns) start server
+  pub gives : Along kind.Gives (server_deeds turns) start server far_led
+  pub midst : List (Deed client_side)
+  pub are : AreMidst midst
+  pub client_is : client_deeds turns ≡ midst ++ Other (Begun op) ∷ []
+  pub later : List Turn
+  pub turns_are : turns ≡ later ++ Client (Other (Begun op)) ∷ []
+  pub later_midst : client_deeds later ≡ midst
+  pub near_led : Led midst begun client
+  pub takes : Along kind.Takes midst begun client near_led
+  pub listened_is : listened_in (server_deeds turns) ≡ listened
+  pub ports : ArePorts (server_deeds turns)
+  pub told : AreToldAt moments turns start server far_led
+
+-- as where nothing breaks: resets come before breaks
+abbrev pub transferring : Kind
+transferring = record {
+  Gives = ServerTransfers;
+  Takes = ClientTransfers;
+  gives = λ deed old new gives. gives;
+  takes = λ deed old new midst unbroken takes. takes;
+  Keeps = AreResets;
+  far_keeps = λ deed before old new happened can resets. resets;
+  near_keeps = near_resets;
+}
+
+-- they did such deeds
+abbrev pub Played : (moments : ℕ → ℕ) (start : Stand server_side) (begun : Stand client_side) (op : Op (List ℕ)) (listened : ℕ) (between : Between)
+    (server : Stand server_side) (client : Stand client_side) → Type 0
+Played moments start begun op listened between server client = PlayedBy transferring moments start begun op listened between server client
+
+module _ {kind : Kind} (moments : ℕ → ℕ) (start : Stand server_side) (begun : Stand client_side) (op : Op (List ℕ)) where
+  -- a deed of the server, of that kind
+  pub far_does : (deed : Deed server_side) → IsQuiet deed → (listened : ℕ) (old new : Between) (at next : Stand server_side) (client : Stand client_side)
+      → kind.Gives deed at.owner next.owner → Done deed at next → CanTurn (Server deed) old new
+      → PlayedBy kind moments start begun op listened old at client → PlayedBy kind moments start begun op listened new next client
+  far_does deed quiet listened old new at next client gives done can p = record {
     turns = Server deed ∷ p.turns;
     happened = (old, p.happened, can);
-    resets = p.resets;
+    resets = kind.far_keeps deed p.turns old new p.happened can p.resets;
     far_led = (at, p.far_led, done);
     gives = (p.gives, gives);
     midst = p.midst;
@@ -143,16 +173,23 @@ module _ (moments : ℕ → ℕ) (start : Stand server_side) (begun : Stand clie
     told = (p.told, quiet.1 at next done (last_of moments (number_in (client_deeds p.turns))));
   }
 
+  -- one as where nothing breaks
+  pub far_turn : (deed : Deed server_side) → IsQuiet deed → (listened : ℕ) (old new : Between) (at next : Stand server_side) (client : Stand client_side)
+      → ServerTransfers deed at.owner next.owner → Done deed at next → CanTurn (Server deed) old new
+      → PlayedBy kind moments start begun op listened old at client → PlayedBy kind moments start begun op listened new next client
+  far_turn deed quiet listened old new at next client gives done can p =
+      far_does deed quiet listened old new at next client (kind.gives deed at.owner next.owner gives) done can p
+
   -- the server is told that the data connection ended, at the moment of the operation
   pub far_is_told : (listened : ℕ) (old new : Between) (at next : Stand server_side) (client : Stand client_side)
       → ServerTransfers (Other End) at.owner next.owner → (done : Done (Other End) at next) → done.0.0.0 ≡ moments 0 → CanTurn (Server (Other End)) old new
-      → Played moments start begun op listened old at client → Played moments start begun op listened new next client
+      → PlayedBy kind moments start begun op listened old at client → PlayedBy kind moments start begun op listened new next client
   far_is_told listened old new at next client gives done timely can p = record {
     turns = Server (Other End) ∷ p.turns;
     happened = (old, p.happened, can);
-    resets = p.resets;
+    resets = kind.far_keeps (Other End) p.turns old new p.happened can p.resets;
     far_led = (at, p.far_led, done);
-    gives = (p.gives, gives);
+    gives = (p.gives, kind.gives (Other End) at.owner next.owner gives);
     midst = p.midst;
     are = p.are;
     client_is = p.client_is;
@@ -166,19 +203,19 @@ module _ (moments : ℕ → ℕ) (start : Stand server_side) (begun : Stand clie
     told = (p.told, timely ∙ ap (last_of moments) (sym (ap number_in p.client_is ∙ midst_numbers p.midst (Other (Begun op) ∷ []) p.are)));
   }
 
-  -- a deed of the client
-  pub near_turn : (deed : Deed client_side) → IsMidst deed × IsUnbroken deed
-      → (listened : ℕ) (old new : Between) (server : Stand server_side) (at next : Stand client_side)
-      → ClientTransfers deed at.owner next.owner → Done deed at next → CanTurn (Client deed) old new
-      → Played moments start begun op listened old server at → Played moments start begun op listened new server next
-  near_turn deed amid listened old new server at next takes done can p = record {
+  -- a deed of the client, of that kind
+  pub near_does : (deed : Deed client_side) → IsMidst deed → (listened : ℕ) (old new : Between) (server : Stand server_side) (at next : Stand client_side)
+      → kind.Takes deed at.owner next.owner → Done deed at next → (can : CanTurn (Client deed) old new)
+      → (p : PlayedBy kind moments start begun op listened old server at)
+      → kind.Keeps (Client deed ∷ p.turns) new (old, p.happened, can) → PlayedBy kind moments start begun op listened new server next
+  near_does deed amid listened old new server at next takes done can p resets = record {
     turns = Client deed ∷ p.turns;
     happened = (old, p.happened, can);
-    resets = near_resets deed amid.1 p.turns old new p.happened can p.resets;
+    resets = resets;
     far_led = p.far_led;
     gives = p.gives;
     midst = deed ∷ p.midst;
-    are = (p.are, amid.0);
+    are = (p.are, amid);
     client_is = ap (λ l. deed ∷ l) p.client_is;
     later = Client deed ∷ p.later;
     turns_are = ap (λ t. Client deed ∷ t) p.turns_are;
@@ -190,28 +227,22 @@ module _ (moments : ℕ → ℕ) (start : Stand server_side) (begun : Stand clie
     told = p.told;
   }
 
-  -- the client is told of a break, as the server has reset the data connection
-  pub near_is_broken : (listened : ℕ) (old new : Between) (server : Stand server_side) (at next : Stand client_side)
-      → ClientTransfers (Other Break) at.owner next.owner → Done (Other Break) at next → old.far ≡ Has_lost → CanTurn (Client (Other Break)) old new
-      → Played moments start begun op listened old server at → Played moments start begun op listened new server next
-  near_is_broken listened old new server at next takes done lost can p = record {
-    turns = Client (Other Break) ∷ p.turns;
-    happened = (old, p.happened, can);
-    resets = (p.resets, lost);
-    far_led = p.far_led;
-    gives = p.gives;
-    midst = Other Break ∷ p.midst;
-    are = (p.are, tt);
-    client_is = ap (λ l. Other Break ∷ l) p.client_is;
-    later = Client (Other Break) ∷ p.later;
-    turns_are = ap (λ t. Client (Other Break) ∷ t) p.turns_are;
-    later_midst = ap (λ l. Other Break ∷ l) p.later_midst;
-    near_led = (at, p.near_led, done);
-    takes = (p.takes, takes);
-    listened_is = p.listened_is;
-    ports = p.ports;
-    told = p.told;
-  }
+  -- one as where nothing breaks
+  pub near_turn : (deed : Deed client_side) → IsMidst deed × IsUnbroken deed
+      → (listened : ℕ) (old new : Between) (server : Stand server_side) (at next : Stand client_side)
+      → ClientTransfers deed at.owner next.owner → Done deed at next → CanTurn (Client deed) old new
+      → PlayedBy kind moments start begun op listened old server at → PlayedBy kind moments start begun op listened new server next
+  near_turn deed amid listened old new server at next takes done can p =
+      near_does deed amid.0 listened old new server at next (kind.takes deed at.owner next.owner amid.0 amid.1 takes) done can p
+      (kind.near_keeps deed amid.1 p.turns old new p.happened can p.resets)
+
+-- the client is told of a break, as the server has reset the data connection
+pub near_is_broken : (moments : ℕ → ℕ) (start : Stand server_side) (begun : Stand client_side) (op : Op (List ℕ)) (listened : ℕ) (old new : Between)
+    (server : Stand server_side) (at next : Stand client_side) → ClientTransfers (Other Break) at.owner next.owner → Done (Other Break) at next
+    → old.far ≡ Has_lost → CanTurn (Client (Other Break)) old new
+    → Played moments start begun op listened old server at → Played moments start begun op listened new server next
+near_is_broken moments start begun op listened old new server at next takes done lost can p =
+    near_does moments start begun op (Other Break) tt listened old new server at next takes done can p (p.resets, lost)
 
 -- ---- the control connection, of a server beside a data connection
 
@@ -291,12 +322,12 @@ pub drop_all : (octets : List ℕ) → [] ≡ drop (length octets) octets
 drop_all [] = refl
 drop_all (octet ∷ octets) = drop_all octets
 
-module _ (moments : ℕ → ℕ) (start : Stand server_side) (begun : Stand client_side) (op : Op (List ℕ)) (listened : ℕ) (go come : List ℕ)
+module _ {kind : Kind} (moments : ℕ → ℕ) (start : Stand server_side) (begun : Stand client_side) (op : Op (List ℕ)) (listened : ℕ) (go come : List ℕ)
     (near_hold far_hold : Hold) where
   -- the server says all that it owes
   pub far_says : (up down : List ℕ) (lane : Lane) (v : Far) (client : Stand client_side) → v.waiting ≡ None
-      → Played moments start begun op listened (lies up down go come near_hold far_hold) (far_in lane v []) client
-      → Played moments start begun op listened (lies up (down ++ v.owed) go come near_hold far_hold) (far_in lane (record v { owed = [] }) []) client
+      → PlayedBy kind moments start begun op listened (lies up down go come near_hold far_hold) (far_in lane v []) client
+      → PlayedBy kind moments start begun op listened (lies up (down ++ v.owed) go come near_hold far_hold) (far_in lane (record v { owed = [] }) []) client
   far_says up down lane v client none p =
       far_turn moments start begun op (Says v.owed) ((λ before. (refl, λ ports. ports)), λ old new done moment. tt) listened
       (lies up down go come near_hold far_hold) (lies up (down ++ v.owed) go come near_hold far_hold)
@@ -304,8 +335,8 @@ module _ (moments : ℕ → ℕ) (start : Stand server_side) (begun : Stand clie
 
   -- the client says all that it owes
   pub near_says : (up down : List ℕ) (server : Stand server_side) (lane : Lane) (n : Near)
-      → Played moments start begun op listened (lies up down go come near_hold far_hold) server (near_in lane n [])
-      → Played moments start begun op listened (lies (up ++ n.owed) down go come near_hold far_hold) server (near_in lane (record n { owed = [] }) [])
+      → PlayedBy kind moments start begun op listened (lies up down go come near_hold far_hold) server (near_in lane n [])
+      → PlayedBy kind moments start begun op listened (lies (up ++ n.owed) down go come near_hold far_hold) server (near_in lane (record n { owed = [] }) [])
   near_says up down server lane n p =
       let new : Near = record n { owed = [] } in
       let says : SaysNext n.owed (near_in lane n []) (near_in lane new []) = record {
@@ -325,8 +356,8 @@ module _ (moments : ℕ → ℕ) (start : Stand server_side) (begun : Stand clie
 
   -- the client hears what it has read, octet by octet
   near_hears : (up down : List ℕ) (server : Stand server_side) (lane : Lane) (octets : List ℕ) (n : Near) → can_take n octets ≡ true
-      → Played moments start begun op listened (lies up down go come near_hold far_hold) server (near_in lane n octets)
-      → Played moments start begun op listened (lies up down go come near_hold far_hold) server (near_in lane (near.hears n octets) [])
+      → PlayedBy kind moments start begun op listened (lies up down go come near_hold far_hold) server (near_in lane n octets)
+      → PlayedBy kind moments start begun op listened (lies up down go come near_hold far_hold) server (near_in lane (near.hears n octets) [])
   unfolding can_take
   near_hears up down server lane [] n can p = p
   near_hears up down server lane (octet ∷ octets) n can p =
@@ -354,8 +385,8 @@ module _ (moments : ℕ → ℕ) (start : Stand server_side) (begun : Stand clie
 
   -- the client reads all that is on its way, and hears it
   pub near_is_told : (up down : List ℕ) (server : Stand server_side) (lane : Lane) (n : Near) → n.owed ≡ [] → can_take n down ≡ true
-      → Played moments start begun op listened (lies up down go come near_hold far_hold) server (near_in lane n [])
-      → Played moments start begun op listened (lies up [] go come near_hold far_hold) server (near_in lane (near.hears n down) [])
+      → PlayedBy kind moments start begun op listened (lies up down go come near_hold far_hold) server (near_in lane n [])
+      → PlayedBy kind moments start begun op listened (lies up [] go come near_hold far_hold) server (near_in lane (near.hears n down) [])
   near_is_told up down server lane n owed can p =
       let reads : ReadsNext down (near_in lane n []) (near_in lane n down) = record {
         due = (owed, λ serves. absurd (true≢false (sym serves)));
@@ -375,8 +406,8 @@ module _ (moments : ℕ → ℕ) (start : Stand server_side) (begun : Stand clie
       → v.owed ≡ [] → may_hear v ≡ true → is_silent v.ear octets ≡ true → ear_out line_limit (ear_after v.ear octets) 10 ≡ line text ∷ []
       → ((read : Reading) → IsReading read → read text ≡ Asks asked)
       → new ≡ heard_line (Asks asked) (record v { ear = ear_step line_limit (ear_after v.ear octets) 10; footing = record v.footing { moment = 0 } })
-      → Played moments start begun op listened (lies (octets ++ 10 ∷ []) down go come near_hold far_hold) (far_in lane v []) client
-      → Played moments start begun op listened (lies [] down go come near_hold far_hold) (far_in lane new []) client
+      → PlayedBy kind moments start begun op listened (lies (octets ++ 10 ∷ []) down go come near_hold far_hold) (far_in lane v []) client
+      → PlayedBy kind moments start begun op listened (lies [] down go come near_hold far_hold) (far_in lane new []) client
   far_obeys down octets lane v new text asked client at owed may silent said reads is p =
       let all : List ℕ = octets ++ 10 ∷ [] in
       let last : Far = record v { ear = ear_after v.ear octets } in
@@ -386,7 +417,7 @@ module _ (moments : ℕ → ℕ) (start : Stand server_side) (begun : Stand clie
       let read = far_turn moments start begun op (Read all) ((λ before. (refl, λ ports. ports)), λ old new done moment. tt) listened whole rest
       (far_in lane v []) (far_in lane v all) client
       (tt, refl) (reading lane v all at owed) (sym (append-nil all), refl) p in
-      let heard = far_hears (λ v u. Attends v × Played moments start begun op listened rest (far_in lane v u) client)
+      let heard = far_hears (λ v u. Attends v × PlayedBy kind moments start begun op listened rest (far_in lane v u) client)
       (λ octet more v new at done p. (
         at,
         far_turn moments start begun op (Heard (octet ∷ [])) ((λ before. (refl, λ ports. ports)), λ old new done moment. tt) listened rest rest

@@ -52,7 +52,7 @@ use Rattle.ftp_pair_example.specs.Example.{HasFile, HasRoom, PutIsOver, example_
 use Rattle.ftp_pair_example.proofs.Calling.{Dials, client_first, far_first, far_ready, near_first, quiet, reaches, starts_so, still}
 use Rattle.ftp_pair_example.proofs.Ending.{IsAnswered, both_over, lies_over}
 use Rattle.ftp_pair_example.proofs.Moves.{ends_then, far_ends, far_gets, far_goes, far_takes, near_ends, near_gives, near_is_closed, near_shuts, near_writes, one_over}
-use Rattle.ftp_pair_example.proofs.Playing.{Played, can_take, far_in, far_is_told, far_obeys, far_says, far_turn, lies, near_in, near_is_told, near_turn, none_yet, one_stands, takes_only}
+use Rattle.ftp_pair_example.proofs.Playing.{Played, can_take, far_in, far_is_told, far_obeys, far_says, far_turn, lies, near_in, near_is_told, near_turn, none_yet, one_stands, takes_only, transferring}
 
 -- the operation
 abbrev put : Op (List ℕ)
@@ -141,7 +141,7 @@ module _ (table : Table) (moments : ℕ → ℕ) where
         far_obeys moments Starts begun put 1 [] [] Has Has [] stor (one_stands [] []) (far_ready table) far_up (line_of (command.Stor example_name))
         (command.Stor example_name)
         (near_in (one_stands [] []) (still near_open) []) at refl refl refl refl
-        (λ read reads. reads_stated read (command.Stor example_name) reads tt refl) (rw file refl) (reaches table moments put put_dials root)
+        (λ read reads. reads_stated read (command.Stor example_name) reads tt refl) (rw file refl) (reaches transferring tt table moments put put_dials root)
 
     -- 150 is said and heard, the client gives and writes its octet, and ends the data connection
     sends : Leads 1 (lies [] [] put_octets [] Has_ended Has) (far_in (one_stands [] []) (quiet far_up) []) (near_in none_yet near_closed [])
