@@ -1,5 +1,6 @@
 -- The example: a session of one operation, as both drives took turns in it.
 use Rattle.std.proofs.Common.{inl, ℕ, List, [], ◌∷◌, ◌++◌, refl, sym, ap, subst, ◌∙◌, append-nil}
+use Rattle.ftp_endpoint.specs.declared.host.Host.{Host}
 use Rattle.ftp_control.specs.Asking.{Shut}
 use Rattle.ftp_control.specs.Deeds.{Deed, Heard, Other, Read, Said as Says, Stand}
 use Rattle.ftp_control.specs.Machine.{Aside, Closed, Left}
@@ -16,7 +17,7 @@ use Rattle.ftp_pair_drives.proofs.Ending.{Goes}
 use Rattle.ftp_pair_drives.proofs.Example.{example_is_answered}
 use Rattle.ftp_pair_drives.proofs.Playing.{far_at, near_at}
 use Rattle.ftp_server_drive.specs.Side.{server_side}
-use Rattle.ftp_pair_wires.specs.Order.{Counted, Counts, Went}
+use Rattle.ftp_pair_wires.specs.Order.{AllCame, ComesFrom, Counted, Counts, Hosts, Went}
 use Rattle.ftp_pair_wires.specs.Plain.{quiet}
 use Rattle.ftp_pair_turns.specs.Taking.{Answered, Answers, Settled, Took, ends}
 use Rattle.ftp_pair_turns.proofs.Gathering.{servers_then}
@@ -54,6 +55,32 @@ all_counted (Server deed ∷ before) server server_now client client_now serves 
 all_counted (Client deed ∷ before) server server_now client client_now serves asks =
     (0, all_counted before server server_now client asks.0.0 serves (asks.0.1, asks.1.0), asking_counts deed 0 asks.1.1)
 
+-- and nobody comes
+serving_comes : (deed : Deed server_side) (other : Host) → IsServing deed → ComesFrom other (touch_in deed)
+serving_comes (Heard octets) other is = tt
+serving_comes (Says octets) other is = tt
+serving_comes (Read octets) other is = tt
+serving_comes (Other (Aside asked)) other is = tt
+serving_comes deed other is = absurd is
+
+asking_comes : (deed : Deed client_side) (other : Host) → IsAsking deed → ComesFrom other (touch_in deed)
+asking_comes (Heard octets) other is = tt
+asking_comes (Says octets) other is = tt
+asking_comes (Read octets) other is = tt
+asking_comes (Other (Aside own)) other is = tt
+asking_comes (Other (Left Shut)) other is = tt
+asking_comes (Other Closed) other is = tt
+asking_comes deed other is = absurd is
+
+all_came : (hosts : Hosts) (turns : List Turn) (server server_now : Stand server_side) (client client_now : Stand client_side)
+    → Goes IsServing ServerIsCalm ServerAttends (server_deeds turns) server server_now
+    → Goes IsAsking ClientIsCalm ClientAttends (client_deeds turns) client client_now → AllCame hosts turns
+all_came hosts [] server server_now client client_now serves asks = tt
+all_came hosts (Server deed ∷ before) server server_now client client_now serves asks =
+    (all_came hosts before server serves.0.0 client client_now (serves.0.1, serves.1.0) asks, serving_comes deed hosts.far serves.1.1)
+all_came hosts (Client deed ∷ before) server server_now client client_now serves asks =
+    (all_came hosts before server server_now client asks.0.0 serves (asks.0.1, asks.1.0), asking_comes deed hosts.near asks.1.1)
+
 pub example_is_asked : ExampleIsAsked
 example_is_asked table root =
     let e = example_is_answered table root in
@@ -73,24 +100,30 @@ example_is_asked table root =
     let asks : Goes IsAsking ClientIsCalm ClientAttends (client_deeds p.later) (quiet begun) (quiet heard) =
     subst (λ d. Goes IsAsking ClientIsCalm ClientAttends d (quiet begun) (quiet heard)) (sym p.later_midst) p.near_goes in
     let happened : Happened (p.later ++ first ∷ []) nothing_yet = subst (λ t. Happened t nothing_yet) p.turns_are p.happened in
-    let took : Took (ends server begun nothing_yet 0) (ends served heard nothing_yet 0) = record {
+    let host = server.end.server.view.footing.peer in
+    let hosts : Hosts = record { near = host; far = host } in
+    let took : Took (ends server begun nothing_yet 0 hosts) (ends served heard nothing_yet 0 hosts) = record {
       turns = p.later;
       server_led = serves.0;
       client_led = asks.0;
       went = went_of p.later Ops.Where nothing_yet happened;
       counted = all_counted p.later (quiet server) (quiet served) (quiet begun) (quiet heard) serves asks;
+      came = all_came hosts p.later (quiet server) (quiet served) (quiet begun) (quiet heard) serves asks;
+      hosts = refl;
     } in
-    let last : Answers said (ends served heard nothing_yet 0) (ends served done nothing_yet 0) = record {
+    let last : Answers said (ends served heard nothing_yet 0 hosts) (ends served done nothing_yet 0 hosts) = record {
       asked = Shut;
       midst = [];
       led = a.last.0;
       went = (nothing_yet, (nothing_yet, (nothing_yet, refl, inl refl), inl refl), inl refl);
       counted = (0, (0, (0, refl, refl), refl), refl);
+      came = (((tt, tt), tt), tt);
+      hosts = refl;
       server = refl;
     } in
-    let settled : Settled said (ends server begun nothing_yet 0) (ends served done nothing_yet 0) =
-    record { mid = ends served heard nothing_yet 0; took = took; answers = last } in
-    let answered : Answered Ops.Where said (ends server client nothing_yet 0) (ends served done nothing_yet 0) =
+    let settled : Settled said (ends server begun nothing_yet 0 hosts) (ends served done nothing_yet 0 hosts) =
+    record { mid = ends served heard nothing_yet 0 hosts; took = took; answers = last } in
+    let answered : Answered Ops.Where said (ends server client nothing_yet 0 hosts) (ends served done nothing_yet 0 hosts) =
     record { begun = begun; begins = a.begins; settled = settled } in
     let alone : AskedBy ServerIsCalm ClientIsCalm answered = record {
       kept = a.calm;
@@ -100,10 +133,10 @@ example_is_asked table root =
       last_asks = a.last.1;
       last_midst = tt;
     } in (
-      ends server client nothing_yet 0,
-      ends served done nothing_yet 0,
+      ends server client nothing_yet 0 hosts,
+      ends served done nothing_yet 0 hosts,
       e.begins,
       refl,
-      (ends server client nothing_yet 0, refl, answered),
+      (ends server client nothing_yet 0 hosts, refl, answered),
       (tt, alone),
     )

@@ -1,7 +1,7 @@
 -- The examples with transfers: sessions of one operation, as both drives took turns in them.
 use Rattle.std.proofs.Common.{◌≡◌, inl, ℕ, List, [], ◌∷◌, ◌++◌, refl, sym, ap, subst, ◌∙◌, append-nil, Some}
 use Rattle.ftp_control.specs.Deeds.{Deed, Led, Other, Stand}
-use Rattle.ftp_control.specs.Machine.{Closed, Held}
+use Rattle.ftp_control.specs.Machine.{Closed, Held, Left}
 use Rattle.ftp_client_drive.specs.Side.{Begun, Report, client_side}
 use Rattle.ftp_client_model.specs.Calls as near
 use Rattle.ftp_client_model.specs.Failing.{Client as NearEnd}
@@ -18,16 +18,17 @@ use Rattle.ftp_pair_example.proofs.Moves.{near_closes, says_answer}
 use Rattle.ftp_pair_example.proofs.PeekPlayed.{peek_is_answered}
 use Rattle.ftp_pair_example.proofs.Playing.{Played, far_in, near_in, none_yet}
 use Rattle.ftp_pair_example.proofs.PutPlayed.{put_is_answered}
-use Rattle.ftp_pair_transfers.specs.Deeds.{AreToldAt, ClientTransfers, IsToldAt, last_of, number_in}
+use Rattle.ftp_pair_transfers.specs.Deeds.{AreToldAt, ClientTransfers, IsToldAt, ServerTransfers, last_of, number_in}
 use Rattle.ftp_pair_world.specs.Claims.{Beginning}
 use Rattle.ftp_server_drive.specs.Side.{Timed, server_side}
-use Rattle.ftp_pair_wires.specs.Order.{Counted}
+use Rattle.ftp_pair_wires.specs.Order.{AllCame, Counted, Hosts}
 use Rattle.ftp_pair_turns.specs.Taking.{Answered, Answers, Ends, Settled, Took, ends}
 use Rattle.ftp_pair_turns.proofs.Gathering.{clients_then, servers_then}
 use Rattle.ftp_pair_asked.specs.Kinds.{AnsweredSo, AreAllToldAt, Does, IsSession, Kind}
-use Rattle.ftp_pair_asked.specs.Transfers.{AreTransferred, FetchIsAsked, PeekIsAsked, PutIsAsked, transfers}
+use Rattle.ftp_pair_asked.specs.Transfers.{AreTransferred, FetchIsAsked, IsServingAny, PeekIsAsked, PutIsAsked, transfers}
 use Rattle.ftp_pair_asked.proofs.Breaking.{HappenedByResets, Resets, resets_of}
 use Rattle.ftp_pair_asked.proofs.Midst.{midst_numbers}
+use Rattle.ftp_pair_asked.proofs.Peers.{left_comes, peers_came, serve_any}
 use Rattle.ftp_pair_asked.proofs.Ports.{left_no_port, none_counts, ports_counted}
 
 -- ---- the deeds of both after an operation was begun
@@ -59,9 +60,20 @@ module _ (Is : Deed server_side → (old new : Held Timed) → Type 0) where
   apart moments op (Client deed ∷ later) start now midst led serves told =
       let rest = apart moments op later start now midst.0 led serves told in record { led = rest.led; serves = rest.serves; told = rest.told }
 
+  -- the same of deeds that are those
+  abbrev IsApart : (moments : ℕ → ℕ) (later all : List Turn) (start now : Stand server_side) → Type 0
+  IsApart moments later all start now =
+      (led : Led (server_deeds all) start now) → Along Is (server_deeds all) start now led → AreToldAt moments all start now led
+      → Apart (moments 0) later start now
+
+  pub apart_in : (moments : ℕ → ℕ) (op : Op (List ℕ)) (later turns : List Turn) (start now : Stand server_side)
+      → turns ≡ later ++ Client (Other (Begun op)) ∷ [] → AreMidst (client_deeds later) → IsApart moments later turns start now
+  apart_in moments op later turns start now are midst =
+      subst (λ all. IsApart moments later all start now) (sym are) (apart moments op later start now midst)
+
 -- all of them, of this kind, and in an order
 module _ (kind : Kind) where
-  pub record Plays (moment : ℕ) (start : Stand server_side) (begun : Stand client_side) (there : Between) (server : Stand server_side)
+  pub record Plays (moment : ℕ) (hosts : Hosts) (start : Stand server_side) (begun : Stand client_side) (there : Between) (server : Stand server_side)
       (client : Stand client_side) : Type 0 where
     pub later : List Turn
     pub serves : Apart (Does {side = server_side} kind.Serves ServerIsCalm) moment later start server
@@ -70,46 +82,43 @@ module _ (kind : Kind) where
     pub went : Resets later nothing_yet there
     pub told : ℕ
     pub counted : Counted later 0 told
+    pub came : AllCame hosts later
 
 -- deeds of both that can happen, of which the first one began an operation, are such
 module _ (kind : Kind) (moments : ℕ → ℕ) (op : Op (List ℕ)) (start : Stand server_side) (begun : Stand client_side) (there : Between)
     (server : Stand server_side) (client : Stand client_side) (later turns : List Turn) (are : turns ≡ later ++ Client (Other (Begun op)) ∷ [])
-    (midst : AreMidst (client_deeds later)) (told : ℕ) where
+    (midst : AreMidst (client_deeds later)) (told : ℕ) (hosts : Hosts) where
   abbrev FarDoes : Deed server_side → (old new : Held Timed) → Type 0
   FarDoes = Does {side = server_side} kind.Serves ServerIsCalm
 
   abbrev NearDoes : Deed client_side → (old new : Held NearEnd) → Type 0
   NearDoes = Does {side = client_side} kind.Asks ClientIsCalm
 
-  abbrev IsApart : List Turn → Type 0
-  IsApart all =
-      (led : Led (server_deeds all) start server) → Along FarDoes (server_deeds all) start server led → AreToldAt moments all start server led
-      → Apart FarDoes (moments 0) later start server
-
-  pub plays : (led : Led (server_deeds turns) start server) → Along FarDoes (server_deeds turns) start server led
-      → AreToldAt moments turns start server led → Goes NearDoes (client_deeds later) begun client → HappenedByResets turns there → Counted later 0 told
-      → Plays kind (moments 0) start begun there server client
-  plays led serves timely asks happens counted =
+  pub plays : Apart FarDoes (moments 0) later start server → Goes NearDoes (client_deeds later) begun client → HappenedByResets turns there
+      → Counted later 0 told → AllCame hosts later → Plays kind (moments 0) hosts start begun there server client
+  plays serves asks happens counted came =
       let happened : HappenedByResets (later ++ Client (Other (Begun op)) ∷ []) there = subst (λ t. HappenedByResets t there) are happens in
       record {
         later = later;
-        serves = subst IsApart (sym are) (apart FarDoes moments op later start server midst) led serves timely;
+        serves = serves;
         asks = asks;
         midst = midst;
         went = resets_of later op there happened.0 happened.1;
         told = told;
         counted = counted;
+        came = came;
       }
 
 -- ---- a session of one operation
 
 module _ (kind : Kind)
     (Stands : (start : Stand server_side) (begun : Stand client_side) (there : Between) (server : Stand server_side) (client : Stand client_side) → Type 0)
-    (b : Beginning) (op : Op (List ℕ)) (said : Said) (a : IsAnsweredBy kind.Carries (Does {side = client_side} kind.Asks ClientIsCalm) Stands b op said)
-    (moments : ℕ → ℕ)
-    (p : Plays kind (moments 0) (far_in none_yet a.first []) (near_in none_yet a.begun []) a.there (far_in none_yet a.served [])
+    (b : Beginning) (op : Op (List ℕ)) (said : Said) (Did : Deed client_side → (old new : Held NearEnd) → Type 0)
+    (a : IsAnsweredBy kind.Carries Did Stands b op said)
+    (moments : ℕ → ℕ) (hosts : Hosts)
+    (p : Plays kind (moments 0) hosts (far_in none_yet a.first []) (near_in none_yet a.begun []) a.there (far_in none_yet a.served [])
     (near_in a.lane a.heard [])) where
-  -- the ends as it begins, as the operation was begun, as it was answered, and then
+  -- the ends as it begins, as the operation was begun, as it was answered, as that was reported, and then
   abbrev server : Held Timed
   server = (far_in none_yet a.first []).owner
 
@@ -119,20 +128,31 @@ module _ (kind : Kind)
   abbrev heard : Held NearEnd
   heard = (near_in a.lane a.heard []).owner
 
+  abbrev reported : Held NearEnd
+  reported = (near_in none_yet (near.reports a.heard) []).owner
+
   abbrev starts : Ends
-  starts = ends server (near_in none_yet a.client_first []).owner nothing_yet 0
+  starts = ends server (near_in none_yet a.client_first []).owner nothing_yet 0 hosts
 
   abbrev started : Ends
-  started = ends server (near_in none_yet a.begun []).owner nothing_yet 0
+  started = ends server (near_in none_yet a.begun []).owner nothing_yet 0 hosts
 
   abbrev done : Ends
-  done = ends served heard a.there p.told
+  done = ends served heard a.there p.told hosts
 
   abbrev over : Ends
-  over = ends served (near_in none_yet (near.data_closed (near.reports a.heard)) []).owner (lies_over a.hold [] []) p.told
+  over = ends served (near_in none_yet (near.data_closed (near.reports a.heard)) []).owner (lies_over a.hold [] []) p.told hosts
 
   abbrev took : Took started done
-  took = record { turns = p.later; server_led = p.serves.led; client_led = p.asks.0; went = p.went.0; counted = p.counted }
+  took = record {
+    turns = p.later;
+    server_led = p.serves.led;
+    client_led = p.asks.0;
+    went = p.went.0;
+    counted = p.counted;
+    came = p.came;
+    hosts = refl;
+  }
 
   abbrev last : Answers said done over
   last = record {
@@ -145,6 +165,8 @@ module _ (kind : Kind)
     );
     went = (lies_over a.hold [] [], (a.there, (a.there, refl, inl refl), inl a.can), inl refl);
     counted = (p.told, (p.told, (p.told, refl, refl), none_counts (left_by a.asked) p.told (left_no_port a.asked)), refl);
+    came = (((tt, tt), left_comes hosts.near a.asked), tt);
+    hosts = refl;
     server = refl;
   }
 
@@ -155,9 +177,11 @@ module _ (kind : Kind)
   answered = record { begun = started.client; begins = a.does; settled = settled }
 
   -- so turns of both are such a session
-  pub is_asked : kind.Asks (Other (Report (Some said))) heard → kind.Asks (Other Closed) (near_in none_yet (near.reports a.heard) []).owner
+  pub is_asked : kind.Meets starts → kind.Asks (Other (Report (Some said))) heard
+      → Does {side = client_side} kind.Asks ClientIsCalm (Other (Left a.asked)) (near_in a.lane (near.reports a.heard) []).owner reported
+      → kind.Asks (Other Closed) reported
       → (start : Ends) × (now : Ends) × IsSession kind b moments ((op, said) ∷ []) start now
-  is_asked reports closes =
+  is_asked meets reports leaves closes =
       let so : AnsweredSo kind ServerIsCalm ClientIsCalm (moments 0) answered = record {
         carried = a.is;
         kept = refl;
@@ -165,7 +189,7 @@ module _ (kind : Kind)
         told = p.serves.told;
         asks = p.asks.1;
         midst = p.midst;
-        last_asks = (((tt, (reports, refl)), a.may), (closes, refl));
+        last_asks = (((tt, (reports, refl)), leaves), (closes, refl));
         last_midst = tt;
         resets = p.went.1;
         last_resets = tt;
@@ -176,6 +200,7 @@ module _ (kind : Kind)
           begins = a.begins;
           nothing = refl;
           listens = refl;
+          meets = meets;
           server_bare = (refl, refl);
           client_bare = (refl, refl);
           are = (starts, refl, answered);
@@ -185,27 +210,39 @@ module _ (kind : Kind)
 
 -- ---- those over passive data connections
 
+-- the server's peer is at either's other end
+abbrev peers : Stand server_side → Hosts
+peers start = record { near = start.owner.end.server.view.footing.peer; far = start.owner.end.server.view.footing.peer }
+
 -- turns of both, of which the client dialled
 dials : (b : Beginning) (moments : ℕ → ℕ) (op : Op (List ℕ)) (said : Said) (a : IsAnswered b moments op said)
-    → Plays transfers (moments 0) (far_in none_yet a.first []) (near_in none_yet a.begun []) a.there (far_in none_yet a.served []) (near_in a.lane a.heard [])
+    → Plays transfers (moments 0) (peers (far_in none_yet a.first [])) (far_in none_yet a.first []) (near_in none_yet a.begun []) a.there
+    (far_in none_yet a.served []) (near_in a.lane a.heard [])
 dials b moments op said a =
     let p = a.played in
     let first = far_in none_yet a.first [] in
     let begun = near_in none_yet a.begun [] in
     let heard = near_in a.lane a.heard [] in
+    let served = far_in none_yet a.served [] in
     let asks : Goes ClientTransfers (client_deeds p.later) begun heard =
     subst (λ d. Goes ClientTransfers d begun heard) (sym p.later_midst) (p.near_led, p.takes) in
     let servers : server_deeds p.turns ≡ server_deeds p.later =
     ap server_deeds p.turns_are ∙ servers_then p.later (Client (Other (Begun op)) ∷ []) ∙ append-nil (server_deeds p.later) in
-    plays transfers moments op first begun a.there (far_in none_yet a.served []) heard p.later p.turns p.turns_are
-    (subst AreMidst (sym p.later_midst) p.are) (listened_in (server_deeds p.later)) p.far_led p.gives p.told asks (p.happened, p.resets)
-    (ports_counted ClientIsCalm p.later begun heard asks.0 asks.1 (subst ArePorts servers p.ports))
+    let midst = subst AreMidst (sym p.later_midst) p.are in
+    let does : Apart ServerTransfers (moments 0) p.later first served =
+    apart_in ServerTransfers moments op p.later p.turns first served p.turns_are midst p.far_led p.gives p.told in
+    let serves : Apart (Does {side = server_side} IsServingAny ServerIsCalm) (moments 0) p.later first served =
+    record { led = does.led; serves = serve_any (server_deeds p.later) first served does.led does.serves; told = does.told } in
+    let hosts = peers first in
+    plays transfers moments op first begun a.there served heard p.later p.turns p.turns_are midst (listened_in (server_deeds p.later)) hosts serves asks
+    (p.happened, p.resets) (ports_counted ClientIsCalm p.later begun heard asks.0 asks.1 (subst ArePorts servers p.ports))
+    (peers_came hosts p.later first served does.led does.serves begun heard asks.0 asks.1 refl).0
 
 passive_is_asked : (b : Beginning) (moments : ℕ → ℕ) (op : Op (List ℕ)) (said : Said) → IsAnswered b moments op said
     → (start : Ends) × (now : Ends) × AreTransferred b moments ((op, said) ∷ []) start now
 passive_is_asked b moments op said a =
-    is_asked transfers (λ start begun there server client. Played moments start begun op 1 there server client) b op said a moments
-    (dials b moments op said a) tt tt
+    is_asked transfers (λ start begun there server client. Played moments start begun op 1 there server client) b op said ClientTransfers a moments
+    (peers (far_in none_yet a.first [])) (dials b moments op said a) refl tt a.may tt
 
 -- a file is fetched
 pub fetch_is_asked : FetchIsAsked

@@ -1,5 +1,5 @@
 -- The turns of a session, put together.
-use Rattle.std.proofs.Common.{◌≡◌, inl, ℕ, ◌≤◌, false, List, [], ◌∷◌, ◌++◌, length, refl, ap, ◌∙◌, arith}
+use Rattle.std.proofs.Common.{◌≡◌, inl, ℕ, ◌≤◌, false, List, [], ◌∷◌, ◌++◌, length, refl, ap, subst, ◌∙◌, arith}
 use Rattle.ftp_control.specs.Deeds.{Deed, Other}
 use Rattle.ftp_client_drive.specs.Side.{Begun, client_side}
 use Rattle.ftp_client_model.specs.Calls.{is_busy}
@@ -7,9 +7,9 @@ use Rattle.ftp_operation.specs.Answer.{Said}
 use Rattle.ftp_operation.specs.declared.op.Op.{Op}
 use Rattle.ftp_pair_drives.specs.Between.{Between, Client, Server, Turn, client_deeds, server_deeds}
 use Rattle.ftp_pair_drives.proofs.Ending.{reported_free}
-use Rattle.ftp_pair_wires.specs.Order.{Counted, Went}
+use Rattle.ftp_pair_wires.specs.Order.{AllCame, Counted, Went}
 use Rattle.ftp_pair_turns.specs.Taking.{Answered, Ends, by_client}
-use Rattle.ftp_pair_turns.proofs.Gathering.{clients_then, counted_then, its_own, no_others, servers_then, went_then}
+use Rattle.ftp_pair_turns.proofs.Gathering.{came_then, clients_then, counted_then, its_own, no_others, servers_then, went_then}
 use Rattle.ftp_pair_asked.specs.Sessions.{AreAsked, deeds_of, turns_of}
 
 -- either end did no more than both
@@ -74,6 +74,21 @@ session_counted (asked ∷ before) start now are =
     let begun : Counted first start.listens are.0.listens = (are.0.listens, session_counted before start are.0 are.1, refl) in
     counted_then (by_client (deeds_of a.answers)) (a.took.turns ++ first) start.listens a.mid.listens now.listens a.answers.counted
     (counted_then a.took.turns first start.listens are.0.listens a.mid.listens a.took.counted begun)
+
+-- and who came was the host at the other end
+pub session_came : (asked : List (Op (List ℕ) × Said)) (start now : Ends) (are : AreAsked asked start now)
+    → AllCame start.hosts (turns_of asked start now are) × (now.hosts ≡ start.hosts)
+session_came [] start now are = (tt, ap (λ (e : Ends). e.hosts) are)
+session_came (asked ∷ before) start now are =
+    let a = are.2.settled in
+    let earlier = session_came before start are.0 are.1 in
+    let first : List Turn = Client (Other (Begun asked.0)) ∷ turns_of before start are.0 are.1 in
+    let took = subst (λ h. AllCame h a.took.turns) earlier.1 a.took.came in
+    let hosts = a.took.hosts ∙ earlier.1 in
+    let last = subst (λ h. AllCame h (by_client (deeds_of a.answers))) hosts a.answers.came in (
+      came_then start.hosts (by_client (deeds_of a.answers)) (a.took.turns ++ first) last (came_then start.hosts a.took.turns first took (earlier.0, tt)),
+      a.answers.hosts ∙ hosts,
+    )
 
 module _ (op : Op (List ℕ)) (answer : Said) (mid now : Ends) (a : Answered op answer mid now) where
   -- a client that has answered is not busy

@@ -6,6 +6,7 @@ pub mod Examples
 pub mod Gathering
 pub mod Happening
 pub mod Midst
+pub mod Peers
 pub mod Ports
 pub mod Sessions
 pub mod Transferring

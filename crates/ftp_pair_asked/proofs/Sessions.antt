@@ -23,7 +23,7 @@ use Rattle.ftp_pair_transfers.proofs.Ending.{as_many}
 use Rattle.ftp_pair_world.specs.Agreement.{Order, Single}
 use Rattle.ftp_pair_world.specs.Claims.{AreAnswers, Beginning, IsFair, state_of}
 use Rattle.ftp_server_drive.specs.Side.{Timed, server_side}
-use Rattle.ftp_pair_wires.specs.Order.{Counted}
+use Rattle.ftp_pair_wires.specs.Order.{AllCame, Counted}
 use Rattle.ftp_pair_wires.specs.Plain.{quiet}
 use Rattle.ftp_pair_turns.specs.Taking.{Answered, Ends, by_client}
 use Rattle.ftp_pair_turns.proofs.Gathering.{clients_then}
@@ -32,7 +32,7 @@ use Rattle.ftp_pair_asked.specs.Laws.{IsUnbroken}
 use Rattle.ftp_pair_asked.specs.Sessions.{AreAsked, deeds_of, turns_of}
 use Rattle.ftp_pair_asked.proofs.Breaking.{HappenedByResets, Resets, ServerIsUnbroken, resets_happen, session_resets}
 use Rattle.ftp_pair_asked.proofs.Counting.{far_calms, near_calms}
-use Rattle.ftp_pair_asked.proofs.Gathering.{far_fewer, near_fewer, answered_closed, answered_free, clients, clients_with, session_counted, turns_with}
+use Rattle.ftp_pair_asked.proofs.Gathering.{far_fewer, near_fewer, answered_closed, answered_free, clients, clients_with, session_came, session_counted, turns_with}
 use Rattle.ftp_pair_asked.proofs.Midst.{midst_begins, midst_numbers, midst_reports}
 
 -- ---- the deeds of either
@@ -255,12 +255,13 @@ module _ (kind : Kind) (moments : ℕ → ℕ) where
 
 -- ---- the direct run
 
--- deeds of that kind, in an order in which each can happen, and in which each port that was told was the next one, are the direct run
+-- deeds of that kind, in an order in which each can happen, and in which each port that was told was the next one, and who came the host at the other end, are
+-- the direct run
 abbrev pub Concludes : Kind → Type 0
 Concludes kind =
     (b : Beginning) → IsFair b → (moments : ℕ → ℕ) → AreMoments moments → (turns : List Turn) (asked : List (Op (List ℕ) × Said)) (start now : Ends)
     → Begins b (quiet start.server) (quiet start.client) → IsBare start.server.lane → IsBare start.client.lane → HappenedByResets turns now.between
-    → Counted turns 0 now.listens → Gathered kind ServerIsCalm ClientIsCalm moments turns asked start now
+    → Counted turns 0 now.listens → kind.Meets start → AllCame start.hosts turns → Gathered kind ServerIsCalm ClientIsCalm moments turns asked start now
     → length (reports_in (client_deeds turns)) ≡ length (begun_at moments (client_deeds turns))
     → AreAnswers (state_of b) (begun_at moments (client_deeds turns)) (reports_in (client_deeds turns)) now.server.end.server.view.session.table
 
@@ -278,8 +279,9 @@ module _ (kind : Kind) (may : (op : Op (List ℕ)) (at : Held NearEnd) → kind.
       let table = now.server.end.server.view.session.table in
       let happened = session_happens kind unbroken KeepsServer KeepsClient moments asked start now s.are s.by s.nothing kept.serves in
       let counted = subst (λ n. Counted turns n now.listens) s.listens (session_counted asked start now s.are) in
+      let came = (session_came asked start now s.are).0 in
       let told = ap length g.answers ∙ as_many moments asked ∙ ap length (sym g.orders) in
-      let is = direct b fair moments timed turns asked start now s.begins s.server_bare s.client_bare happened counted g told in
+      let is = direct b fair moments timed turns asked start now s.begins s.server_bare s.client_bare happened counted s.meets came g told in
       subst (λ (r : List Said). AreAnswers (state_of b) (orders_at moments asked) r table) g.answers
       (subst (λ (o : List Order). AreAnswers (state_of b) o (reports_in (client_deeds turns)) table) g.orders is)
 

@@ -8,18 +8,19 @@ use Rattle.ftp_operation.specs.declared.op.Op.{Op}
 use Rattle.ftp_pair_drives.specs.Alone.{ClientIsCalm}
 use Rattle.ftp_pair_drives.specs.Touches.{touch_in}
 use Rattle.ftp_pair_transfers.specs.Claims.{DidTransfer}
-use Rattle.ftp_pair_transfers.specs.Deeds.{IsAsking, IsServing, IsTransferred}
+use Rattle.ftp_pair_transfers.specs.Deeds.{IsAsking, IsTransferred}
 use Rattle.ftp_pair_transfers.proofs.Concluding.{transfers_are_the_direct_run}
 use Rattle.ftp_server_drive.specs.Side.{Timed, server_side}
 use Rattle.ftp_pair_wires.specs.Plain.{quiet}
 use Rattle.ftp_pair_asked.specs.Laws.{IsUnbroken}
-use Rattle.ftp_pair_asked.specs.Transfers.{TransfersAskedAreTheDirectRun, TransfersByCounts, transfers}
+use Rattle.ftp_pair_asked.specs.Transfers.{IsServingAny, TransfersAskedAreTheDirectRun, TransfersByCounts, transfers}
 use Rattle.ftp_pair_asked.proofs.Breaking.{had_unbroken, left_unbroken}
+use Rattle.ftp_pair_asked.proofs.Peers.{peers_serve}
 use Rattle.ftp_pair_asked.proofs.Ports.{ports_told}
 use Rattle.ftp_pair_asked.proofs.Sessions.{Concludes, are_by_counts, are_the_direct_run}
 
 -- a server is told of no break
-serving_unbroken : (deed : Deed server_side) (at : Held Timed) → IsServing deed at → IsUnbroken (touch_in deed)
+serving_unbroken : (deed : Deed server_side) (at : Held Timed) → IsServingAny deed at → IsUnbroken (touch_in deed)
 serving_unbroken (Other Break) at is = absurd is
 serving_unbroken (Other (Opened host asked at_first so_far rest)) at is = had_unbroken asked
 serving_unbroken (Other (Refused asked)) at is = had_unbroken asked
@@ -32,7 +33,7 @@ may_begin op at is none = (is, none)
 
 -- such deeds are the direct run
 transferring : Concludes transfers
-transferring b fair moments timed turns asked start now begins server_bare client_bare happened counted g told =
+transferring b fair moments timed turns asked start now begins server_bare client_bare happened counted meets came g told =
     let did : DidTransfer b moments turns now.between (quiet now.server) (quiet now.client) = record {
       server_start = quiet start.server;
       client_start = quiet start.client;
@@ -45,7 +46,7 @@ transferring b fair moments timed turns asked start now begins server_bare clien
       resets = happened.1;
       server_led = g.serves.led;
       client_led = g.asks.0;
-      takes = g.serves.serves;
+      takes = (peers_serve start.hosts turns (quiet start.server) (quiet now.server) g.serves.led g.serves.serves came meets).0;
       gives = g.asks.1;
       ports = (ports_told ClientIsCalm turns (quiet start.client) (quiet now.client) g.asks.0 g.asks.1 now.listens counted).1;
       told = g.serves.told;

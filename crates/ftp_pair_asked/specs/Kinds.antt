@@ -22,11 +22,12 @@ use Rattle.ftp_pair_wires.specs.Plain.{quiet}
 use Rattle.ftp_pair_turns.specs.Taking.{Answered, Ends, by_client}
 use Rattle.ftp_pair_asked.specs.Sessions.{AreAsked, deeds_of, turns_of}
 
--- which operations are asked for, and which deeds either end does as it holds this
+-- which operations are asked for, which deeds either end does as it holds this, and whom the ends have at their other ends as a session begins
 pub record Kind : Type 1 where
   pub Carries : Op (List ℕ) → Type 0
   pub Serves : Deed server_side → Held Timed → Type 0
   pub Asks : Deed client_side → Held NearEnd → Type 0
+  pub Meets : Ends → Type 0
 
 -- such a deed, and the ends before it and after it keep this
 module _ {side : Side} (Is : Deed side → side.End → Type 0) (Keeps : (old new : side.End) → Type 0) where
@@ -67,11 +68,12 @@ module _ (kind : Kind) (KeepsServer : (old new : Held Timed) → Type 0) (KeepsC
   AreAnsweredSo moments (asked ∷ before) start now are = AreAnsweredSo moments before start are.0 are.1 × AnsweredSo (moments (length before)) are.2
 
   -- All that is asked of such a session: it began fairly, with nothing between both ends, no port told yet, and no octet of a data connection on its way or in
-  -- hand; and its operations were answered so
+  -- hand; the ends have at their other ends whom this kind asks for; and its operations were answered so
   pub record SessionBy (b : Beginning) (moments : ℕ → ℕ) (asked : List (Op (List ℕ) × Said)) (start now : Ends) : Type 0 where
     pub begins : Begins b (quiet start.server) (quiet start.client)
     pub nothing : start.between ≡ nothing_yet
     pub listens : start.listens ≡ 0
+    pub meets : kind.Meets start
     pub server_bare : IsBare start.server.lane
     pub client_bare : IsBare start.client.lane
     pub are : AreAsked asked start now
@@ -86,7 +88,8 @@ module _ (kind : Kind) where
   abbrev pub IsBeside : (b : Beginning) (moments : ℕ → ℕ) (asked : List (Op (List ℕ) × Said)) (start now : Ends) → Type 0
   IsBeside b moments asked start now = SessionBy kind (λ old new. ⊤) (λ old new. ⊤) b moments asked start now
 
-  -- the answers, and the map that the server holds, are those of the operations run directly; neither the order nor the ports are among the premises
+  -- the answers, and the map that the server holds, are those of the operations run directly; neither the order, nor the ports, nor who came is among the
+  -- premises
   abbrev pub AreTheDirectRun : Type 0
   AreTheDirectRun =
       (b : Beginning) → IsFair b → (moments : ℕ → ℕ) → AreMoments moments → (asked : List (Op (List ℕ) × Said)) (start now : Ends)

@@ -1,19 +1,32 @@
 -- What is claimed of sessions of turns in which files were put and fetched, and listings, over passive data connections (RFC 959, section 3.2).
-use Rattle.std.specs.Prelude.{ℕ, List}
+use Rattle.std.specs.Prelude.{◌≡◌, ⊤, ℕ, List, [], ◌∷◌}
+use Rattle.ftp_control.specs.Asking.{Came}
+use Rattle.ftp_control.specs.Deeds.{Deed, Other}
+use Rattle.ftp_control.specs.Machine.{Held, Opened}
 use Rattle.ftp_operation.specs.Answer.{Said}
 use Rattle.ftp_operation.specs.declared.op.Op.{Op}
 use Rattle.ftp_pair_drives.specs.Example.{example}
 use Rattle.ftp_pair_example.specs.Example.{HasFile, HasRoom, fetch_asked, peek_asked, put_asked}
 use Rattle.ftp_pair_transfers.specs.Deeds.{IsAsking, IsServing, IsTransferred}
 use Rattle.ftp_pair_world.specs.Claims.{Beginning}
+use Rattle.ftp_server_drive.specs.Side.{Timed, server_side}
 use Rattle.ftp_tree.specs.Tree.{Table}
 use Rattle.ftp_pair_turns.specs.Taking.{Ends}
 use Rattle.ftp_pair_asked.specs.Kinds.{AreByCounts, AreTheDirectRun, IsSession, Kind}
 
+-- it serves as transfers have it, whoever comes
+abbrev pub IsServingAny : Deed server_side → Held Timed → Type 0
+IsServingAny (Other (Opened host (Came from left written ∷ []) at_first so_far rest)) at = ⊤
+IsServingAny deed at = IsServing deed at
+
+-- the server has its own peer at its other end
+abbrev pub ServerMeetsPeer : Ends → Type 0
+ServerMeetsPeer start = start.hosts.far ≡ start.server.end.server.view.footing.peer
+
 -- operations without a transfer, or with one for which the client dials; nothing of a data connection fails, but that the server resets one of which the client
 -- asks no more
 abbrev pub transfers : Kind
-transfers = record { Carries = IsTransferred; Serves = IsServing; Asks = IsAsking }
+transfers = record { Carries = IsTransferred; Serves = IsServingAny; Asks = IsAsking; Meets = ServerMeetsPeer }
 
 -- neither was refused memory, and no device failed or strayed
 abbrev pub AreTransferred : (b : Beginning) (moments : ℕ → ℕ) (asked : List (Op (List ℕ) × Said)) (start now : Ends) → Type 0

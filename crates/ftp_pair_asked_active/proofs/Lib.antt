@@ -1,3 +1,5 @@
 pub mod Concluding
 pub mod Example
+pub mod Peers
 pub mod Ports
+pub mod Replying

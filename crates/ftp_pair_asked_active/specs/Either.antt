@@ -1,6 +1,11 @@
 -- What is claimed of sessions of turns in which files were put, fetched and peeked into, and listings, over data connections that either dials (RFC 959,
 -- section 3.2).
-use Rattle.std.specs.Prelude.{ℕ, List}
+use Rattle.std.specs.Prelude.{◌≡◌, ⊤, ℕ, List, [], ◌∷◌}
+use Rattle.ftp_control.specs.Asking.{Came}
+use Rattle.ftp_control.specs.Deeds.{Deed, Other}
+use Rattle.ftp_control.specs.Machine.{Held, Opened}
+use Rattle.ftp_client_drive.specs.Side.{client_side}
+use Rattle.ftp_client_model.specs.Failing.{Client as NearEnd}
 use Rattle.ftp_operation.specs.Answer.{Said}
 use Rattle.ftp_operation.specs.declared.op.Op.{Op}
 use Rattle.ftp_pair_active.specs.Deeds.{IsAsking, IsServing}
@@ -9,13 +14,27 @@ use Rattle.ftp_pair_drives.specs.Example.{example}
 use Rattle.ftp_pair_example.specs.Example.{HasFile}
 use Rattle.ftp_pair_transfers.specs.Deeds.{IsCarried}
 use Rattle.ftp_pair_world.specs.Claims.{Beginning}
+use Rattle.ftp_server_drive.specs.Side.{Timed, server_side}
 use Rattle.ftp_tree.specs.Tree.{Table}
 use Rattle.ftp_pair_turns.specs.Taking.{Ends}
 use Rattle.ftp_pair_asked.specs.Kinds.{AreByCounts, AreTheDirectRun, IsSession, Kind}
 
+-- it serves, and it asks, as where either listens and the other dials, whoever comes
+abbrev pub IsServingAny : Deed server_side → Held Timed → Type 0
+IsServingAny (Other (Opened host (Came from left written ∷ []) at_first so_far rest)) at = ⊤
+IsServingAny deed at = IsServing deed at
+
+abbrev pub IsAskingAny : Deed client_side → Held NearEnd → Type 0
+IsAskingAny (Other (Opened host (Came from left written ∷ []) at_first so_far rest)) at = ⊤
+IsAskingAny deed at = IsAsking deed at
+
+-- the server has its own peer at its other end, and so has the client
+abbrev pub BothMeetPeers : Ends → Type 0
+BothMeetPeers start = (start.hosts.far ≡ start.server.end.server.view.footing.peer) × (start.hosts.near ≡ start.client.end.view.peer)
+
 -- operations, and deeds of either end, as they are where either listens and the other dials
 abbrev pub either : Kind
-either = record { Carries = IsCarried; Serves = IsServing; Asks = IsAsking }
+either = record { Carries = IsCarried; Serves = IsServingAny; Asks = IsAskingAny; Meets = BothMeetPeers }
 
 -- neither was refused memory, and no device failed or strayed
 abbrev pub AreEither : (b : Beginning) (moments : ℕ → ℕ) (asked : List (Op (List ℕ) × Said)) (start now : Ends) → Type 0

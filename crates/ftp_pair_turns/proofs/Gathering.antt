@@ -13,7 +13,7 @@ use Rattle.ftp_operation.specs.declared.answer.Answer.{Answer}
 use Rattle.ftp_operation.specs.declared.op.Op.{Op}
 use Rattle.ftp_pair_drives.specs.Between.{Between, Client, Far, Near, Server, Turn, client_deeds, server_deeds}
 use Rattle.ftp_server_drive.specs.Side.{Timed, server_side}
-use Rattle.ftp_pair_wires.specs.Order.{Counted, CountedAlone, Went, WentAlone}
+use Rattle.ftp_pair_wires.specs.Order.{AllCame, CameAlone, Counted, CountedAlone, Hosts, Went, WentAlone}
 use Rattle.ftp_pair_wires.specs.Plain.{quiet}
 use Rattle.ftp_pair_turns.specs.Taking.{Asks, Begins, Ends, NearTurns, Rounds, Settles, Took, by_client, ends}
 use Rattle.ftp_pair_turns.specs.declared.course.Course.{Course}
@@ -34,6 +34,11 @@ counted_then [] before first mid now second counted = subst (λ n. Counted befor
 counted_then (turn ∷ later) before first mid now second counted =
     (second.0, counted_then later before first mid second.0 second.1 counted, second.2)
 
+pub came_then : (hosts : Hosts) (later before : List Turn) → AllCame hosts later → AllCame hosts before → AllCame hosts (later ++ before)
+came_then hosts [] before second came = came
+came_then hosts (Server deed ∷ later) before second came = (came_then hosts later before second.0 came, second.1)
+came_then hosts (Client deed ∷ later) before second came = (came_then hosts later before second.0 came, second.1)
+
 pub servers_then : (later before : List Turn) → server_deeds (later ++ before) ≡ server_deeds later ++ server_deeds before
 servers_then [] before = refl
 servers_then (Server deed ∷ later) before = ap (λ l. deed ∷ l) (servers_then later before)
@@ -45,7 +50,7 @@ clients_then (Server deed ∷ later) before = clients_then later before
 clients_then (Client deed ∷ later) before = ap (λ l. deed ∷ l) (clients_then later before)
 
 pub took_none : (at : Ends) → Took at at
-took_none at = record { turns = []; server_led = refl; client_led = refl; went = refl; counted = refl }
+took_none at = record { turns = []; server_led = refl; client_led = refl; went = refl; counted = refl; came = tt; hosts = refl }
 
 pub took_then : (old mid new : Ends) → Took mid new → Took old mid → Took old new
 took_then old mid new second first = record {
@@ -56,6 +61,8 @@ took_then old mid new second first = record {
       (led_then (client_deeds second.turns) (client_deeds first.turns) (quiet old.client) (quiet mid.client) (quiet new.client) second.client_led first.client_led);
   went = went_then second.turns first.turns old.between mid.between new.between second.went first.went;
   counted = counted_then second.turns first.turns old.listens mid.listens new.listens second.counted first.counted;
+  came = came_then old.hosts second.turns first.turns (subst (λ h. AllCame h second.turns) first.hosts second.came) first.came;
+  hosts = second.hosts ∙ first.hosts;
 }
 
 -- ---- those of one end
@@ -103,28 +110,45 @@ pub far_counted : (deeds : List (Deed server_side)) (first now : ℕ) → Counte
 far_counted [] first now counted = counted
 far_counted (deed ∷ before) first now counted = (counted.0, far_counted before first counted.0 counted.1, counted.2)
 
+-- and so is who came
+pub near_came : (hosts : Hosts) (deeds : List (Deed client_side)) → CameAlone hosts.near deeds → AllCame hosts (by_client deeds)
+near_came hosts [] came = tt
+near_came hosts (deed ∷ before) came = (near_came hosts before came.0, came.1)
+
+pub far_came : (hosts : Hosts) (deeds : List (Deed server_side)) → CameAlone hosts.far deeds → AllCame hosts (by_server deeds)
+far_came hosts [] came = tt
+far_came hosts (deed ∷ before) came = (far_came hosts before came.0, came.1)
+
 -- what the client did alone
-pub near_took : (server : Held Timed) (old new : Held NearEnd) (first now : Between) (told told_now : ℕ) (deeds : List (Deed client_side))
-    → Led deeds (quiet {side = client_side} old) (quiet new) → WentAlone Near deeds first now → CountedAlone deeds told told_now
-    → Took (ends server old first told) (ends server new now told_now)
-near_took server old new first now told told_now deeds led went counted = record {
+pub near_took : (old new : Ends) (deeds : List (Deed client_side)) → new.server ≡ old.server
+    → Led deeds (quiet {side = client_side} old.client) (quiet new.client)
+    → WentAlone Near deeds old.between new.between → CountedAlone deeds old.listens new.listens → CameAlone old.hosts.near deeds → new.hosts ≡ old.hosts
+    → Took old new
+near_took old new deeds same led went counted came hosts = record {
   turns = by_client deeds;
-  server_led = subst (λ d. Led d (quiet {side = server_side} server) (quiet server)) (sym (no_others deeds)) refl;
-  client_led = subst (λ d. Led d (quiet {side = client_side} old) (quiet new)) (sym (its_own deeds)) led;
-  went = near_went deeds first now went;
-  counted = near_counted deeds told told_now counted;
+  server_led = subst (λ d. Led d (quiet {side = server_side} old.server) (quiet new.server)) (sym (no_others deeds))
+      (ap (λ h. quiet {side = server_side} h) same);
+  client_led = subst (λ d. Led d (quiet {side = client_side} old.client) (quiet new.client)) (sym (its_own deeds)) led;
+  went = near_went deeds old.between new.between went;
+  counted = near_counted deeds old.listens new.listens counted;
+  came = near_came old.hosts deeds came;
+  hosts = hosts;
 }
 
 -- and the server
-pub far_took : (client : Held NearEnd) (old new : Held Timed) (first now : Between) (told told_now : ℕ) (deeds : List (Deed server_side))
-    → Led deeds (quiet {side = server_side} old) (quiet new) → WentAlone Far deeds first now → CountedAlone deeds told told_now
-    → Took (ends old client first told) (ends new client now told_now)
-far_took client old new first now told told_now deeds led went counted = record {
+pub far_took : (old new : Ends) (deeds : List (Deed server_side)) → new.client ≡ old.client
+    → Led deeds (quiet {side = server_side} old.server) (quiet new.server)
+    → WentAlone Far deeds old.between new.between → CountedAlone deeds old.listens new.listens → CameAlone old.hosts.far deeds → new.hosts ≡ old.hosts
+    → Took old new
+far_took old new deeds same led went counted came hosts = record {
   turns = by_server deeds;
-  server_led = subst (λ d. Led d (quiet {side = server_side} old) (quiet new)) (sym (far_own deeds)) led;
-  client_led = subst (λ d. Led d (quiet {side = client_side} client) (quiet client)) (sym (far_no_others deeds)) refl;
-  went = far_went deeds first now went;
-  counted = far_counted deeds told told_now counted;
+  server_led = subst (λ d. Led d (quiet {side = server_side} old.server) (quiet new.server)) (sym (far_own deeds)) led;
+  client_led = subst (λ d. Led d (quiet {side = client_side} old.client) (quiet new.client)) (sym (far_no_others deeds))
+      (ap (λ h. quiet {side = client_side} h) same);
+  went = far_went deeds old.between new.between went;
+  counted = far_counted deeds old.listens new.listens counted;
+  came = far_came old.hosts deeds came;
+  hosts = hosts;
 }
 
 -- ---- turns of both
@@ -144,19 +168,19 @@ module _ {A : Type 0} where
   rounds_on Courses.Off old mid new second took = tt
 
   -- an operation was begun before
-  asks : (op : Op (List ℕ)) (given : Option (Answer A)) (server : Held Timed) (old begun : Held NearEnd) (first : Between) (told : ℕ) (new : Ends)
-      → Begins op old begun → Settles given (ends server begun first told) new → Asks op given (ends server old first told) new
-  asks op (Some answer) server old begun first told new begins settled = record { begun = begun; begins = begins; settled = settled }
-  asks op None server old begun first told new begins settled = tt
+  asks : (op : Op (List ℕ)) (given : Option (Answer A)) (server : Held Timed) (old begun : Held NearEnd) (first : Between) (told : ℕ) (hosts : Hosts)
+      (new : Ends) → Begins op old begun → Settles given (ends server begun first told hosts) new → Asks op given (ends server old first told hosts) new
+  asks op (Some answer) server old begun first told hosts new begins settled = record { begun = begun; begins = begins; settled = settled }
+  asks op None server old begun first told hosts new begins settled = tt
 
-module _ {A : Type 0} where
-  -- between both lies then what lay there before, and as many ports were told
-  pub asks_from : (op : Op (List ℕ)) (given : Option (Answer A)) (server : Held Timed) (old begun : Held NearEnd) (first there : Between)
-      (told count : ℕ) (new : Ends) → there ≡ first → count ≡ told → Begins op old begun → Settles given (ends server begun there count) new
-      → Asks op given (ends server old first told) new
-  asks_from op given server old begun first there told count new same as_many began settled =
-      asks op given server old begun first told new began (subst (λ b. Settles given (ends server begun b told) new) same
-      (subst (λ n. Settles given (ends server begun there n) new) as_many settled))
+module _ {A M : Type 0} (lies : M → Between) (told : M → ℕ) (hosts : M → Hosts) where
+  -- where the client was moored as before, all lies between both then that lay there before
+  pub asks_from : (op : Op (List ℕ)) (given : Option (Answer A)) (server : Held Timed) (old begun : Held NearEnd) (at there : M) (new : Ends) → there ≡ at
+      → Begins op old begun → Settles given (ends server begun (lies there) (told there) (hosts there)) new
+      → Asks op given (ends server old (lies at) (told at) (hosts at)) new
+  asks_from op given server old begun at there new same began settled =
+      asks op given server old begun (lies at) (told at) (hosts at) new began
+      (subst (λ m. Settles given (ends server begun (lies m) (told m) (hosts m)) new) same settled)
 
 -- ---- an operation is begun
 

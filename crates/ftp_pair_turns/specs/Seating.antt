@@ -4,6 +4,7 @@ use Rattle.ftp_control.specs.Machine.{Held, held}
 use Rattle.ftp_client_model.specs.Failing.{Client as NearEnd}
 use Rattle.ftp_pair_drives.specs.Between.{Between, Near, Ways}
 use Rattle.ftp_pair_wires.specs.Moored.{berth_of, between_both, listens_of, plain_in}
+use Rattle.ftp_pair_wires.specs.Order.{Hosts}
 use Rattle.ftp_server_drive.specs.Side.{Timed}
 use Rattle.ftp_pair_turns.specs.Taking.{Ends, ends}
 use Rattle.ftp_pair_turns.specs.declared.seats.Line.{Line}
@@ -25,6 +26,11 @@ between_of client server line = between_both Near client.mooring server.mooring 
 abbrev pub told_by : {N F : Type 0} → (client : Seat N) → (server : Seat F) → ℕ
 told_by client server = listens_of (berth_of client.mooring) (berth_of server.mooring)
 
+-- the host at the other end of each
+abbrev pub hosts_of : {N F : Type 0} → (client : Seat N) → (server : Seat F) → Hosts
+hosts_of client server = record { near = (berth_of client.mooring).host; far = (berth_of server.mooring).host }
+
 -- all of that
 abbrev pub ends_of : {N F : Type 0} → (far : F → Timed) → (near : N → NearEnd) → (client : Seat N) → (server : Seat F) → Line → Ends
-ends_of far near client server line = ends (held_at far server) (held_at near client) (between_of client server line) (told_by client server)
+ends_of far near client server line =
+    ends (held_at far server) (held_at near client) (between_of client server line) (told_by client server) (hosts_of client server)

@@ -9,29 +9,34 @@ use Rattle.ftp_operation.specs.Answer.{Said, said_of}
 use Rattle.ftp_operation.specs.declared.answer.Answer.{Answer}
 use Rattle.ftp_operation.specs.declared.op.Op.{Op}
 use Rattle.ftp_pair_drives.specs.Between.{Between, Client, Turn, client_deeds, server_deeds}
-use Rattle.ftp_pair_wires.specs.Order.{Counted, Went}
+use Rattle.ftp_pair_wires.specs.Order.{AllCame, Counted, Hosts, Went}
 use Rattle.ftp_pair_wires.specs.Plain.{quiet}
 use Rattle.ftp_server_drive.specs.Side.{Timed, server_side}
 use Rattle.ftp_pair_turns.specs.declared.course.Course.{Course}
 use Rattle.ftp_pair_turns.specs.declared.course.Course.TheVariants as Courses
 
--- two ends, what lies between them, and how many ports were listened at by both, as a world counts them
+-- two ends, what lies between them, how many ports were listened at by both, as a world counts them, and the host that each has at its other end
 pub record Ends : Type 0 where
   pub server : Held Timed
   pub client : Held NearEnd
   pub between : Between
   pub listens : ℕ
+  pub hosts : Hosts
 
-abbrev pub ends : Held Timed → Held NearEnd → Between → (listens : ℕ) → Ends
-ends server client between listens = record { server = server; client = client; between = between; listens = listens }
+abbrev pub ends : Held Timed → Held NearEnd → Between → (listens : ℕ) → Hosts → Ends
+ends server client between listens hosts =
+    record { server = server; client = client; between = between; listens = listens; hosts = hosts }
 
--- deeds of both, in an order in which each could happen, and in which each port that was told was the next one, led from here to there
+-- deeds of both led from here to there, in an order in which each could happen, and in which each port that was told was the next one; and who came was each
+-- time the host at the other end
 pub record Took (old new : Ends) : Type 0 where
   pub turns : List Turn
   pub server_led : Led (server_deeds turns) (quiet {side = server_side} old.server) (quiet new.server)
   pub client_led : Led (client_deeds turns) (quiet {side = client_side} old.client) (quiet new.client)
   pub went : Went turns old.between new.between
   pub counted : Counted turns old.listens new.listens
+  pub came : AllCame old.hosts turns
+  pub hosts : new.hosts ≡ old.hosts
 
 -- the client's alone
 abbrev pub by_client : List (Deed client_side) → List Turn
@@ -49,6 +54,8 @@ pub record Answers (answer : Said) (old new : Ends) : Type 0 where
   pub led : Led (last_deeds asked answer midst) (quiet {side = client_side} old.client) (quiet new.client)
   pub went : Went (by_client (last_deeds asked answer midst)) old.between new.between
   pub counted : Counted (by_client (last_deeds asked answer midst)) old.listens new.listens
+  pub came : AllCame old.hosts (by_client (last_deeds asked answer midst))
+  pub hosts : new.hosts ≡ old.hosts
   pub server : new.server ≡ old.server
 
 -- both took turns to where the client had its last ones alone
@@ -82,7 +89,7 @@ Begins op old new = Done {side = client_side} (Other (Begun op)) (quiet old) (qu
 pub record Answered (op : Op (List ℕ)) (answer : Said) (old new : Ends) : Type 0 where
   pub begun : Held NearEnd
   pub begins : Begins op old.client begun
-  pub settled : Settled answer (ends old.server begun old.between old.listens) new
+  pub settled : Settled answer (ends old.server begun old.between old.listens old.hosts) new
 
 -- so it is where an answer is given; else nothing is said
 abbrev pub Settles : {A : Type 0} → Option (Answer A) → (old new : Ends) → Type 0

@@ -42,7 +42,7 @@ impl<E> Seat<E> {
     /// An end, as a session begins with this host at the other end: each read or write of a data connection moves at most so many octets, of none one.
     pub fn new(end: E, alloc: Global, peer: Host, most: usize) -> Seat<E>
         ensures end { result.end ≡ end }
-        ensures fresh { IsFresh result.mooring }
+        ensures fresh { IsFresh peer result.mooring }
     {
         Seat {
             end,

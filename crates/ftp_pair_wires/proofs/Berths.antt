@@ -83,6 +83,14 @@ counts_same lane known own is = by lane.stands is
     by true seen = ap (λ b. b.listens) seen.3
     by false seen = ap (λ b. b.listens) seen.1
 
+-- which host is at the other end
+pub host_same : (lane : Lane) (known own : Berth) → IsAt lane known own → own.host ≡ known.host
+host_same lane known own is = by lane.stands is
+  where
+    by : (stands : Bool) → IsSeen stands lane known own → own.host ≡ known.host
+    by true seen = ap (λ b. b.host) seen.3
+    by false seen = ap (λ b. b.host) seen.1
+
 -- whether the peer ended it, where it listens, and whether this end dialled
 pub stays : (lane : Lane) (known own : Berth) → IsAt lane known own → (own.ended ≡ known.ended) × (own.calls ≡ known.calls) × (own.dialled ≡ known.dialled)
 stays lane known own is = by lane.stands is

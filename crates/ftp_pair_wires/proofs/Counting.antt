@@ -1,5 +1,5 @@
 -- Ports are told one after another, whatever an end did beside a data connection in memory.
-use Rattle.std.proofs.Common.{◌≡◌, ◌∙◌, ℕ, Bool, true, false, List, [], ◌∷◌, ◌++◌, Option, None, Some, refl, sym, ap, subst, inl, inr}
+use Rattle.std.proofs.Common.{◌≡◌, ◌∙◌, ℕ, Bool, true, false, List, [], ◌∷◌, Option, None, Some, sym, ap, subst, inl, inr}
 use Rattle.std.specs.Prelude.{map}
 use Rattle.ftp_endpoint.specs.declared.host.Host.{Host}
 use Rattle.ftp_ends.specs.declared.link.Wants.{Wants}

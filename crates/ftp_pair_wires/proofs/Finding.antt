@@ -90,8 +90,9 @@ module _ (who : Who) (peer : Berth) where
         mid = known;
         is_at = subst (λ s. IsSeen s old known known) (sym e) (over, refl);
         can = λ control. inl (subst (λ n. Can who (touches.Listens (Some port)) (between_by who known peer control) (between_by who n peer control))
-            (sym (seen.1 ∙ last_is)) (subst (λ p. Can who (touches.Listens (Some p)) (between_by who known peer control) (between_by who (listening known) peer control))
-            (sym port_is) (listens_at who known (called_by known.dialled peer) control over)));
+            (sym (seen.1 ∙ last_is))
+            (subst (λ p. Can who (touches.Listens (Some p)) (between_by who known peer control) (between_by who (listening known) peer control)) (sym port_is)
+            (listens_at who known (called_by known.dialled peer) control over)));
       }
 
   -- ---- it is had

@@ -14,9 +14,10 @@ use Rattle.ftp_pair_drives.specs.Touches as touches
 use Rattle.ftp_pair_drives.specs.Touches.{Touch, touch_in, touch_of}
 use Rattle.ftp_pair_wires.specs.Berth.{Berth, IsAt, Ran, between_by, called_by}
 use Rattle.ftp_pair_wires.specs.Claims.{Happens, ways_at}
-use Rattle.ftp_pair_wires.specs.Order.{CanGo, CountedAlone, WentAlone}
+use Rattle.ftp_pair_wires.specs.Order.{CameAlone, CanGo, CountedAlone, WentAlone}
 use Rattle.ftp_pair_wires.specs.Plain.{plain, quiet}
-use Rattle.ftp_pair_wires.proofs.Berths.{Heeds, IsKnown, alike, counts_same, heeds, heeds_on, known_at, known_on, ran_split, same_berth}
+use Rattle.ftp_pair_wires.proofs.Berths.{Heeds, IsKnown, alike, counts_same, heeds, host_same, heeds_on, known_at, known_on, ran_split, same_berth}
+use Rattle.ftp_pair_wires.proofs.Coming.{came}
 use Rattle.ftp_pair_wires.proofs.Counting.{counted}
 use Rattle.ftp_pair_wires.proofs.Finding.{found}
 use Rattle.ftp_pair_wires.proofs.Lying.{reads_at, says_at}
@@ -174,4 +175,6 @@ happens who end deeds old new first last own now peer header asked up down led a
       counted = subst (λ n. CountedAlone (map plain deeds) n now.listens) (sym (counts_same old.lane first own at))
           (subst (CountedAlone (map plain deeds) first.listens) (sym (counts_same new.lane last now at_last))
           (counted deeds (quiet old) (quiet new) led first last ran_all));
+      came = subst (λ h. CameAlone h (map plain deeds)) (sym (host_same old.lane first own at)) (came deeds (quiet old) (quiet new) led first last ran_all).0;
+      host = host_same new.lane last now at_last ∙ (came deeds (quiet old) (quiet new) led first last ran_all).1 ∙ sym (host_same old.lane first own at);
     }

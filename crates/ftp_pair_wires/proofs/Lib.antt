@@ -1,4 +1,5 @@
 mod Berths
+mod Coming
 mod Counting
 mod Finding
 pub mod Happening

@@ -1,5 +1,6 @@
 -- A data connection in memory is taken from where it is, and put back.
 use Rattle.std.proofs.Common.{◌≡◌, ℕ, ◌+◌, ◌%◌, Bool, true, false, not, true≢false, ◌++◌, [], List, Option, None, Some, is_some, refl, sym, ap, subst, ◌∙◌}
+use Rattle.ftp_endpoint.specs.declared.host.Host.{Host}
 use Rattle.ftp_control.specs.Carrying.{told_by}
 use Rattle.ftp_control.specs.Lane.{Lane, no_lane, with_ends}
 use Rattle.ftp_control.specs.Asking.{Asked}
@@ -10,7 +11,7 @@ use Rattle.ftp_pair_drives.specs.Between.{Has, Has_not, Hold}
 use Rattle.ftp_pair_wires.specs.Docking.{hold_at, is_back, is_ended, is_out, left_in, went_in}
 use Rattle.ftp_pair_wires.specs.Plain.{plain_lane}
 use Rattle.ftp_pair_wires.proofs.Noting.{back_has, back_marked}
-use Rattle.ftp_pair_wires.specs.Moored.{AnswersDial, IsFresh, IsKnown, IsStill, Lifts, Lowers, Meets, Prepares, berth_of, came_at, came_in, lane_in, listens_of, mark_in, octets_of, of_two, plain_in, told_in, went_at}
+use Rattle.ftp_pair_wires.specs.Moored.{AnswersDial, IsFresh, IsKnown, Lifts, Lowers, Meets, Prepares, berth_of, came_at, came_in, listens_of, mark_in, octets_of, of_two, plain_in, told_in, went_at}
 use Rattle.ftp_pair_wires.specs.declared.dock.Stay.{Stay}
 use Rattle.ftp_pair_wires.specs.declared.dock.Stay.TheVariants as Stays
 use Rattle.ftp_pair_wires.specs.declared.mooring.Mooring.{Mooring}
@@ -67,6 +68,7 @@ lifts_out before after old new exchanged is_had same =
         calls = ap (λ d. d.calls) same;
         dialled = ap (λ d. d.dialled) same;
         listens = ap (λ d. d.listens) same;
+        host = ap (λ d. d.host) same;
       };
     }
 
@@ -83,6 +85,7 @@ lowers_out before after old new exchanged same =
         calls = ap (λ d. d.calls) same;
         dialled = ap (λ d. d.dialled) same;
         listens = ap (λ d. d.listens) same;
+        host = ap (λ d. d.host) same;
       };
     }
 
@@ -93,27 +96,27 @@ stood_not old none = ap is_some none
 
 pub lifts_there : (wire : Wire) (old new : Mooring) → old.stream.connection.stream ≡ None → IsSameLane old.stream new.stream → is_out old.quay.dock.stay ≡ false
     → wire ≡ old.quay.dock.wire → new.quay.dock.stay ≡ old.quay.dock.stay → new.quay.dock.calls ≡ old.quay.dock.calls → new.quay.dock.dialled ≡ old.quay.dock.dialled
-    → new.quay.dock.listens ≡ old.quay.dock.listens → Lifts wire old new
-lifts_there wire old new none lane is_not is stay calls dialled listens =
+    → new.quay.dock.listens ≡ old.quay.dock.listens → new.quay.dock.host ≡ old.quay.dock.host → Lifts wire old new
+lifts_there wire old new none lane is_not is stay calls dialled listens host =
     let stands = stood_not old.stream none in
     record {
       agrees = stands ∙ sym is_not;
       came = ap (λ (w : Wire). w.came.items) is ∙ sym (there (plain_in old.stream).stands (told_in came_in old.stream) old.quay.dock.wire.came.items stands);
       went = ap (λ (w : Wire). w.went.items) is ∙ sym (there (plain_in old.stream).stands (told_in went_in old.stream) old.quay.dock.wire.went.items stands);
-      still = record { lane = lane (λ w. None) (λ w. None) None; stay = stay; calls = calls; dialled = dialled; listens = listens };
+      still = record { lane = lane (λ w. None) (λ w. None) None; stay = stay; calls = calls; dialled = dialled; listens = listens; host = host };
     }
 
 pub lowers_there : (wire : Wire) (old new : Mooring) → old.stream.connection.stream ≡ None → IsSameLane old.stream new.stream
     → new.quay.dock.wire ≡ wire → new.quay.dock.stay ≡ old.quay.dock.stay → new.quay.dock.calls ≡ old.quay.dock.calls → new.quay.dock.dialled ≡ old.quay.dock.dialled
-    → new.quay.dock.listens ≡ old.quay.dock.listens → Lowers wire old new
-lowers_there wire old new none lane is stay calls dialled listens =
+    → new.quay.dock.listens ≡ old.quay.dock.listens → new.quay.dock.host ≡ old.quay.dock.host → Lowers wire old new
+lowers_there wire old new none lane is stay calls dialled listens host =
     let same = lane (λ w. None) (λ w. None) None in
     let stands : (plain_in new.stream).stands ≡ false = ap (λ (l : Lane). l.stands) same ∙ stood_not old.stream none in
     record {
       came = there (plain_in new.stream).stands (told_in came_in new.stream) new.quay.dock.wire.came.items stands ∙ ap (λ (w : Wire). w.came.items) is;
       went = there (plain_in new.stream).stands (told_in went_in new.stream) new.quay.dock.wire.went.items stands ∙ ap (λ (w : Wire). w.went.items) is;
       mark = λ it. absurd (true≢false (sym it ∙ stands));
-      still = record { lane = same; stay = stay; calls = calls; dialled = dialled; listens = listens };
+      still = record { lane = same; stay = stay; calls = calls; dialled = dialled; listens = listens; host = host };
     }
 
 -- ---- a turn begins
@@ -179,6 +182,8 @@ module _ (own peer own_1 peer_1 own_2 peer_2 own_now peer_now : Mooring) (first 
     peer_undialled = last.peer_dialled ∙ ap (λ (b : Berth). b.dialled) second.dialler_berth;
     own_listens = last.own_listens ∙ counted_before;
     peer_listens = last.peer_listens;
+    own_host = last.own_host ∙ second.other_host ∙ ap (λ (b : Berth). b.host) first.dialler_berth;
+    peer_host = last.peer_host ∙ ap (λ (b : Berth). b.host) second.dialler_berth ∙ first.other_host;
     begins = last.begins;
   }
 
@@ -240,14 +245,15 @@ plain_is asked stream =
 there_of : (stands : Bool) (one other : Hold) → stands ≡ false → of_two stands one other ≡ other
 there_of stands one other is = ap (λ s. of_two s one other) is
 
-abbrev berth_made : Hold → (came went : List ℕ) → Bool → Option ℕ → Bool → ℕ → Berth
-berth_made hold came went ended calls dialled listens =
-    record { hold = hold; came = came; went = went; ended = ended; calls = calls; dialled = dialled; listens = listens }
+abbrev berth_made : Hold → (came went : List ℕ) → Bool → Option ℕ → Bool → ℕ → Host → Berth
+berth_made hold came went ended calls dialled listens host =
+    record { hold = hold; came = came; went = went; ended = ended; calls = calls; dialled = dialled; listens = listens; host = host }
 
 -- at first there is none
-pub fresh : (m : Mooring) → HasNone left_in went_in m.stream → m.quay.dock.stay ≡ Stays.Free → m.quay.dock.wire.came.items ≡ [] → m.quay.dock.wire.went.items ≡ []
-    → m.quay.dock.wire.closed ≡ Closes.No → m.quay.dock.calls ≡ None → m.quay.dock.dialled ≡ false → m.quay.dock.listens ≡ 0 → IsFresh m
-fresh m none stay came went closed calls undialled untold =
+pub fresh : (host : Host) (m : Mooring) → HasNone left_in went_in m.stream → m.quay.dock.stay ≡ Stays.Free → m.quay.dock.wire.came.items ≡ []
+    → m.quay.dock.wire.went.items ≡ [] → m.quay.dock.wire.closed ≡ Closes.No → m.quay.dock.calls ≡ None → m.quay.dock.dialled ≡ false → m.quay.dock.listens ≡ 0
+    → m.quay.dock.host ≡ host → IsFresh host m
+fresh host m none stay came went closed calls undialled untold is_host =
     let dock = m.quay.dock in
     let lane : plain_in m.stream ≡ no_lane None = sym (plain_is None m.stream) ∙ ap plain_lane (none None) in
     let stands : (plain_in m.stream).stands ≡ false = ap (λ (l : Lane). l.stands) lane in
@@ -255,11 +261,12 @@ fresh m none stay came went closed calls undialled untold =
     let octets = there (plain_in m.stream).stands (told_in came_in m.stream) dock.wire.came.items stands ∙ came in
     let gone = there (plain_in m.stream).stands (told_in went_in m.stream) dock.wire.went.items stands ∙ went in
     record {
-      berth = ap (λ h. berth_made h (came_at m) (went_at m) (is_ended dock.wire.closed) dock.calls dock.dialled dock.listens) hold
-          ∙ ap (λ c. berth_made Has_not c (went_at m) (is_ended dock.wire.closed) dock.calls dock.dialled dock.listens) octets
-          ∙ ap (λ w. berth_made Has_not [] w (is_ended dock.wire.closed) dock.calls dock.dialled dock.listens) gone
-          ∙ ap (λ c. berth_made Has_not [] [] (is_ended c) dock.calls dock.dialled dock.listens) closed
-          ∙ ap (λ c. berth_made Has_not [] [] false c dock.dialled dock.listens) calls ∙ ap (λ d. berth_made Has_not [] [] false None d dock.listens) undialled
-          ∙ ap (λ n. berth_made Has_not [] [] false None false n) untold;
+      berth = ap (λ h. berth_made h (came_at m) (went_at m) (is_ended dock.wire.closed) dock.calls dock.dialled dock.listens dock.host) hold
+          ∙ ap (λ c. berth_made Has_not c (went_at m) (is_ended dock.wire.closed) dock.calls dock.dialled dock.listens dock.host) octets
+          ∙ ap (λ w. berth_made Has_not [] w (is_ended dock.wire.closed) dock.calls dock.dialled dock.listens dock.host) gone
+          ∙ ap (λ c. berth_made Has_not [] [] (is_ended c) dock.calls dock.dialled dock.listens dock.host) closed
+          ∙ ap (λ c. berth_made Has_not [] [] false c dock.dialled dock.listens dock.host) calls
+          ∙ ap (λ d. berth_made Has_not [] [] false None d dock.listens dock.host) undialled
+          ∙ ap (λ n. berth_made Has_not [] [] false None false n dock.host) untold ∙ ap (λ h. berth_made Has_not [] [] false None false 0 h) is_host;
       lane = lane;
     }

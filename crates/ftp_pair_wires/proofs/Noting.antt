@@ -1,5 +1,5 @@
 -- What ports note, one thing after another, and what follows of it.
-use Rattle.std.proofs.Common.{◌≡◌, ℕ, Bool, true, false, true≢false, not, List, [], ◌∷◌, ◌++◌, Option, None, Some, is_some, refl, sym, ap, subst, ◌∙◌}
+use Rattle.std.proofs.Common.{◌≡◌, ℕ, Bool, true, false, true≢false, List, [], ◌∷◌, ◌++◌, Option, None, Some, is_some, refl, sym, ap, subst, ◌∙◌}
 use Rattle.ftp_endpoint.specs.declared.endpoint.Endpoint.{Endpoint}
 use Rattle.ftp_control.specs.Asking.{Asked}
 use Rattle.ftp_pair_drives.specs.Between.{Awaits, Has, Has_ended, Has_lost, Has_not, Hold, IsOver, Is_called}
@@ -82,7 +82,7 @@ moved_steps : (event : Event) (wire : Wire) (berth now : Berth) → moved event 
 moved_steps (Events.Listened None) wire berth now e = the_same berth now e
 moved_steps (Events.Listened (Some port)) wire berth now e = let free = free_over berth.hold (listening berth) now e in (free.0, refl, free.1)
 moved_steps (Events.Came host) wire berth now e =
-    let came = called_only berth.hold (record berth { hold = Has; came = []; went = [] }) now e in (came.0, refl, refl, came.1)
+    let came = called_only berth.hold (record berth { hold = Has; came = []; went = [] }) now e in (came.0, refl, refl, came.1, refl)
 moved_steps Events.NotCame wire berth now e = the_same berth now e
 moved_steps (Events.Connected endpoint) wire berth now e =
     let there = reached_there berth.hold berth.calls endpoint (dialling berth) now e in

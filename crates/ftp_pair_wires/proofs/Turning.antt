@@ -1,23 +1,22 @@
 -- Some turns of an end between two ends in memory: what it did can happen, from what lay between them to what lies there.
 use Rattle.std.proofs.Common.{◌≡◌, ℕ, ◌+◌, ◌%◌, ◌<◌, Bool, true, false, true≢false, List, [], ◌∷◌, ◌++◌, length, length-append, map, Option, None, Some, is_some, refl, sym, ap, subst, ◌∙◌, arith}
+use Rattle.ftp_endpoint.specs.declared.host.Host.{Host}
 use Rattle.ftp_control.specs.Asking as asking
 use Rattle.ftp_control.specs.Asking.{Asked}
 use Rattle.ftp_control.specs.Carrying.{told_by}
 use Rattle.ftp_control.specs.Courses.{asked_in}
 use Rattle.ftp_control.specs.Deeds.{Deed, Led, read_in, said_in}
 use Rattle.ftp_control.specs.Lane.{Lane}
-use Rattle.ftp_control.specs.Machine.{Held, Machine, held, move_of, side_of}
+use Rattle.ftp_control.specs.Machine.{Machine, held, move_of, side_of}
 use Rattle.ftp_control_drive.specs.Standing.{lane_at}
-use Rattle.ftp_control_drive.specs.declared.data.Data.{Data}
 use Rattle.ftp_pair_drives.specs.Between.{Awaits, Between, Far, Has, Has_ended, Has_lost, Has_not, Hold, IsOver, Is_called, Near, Ways, Who}
 use Rattle.ftp_pair_wires.specs.Berth.{Berth, IsAt, IsSeen, Ran, between_at, between_by, called_by, hold_by, mark}
 use Rattle.ftp_pair_wires.specs.Claims.{Happening, ways_at}
 use Rattle.ftp_pair_wires.specs.Docked.{asked_of}
-use Rattle.ftp_pair_wires.specs.Docking.{berth_at, header, hold_at, is_ended, is_out, known_by, left_in, noted_in, shown_end, shown_hold, went_in}
+use Rattle.ftp_pair_wires.specs.Docking.{berth_at, header, hold_at, is_ended, is_out, known_by, left_in, shown_end, shown_hold, went_in}
 use Rattle.ftp_pair_wires.specs.Moored.{KnowsHolder, IsKnown, Meets, berth_of, between_both, came_in, listens_of, mark_in, octets_of, of_two, plain_in, told_in, told_lane}
-use Rattle.ftp_pair_wires.specs.Order.{CountedAlone, WentAlone}
+use Rattle.ftp_pair_wires.specs.Order.{CameAlone, CountedAlone, WentAlone}
 use Rattle.ftp_pair_wires.specs.Plain.{plain, plain_lane, quiet}
-use Rattle.ftp_pair_wires.specs.declared.dock.Dock.{Dock}
 use Rattle.ftp_pair_wires.specs.declared.dock.Stay.{Stay}
 use Rattle.ftp_pair_wires.specs.declared.dock.Stay.TheVariants as Stays
 use Rattle.ftp_pair_wires.specs.declared.mooring.Mooring.{Mooring}
@@ -85,17 +84,21 @@ unfolding end_shown
 end_is_shown true = refl
 end_is_shown false = refl
 
-berth_made : Hold → (came went : List ℕ) → Bool → Option ℕ → Bool → ℕ → Berth
-berth_made hold came went ended calls dialled listens =
-    record { hold = hold; came = came; went = went; ended = ended; calls = calls; dialled = dialled; listens = listens }
+berth_made : Hold → (came went : List ℕ) → Bool → Option ℕ → Bool → ℕ → Host → Berth
+berth_made hold came went ended calls dialled listens host =
+    record { hold = hold; came = came; went = went; ended = ended; calls = calls; dialled = dialled; listens = listens; host = host }
 
 listens_shown : Asked → ℕ
 listens_shown (asking.Listened (Some listens)) = listens
 listens_shown other = 0
 
+host_shown : Host → Asked → Host
+host_shown before (asking.Came host left written) = host
+host_shown before other = before
+
 -- the same was shown only of the same
 found_same : (one other : Berth) → header one ≡ header other → one.dialled ≡ other.dialled → one ≡ other
-unfolding tail_of head_or came_shown went_shown calls_shown hold_shown end_shown listens_shown berth_made
+unfolding tail_of head_or came_shown went_shown calls_shown hold_shown end_shown listens_shown host_shown berth_made
 found_same one other e dialled =
     let at : (n : List Asked) → Asked = λ n. head_or asking.Shut n in
     let came : one.came ≡ other.came = ap (λ l. came_shown (at l)) e in
@@ -104,13 +107,15 @@ found_same one other e dialled =
     let hold : one.hold ≡ other.hold = sym (hold_is_shown one.hold) ∙ ap (λ l. hold_shown (at (tail_of (tail_of l)))) e ∙ hold_is_shown other.hold in
     let ended : one.ended ≡ other.ended = sym (end_is_shown one.ended) ∙ ap (λ l. end_shown (at (tail_of (tail_of (tail_of l))))) e ∙ end_is_shown other.ended in
     let listens : one.listens ≡ other.listens = ap (λ l. listens_shown (at (tail_of (tail_of (tail_of (tail_of l)))))) e in
-    ap (λ h. berth_made h one.came one.went one.ended one.calls one.dialled one.listens) hold
-    ∙ ap (λ c. berth_made other.hold c one.went one.ended one.calls one.dialled one.listens) came
-    ∙ ap (λ w. berth_made other.hold other.came w one.ended one.calls one.dialled one.listens) went
-    ∙ ap (λ b. berth_made other.hold other.came other.went b one.calls one.dialled one.listens) ended
-    ∙ ap (λ c. berth_made other.hold other.came other.went other.ended c one.dialled one.listens) calls
-    ∙ ap (λ d. berth_made other.hold other.came other.went other.ended other.calls d one.listens) dialled
-    ∙ ap (λ n. berth_made other.hold other.came other.went other.ended other.calls other.dialled n) listens
+    let host : one.host ≡ other.host = ap (λ l. host_shown one.host (at (tail_of (tail_of (tail_of (tail_of (tail_of l))))))) e in
+    ap (λ h. berth_made h one.came one.went one.ended one.calls one.dialled one.listens one.host) hold
+    ∙ ap (λ c. berth_made other.hold c one.went one.ended one.calls one.dialled one.listens one.host) came
+    ∙ ap (λ w. berth_made other.hold other.came w one.ended one.calls one.dialled one.listens one.host) went
+    ∙ ap (λ b. berth_made other.hold other.came other.went b one.calls one.dialled one.listens one.host) ended
+    ∙ ap (λ c. berth_made other.hold other.came other.went other.ended c one.dialled one.listens one.host) calls
+    ∙ ap (λ d. berth_made other.hold other.came other.went other.ended other.calls d one.listens one.host) dialled
+    ∙ ap (λ n. berth_made other.hold other.came other.went other.ended other.calls other.dialled n one.host) listens
+    ∙ ap (λ n. berth_made other.hold other.came other.went other.ended other.calls other.dialled other.listens n) host
 
 -- ---- what is seen of it
 
@@ -153,7 +158,7 @@ module _ (m : Mooring) (asked : Option (List Asked)) (agrees : KnowsHolder m)
   lane = lane_at left_in went_in asked m.stream []
 
   known : Berth
-  known = berth_at m.quay.dock.stay m.quay.dock.wire m.quay.dock.calls m.quay.dock.dialled m.quay.dock.listens
+  known = berth_at m.quay.dock.stay m.quay.dock.wire m.quay.dock.calls m.quay.dock.dialled m.quay.dock.listens m.quay.dock.host
 
   seen_so : (stands : Bool) → (plain_in m.stream).stands ≡ stands → IsSeen stands lane known (berth_of m)
   unfolding lane known berth_made
@@ -166,18 +171,18 @@ module _ (m : Mooring) (asked : Option (List Asked)) (agrees : KnowsHolder m)
         out_is dock.stay (sym agrees ∙ stands),
         left_seen m.stream.connection.stream (is_ended other.closed) stands (marked stands) ∙ ap (λ l. Some (l ++ mark (is_ended other.closed))) (sym came),
         went_seen m.stream.connection.stream stands ∙ ap Some (sym went),
-        ap (λ h. berth_made h (berth_of m).came (berth_of m).went (is_ended other.closed) dock.calls dock.dialled dock.listens) hold,
+        ap (λ h. berth_made h (berth_of m).came (berth_of m).went (is_ended other.closed) dock.calls dock.dialled dock.listens dock.host) hold,
       )
   seen_so false stands =
       let dock = m.quay.dock in
       let other = dock.wire in (
         over_is dock.stay (sym agrees ∙ stands),
-        ap (λ h. berth_made h (berth_of m).came (berth_of m).went (is_ended other.closed) dock.calls dock.dialled dock.listens) (second_of (plain_in m.stream).stands stands (hold_by (plain_in m.stream).fate) (hold_at dock.stay))
-            ∙ ap (λ c. berth_made (hold_at dock.stay) c (berth_of m).went (is_ended other.closed) dock.calls dock.dialled dock.listens) (second_of (plain_in m.stream).stands stands (told_in came_in m.stream) other.came.items)
-            ∙ ap (λ w. berth_made (hold_at dock.stay) other.came.items w (is_ended other.closed) dock.calls dock.dialled dock.listens) (second_of (plain_in m.stream).stands stands (told_in went_in m.stream) other.went.items),
+        ap (λ h. berth_made h (berth_of m).came (berth_of m).went (is_ended other.closed) dock.calls dock.dialled dock.listens dock.host) (second_of (plain_in m.stream).stands stands (hold_by (plain_in m.stream).fate) (hold_at dock.stay))
+            ∙ ap (λ c. berth_made (hold_at dock.stay) c (berth_of m).went (is_ended other.closed) dock.calls dock.dialled dock.listens dock.host) (second_of (plain_in m.stream).stands stands (told_in came_in m.stream) other.came.items)
+            ∙ ap (λ w. berth_made (hold_at dock.stay) other.came.items w (is_ended other.closed) dock.calls dock.dialled dock.listens dock.host) (second_of (plain_in m.stream).stands stands (told_in went_in m.stream) other.went.items),
       )
 
-  is_at : IsAt (lane_at left_in went_in asked m.stream []) (berth_at m.quay.dock.stay m.quay.dock.wire m.quay.dock.calls m.quay.dock.dialled m.quay.dock.listens) (berth_of m)
+  is_at : IsAt (lane_at left_in went_in asked m.stream []) (berth_at m.quay.dock.stay m.quay.dock.wire m.quay.dock.calls m.quay.dock.dialled m.quay.dock.listens m.quay.dock.host) (berth_of m)
   unfolding lane known
   is_at = seen_so (plain_in m.stream).stands refl
 
@@ -206,16 +211,19 @@ pub record Turned (who : Who) {end : Machine} (deeds : List (Deed (side_of end))
   pub went : WentAlone who (map plain deeds) (between_both who own peer (ways_at who (read_in deeds ++ down) up))
       (between_both who own_now peer_now (ways_at who down (up ++ said_in deeds)))
   pub counted : CountedAlone (map plain deeds) (listens_of (berth_of own) (berth_of peer)) (listens_of (berth_of own_now) (berth_of peer_now))
+  pub came : CameAlone (berth_of own).host (map plain deeds)
+  pub own_host : (berth_of own_now).host ≡ (berth_of own).host
+  pub peer_host : (berth_of peer_now).host ≡ (berth_of peer).host
 
 module _ (who : Who) (end : Machine) (deeds : List (Deed (side_of end))) (e0 e1 : end.Here) (own peer own_1 peer_1 own_2 own_3 : Mooring) (up down : List ℕ)
     (meets : Meets own peer own_1 peer_1) (is_known : IsKnown own_2 own_3)
     (led : Led deeds (quiet (held e0 (told_lane own_1)))
     (quiet (held e1 (told_lane own_2)))) where
   first : Berth
-  first = berth_at own_1.quay.dock.stay own_1.quay.dock.wire own_1.quay.dock.calls own_1.quay.dock.dialled own_1.quay.dock.listens
+  first = berth_at own_1.quay.dock.stay own_1.quay.dock.wire own_1.quay.dock.calls own_1.quay.dock.dialled own_1.quay.dock.listens own_1.quay.dock.host
 
   last : Berth
-  last = berth_at own_3.quay.dock.stay own_3.quay.dock.wire own_3.quay.dock.calls own_3.quay.dock.dialled own_3.quay.dock.listens
+  last = berth_at own_3.quay.dock.stay own_3.quay.dock.wire own_3.quay.dock.calls own_3.quay.dock.dialled own_3.quay.dock.listens own_3.quay.dock.host
 
   undialled : own_1.quay.dock.dialled ≡ false
   undialled = meets.begins.knows.undialled
@@ -228,8 +236,8 @@ module _ (who : Who) (end : Machine) (deeds : List (Deed (side_of end))) (e0 e1 
   unfolding last
   since =
       let dock = own_3.quay.dock in
-      ran_since dock.found.items dock.log.items (berth_at dock.stay dock.wire dock.calls dock.dialled dock.listens)
-      (dock.known ∙ ap (λ s. known_by s (berth_at dock.stay dock.wire dock.calls dock.dialled dock.listens)) is_known.known)
+      ran_since dock.found.items dock.log.items (berth_at dock.stay dock.wire dock.calls dock.dialled dock.listens dock.host)
+      (dock.known ∙ ap (λ s. known_by s (berth_at dock.stay dock.wire dock.calls dock.dialled dock.listens dock.host)) is_known.known)
 
   asked_all : asked_of own_3.quay.dock ≡ asked_in move_of deeds ++ header first
   asked_all =
@@ -250,7 +258,7 @@ module _ (who : Who) (end : Machine) (deeds : List (Deed (side_of end))) (e0 e1 
   unfolding last
   last_at =
       let asked = Some (asked_of own_2.quay.dock) in
-      subst (λ l. IsAt l (berth_at own_3.quay.dock.stay own_3.quay.dock.wire own_3.quay.dock.calls own_3.quay.dock.dialled own_3.quay.dock.listens) (berth_of own_3))
+      subst (λ l. IsAt l (berth_at own_3.quay.dock.stay own_3.quay.dock.wire own_3.quay.dock.calls own_3.quay.dock.dialled own_3.quay.dock.listens own_3.quay.dock.host) (berth_of own_3))
       (is_known.lane left_in went_in asked) (is_at own_3 asked is_known.agrees is_known.mark)
 
   happening : Happening who deeds (held e0 (told_lane own_1))
@@ -288,4 +296,7 @@ module _ (who : Who) (end : Machine) (deeds : List (Deed (side_of end))) (e0 e1 
         (after_same (ways_at who down (up ++ said_in deeds))) happening.went);
     counted = subst (λ n. CountedAlone (map plain deeds) n (listens_of (berth_of own_3) (berth_of peer_1))) meets.own_listens
         (subst (CountedAlone (map plain deeds) (berth_of own_1).listens) (sym count_after) happening.counted);
+    came = subst (λ h. CameAlone h (map plain deeds)) meets.own_host happening.came;
+    own_host = happening.host ∙ meets.own_host;
+    peer_host = meets.peer_host;
   }

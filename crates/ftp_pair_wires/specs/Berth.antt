@@ -1,5 +1,6 @@
 -- A data connection in memory as one end has it, and how what that end asks of its ports moves it (RFC 959, section 3.2).
-use Rattle.std.specs.Prelude.{◌≡◌, ⊤, ℕ, Bool, true, false, List, [], ◌∷◌, ◌++◌, Option, None, Some}
+use Rattle.std.specs.Prelude.{◌≡◌, ℕ, Bool, true, false, List, [], ◌∷◌, ◌++◌, Option, None, Some}
+use Rattle.ftp_endpoint.specs.declared.host.Host.{Host}
 use Rattle.ftp_control.specs.Asking.{Asked, Came, Connected, Ended, Listened, Lost, NotCame, NotConnected, Reset, Shut}
 use Rattle.ftp_control.specs.Lane.{Lane}
 use Rattle.ftp_control.specs.declared.whole.Fate.{Fate}
@@ -8,8 +9,8 @@ use Rattle.ftp_pair_drives.specs.Between.{Awaits, Between, Far, Has, Has_ended, 
 use Rattle.ftp_pair_world.specs.World.{next_listen, port_at}
 
 -- How this end stands to its present or last one; the octets that its peer wrote, that were brought here and are still to be read, and those that were written
--- here and not brought to the peer yet; whether the peer closed it after the former; at which port the peer listens, if it does; whether this end dialled there;
--- and how many ports were listened at by either end, as far as this one counts them (`next_listen`)
+-- here and not brought to the peer yet; whether the peer closed it after the former; at which port the peer listens, if it does; whether this end dialled
+-- there; how many ports were listened at by either end, as far as this one counts them (`next_listen`); and the host at the other end
 pub record Berth : Type 0 where
   pub hold : Hold
   pub came : List ℕ
@@ -18,6 +19,7 @@ pub record Berth : Type 0 where
   pub calls : Option ℕ
   pub dialled : Bool
   pub listens : ℕ
+  pub host : Host
 
 -- what stands after the octets that are to be read, and is no octet, while the peer may write more
 abbrev pub mark : (ended : Bool) → List ℕ
@@ -40,13 +42,13 @@ listening berth = record berth { hold = Awaits (port_at berth.listens); listens 
 abbrev pub left_so : Hold → (came went : List ℕ) → Berth → Berth
 left_so hold came went berth = record berth { hold = hold; came = came; went = went }
 
--- What is asked, when it can be: the next port is listened at by who has none; one comes that was dialled; one is opened to the port at which the peer listens;
--- one is left that is had.
+-- What is asked, when it can be: the next port is listened at by who has none; one comes that was dialled, from the host at the other end; one is opened to the
+-- port at which the peer listens; one is left that is had.
 abbrev pub Steps : Asked → (old new : Berth) → Type 0
 Steps (Listened None) old new = new ≡ old
 Steps (Listened (Some port)) old new = IsOver old.hold × (port ≡ port_at old.listens) × (new ≡ listening old)
 Steps (Came host left written) old new =
-    (old.hold ≡ Is_called) × (left ≡ Some (old.came ++ mark old.ended)) × (written ≡ Some old.went) × (new ≡ handed old)
+    (old.hold ≡ Is_called) × (left ≡ Some (old.came ++ mark old.ended)) × (written ≡ Some old.went) × (new ≡ handed old) × (host ≡ old.host)
 Steps NotCame old new = new ≡ old
 Steps (Connected endpoint left written) old new =
     IsOver old.hold × (old.calls ≡ Some endpoint.port) × (left ≡ Some (mark false)) × (written ≡ Some []) × (new ≡ dialling old)

@@ -1,6 +1,7 @@
 -- What the ports of a data connection in memory know of it and told, of values of the program (RFC 959, section 3.2).
-use Rattle.std.specs.Prelude.{◌≡◌, ℕ, ⊤, Bool, true, false, not, List, [], ◌∷◌, ◌++◌, Option, None, Some}
+use Rattle.std.specs.Prelude.{ℕ, ⊤, Bool, true, false, not, List, [], ◌∷◌, ◌++◌, Option, None, Some}
 use Rattle.ftp_endpoint.specs.declared.endpoint.Endpoint.{Endpoint}
+use Rattle.ftp_endpoint.specs.declared.host.Host.{Host}
 use Rattle.ftp_control.specs.Asking as asking
 use Rattle.ftp_control.specs.Asking.{Asked}
 use Rattle.ftp_pair_drives.specs.Between.{Awaits, Has, Has_ended, Has_lost, Has_not, Hold, Is_called}
@@ -33,8 +34,8 @@ is_out Stays.Out = true
 is_out other = false
 
 -- what is known of it: while the end has it, no octets
-abbrev pub berth_at : Stay → Wire → Option ℕ → (dialled : Bool) → (listens : ℕ) → Berth
-berth_at stay wire calls dialled listens = record {
+abbrev pub berth_at : Stay → Wire → Option ℕ → (dialled : Bool) → (listens : ℕ) → Host → Berth
+berth_at stay wire calls dialled listens host = record {
   hold = hold_at stay;
   came = wire.came.items;
   went = wire.went.items;
@@ -42,11 +43,12 @@ berth_at stay wire calls dialled listens = record {
   calls = calls;
   dialled = dialled;
   listens = listens;
+  host = host;
 }
 
 -- that it was found so, as a turn began
 abbrev pub found_at : Found × Wire → Berth
-found_at found = berth_at found.0.stay found.1 found.0.calls false found.0.listens
+found_at found = berth_at found.0.stay found.1 found.0.calls false found.0.listens found.0.host
 
 -- ---- what was asked
 
@@ -116,7 +118,7 @@ told (Events.Listened None) wire berth = asking.Listened None
 told (Events.Listened (Some port)) wire None = asking.Listened (Some port)
 told (Events.Listened (Some port)) wire (Some berth) = asking.Listened (Some (port_at berth.listens))
 told (Events.Came host) wire None = asking.Came host (left_in wire) (went_in wire)
-told (Events.Came host) wire (Some berth) = asking.Came host (Some (berth.came ++ mark berth.ended)) (Some berth.went)
+told (Events.Came host) wire (Some berth) = asking.Came berth.host (Some (berth.came ++ mark berth.ended)) (Some berth.went)
 told Events.NotCame wire berth = asking.NotCame
 told (Events.Connected endpoint) wire None = asking.Connected endpoint (left_in wire) (went_in wire)
 told (Events.Connected endpoint) wire (Some berth) = asking.Connected (port_called berth.calls endpoint) (Some (mark false)) (Some [])
@@ -143,7 +145,7 @@ shown_end false = asking.Lost
 abbrev pub header : Berth → List Asked
 header berth =
     asking.Ended (Some berth.came) (Some berth.went) ∷ asking.Listened berth.calls ∷ shown_hold berth.hold ∷ shown_end berth.ended
-    ∷ asking.Listened (Some berth.listens) ∷ []
+    ∷ asking.Listened (Some berth.listens) ∷ asking.Came berth.host None None ∷ []
 
 -- the berth now, if all could be asked, and what was asked, the last one first
 pub record Noted : Type 0 where

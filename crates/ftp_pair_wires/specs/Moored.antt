@@ -1,5 +1,6 @@
 -- A data connection in memory, wherever it is: with the end, or with its ports; of values of the program.
 use Rattle.std.specs.Prelude.{◌≡◌, ℕ, ◌+◌, ◌%◌, Bool, true, false, List, [], ◌++◌, Option, None, Some}
+use Rattle.ftp_endpoint.specs.declared.host.Host.{Host}
 use Rattle.ftp_control.specs.Asking.{Asked}
 use Rattle.ftp_control.specs.Lane.{Lane, no_lane}
 use Rattle.ftp_control_drive.specs.Standing.{lane_at}
@@ -8,7 +9,6 @@ use Rattle.ftp_pair_drives.specs.Between.{Between, Has_not, Hold, Ways, Who}
 use Rattle.ftp_pair_wires.specs.Berth.{Berth, Knows, between_at, called_by, hold_by, mark}
 use Rattle.ftp_pair_wires.specs.Docked.{asked_of}
 use Rattle.ftp_pair_wires.specs.Docking.{berth_at, header, hold_at, is_ended, is_out, left_in, went_in}
-use Rattle.ftp_pair_wires.specs.declared.dock.Dock.{Dock}
 use Rattle.ftp_pair_wires.specs.declared.mooring.Mooring.{Mooring}
 use Rattle.ftp_pair_wires.specs.declared.wire.Wire.{Wire}
 
@@ -59,14 +59,15 @@ berth_of mooring = record {
   calls = mooring.quay.dock.calls;
   dialled = mooring.quay.dock.dialled;
   listens = mooring.quay.dock.listens;
+  host = mooring.quay.dock.host;
 }
 
--- nothing came or went yet, and no port was listened at
-abbrev pub no_berth : Berth
-no_berth = record { hold = Has_not; came = []; went = []; ended = false; calls = None; dialled = false; listens = 0 }
+-- nothing came or went yet, and no port was listened at; this host is at the other end
+abbrev pub no_berth : Host → Berth
+no_berth host = record { hold = Has_not; came = []; went = []; ended = false; calls = None; dialled = false; listens = 0; host = host }
 
-pub record IsFresh (mooring : Mooring) : Type 0 where
-  pub berth : berth_of mooring ≡ no_berth
+pub record IsFresh (host : Host) (mooring : Mooring) : Type 0 where
+  pub berth : berth_of mooring ≡ no_berth host
   pub lane : plain_in mooring.stream ≡ no_lane None
 
 -- its ports know who has it
@@ -80,6 +81,7 @@ pub record IsStill (old new : Mooring) : Type 0 where
   pub calls : new.quay.dock.calls ≡ old.quay.dock.calls
   pub dialled : new.quay.dock.dialled ≡ old.quay.dock.dialled
   pub listens : new.quay.dock.listens ≡ old.quay.dock.listens
+  pub host : new.quay.dock.host ≡ old.quay.dock.host
 
 -- this is it, and it is taken; and this one is put there
 pub record Lifts (wire : Wire) (old new : Mooring) : Type 0 where
@@ -116,6 +118,7 @@ pub record AnswersDial (dialler other dialler_now other_now : Mooring) : Type 0 
   pub other_went : (berth_of other_now).went ≡ (called_by (berth_of dialler).dialled (berth_of other)).went
   pub other_dialled : (berth_of other_now).dialled ≡ (berth_of other).dialled
   pub other_listens : (berth_of other_now).listens ≡ (berth_of other).listens
+  pub other_host : (berth_of other_now).host ≡ (berth_of other).host
   pub other_lane : plain_in other_now.stream ≡ plain_in other.stream
 
 -- a turn of an end can begin: octets were brought on, and its ports know what they are to know
@@ -123,7 +126,8 @@ pub record IsPrepared (own_now peer_now : Mooring) : Type 0 where
   pub agrees : KnowsHolder own_now
   pub mark : (plain_in own_now.stream).stands ≡ true → told_in mark_in own_now.stream ≡ mark (berth_of own_now).ended
   pub asked : asked_of own_now.quay.dock
-      ≡ header (berth_at own_now.quay.dock.stay own_now.quay.dock.wire own_now.quay.dock.calls false own_now.quay.dock.listens)
+      ≡ header (berth_at own_now.quay.dock.stay own_now.quay.dock.wire own_now.quay.dock.calls false own_now.quay.dock.listens
+      own_now.quay.dock.host)
   pub known : own_now.quay.dock.spoiled ≡ false
   pub knows : Knows (berth_of own_now) (berth_of peer_now)
 
@@ -137,6 +141,8 @@ pub record Prepares (own peer own_now peer_now : Mooring) : Type 0 where
   pub peer_dialled : (berth_of peer_now).dialled ≡ (berth_of peer).dialled
   pub own_listens : (berth_of own_now).listens ≡ listens_of (berth_of own) (berth_of peer)
   pub peer_listens : (berth_of peer_now).listens ≡ 0
+  pub own_host : (berth_of own_now).host ≡ (berth_of own).host
+  pub peer_host : (berth_of peer_now).host ≡ (berth_of peer).host
   pub begins : IsPrepared own_now peer_now
 
 -- so it is, what lies between is the same, and the end counts the ports of both
@@ -147,6 +153,8 @@ pub record Meets (own peer own_now peer_now : Mooring) : Type 0 where
   pub peer_undialled : (berth_of peer_now).dialled ≡ false
   pub own_listens : (berth_of own_now).listens ≡ listens_of (berth_of own) (berth_of peer)
   pub peer_listens : (berth_of peer_now).listens ≡ 0
+  pub own_host : (berth_of own_now).host ≡ (berth_of own).host
+  pub peer_host : (berth_of peer_now).host ≡ (berth_of peer).host
   pub begins : IsPrepared own_now peer_now
 
 -- after a turn ports know where it is, and the end sees what it saw

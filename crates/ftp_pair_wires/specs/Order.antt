@@ -1,9 +1,11 @@
 -- An order of deeds in which each can happen, as connections in memory have it (RFC 959, section 2.3).
-use Rattle.std.specs.Prelude.{◌≡◌, ◌⊎◌, ℕ, List, [], ◌∷◌, Some}
+use Rattle.std.specs.Prelude.{◌≡◌, ◌⊎◌, ⊤, ℕ, true, List, [], ◌∷◌, Some}
+use Rattle.ftp_endpoint.specs.declared.host.Host.{Host}
+use Rattle.ftp_ends.specs.Link.{same_host}
 use Rattle.ftp_control.specs.Deeds.{Deed}
 use Rattle.ftp_control.specs.Machine.{Machine, side_of}
 use Rattle.ftp_pair_drives.specs.Between.{Between, Can, Client, Far, Near, IsOver, Server, Turn, Who, hold_of}
-use Rattle.ftp_pair_drives.specs.Touches.{Listens, ToldBreak, Touch, touch_in}
+use Rattle.ftp_pair_drives.specs.Touches.{Accepts, Listens, ToldBreak, Touch, touch_in}
 use Rattle.ftp_pair_world.specs.World.{next_listen, port_at}
 
 -- It can happen; or an end that has no data connection is told that it broke, where memory was refused or none was had.
@@ -46,3 +48,27 @@ CountsIn (Client deed) old new = Counts (touch_in deed) old new
 abbrev pub Counted : List Turn → (first now : ℕ) → Type 0
 Counted [] first now = now ≡ first
 Counted (turn ∷ before) first now = (mid : ℕ) × Counted before first mid × CountsIn turn mid now
+
+-- ---- who comes
+
+-- An end accepts none but the host that it has at its other end.
+abbrev pub ComesFrom : (other : Host) → Touch → Type 0
+ComesFrom other (Accepts host) = same_host host other ≡ true
+ComesFrom other touch = ⊤
+
+-- deeds of one end
+module _ {end : Machine} where
+  abbrev pub CameAlone : (other : Host) → List (Deed (side_of end)) → Type 0
+  CameAlone other [] = ⊤
+  CameAlone other (deed ∷ before) = CameAlone other before × ComesFrom other (touch_in deed)
+
+-- the host at the other end, as the client has it, and as the server has it
+pub record Hosts : Type 0 where
+  pub near : Host
+  pub far : Host
+
+-- deeds of both
+abbrev pub AllCame : Hosts → List Turn → Type 0
+AllCame hosts [] = ⊤
+AllCame hosts (Server deed ∷ before) = AllCame hosts before × ComesFrom hosts.far (touch_in deed)
+AllCame hosts (Client deed ∷ before) = AllCame hosts before × ComesFrom hosts.near (touch_in deed)

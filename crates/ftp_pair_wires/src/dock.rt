@@ -49,6 +49,7 @@ pub struct Found {
     pub(crate) stay: Stay,
     pub(crate) calls: Option<u16>,
     pub(crate) listens: u16,
+    pub(crate) host: Host,
 }
 
 /// What the ports of an end know of its data connection in memory.
@@ -63,13 +64,15 @@ pub struct Dock {
     pub(crate) dialled: bool,
     /// How many ports were listened at by either end, as far as this one counts them: it counts while it has its turn.
     pub(crate) listens: u16,
+    /// The host at the other end.
+    pub(crate) host: Host,
     /// Whether no turn was begun, or one was given back that was not to be.
     pub(crate) spoiled: bool,
     pub(crate) alloc: Global,
     /// How the turn found it, and what was asked since: only proofs read them.
     pub(crate) found: Log<Found, Wire>,
     pub(crate) log: Log<Event, Wire>,
-    ghost known: { (noted_in found.items log.items).berth ≡ known_by spoiled (berth_at stay wire calls dialled listens) },
+    ghost known: { (noted_in found.items log.items).berth ≡ known_by spoiled (berth_at stay wire calls dialled listens host) },
     ghost few: { listens < 16384 },
 }
 
@@ -77,7 +80,7 @@ impl Dock {
     ghost use Rattle.ftp_pair_wires.specs.Docked.{asked_of};
 
     /// There is none.
-    pub(crate) fn new(alloc: Global, most: usize) -> Dock
+    pub(crate) fn new(alloc: Global, host: Host, most: usize) -> Dock
         ensures stay { result.stay ≡ Stay.Free }
         ensures came { result.wire.came.items ≡ [] }
         ensures went { result.wire.went.items ≡ [] }
@@ -85,6 +88,7 @@ impl Dock {
         ensures calls { result.calls ≡ None }
         ensures undialled { result.dialled ≡ false }
         ensures listens { result.listens ≡ 0 }
+        ensures host { result.host ≡ host }
     {
         Dock {
             stay: Stay::Free,
@@ -92,6 +96,7 @@ impl Dock {
             calls: None,
             dialled: false,
             listens: 0,
+            host,
             spoiled: true,
             alloc,
             found: Log::new(),
@@ -109,8 +114,9 @@ impl Dock {
         ensures calls { self.new.calls ≡ calls }
         ensures undialled { self.new.dialled ≡ false }
         ensures listens { self.new.listens ≡ (self.old.listens + listens) % 16384 }
+        ensures host { self.new.host ≡ self.old.host }
         ensures known { self.new.spoiled ≡ false }
-        ensures asked { asked_of self.new ≡ header (berth_at self.new.stay self.new.wire calls false self.new.listens) }
+        ensures asked { asked_of self.new ≡ header (berth_at self.new.stay self.new.wire calls false self.new.listens self.new.host) }
     {
         self.forget();
         self.wire.closed = closed;
@@ -119,6 +125,7 @@ impl Dock {
             stay: self.stay,
             calls,
             listens: self.listens,
+            host: self.host,
         };
         self.found = Log::new().and(&found, &self.wire);
         self.calls = calls;
@@ -133,6 +140,7 @@ impl Dock {
         ensures calls { self.new.calls ≡ self.old.calls }
         ensures dialled { self.new.dialled ≡ self.old.dialled }
         ensures listens { self.new.listens ≡ self.old.listens }
+        ensures host { self.new.host ≡ self.old.host }
         ensures log { self.new.log.items ≡ [] }
         ensures found { self.new.found.items ≡ [] }
         ensures spoiled { self.new.spoiled ≡ true }
@@ -150,6 +158,7 @@ impl Dock {
         ensures calls { self.new.calls ≡ self.old.calls }
         ensures dialled { self.new.dialled ≡ self.old.dialled }
         ensures listens { self.new.listens ≡ self.old.listens }
+        ensures host { self.new.host ≡ self.old.host }
     {
         self.forget();
         std::mem::replace(&mut self.wire, wire)
@@ -160,6 +169,7 @@ impl Dock {
         ensures count { result ≡ self.old.listens }
         ensures few { result < 16384 }
         ensures listens { self.new.listens ≡ 0 }
+        ensures host { self.new.host ≡ self.old.host }
         ensures stay { self.new.stay ≡ self.old.stay }
         ensures wire { self.new.wire ≡ self.old.wire }
         ensures calls { self.new.calls ≡ self.old.calls }
@@ -176,6 +186,7 @@ impl Dock {
         ensures calls { self.new.calls ≡ self.old.calls }
         ensures dialled { self.new.dialled ≡ self.old.dialled }
         ensures listens { self.new.listens ≡ self.old.listens }
+        ensures host { self.new.host ≡ self.old.host }
     {
         self.forget();
         self.stay = Stay::Called;
@@ -188,6 +199,7 @@ impl Dock {
         ensures calls { self.new.calls ≡ self.old.calls }
         ensures dialled { self.new.dialled ≡ false }
         ensures listens { self.new.listens ≡ self.old.listens }
+        ensures host { self.new.host ≡ self.old.host }
     {
         self.forget();
         self.dialled = false;
@@ -254,8 +266,9 @@ impl Dock {
 
     /// The one that was dialled.
     #[tactic(auto, using(crate::proofs::Noting::noted_last))]
-    pub(crate) fn come(&mut self, host: Host) -> Option<Wire>
-        ensures some { IfSome result (λ wire. asked_of self.new ≡ Came host (left_in wire) (went_in wire) ∷ asked_of self.old) }
+    pub(crate) fn come(&mut self) -> Option<Wire>
+        ensures some { IfSome result (λ wire. asked_of self.new ≡ Came self.old.host (left_in wire) (went_in wire) ∷ asked_of self.old) }
+        ensures host { self.new.host ≡ self.old.host }
         ensures none { result ≡ None → asked_of self.new ≡ NotCame ∷ asked_of self.old }
     {
         if self.stay != Stay::Called {
@@ -264,7 +277,7 @@ impl Dock {
         }
         let none = Wire::new(self.alloc, self.wire.closed, self.wire.most);
         let wire = std::mem::replace(&mut self.wire, none);
-        self.log = self.log.and(&Event::Came(host), &wire);
+        self.log = self.log.and(&Event::Came(self.host), &wire);
         self.stay = Stay::Out;
         Some(wire)
     }
@@ -340,6 +353,7 @@ impl Dock {
     fn note(&mut self, event: Event)
         requires { MovesNothing event }
         ensures asked { asked_of self.new ≡ told event self.old.wire None ∷ asked_of self.old }
+        ensures host { self.new.host ≡ self.old.host }
     {
         self.log = self.log.and(&event, &self.wire);
     }

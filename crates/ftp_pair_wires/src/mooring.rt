@@ -28,7 +28,7 @@ impl Mooring {
 
     /// There is none, and this host is at the other end; each read or write moves at most so many octets, of none one.
     pub fn new(alloc: Global, peer: Host, most: usize) -> Mooring
-        ensures { IsFresh result }
+        ensures { IsFresh peer result }
     {
         Mooring {
             quay: Quay::new(alloc, peer, most),

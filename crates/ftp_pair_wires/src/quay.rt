@@ -13,8 +13,6 @@ use std::alloc::Global;
 #[derive(Drop)]
 pub struct Quay {
     pub(crate) dock: Dock,
-    /// The host at the other end.
-    peer: Host,
     has_come: bool,
 }
 
@@ -29,10 +27,10 @@ impl Quay {
         ensures calls { result.dock.calls ≡ None }
         ensures undialled { result.dock.dialled ≡ false }
         ensures listens { result.dock.listens ≡ 0 }
+        ensures host { result.dock.host ≡ peer }
     {
         Quay {
-            dock: Dock::new(alloc, most),
-            peer,
+            dock: Dock::new(alloc, peer, most),
             has_come: false,
         }
     }
@@ -72,8 +70,8 @@ impl Ports for Quay {
         if hears && !self.dock.is_dialled() && self.told() {
             return Accepted::Spoken;
         }
-        match self.dock.come(self.peer) {
-            Some(wire) => Accepted::Came(wire, self.peer),
+        match self.dock.come() {
+            Some(wire) => Accepted::Came(wire, self.dock.host),
             None => Accepted::Refused,
         }
     }

@@ -1,4 +1,3 @@
-use Rattle.ftp_pair_wires.proofs.Turning.{turned}
 use Rattle.ftp_pair_drives.specs.Between.{Near}
 use Rattle.ftp_client_drive.specs.Side.{client_machine}
 use Rattle.ftp_pair_wires.proofs.Happening.{happens}

@@ -7,4 +7,4 @@ returns-then-is_out c = lifts_out _ _ _ _ c.in-Ok.ensures.ok (sym c.is_out.ensur
 
 pub returns-else-is_out-2 : goal.returns-else-is_out-2
 returns-else-is_out-2 c =
-    lifts_there _ _ _ c.in-Err.ensures.err.1 c.in-Err.ensures.err.2 (sym c.is_out-in-Err.ensures ∙ c.if-is_out-2.false) c.swap.ensures.before c.swap.ensures.stay c.swap.ensures.calls c.swap.ensures.dialled c.swap.ensures.listens
+    lifts_there _ _ _ c.in-Err.ensures.err.1 c.in-Err.ensures.err.2 (sym c.is_out-in-Err.ensures ∙ c.if-is_out-2.false) c.swap.ensures.before c.swap.ensures.stay c.swap.ensures.calls c.swap.ensures.dialled c.swap.ensures.listens c.swap.ensures.host

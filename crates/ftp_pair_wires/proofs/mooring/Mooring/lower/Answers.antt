@@ -8,4 +8,4 @@ returns-in-Ok c = lowers_out _ _ _ _ c.in-Ok.ensures.ok refl
 pub returns-in-Err : goal.returns-in-Err
 returns-in-Err c =
     lowers_there _ _ _ c.in-Err.ensures.err.1 c.in-Err.ensures.err.2 (c.swap-none.ensures.wire ∙ c.in-Err.ensures.err.0) c.swap-none.ensures.stay
-    c.swap-none.ensures.calls c.swap-none.ensures.dialled c.swap-none.ensures.listens
+    c.swap-none.ensures.calls c.swap-none.ensures.dialled c.swap-none.ensures.listens c.swap-none.ensures.host
