@@ -12,6 +12,5 @@ pub mod Serving
 pub mod Simulating
 pub mod Concluding
 pub mod Ending
-pub mod Unmarked
 pub mod Leaving
 pub mod LeavingServed

@@ -1,34 +1,77 @@
 -- What may mark begins, reports and numbers the same as what the client did, and all that is begun asks for all.
-use Rattle.std.proofs.Common.{◌≡◌, ℕ, suc, List, [], ◌∷◌, ◌++◌, refl, ap, ◌∙◌, append-nil}
+use Rattle.std.proofs.Common.{◌≡◌, inl, inr, ℕ, suc, true≢false, List, [], ◌∷◌, ◌++◌, refl, sym, ap, ◌∙◌, append-nil}
 use Rattle.ftp_control.specs.Deeds.{Deed, Led, Other, Stand}
-use Rattle.ftp_control.specs.Machine.{Aside, Break}
+use Rattle.ftp_control.specs.Machine.{Aside, Break, Held}
 use Rattle.ftp_client_drive.specs.Side.{Starting, client_side}
+use Rattle.ftp_ends.specs.declared.link.Wants.{Wants}
+use Rattle.ftp_ends.specs.declared.link.Wants.TheVariants as Want
+use Rattle.ftp_server_drive.specs.Side.{Timed, server_side}
+use Rattle.ftp_server_model.specs.Calls as far
 use Rattle.ftp_pair_drives.specs.Alone.{begun_by, reported_by, reports_in}
-use Rattle.ftp_pair_drives.specs.Between.{Client as ByClient, Server as ByServer, Turn, client_deeds}
+use Rattle.ftp_pair_drives.specs.Between.{Client as ByClient, Server as ByServer, Turn, client_deeds, server_deeds}
+use Rattle.ftp_pair_deeds.proofs.FarForms.{no_close}
 use Rattle.ftp_pair_transfers.specs.Deeds.{begun_at, number_in}
+use Rattle.ftp_pair_breaks.specs.Deeds.{IsYielding}
 use Rattle.ftp_pair_breaks.proofs.Unsent.{AskAll, both_all}
-use Rattle.ftp_pair_cuts.specs.Deeds.{ClientGives, GivesAlong, marking}
+use Rattle.ftp_pair_cuts.specs.Deeds.{ClientGives, GivesAlong, marking, with_cut}
 
-pub same_number : (turns : List Turn) → number_in (marking turns) ≡ number_in (client_deeds turns)
-same_number [] = refl
-same_number (ByServer (Other Break) ∷ before) = same_number before
-same_number (ByServer deed ∷ before) = same_number before
-same_number (ByClient (Other (Aside (Starting op))) ∷ before) = ap suc (same_number before)
-same_number (ByClient deed ∷ before) = same_number before
+-- ---- a break of the server's
 
-pub same_begun : (moments : ℕ → ℕ) (turns : List Turn) → begun_at moments (marking turns) ≡ begun_at moments (client_deeds turns)
-same_begun moments [] = refl
-same_begun moments (ByServer (Other Break) ∷ before) = append-nil (begun_at moments (marking before)) ∙ same_begun moments before
-same_begun moments (ByServer deed ∷ before) = same_begun moments before
-same_begun moments (ByClient deed ∷ before) =
-    ap (λ l. l ++ begun_by (moments (number_in (marking before))) deed) (same_begun moments before)
-    ∙ ap (λ k. begun_at moments (client_deeds before) ++ begun_by (moments k) deed) (same_number before)
+-- one that takes no octets marks nothing
+pub cuts_none : (at : Held Timed) (deeds : List (Deed client_side)) → IsYielding (Other Break) at → with_cut (far.wants at.end.server.view) deeds ≡ deeds
+cuts_none at deeds (inl sends) = ap (λ w. with_cut w deeds) sends
+cuts_none at deeds (inr closing) = by (far.wants at.end.server.view) refl
+  where
+    by : (wants : Wants) → far.wants at.end.server.view ≡ wants → with_cut wants deeds ≡ deeds
+    by Want.Receive is = absurd (true≢false (sym closing ∙ no_close at.end.server.view Want.Receive is refl))
+    by wants is = refl
 
-pub same_reports : (turns : List Turn) → reports_in (marking turns) ≡ reports_in (client_deeds turns)
-same_reports [] = refl
-same_reports (ByServer (Other Break) ∷ before) = append-nil (reports_in (marking before)) ∙ same_reports before
-same_reports (ByServer deed ∷ before) = same_reports before
-same_reports (ByClient deed ∷ before) = ap (λ r. r ++ reported_by deed) (same_reports before)
+-- it is no operation
+cut_number : (wants : Wants) (deeds : List (Deed client_side)) → number_in (with_cut wants deeds) ≡ number_in deeds
+cut_number Want.Receive deeds = refl
+cut_number wants deeds = refl
+
+-- it begins none
+cut_begun : (moments : ℕ → ℕ) (wants : Wants) (deeds : List (Deed client_side)) → begun_at moments (with_cut wants deeds) ≡ begun_at moments deeds
+cut_begun moments Want.Receive deeds = append-nil (begun_at moments deeds)
+cut_begun moments wants deeds = refl
+
+-- it reports none
+cut_reports : (wants : Wants) (deeds : List (Deed client_side)) → reports_in (with_cut wants deeds) ≡ reports_in deeds
+cut_reports Want.Receive deeds = append-nil (reports_in deeds)
+cut_reports wants deeds = refl
+
+-- ---- all of them
+
+-- they are as many operations
+pub same_number : (turns : List Turn) (start now : Stand server_side) (led : Led (server_deeds turns) start now)
+    → number_in (marking turns start now led) ≡ number_in (client_deeds turns)
+same_number [] start now led = refl
+same_number (ByServer (Other Break) ∷ before) start now led =
+    cut_number (far.wants led.0.owner.end.server.view) (marking before start led.0 led.1) ∙ same_number before start led.0 led.1
+same_number (ByServer deed ∷ before) start now led = same_number before start led.0 led.1
+same_number (ByClient (Other (Aside (Starting op))) ∷ before) start now led = ap suc (same_number before start now led)
+same_number (ByClient deed ∷ before) start now led = same_number before start now led
+
+-- these are begun
+pub same_begun : (moments : ℕ → ℕ) (turns : List Turn) (start now : Stand server_side) (led : Led (server_deeds turns) start now)
+    → begun_at moments (marking turns start now led) ≡ begun_at moments (client_deeds turns)
+same_begun moments [] start now led = refl
+same_begun moments (ByServer (Other Break) ∷ before) start now led =
+    cut_begun moments (far.wants led.0.owner.end.server.view) (marking before start led.0 led.1) ∙ same_begun moments before start led.0 led.1
+same_begun moments (ByServer deed ∷ before) start now led = same_begun moments before start led.0 led.1
+same_begun moments (ByClient deed ∷ before) start now led =
+    ap (λ l. l ++ begun_by (moments (number_in (marking before start now led))) deed) (same_begun moments before start now led)
+    ∙ ap (λ k. begun_at moments (client_deeds before) ++ begun_by (moments k) deed) (same_number before start now led)
+
+-- these are reported
+pub same_reports : (turns : List Turn) (start now : Stand server_side) (led : Led (server_deeds turns) start now)
+    → reports_in (marking turns start now led) ≡ reports_in (client_deeds turns)
+same_reports [] start now led = refl
+same_reports (ByServer (Other Break) ∷ before) start now led =
+    cut_reports (far.wants led.0.owner.end.server.view) (marking before start led.0 led.1) ∙ same_reports before start led.0 led.1
+same_reports (ByServer deed ∷ before) start now led = same_reports before start led.0 led.1
+same_reports (ByClient deed ∷ before) start now led = ap (λ r. r ++ reported_by deed) (same_reports before start now led)
 
 -- ---- what was begun
 

@@ -45,16 +45,15 @@ use Rattle.ftp_pair_breaks.proofs.Unbroken.{sees_unbroken}
 use Rattle.ftp_pair_breaks.proofs.Unsent.{AskAll, Unsent, all_carried}
 use Rattle.ftp_pair_breaks.proofs.Untold.{fault_told, told_alike}
 use Rattle.ftp_pair_cuts.specs.Claims.{CutIsOfWorld, CutsAreOfWorlds}
-use Rattle.ftp_pair_cuts.specs.Deeds.{AreToldLate, ClientGives, GivesAlong, IsOut, IsToldLate, LosesAlong, ServerLoses, marking}
+use Rattle.ftp_pair_cuts.specs.Deeds.{AreToldLate, ClientGives, GivesAlong, IsOut, IsToldLate, LosesAlong, ServerLoses, marking, with_cut}
 use Rattle.ftp_pair_cuts.proofs.ClientTold.{told_closing, told_giving}
 use Rattle.ftp_pair_cuts.proofs.Leaving.{Leaves, gone, leave_step, lost}
 use Rattle.ftp_pair_cuts.proofs.LeavingServed.{leave_served}
 use Rattle.ftp_pair_cuts.proofs.Lifting.{closes_alike, gives_fault, lifts_alike, lifts_none, lifts_taken, was_none, was_taken}
-use Rattle.ftp_pair_cuts.proofs.Marking.{in_all, same_begun, same_number, same_reports}
+use Rattle.ftp_pair_cuts.proofs.Marking.{cuts_none, in_all, same_begun, same_number, same_reports}
 use Rattle.ftp_pair_cuts.proofs.Seen.{Seen, dry, is_left, lost_dry, near_seen, seen_far, seen_held, seen_whole, sees_seen}
 use Rattle.ftp_pair_cuts.proofs.Serving.{giving_takes, lag_cut, lags_never, out_gone, out_left, shut_takes, whole_cut}
 use Rattle.ftp_pair_cuts.proofs.UpLagging.{UpLags, takes_up, up_lag_step}
-use Rattle.ftp_pair_cuts.proofs.Unmarked.{suffered_too}
 use Rattle.ftp_pair_cuts.proofs.Written.{IsWritten, deed_written, is_break, is_broken}
 
 -- the client has left: no data connection of it is had or dialled
@@ -168,9 +167,9 @@ module _ (read : Reading) (reads : IsReading read) (moments : ℕ → ℕ) (time
   -- ---- a deed of the server
 
   -- what may mark then
-  abbrev marked_deeds : Deed server_side → List (Deed client_side) → List (Deed client_side)
-  marked_deeds (Other Break) deeds = Other Break ∷ deeds
-  marked_deeds deed deeds = deeds
+  abbrev marked_deeds : Deed server_side → Stand server_side → List (Deed client_side) → List (Deed client_side)
+  marked_deeds (Other Break) at deeds = with_cut (far.wants at.owner.end.server.view) deeds
+  marked_deeds deed at deeds = deeds
 
   module _ (deeds : List (Deed client_side)) (puts : AskAll (begun_at moments deeds)) (before : List (Deed server_side)) (p q : Between)
       (old new : Stand server_side) (client : Stand client_side) where
@@ -187,15 +186,6 @@ module _ (read : Reading) (reads : IsReading read) (moments : ℕ → ℕ) (time
           suffered = breaking.server_turn read reads moments timed b fair deed deeds puts before ports o.middle there.0 old new client o.suffered (is, calm)
               there.2 did told;
         }
-
-    -- a break marks nothing then
-    breaks_on : Beside deeds q (listened_in before) new client → Beside (Other Break ∷ deeds) q (listened_in before) new client
-    breaks_on o = record {
-      middle = o.middle;
-      seen = o.seen;
-      written = o.written;
-      suffered = suffered_too read reads moments timed b fair deeds o.middle (listened_in before) client new o.suffered;
-    }
 
     -- beside a client that was told
     up_lags_on : (deed : Deed server_side) → BreaksNot deed → ArePorts (deed ∷ before)
@@ -327,8 +317,8 @@ module _ (read : Reading) (reads : IsReading read) (moments : ℕ → ℕ) (time
     -- a deed as where downloads alone break
     yields_turn : (deed : Deed server_side) → ArePorts (deed ∷ before) → Cut deeds p (listened_in before) old client → IsYielding deed old.owner
         → ServerIsCalm old.owner new.owner → Sees deed (dried old) p q → (did : Done deed old new)
-        → IsToldAt deed old new did (last_of moments (number_in deeds)) → Cut (marked_deeds deed deeds) q (listened_in (deed ∷ before)) new client
-    yields_turn (Other Break) ports (inl o) is calm can did told = inl (breaks_on (yields_on (Other Break) ports o is calm can did told))
+        → IsToldAt deed old new did (last_of moments (number_in deeds)) → Cut deeds q (listened_in (deed ∷ before)) new client
+    yields_turn (Other Break) ports (inl o) is calm can did told = inl (yields_on (Other Break) ports o is calm can did told)
     yields_turn (Other Break) ports (inr (inl l)) is calm can did told = absurd (up_lags_take l can)
     yields_turn (Other Break) ports (inr (inr l)) is calm can did told = absurd (elim can [
       | inl sends ↦ true≢false (sym l.far ∙ ap is_left sends.1.0)
@@ -358,12 +348,12 @@ module _ (read : Reading) (reads : IsReading read) (moments : ℕ → ℕ) (time
       (old new : Stand server_side) (client : Stand client_side) (o : Stood deeds p (listened_in before) old client) (deed : Deed server_side)
       → ArePorts (deed ∷ before) → ServerLoses deed old.owner new.owner → CanTurn (Server deed) p q → (did : Done deed old new)
       → IsToldAt deed old new did (last_of moments (number_in deeds)) → IsToldLate (last_of moments (number_in deeds)) deed p client old new did
-      → Stood (marked_deeds deed deeds) q (listened_in (deed ∷ before)) new client
+      → Stood (marked_deeds deed old deeds) q (listened_in (deed ∷ before)) new client
   server_turn deeds puts before p q old new client o deed ports is can did told late = by deed ports is can did told late
     where
       yields : (deed : Deed server_side) → ArePorts (deed ∷ before) → IsYielding deed old.owner → ServerIsCalm old.owner new.owner
           → CanTurn (Server deed) p q → (did : Done deed old new) → IsToldAt deed old new did (last_of moments (number_in deeds))
-          → Stood (marked_deeds deed deeds) q (listened_in (deed ∷ before)) new client
+          → Stood deeds q (listened_in (deed ∷ before)) new client
       yields deed ports is calm can did told =
           let there = far_sees old new p q o.view o.is_seen (spare_cut deeds o.view (listened_in before) old client o.cut) deed (is, calm) can in
           record {
@@ -375,10 +365,12 @@ module _ (read : Reading) (reads : IsReading read) (moments : ℕ → ℕ) (time
       by : (deed : Deed server_side) → ArePorts (deed ∷ before) → ServerLoses deed old.owner new.owner → CanTurn (Server deed) p q
           → (did : Done deed old new) → IsToldAt deed old new did (last_of moments (number_in deeds))
           → IsToldLate (last_of moments (number_in deeds)) deed p client old new did
-          → Stood (marked_deeds deed deeds) q (listened_in (deed ∷ before)) new client
+          → Stood (marked_deeds deed old deeds) q (listened_in (deed ∷ before)) new client
       by (Other Break) ports is can did told late = elim is.0 [
-        | inl is_one ↦ yields (Other Break) ports is_one is.1 can did told
-        | inr breaks ↦
+        | inl is_one ↦
+            subst (λ d. Stood d q (listened_in before) new client) (sym (cuts_none old.owner deeds is_one))
+            (yields (Other Break) ports is_one is.1 can did told)
+        | inr breaks ↦ subst (λ w. Stood (with_cut w deeds) q (listened_in before) new client) (sym breaks.0) (
             let there = far_done p q o.view o.is_seen ToldBreak can in
             let told_late = late breaks.0 in
             record {
@@ -386,15 +378,24 @@ module _ (read : Reading) (reads : IsReading read) (moments : ℕ → ℕ) (time
               is_seen = there.is_seen;
               cut = cut_on deeds puts before o.view there.after old new client is.1 breaks.0 did breaks.1 breaks.2 there.can told_late.1
                   (subst (λ h. IsOut h ⊎ ((client.owner.end.view.closing ≡ true) × (client.owner.lane.stands ≡ true))) (sym o.is_seen.near) told_late.0) o.cut;
-            }
+            })
       ]
       by deed ports is can did told late = yields deed ports is.0 is.1 can did told
 
   -- ---- one after another
 
-  marked_is : (deed : Deed server_side) (before : List Turn) → marking (Server deed ∷ before) ≡ marked_deeds deed (marking before)
-  marked_is (Other Break) before = refl
-  marked_is deed before = refl
+  marked_is : (deed : Deed server_side) (before : List Turn) (start now : Stand server_side) (led : Led (deed ∷ server_deeds before) start now)
+      → marking (Server deed ∷ before) start now led ≡ marked_deeds deed led.0 (marking before start led.0 led.1)
+  marked_is (Other Break) before start now led = refl
+  marked_is deed before start now led = refl
+
+  -- what was begun asks for all
+  asked : (turns : List Turn) (server_start server : Stand server_side) (server_led : Led (server_deeds turns) server_start server)
+      (client_start client : Stand client_side) (client_led : Led (client_deeds turns) client_start client)
+      → GivesAlong (client_deeds turns) client_start client client_led → AskAll (begun_at moments (marking turns server_start server server_led))
+  asked turns server_start server server_led client_start client client_led gives =
+      subst AskAll (sym (same_begun moments turns server_start server server_led))
+      (in_all moments (client_deeds turns) client_start client client_led gives)
 
   reaches : (turns : List Turn) (between : Between) → (happened : Happened turns between)
       → (server_start server : Stand server_side) (client_start client : Stand client_side) → Begins b server_start client_start
@@ -404,7 +405,7 @@ module _ (read : Reading) (reads : IsReading read) (moments : ℕ → ℕ) (time
       → LosesAlong (server_deeds turns) server_start server server_led → GivesAlong (client_deeds turns) client_start client client_led
       → ArePorts (server_deeds turns) → AreToldAt moments turns server_start server server_led
       → AreToldLate moments turns between happened server_start server server_led client_start client client_led
-      → Stood (marking turns) between (listened_in (server_deeds turns)) server client
+      → Stood (marking turns server_start server server_led) between (listened_in (server_deeds turns)) server client
   reaches [] between happened server_start server client_start client begins untold unwritten far_unwritten near_untold server_led client_led takes gives
       ports told late =
       let start = starts_so read reads moments timed b fair server_start client_start begins untold unwritten far_unwritten near_untold in
@@ -433,15 +434,13 @@ module _ (read : Reading) (reads : IsReading read) (moments : ℕ → ℕ) (time
       client_led takes gives ports told late =
       let reached = reaches before happened.0 happened.1 server_start server_led.0 client_start client begins untold unwritten far_unwritten near_untold
       server_led.1 client_led takes.0 gives (earlier deed (server_deeds before) ports) told.0 late.0 in
-      subst (λ d. Stood d between (listened_in (deed ∷ server_deeds before)) server client) (sym (marked_is deed before))
-      (server_turn (marking before) (asked before client_start client client_led gives) (server_deeds before) happened.0 between server_led.0 server client
-      reached deed ports takes.1 happened.2 server_led.2
-      (subst (λ k. IsToldAt deed server_led.0 server server_led.2 (last_of moments k)) (sym (same_number before)) told.1)
-      (subst (λ k. IsToldLate (last_of moments k) deed happened.0 client server_led.0 server server_led.2) (sym (same_number before)) late.1))
-    where
-      asked : (turns : List Turn) (start now : Stand client_side) (led : Led (client_deeds turns) start now) → GivesAlong (client_deeds turns) start now led
-          → AskAll (begun_at moments (marking turns))
-      asked turns start now led gives = subst AskAll (sym (same_begun moments turns)) (in_all moments (client_deeds turns) start now led gives)
+      let number = sym (same_number before server_start server_led.0 server_led.1) in
+      subst (λ d. Stood d between (listened_in (deed ∷ server_deeds before)) server client) (sym (marked_is deed before server_start server server_led))
+      (server_turn (marking before server_start server_led.0 server_led.1)
+      (asked before server_start server_led.0 server_led.1 client_start client client_led gives) (server_deeds before) happened.0 between server_led.0 server
+      client reached deed ports takes.1 happened.2 server_led.2
+      (subst (λ k. IsToldAt deed server_led.0 server server_led.2 (last_of moments k)) number told.1)
+      (subst (λ k. IsToldLate (last_of moments k) deed happened.0 client server_led.0 server server_led.2) number late.1))
   reaches (Client deed ∷ before) between happened server_start server client_start client begins untold unwritten far_unwritten near_untold server_led
       client_led takes gives ports told late =
       let reached = reaches before happened.0 happened.1 server_start server client_start client_led.0 begins untold unwritten far_unwritten near_untold
@@ -450,8 +449,8 @@ module _ (read : Reading) (reads : IsReading read) (moments : ℕ → ℕ) (time
       record {
         view = there.after;
         is_seen = there.is_seen;
-        cut = client_turn deed (marking before)
-            (subst AskAll (sym (same_begun moments before)) (in_all moments (client_deeds before) client_start client_led.0 client_led.1 gives.0))
+        cut = client_turn deed (marking before server_start server server_led)
+            (asked before server_start server server_led client_start client_led.0 client_led.1 gives.0)
             (server_deeds before) ports reached.view there.after server client_led.0 client reached.cut gives.1 there.can client_led.2;
       }
 
@@ -463,24 +462,24 @@ cuts_are_of_worlds read reads b fair moments timed turns between server client d
     by stood.view stood.cut
   where
     deeds : List (Deed client_side)
-    deeds = marking turns
+    deeds = marking turns did.server_start server did.server_led
 
     count : ℕ
     count = listened_in (server_deeds turns)
 
     -- what was begun asks for all
     puts : AskAll (begun_at moments deeds)
-    puts = subst AskAll (sym (same_begun moments turns)) (in_all moments (client_deeds turns) did.client_start client did.client_led did.gives)
+    puts = asked read reads moments timed b fair turns did.server_start server did.server_led did.client_start client did.client_led did.gives
 
     of_world : (were : Stand server_side) (was held : Stand client_side) (m : Between)
         → AreSame server were client was ⊎ (IsClientFirst server were client was ⊎ IsServerFirst server were client was)
         → ReportAlike client.owner.end.view was.owner.end.view → server.owner.end.server.view.session.table ≡ were.owner.end.server.view.session.table
         → (o : At read reads moments timed b fair deeds m count were held) (marks : List (List Mark)) → AreMarks deeds marks
         → o.world.marks ≡ marks → data_closed (taken held.owner.end.view) ≡ data_closed (taken was.owner.end.view)
-        → report_of held.owner.end.view ≡ report_of was.owner.end.view → CutIsOfWorld read b moments turns server client
+        → report_of held.owner.end.view ≡ report_of was.owner.end.view → CutIsOfWorld read b moments turns between server client did
     of_world were was held m is alike table o marks are marked near report =
         let s = o.together.beside in
-        let leads = subst (λ l. LeadsOn read l (world_of b) o.world) (same_begun moments turns) o.leads in
+        let leads = subst (λ l. LeadsOn read l (world_of b) o.world) (same_begun moments turns did.server_start server did.server_led) o.leads in
         let near_is : o.world.near ≡ data_closed (reports was.owner.end.view) =
         s.near ∙ near ∙ ap data_closed (sym (reports_is was.owner.end.view)) in
         record {
@@ -501,7 +500,7 @@ cuts_are_of_worlds read reads b fair moments timed turns between server client d
             fits = s.fits;
             near = inl near_is;
             far = s.far;
-            reported = s.reported ∙ ap₂ (λ r a. r ++ option_to_list a) (same_reports turns) report;
+            reported = s.reported ∙ ap₂ (λ r a. r ++ option_to_list a) (same_reports turns did.server_start server did.server_led) report;
             control = s.control;
             marked = marked;
             cutoff = s.cutoff;
@@ -509,7 +508,8 @@ cuts_are_of_worlds read reads b fair moments timed turns between server client d
           near = near_is;
         }
 
-    by_lag : (m : Between) → UpLags read reads moments timed b fair deeds m count (dried server) client → CutIsOfWorld read b moments turns server client
+    by_lag : (m : Between) → UpLags read reads moments timed b fair deeds m count (dried server) client
+        → CutIsOfWorld read b moments turns between server client did
     by_lag m l =
         let n : Near = l.was.end.view in
         let u : Near = client.owner.end.view in
@@ -524,7 +524,7 @@ cuts_are_of_worlds read reads b fair moments timed turns between server client d
         ]
 
     -- the server was told first
-    first : (m : Between) → Precedes read reads moments timed b fair deeds m count server client → CutIsOfWorld read b moments turns server client
+    first : (m : Between) → Precedes read reads moments timed b fair deeds m count server client → CutIsOfWorld read b moments turns between server client did
     first m p =
         let were : Far = p.were.owner.end.server.view in
         let broken : break_step (clock_step p.moment were) ≡ clock_step p.moment (broke were) = broke_step p.were p.at.serves p.sends p.moment in
@@ -554,7 +554,7 @@ cuts_are_of_worlds read reads b fair moments timed turns between server client d
         heard_front queue said heard rest split (inr empty) = (rest, ap (λ o. o ++ said) (sym empty) ∙ split)
 
     by_suffered : (m : Between) → breaking.Suffered read reads moments timed b fair deeds m count server client
-        → CutIsOfWorld read b moments turns server client
+        → CutIsOfWorld read b moments turns between server client did
     by_suffered m (inl (inl o)) =
         of_world (dried server) client client m (inl (refl, refl)) (refl, refl) refl o.at o.marks o.are_marks o.marked refl refl
     by_suffered m (inl (inr l)) =
@@ -563,7 +563,7 @@ cuts_are_of_worlds read reads b fair moments timed turns between server client d
         (subst (λ (v : Near). ReportAlike v l.was.end.view) (sym l.view) (told_alike l.was.end.view l.loads)) refl l.at l.marks l.are_marks l.marked refl refl
     by_suffered m (inr p) = first m p
 
-    by : (m : Between) → Cut read reads moments timed b fair deeds m count server client → CutIsOfWorld read b moments turns server client
+    by : (m : Between) → Cut read reads moments timed b fair deeds m count server client → CutIsOfWorld read b moments turns between server client did
     by m (inl o) = by_suffered o.middle o.suffered
     by m (inr (inl l)) = by_lag m l
     by m (inr (inr l)) =

@@ -42,14 +42,14 @@ pub record DidCut (b : Beginning) (moments : ℕ → ℕ) (turns : List Turn) (b
 -- Events of a world lead from the beginning to one that holds what the server holds and what the client holds, or what both held before one of them was told of
 -- a break that a world tells later: once the server has let the data connection go, or the other was told, too. It has marks of these deeds; they began the
 -- same operations at these moments.
-pub record CutIsOfWorld (read : Reading) (b : Beginning) (moments : ℕ → ℕ) (turns : List Turn) (server : Stand server_side)
-    (client : Stand client_side) : Type 0 where
+pub record CutIsOfWorld (read : Reading) (b : Beginning) (moments : ℕ → ℕ) (turns : List Turn) (between : Between) (server : Stand server_side)
+    (client : Stand client_side) (did : DidCut b moments turns between server client) : Type 0 where
   pub events : List Event
   pub timed : AreTimed events
   pub world : World
   pub leads : Leads read (world_of b) events (begun_at moments (client_deeds turns)) world
   pub marks : List (List Mark)
-  pub are_marks : AreMarks (marking turns) marks
+  pub are_marks : AreMarks (marking turns did.server_start server did.server_led) marks
   pub were : Stand server_side
   pub was : Stand client_side
   pub is : AreSame server were client was ⊎ (IsClientFirst server were client was ⊎ IsServerFirst server were client was)
@@ -63,15 +63,16 @@ abbrev pub CutsAreOfWorlds : Type 0
 CutsAreOfWorlds =
     (read : Reading) → IsReading read → (b : Beginning) → IsFair b → (moments : ℕ → ℕ) → AreMoments moments
     → (turns : List Turn) (between : Between) (server : Stand server_side) (client : Stand client_side)
-    → DidCut b moments turns between server client → CutIsOfWorld read b moments turns server client
+    → (did : DidCut b moments turns between server client) → CutIsOfWorld read b moments turns between server client did
 
--- so reports and map agree with what was begun, a report that was not taken yet among them: an operation is cut only where an end was told of a
--- break
+-- so reports and map agree with what was begun, a report that was not taken yet among them: an operation is cut only where its client was told of a break, or,
+-- of an upload, its server
 abbrev pub CutsAgree : Type 0
 CutsAgree =
     (b : Beginning) → IsFair b → (moments : ℕ → ℕ) → AreMoments moments
     → (turns : List Turn) (between : Between) (server : Stand server_side) (client : Stand client_side)
-    → DidCut b moments turns between server client → (marks : List (List Mark)) × AreMarks (marking turns) marks
+    → (did : DidCut b moments turns between server client)
+    → (marks : List (List Mark)) × AreMarks (marking turns did.server_start server did.server_led) marks
     × Agrees (state_of b) (begun_at moments (client_deeds turns)) marks None
     (reports_in (client_deeds turns) ++ option_to_list (report_of client.owner.end.view)) server.owner.end.server.view.session.table
 
@@ -80,6 +81,7 @@ abbrev pub CutsPartingAgree : Type 0
 CutsPartingAgree =
     (b : Beginning) → IsFair b → (moments : ℕ → ℕ) → AreMoments moments
     → (turns : List Turn) (between : Between) (server : Stand server_side) (client : Stand client_side)
-    → DidCut b moments turns between server client → (marks : List (List Mark)) × AreMarks (marking turns) marks
+    → (did : DidCut b moments turns between server client)
+    → (marks : List (List Mark)) × AreMarks (marking turns did.server_start server did.server_led) marks
     × Agrees (state_of b) (begun_at moments (client_deeds turns)) marks (Some (length marks))
     (reports_in (client_deeds turns) ++ option_to_list (report_of (control_end client.owner.end.view))) server.owner.end.server.view.session.table

@@ -7,6 +7,7 @@ use Rattle.ftp_control.specs.declared.whole.Fate.TheVariants as Fates
 use Rattle.ftp_client_drive.specs.Side.{client_side}
 use Rattle.ftp_client_model.specs.Calls as near
 use Rattle.ftp_client_model.specs.Failing.{Client}
+use Rattle.ftp_ends.specs.declared.link.Wants.{Wants}
 use Rattle.ftp_ends.specs.declared.link.Wants.TheVariants as Want
 use Rattle.ftp_pair_deeds.specs.Deeds.{Along}
 use Rattle.ftp_pair_drives.specs.Alone.{ClientIsCalm, ServerIsCalm}
@@ -77,9 +78,14 @@ AreToldLate moments (ByServer deed ∷ before) between happened server_start ser
 AreToldLate moments (ByClient deed ∷ before) between happened server_start server server_led client_start client client_led =
     AreToldLate moments before happened.0 happened.1 server_start server server_led client_start client_led.0 client_led.1
 
--- those that may mark an operation: what the client did, and breaks that the server was told of
-abbrev pub marking : List Turn → List (Deed client_side)
-marking [] = []
-marking (ByServer (Other Break) ∷ before) = Other Break ∷ marking before
-marking (ByServer deed ∷ before) = marking before
-marking (ByClient deed ∷ before) = deed ∷ marking before
+-- a break that a server is told of may mark an operation where it wants octets, those of an upload
+abbrev pub with_cut : Wants → List (Deed client_side) → List (Deed client_side)
+with_cut Want.Receive deeds = Other Break ∷ deeds
+with_cut wants deeds = deeds
+
+-- those that may mark an operation: what the client did, and breaks that the server was told of while it took octets
+abbrev pub marking : (turns : List Turn) (start now : Stand server_side) → Led (server_deeds turns) start now → List (Deed client_side)
+marking [] start now led = []
+marking (ByServer (Other Break) ∷ before) start now led = with_cut (far.wants led.0.owner.end.server.view) (marking before start led.0 led.1)
+marking (ByServer deed ∷ before) start now led = marking before start led.0 led.1
+marking (ByClient deed ∷ before) start now led = deed ∷ marking before start now led

@@ -66,9 +66,10 @@ pub record AreOver (b : Beginning) (moments : ℕ → ℕ) (asked : List (Op (Li
   pub late : AreToldLate moments turns between happened server_start last server_led client_start client client_led
 
 -- the answers that a client's drives gave, and the map that the server's drive left, agree with the operations, with marks of these deeds: each is the direct
--- run's where its dial did not fail and no end was told of a break
+-- run's where its dial did not fail and its client was told of no break, nor, of an upload, its server
 abbrev pub CutDrivesAgree : Type 0
 CutDrivesAgree =
     (b : Beginning) → IsFair b → (moments : ℕ → ℕ) → AreMoments moments → (asked : List (Op (List ℕ) × Said)) (server : Stand server_side)
-    → (over : AreOver b moments asked server) → (marks : List (List Mark)) × AreMarks (marking over.turns) marks
+    → (over : AreOver b moments asked server)
+    → (marks : List (List Mark)) × AreMarks (marking over.turns over.server_start over.last over.server_led) marks
     × Agrees (state_of b) (orders_at moments asked) marks None (answers_of asked) server.owner.end.server.view.session.table
