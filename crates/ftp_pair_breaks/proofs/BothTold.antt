@@ -37,14 +37,14 @@ use Rattle.ftp_pair_transfers.proofs.Called.{StaysFresh}
 use Rattle.ftp_pair_transfers.proofs.ClientStays.{client_keeps}
 use Rattle.ftp_pair_transfers.proofs.Known.{AreCarried}
 use Rattle.ftp_pair_transfers.proofs.Simulating.{known}
-use Rattle.ftp_pair_breaks.specs.Deeds.{ClientSuffers}
+use Rattle.ftp_pair_breaks.specs.Deeds.{ClientSuffers, HasTaken}
 use Rattle.ftp_pair_breaks.proofs.BothBroken.{both_broken, broke, level, none_there, told_is}
 use Rattle.ftp_pair_breaks.proofs.ClientBroken.{broken_lane}
 use Rattle.ftp_pair_breaks.proofs.Drained.{dried, dry}
-use Rattle.ftp_pair_breaks.proofs.Faults.{faulted, faulted_plain}
+use Rattle.ftp_pair_breaks.proofs.Faults.{faulted, faulted_plain, loads_taken}
 use Rattle.ftp_pair_breaks.proofs.Feeding.{Gives}
-use Rattle.ftp_pair_breaks.proofs.Lagging.{Lags, Whole, beside, unbroken}
-use Rattle.ftp_pair_breaks.proofs.Preceding.{Precedes, behind, gives_at, gives_now, near_at, near_is, steady, steady_here, unaware}
+use Rattle.ftp_pair_breaks.proofs.Lagging.{Lags, OfMarks, Then, Whole, beside, unbroken}
+use Rattle.ftp_pair_breaks.proofs.Preceding.{Precedes, behind, gives_at, gives_now, near_at, near_is, steady, steady_here, steady_now, unaware}
 use Rattle.ftp_pair_breaks.proofs.Rows.{Steady}
 use Rattle.ftp_pair_breaks.proofs.Steps.{Again, At, both_again, client_step, same_again, server_step}
 use Rattle.ftp_pair_breaks.proofs.Unaware.{late_break, steady_told}
@@ -142,9 +142,10 @@ module _ (read : Reading) (reads : IsReading read) (moments : ℕ → ℕ) (time
 
   -- ---- the client is told last
 
-  module _ (deeds : List (Deed client_side)) (puts : AskAll (begun_at moments deeds)) (before : List (Deed server_side)) (ports : ArePorts before)
+  module _ {Are : OfMarks} (deeds : List (Deed client_side)) (puts : AskAll (begun_at moments deeds)) (before : List (Deed server_side))
+      (ports : ArePorts before)
       (p q : Between) (server : Stand server_side) (old new : Stand client_side)
-      (l : Precedes read reads moments timed b fair deeds p (listened_in before) server old)
+      (l : Precedes read reads moments timed b fair Are deeds p (listened_in before) server old)
       (is : ClientSuffers (Other Break) old.owner new.owner) (can : Can TheClient ToldBreak p q) (did : Calls {side = client_side} Break old new) where
     abbrev count : ℕ
     count = listened_in before
@@ -173,6 +174,12 @@ module _ (read : Reading) (reads : IsReading read) (moments : ℕ → ℕ) (time
 
     here : IsSteady n
     here = steady_here read reads moments timed b fair deeds puts p count server old l
+
+    -- it has taken as many as the world counts
+    has_taken : HasTaken old.owner.end.view.job w.came
+    has_taken =
+        let now = steady_now read reads moments timed b fair deeds puts p count server old l in
+        subst (λ (v : Near). HasTaken v.job w.came) (sym now.is) g.read
 
     -- whatever it hears of what is on its way
     fronts : (front rest : List ℕ) → l.queue ++ l.said ≡ front ++ rest → IsSteady (hears n front)
@@ -321,7 +328,7 @@ module _ (read : Reading) (reads : IsReading read) (moments : ℕ → ℕ) (time
         }
 
     -- and so beside both drives
-    pub told_last : Whole read reads moments timed b fair (Other Break ∷ deeds) q count (dried server) new
+    pub told_last : Whole read reads moments timed b fair (Then (Other Break) old.owner Are) (Other Break ∷ deeds) q count (dried server) new
     told_last =
         let got : Again read reads moments timed b fair (Heard l.heard ∷ deeds) q count (dried server) new read_so.0.world.marks =
         client_step read reads moments timed b fair (Heard l.heard) tt second new (tt, is.1 ∙ l.calm) deeds carried q q refl count (dried server) read_so.0
@@ -329,7 +336,7 @@ module _ (read : Reading) (reads : IsReading read) (moments : ℕ → ℕ) (time
         record {
           at = got.0;
           marks = marked_last (Broken w.came) l.marks;
-          are_marks = (l.marks, l.are_marks, inr (w.came, refl));
+          are_marks = (l.marks, l.are_marks, inr (w.came, has_taken, refl));
           marked = got.1 ∙ read_so.1 ∙ ap (marked_last (Broken w.came)) l.marked;
           unsent = subst (IsPlainBy Unsent)
               (sym (did.0.0.0.0 is.1 ∙ ap data_fault l.view ∙ late_break g.loads.op g.loads.all g.loads.decoder g.loads.mark n here l.heard
@@ -373,9 +380,9 @@ module _ (read : Reading) (reads : IsReading read) (moments : ℕ → ℕ) (time
         }
 
     -- the client was told before: both are told
-    both_again_then : (l : Lags read reads moments timed b fair deeds p count was client)
+    both_again_then : {Are : OfMarks} (l : Lags read reads moments timed b fair Are deeds p count was client)
         → Again read reads moments timed b fair deeds q count (dried new) client (marked_last (Broken l.at.world.came) l.at.world.marks)
-    both_again_then l =
+    both_again_then {Are} l =
         let before : Stand client_side = beside l.was client in
         let w : World = l.at.world in
         let serves : ServerServes old.owner = record { running = l.at.serves.running; none_waits = l.at.serves.none_waits } in
@@ -401,22 +408,30 @@ module _ (read : Reading) (reads : IsReading read) (moments : ℕ → ℕ) (time
         (λ called. absurd (both called (ap (λ (m : Between). is_called m.far) can.1)))
 
     -- so a world is beside both drives
-    pub told_after : Lags read reads moments timed b fair deeds p count was client → Whole read reads moments timed b fair deeds q count (dried new) client
-    told_after l =
+    pub told_after : {Are : OfMarks} → Lags read reads moments timed b fair Are deeds p count was client
+        → Whole read reads moments timed b fair Are deeds q count (dried new) client
+    told_after {Are} l =
         let came : ℕ = l.at.world.came in
         let loads = loads_of l.was.end.view l.loads in
+        let before : Stand client_side = beside l.was client in
+        let g : Gives l.at.world = gives_at read reads moments timed b fair deeds puts (unbroken p) count was before l.at is.0 l.unsent in
+        let near_was : l.at.world.near ≡ l.was.end.view =
+        near_at read reads moments timed b fair deeds puts (unbroken p) count was before l.at is.0 l.unsent in
+        let taken : HasTaken l.was.end.view.job came =
+        subst (λ (v : Near). HasTaken v.job came) near_was (loads_taken l.at.world.near g.loads came g.read) in
         let view : client.owner.end.view ≡ data_fault l.was.end.view = l.view ∙ sym (fault_told l.was.end.view l.loads) in
         record {
           at = (both_again_then l).0;
           marks = marked_last (Broken came) l.marks;
-          are_marks = l.are_broken came;
+          are_marks = l.are_broken came taken;
           marked = (both_again_then l).1 ∙ ap (marked_last (Broken came)) l.marked;
           unsent = subst (IsPlainBy Unsent) (sym view) (faulted_plain Unsent l.was.end.view loads l.unsent);
         }
 
     -- it is to be told: the server is told first
-    pub told_first : Whole read reads moments timed b fair deeds p count was client → Precedes read reads moments timed b fair deeds q count new client
-    told_first o =
+    pub told_first : {Are : OfMarks} → Whole read reads moments timed b fair Are deeds p count was client
+        → Precedes read reads moments timed b fair Are deeds q count new client
+    told_first {Are} o =
         let w : World = o.at.world in
         let n : Near = client.owner.end.view in
         let queue : List ℕ = client.unheard ++ p.control.to_client in

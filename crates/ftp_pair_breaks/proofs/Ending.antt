@@ -124,6 +124,7 @@ over_drives_agree b fair moments timed asked server over =
     ∙ append-nil (reports_in (client_deeds over.turns)) ∙ ap reports_in over.client_is ∙ answers_are asked over.client_start over.client over.put in
     let table : server.owner.end.server.view.session.table ≡ over.last.owner.end.server.view.session.table =
     ends_keep_the_map over.closed over.last server over.server_end in (
+      client.0,
       agree.0,
       agree.1,
       subst (λ (t : Table). Agrees (state_of b) (orders_at moments asked) agree.0 None (answers_of asked) t) (sym table)

@@ -11,6 +11,7 @@ use Rattle.ftp_client_model.specs.declared.client.ClientLink.TheVariants as Data
 use Rattle.ftp_client_model.specs.declared.client.Ending.TheVariants as Endings
 use Rattle.ftp_client_model.specs.declared.client.Replied.{Replied}
 use Rattle.ftp_client_model.specs.declared.client.Replied.TheVariants as Replies
+use Rattle.ftp_pair_breaks.specs.Deeds.{HasRead, HasTaken}
 use Rattle.ftp_pair_breaks.specs.Late.{downloading}
 use Rattle.ftp_pair_breaks.proofs.Late.{judges}
 use Rattle.ftp_pair_deeds.proofs.Plain.{IsPlain, IsPlainBy, IsPlainJob}
@@ -23,6 +24,10 @@ pub record Loads (n : Near) : Type 0 where
   pub decoder : Decoder
   pub mark : Option ℕ
   pub near : n ≡ downloading op replied decoder mark n
+
+-- it has taken what its decoder has read
+pub loads_taken : (n : Near) (l : Loads n) (came : ℕ) → HasRead l.decoder came → HasTaken n.job came
+loads_taken n l came has = subst (λ (v : Near). HasTaken v.job came) (sym l.near) has
 
 -- it stands as before, and wants no close
 pub record Faulted (n u : Near) : Type 0 where

@@ -1,6 +1,6 @@
 -- What is so of a world whose client takes octets of a download: its server has let the link go, or waits for the command, or gives; and while it gives the
 -- client has no final reply.
-use Rattle.std.proofs.Common.{◌≡◌, ◌⊎◌, inl, inr, ℕ, Bool, true, false, true≢false, List, [], ◌∷◌, ◌++◌, None, refl, sym, ap, subst, ◌∙◌}
+use Rattle.std.proofs.Common.{◌≡◌, ◌⊎◌, inl, inr, ℕ, Bool, true, false, true≢false, List, [], ◌∷◌, ◌++◌, length, None, refl, sym, ap, subst, ◌∙◌}
 use Rattle.ftp_client_model.specs.Calls as near
 use Rattle.ftp_client_model.specs.Plan.{count_of}
 use Rattle.ftp_client_model.specs.View.{Job, Transferring, View as Near}
@@ -20,15 +20,16 @@ use Rattle.ftp_server_model.specs.declared.session.Pending.{Pending}
 use Rattle.ftp_server_model.specs.declared.session.Pending.TheVariants as Pendings
 use Rattle.ftp_server_model.specs.declared.session.ServerLink.{ServerLink}
 use Rattle.ftp_server_model.specs.declared.session.ServerLink.TheVariants as Data
-use Rattle.ftp_wire.specs.Decoder.{Decoder, decoder_of, no_octets}
+use Rattle.ftp_wire.specs.Decoder.{Decoder, decoder_of, is_whole, no_octets}
 use Rattle.ftp_endpoint.specs.declared.host.Host.{Host}
 use Rattle.ftp_pair_world.specs.Agreement.{Order, Single}
 use Rattle.ftp_pair_world.specs.Events.{ControlToClient, is_closed_by_near, pushed}
 use Rattle.ftp_pair_world.specs.Outcome.{mark_in}
-use Rattle.ftp_pair_world.specs.World.{Mark, Opened, Stands, World}
-use Rattle.ftp_pair_dialogues.specs.Fetches.{Ask, Direction, Down, IsAsk, Rise, Up, busy, carrying, linked}
-use Rattle.ftp_pair_dialogues.specs.Stage.{Answering, Way, calm}
-use Rattle.ftp_pair_agreement.specs.Cut.{Fits, FlowsRow, PlacedAt, world_at}
+use Rattle.ftp_pair_world.specs.World.{Mark, Opened, Stands, World, counted}
+use Rattle.ftp_pair_dialogues.specs.Fetches.{Ask, Direction, Down, HasAnswer, IsAsk, Rise, Up, busy, carrying, linked}
+use Rattle.ftp_pair_dialogues.specs.Dialogue.{IsSound}
+use Rattle.ftp_pair_dialogues.specs.Stage.{Answering, Asking, Way, calm}
+use Rattle.ftp_pair_agreement.specs.Cut.{Cut, Fits, FlowsRow, PlacedAt, world_at}
 use Rattle.ftp_pair_agreement.specs.Follows.{Phase}
 use Rattle.ftp_pair_agreement.specs.Over.{OverRuns}
 use Rattle.ftp_pair_agreement.specs.Rising.{Closing, Declined, Lift, Offered, Risen, Rising, Settled, Shut, Unjoined, Vanished, held, lift_passes}
@@ -44,7 +45,9 @@ use Rattle.ftp_pair_deeds.proofs.Holding.{both}
 use Rattle.ftp_pair_transfers.proofs.Known.{AreCarried, aside_rests, is_giving, is_ready, last_carried}
 use Rattle.ftp_pair_transfers.proofs.Running.{not_trailing}
 use Rattle.ftp_pair_deeds.proofs.Plain.{IsPlainJob}
+use Rattle.ftp_pair_breaks.specs.Deeds.{HasRead}
 use Rattle.ftp_pair_breaks.specs.Late.{downloading}
+use Rattle.ftp_pair_breaks.proofs.Counting.{answered_whole, front_read}
 use Rattle.ftp_pair_breaks.proofs.Faults.{Loads}
 use Rattle.ftp_pair_breaks.proofs.Unsent.{AskAll, Unsent, all_carried, last_all, not_halting}
 
@@ -55,9 +58,10 @@ abbrev pub is_final : Replied → Bool
 is_final (Replies.Final code) = true
 is_final replied = false
 
--- a client takes octets of a download, and the server has let the link go, or has not heard the command, or gives
+-- a client takes octets of a download, as many as the world counts, and the server has let the link go, or has not heard the command, or gives
 pub record Feeding (w : World) : Type 0 where
   pub loads : Loads w.near
+  pub read : HasRead loads.decoder w.came
   pub far : (w.far.session.connection ≡ Data.Free) ⊎ ((is_final loads.replied ≡ false)
       × ((is_giving w.far.session.connection ≡ true) ⊎ ((w.far.session.connection ≡ Data.Ready) × (w.control_to_client ≡ []))))
 
@@ -65,6 +69,7 @@ pub record Feeding (w : World) : Type 0 where
 -- front, and the rest is on its way, or it heard it; nothing goes to the server
 pub record Gives (w : World) : Type 0 where
   pub loads : Loads w.near
+  pub read : HasRead loads.decoder w.came
   pub unfinal : is_final loads.replied ≡ false
   pub begun : Bool
   pub base : Near
@@ -94,7 +99,12 @@ gives_giving : (listed : Bool) (course : Course) (begun : Bool) (octet : ℕ) (m
 gives_giving true course begun octet more is = ap (λ c. is_giving (far_link (gives_on true c) (tie_of c))) is
 gives_giving false course begun octet more is = ap (λ c. is_giving (far_link (gives_on false c) (tie_of c))) is
 
-module _ (read : Reading) (state : State) (ask : Ask) (good : IsAsk ask) (all : count_of ask.op ≡ None) (own : List Mark) where
+module _ (read : Reading) (state : State) (ask : Ask) (good : IsAsk ask) (sound : IsSound state) (all : count_of ask.op ≡ None) (own : List Mark) where
+  -- its text is whole
+  whole_text : HasAnswer ask → state.known ≡ true → ask.why state ≡ None → is_whole (decoder_of ask.settings (ask.wire state)) ≡ true
+  whole_text answers known none =
+      answered_whole ask.op all (decoder_of ask.settings (ask.wire state)) (ask.said state) (λ mark. answers.whole state mark sound known none)
+
   abbrev At : Way → World → Type 0
   At way b = AtFetch state ask read own way b
 
@@ -105,6 +115,20 @@ module _ (read : Reading) (state : State) (ask : Ask) (good : IsAsk ask) (all : 
     link_is : (link : ServerLink Transfer) (closing : Bool) (pending : Pending Names) → s.base.far.session ≡ linked link closing pending s.base.far.session
         → w.far.session.connection ≡ link
     link_is link closing pending is = ap (λ v. v.connection) (of.session ∙ is)
+
+    -- what came is read
+    came_read : (came : List ℕ) → s.base.came ≡ counted (length came) → HasRead (decoder_of ask.settings came) (counted (length came))
+        → HasRead (decoder_of ask.settings came) w.came
+    came_read came counts has = subst (HasRead (decoder_of ask.settings came)) (sym (came_in s.way s.cut s.is ∙ counts)) has
+      where
+        came_in : (way : Way) (cut : Cut) → w ≡ world_at s.base way cut → w.came ≡ s.base.came
+        came_in (Asking text) cut is = ap (λ (u : World). u.came) is
+        came_in (Answering replies) cut is = ap (λ (u : World). u.came) is
+
+    -- none came
+    none_read : (came : List ℕ) → s.base.came ≡ counted (length came) → came ≡ [] → HasRead (decoder_of ask.settings came) w.came
+    none_read came counts none =
+        came_read came counts (subst (λ c. HasRead (decoder_of ask.settings c) (counted (length c))) (sym none) (_, refl))
 
     -- a client that takes octets feeds so
     stage_feeds : IsLasting state ask read own s.way s.base s.here → near.wants w.near ≡ Want.Receive → Feeding w
@@ -129,6 +153,8 @@ module _ (read : Reading) (state : State) (ask : Ask) (good : IsAsk ask) (all : 
             mark = _;
             near = near_form s.base w of _ _ h.near;
           };
+          read = came_read came h.came
+              (front_read ask.settings came (queue ++ octet ∷ more) (ask.wire state) h.fine.1 (whole_text h.fine.0.2 h.ready.1 h.fine.0.0));
           far = inr (
             begun_unfinal begun,
             inl (ap is_giving (link_is _ _ _ h.session) ∙ gives_giving ask.listed (Giving begun octet more) begun octet more refl),
@@ -136,6 +162,8 @@ module _ (read : Reading) (state : State) (ask : Ask) (good : IsAsk ask) (all : 
         }
         by_course (Given heard true) came queue h lasts = record {
           loads = record { op = ask.op; all = all; replied = replied_of heard; decoder = _; mark = _; near = near_form s.base w of _ _ h.near };
+          read = came_read came h.came
+              (front_read ask.settings came queue (ask.wire state) h.fine.1 (whole_text h.fine.0.2 h.ready.1 h.fine.0.0));
           far = inl (link_is _ _ _ h.session);
         }
         by_course (Given heard false) came queue h lasts = absurd (true≢false lasts)
@@ -144,6 +172,7 @@ module _ (read : Reading) (state : State) (ask : Ask) (good : IsAsk ask) (all : 
         by_course (Refusing why Unclosed) came queue h lasts = absurd (true≢false lasts)
         by_course (Refusing why Closed) came queue h lasts = record {
           loads = record { op = ask.op; all = all; replied = Replies.Nothing; decoder = _; mark = _; near = near_form s.base w of _ _ h.near };
+          read = none_read came h.came h.fine.1.0;
           far = inl (link_is _ _ _ h.session);
         }
         by_course (Refusing why (Lost clean)) came queue h lasts = never _ _ h.near refl
@@ -177,6 +206,7 @@ module _ (read : Reading) (state : State) (ask : Ask) (good : IsAsk ask) (all : 
                 mark = _;
                 near = near_form s.base w of (job_by Down) NearData.Open (h.near ∙ ap (λ d. busy (job_by d) NearData.Open s.base.near) is);
               };
+              read = none_read [] h.came refl;
               far = inr (
                 refl,
                 inr (
@@ -240,6 +270,8 @@ module _ (read : Reading) (state : State) (ask : Ask) (good : IsAsk ask) (all : 
                 mark = mark_in (no_octets ask.settings) None came;
                 near = near_form s.base w of _ _ h.near;
               };
+              read = came_read came h.came
+                  (front_read ask.settings came (queue ++ octet ∷ more) (ask.wire state) h.fine.1 (whole_text h.fine.0.2 h.ready.1 h.fine.0.0));
               unfinal = begun_unfinal begun;
               begun = begun;
               base = s.base.near;
@@ -321,7 +353,7 @@ module _ (read : Reading) (reads : IsReading read) (from : State) (begun : List 
       by (inl (inl f)) = by_phase f.phase
       by (inl (inr (inl on))) =
           let f = on.fetching in
-          stage_feeds read f.now f.ask f.is_ask (under_all f.done f.ask f.moment f.begun_is) f.own w f.stands on.lasts wants
+          stage_feeds read f.now f.ask f.is_ask f.sound (under_all f.done f.ask f.moment f.begun_is) f.own w f.stands on.lasts wants
       by (inl (inr (inr (inl trailing)))) = absurd (not_trailing read reads from begun carried w unready trailing)
       by (inl (inr (inr (inr halting)))) =
           let h = halting.halting in
@@ -335,7 +367,7 @@ module _ (read : Reading) (reads : IsReading read) (from : State) (begun : List 
     new = pushed read ControlToClient count w
 
     fetching_gives : IsFetching read from begun new → Gives new
-    fetching_gives f = stage_gives read f.now f.ask f.is_ask (under_all f.done f.ask f.moment f.begun_is) f.own new f.stands gives
+    fetching_gives f = stage_gives read f.now f.ask f.is_ask f.sound (under_all f.done f.ask f.moment f.begun_is) f.own new f.stands gives
 
     pub pushed_gives : IsPlainJob Unsent new.near.job → Gives new
     pushed_gives then_unsent = by runs

@@ -30,6 +30,7 @@ use Rattle.ftp_pair_transfers.proofs.Called.{BreaksNone}
 use Rattle.ftp_pair_transfers.proofs.Known.{AreCarried}
 use Rattle.ftp_pair_breaks.specs.Deeds.{ClientSuffers, Marks}
 use Rattle.ftp_pair_breaks.proofs.Feeding.{Gives}
+use Rattle.ftp_pair_breaks.proofs.Lagging.{OfMarks, Then}
 use Rattle.ftp_pair_breaks.proofs.Preceding.{Precedes, behind, gives_now, nothing_rises, steady, steady_here, steady_now, unaware, whole_now}
 use Rattle.ftp_pair_breaks.proofs.Rows.{Steady}
 use Rattle.ftp_pair_breaks.proofs.Steps.{Again, client_step, idle_again}
@@ -41,11 +42,12 @@ is_receive Want.Receive = true
 is_receive wants = false
 
 module _ (read : Reading) (reads : IsReading read) (moments : ℕ → ℕ) (timed : AreMoments moments) (b : Beginning) (fair : IsFair b) where
-  abbrev P : (deeds : List (Deed client_side)) (between : Between) (count : ℕ) (server : Stand server_side) (client : Stand client_side) → Type 0
-  P deeds between count server client = Precedes read reads moments timed b fair deeds between count server client
+  abbrev P : (Are : OfMarks) (deeds : List (Deed client_side)) (between : Between) (count : ℕ) (server : Stand server_side)
+      (client : Stand client_side) → Type 0
+  P Are deeds between count server client = Precedes read reads moments timed b fair Are deeds between count server client
 
-  module _ (deeds : List (Deed client_side)) (puts : AskAll (begun_at moments deeds)) (between : Between) (count : ℕ) (server : Stand server_side)
-      (client : Stand client_side) (p : P deeds between count server client) where
+  module _ {Are : OfMarks} (deeds : List (Deed client_side)) (puts : AskAll (begun_at moments deeds)) (between : Between) (count : ℕ)
+      (server : Stand server_side) (client : Stand client_side) (p : P Are deeds between count server client) where
     abbrev w : World
     w = p.at.world
 
@@ -94,12 +96,13 @@ module _ (read : Reading) (reads : IsReading read) (moments : ℕ → ℕ) (time
     seen_same lane q is = ap (λ x. seen x lane) is
 
     module _ (deed : Deed client_side) (next : Between) (new : Stand client_side) (calm : new.owner.end.refusals ≡ client.owner.end.refusals)
-        (hold : next.far ≡ between.far) (unmarked : (marks : List (List Mark)) → Marks deed marks marks) where
+        (hold : next.far ≡ between.far) (unmarked : (marks : List (List Mark)) → Marks deed client.owner marks marks) where
       -- it goes on, where a step of one that heard nothing of it is known
       goes_on : (view : Near) (queue heard : List ℕ)
           → Again read reads moments timed b fair (deed ∷ deeds) (behind next) count p.were (unaware p.refusals view queue new.owner.lane) w.marks
           → IsPlainBy Unsent view → new.owner.end.view ≡ hears view heard
-          → queue ++ p.said ≡ heard ++ (new.unheard ++ next.control.to_client) → (heard ≡ []) ⊎ (queue ≡ []) → P (deed ∷ deeds) next count server new
+          → queue ++ p.said ≡ heard ++ (new.unheard ++ next.control.to_client) → (heard ≡ []) ⊎ (queue ≡ [])
+          → P (Then deed client.owner Are) (deed ∷ deeds) next count server new
       goes_on view queue heard got unsent is split late = record {
         were = p.were;
         sends = p.sends;
@@ -141,7 +144,7 @@ module _ (read : Reading) (reads : IsReading read) (moments : ℕ → ℕ) (time
       -- it holds the same
       stays : new.owner.end.view ≡ c → new.owner.lane ≡ client.owner.lane → behind next ≡ behind between
           → new.unheard ++ next.control.to_client ≡ client.unheard ++ between.control.to_client
-          → begun_by (moments (number_in deeds)) deed ≡ [] → reported_by deed ≡ [] → P (deed ∷ deeds) next count server new
+          → begun_by (moments (number_in deeds)) deed ≡ [] → reported_by deed ≡ [] → P (Then deed client.owner Are) (deed ∷ deeds) next count server new
       stays view lane same queue begins reports =
           goes_on n p.queue p.heard (idles lane same begins reports) p.unsent (view ∙ p.view) (p.split ∙ ap (λ o. p.heard ++ o) (sym queue)) p.late
 
@@ -169,7 +172,8 @@ module _ (read : Reading) (reads : IsReading read) (moments : ℕ → ℕ) (time
 
       -- one that heard nothing of what was said since hears the first ones
       hears_front : (front queue heard : List ℕ) → p.queue ≡ front ++ queue → p.heard ++ octets ≡ front ++ heard
-          → queue ++ p.said ≡ heard ++ rest → (heard ≡ []) ⊎ (queue ≡ []) → P (Heard octets ∷ deeds) next count server new
+          → queue ++ p.said ≡ heard ++ rest → (heard ≡ []) ⊎ (queue ≡ []) → P (Then (Heard octets) client.owner Are)
+          (Heard octets ∷ deeds) next count server new
       hears_front front queue heard is both_are split late =
           let then_view : Near = hears n front in
           let then_stand : Stand client_side = unaware p.refusals then_view queue client.owner.lane in
@@ -198,7 +202,7 @@ module _ (read : Reading) (reads : IsReading read) (moments : ℕ → ℕ) (time
           (hears_plain Unsent unsent_kept front n p.unsent)
           (view_now ∙ ap (hears n) both_are ∙ in_pieces n front heard) split late
 
-      heard_on : P (Heard octets ∷ deeds) next count server new
+      heard_on : P (Then (Heard octets) client.owner Are) (Heard octets ∷ deeds) next count server new
       heard_on = elim p.late [
         | inr empty ↦
             hears_front [] p.queue (p.heard ++ octets) refl refl (split_now ∙ sym (append_assoc p.heard octets rest)) (inr empty)
@@ -214,7 +218,8 @@ module _ (read : Reading) (reads : IsReading read) (moments : ℕ → ℕ) (time
     -- ---- it takes octets
 
     takes_on : (octets : List ℕ) (some : ℕ) (next : Between) (new : Stand client_side) → new.owner.end.refusals ≡ client.owner.end.refusals
-        → next ≡ between → Calls {side = client_side} (Received octets some) client new → P (Other (Received octets some) ∷ deeds) next count server new
+        → next ≡ between → Calls {side = client_side} (Received octets some) client new → P (Then (Other (Received octets some)) client.owner Are)
+        (Other (Received octets some) ∷ deeds) next count server new
     takes_on octets some next new calm can did =
         let came : List ℕ = take some octets in
         let then_view : Near = receives n came in
@@ -246,7 +251,8 @@ module _ (read : Reading) (reads : IsReading read) (moments : ℕ → ℕ) (time
     -- ---- it says nothing
 
     says_on : (octets : List ℕ) (next : Between) (new : Stand client_side) → new.owner.end.refusals ≡ client.owner.end.refusals
-        → CanTurn (ByClient (Says octets)) between next → SaysNext octets client new → P (Says octets ∷ deeds) next count server new
+        → CanTurn (ByClient (Says octets)) between next → SaysNext octets client new → P (Then (Says octets) client.owner Are)
+        (Says octets ∷ deeds) next count server new
     says_on octets next new calm can did =
         let owes : c.owed ≡ [] = steady_owes g.loads.op g.loads.all g.loads.decoder g.loads.mark c now in
         let none : octets ≡ [] = did.gives.owed ∙ ap (take did.gives.count) owes ∙ take-nil did.gives.count in
@@ -277,7 +283,7 @@ module _ (read : Reading) (reads : IsReading read) (moments : ℕ → ℕ) (time
     -- ---- each deed but that it is told
 
     pub follows : (deed : Deed client_side) → BreaksNone deed → (next : Between) (new : Stand client_side) → ClientSuffers deed client.owner new.owner
-        → CanTurn (ByClient deed) between next → Done deed client new → P (deed ∷ deeds) next count server new
+        → CanTurn (ByClient deed) between next → Done deed client new → P (Then deed client.owner Are) (deed ∷ deeds) next count server new
     follows (Heard octets) unbroken next new is can did = heard_on octets next new is.1 can did
     follows (Says octets) unbroken next new is can did = says_on octets next new is.1 can did
     follows (Read octets) unbroken next new is can did =

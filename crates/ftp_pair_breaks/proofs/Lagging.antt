@@ -35,13 +35,13 @@ use Rattle.ftp_pair_transfers.proofs.ClientTaking.{taking_is}
 use Rattle.ftp_pair_transfers.specs.Refusals.{ClientTries}
 use Rattle.ftp_pair_transfers.proofs.Known.{AreCarried, is_giving}
 use Rattle.ftp_pair_transfers.proofs.Simulating.{asks, known, runs}
-use Rattle.ftp_pair_breaks.specs.Deeds.{AreMarks, ClientSuffers, Marks}
+use Rattle.ftp_pair_breaks.specs.Deeds.{ClientSuffers, HasTaken, Marks}
 use Rattle.ftp_pair_breaks.proofs.ClientBroken.{broken_plain, broken_sound, client_broken}
-use Rattle.ftp_pair_breaks.proofs.Faults.{Loads, faulted_plain}
+use Rattle.ftp_pair_breaks.proofs.Faults.{Loads, faulted_plain, loads_taken}
 use Rattle.ftp_pair_breaks.proofs.Feeding.{Feeding, is_final, pushed_gives, world_feeds}
 use Rattle.ftp_pair_breaks.proofs.Steps.{Again, At, client_step, idle_again, same_again}
 use Rattle.ftp_pair_breaks.proofs.Unsent.{AskAll, Unsent, all_carried, reset_fresh, unsent_kept}
-use Rattle.ftp_pair_breaks.proofs.Untold.{Loading, fault_told, loading_of, loading_says, loading_wants, loads_of, told, told_busy, told_closed, told_hears, told_may, told_none, told_reports, told_wants}
+use Rattle.ftp_pair_breaks.proofs.Untold.{Loading, fault_told, hears_taken, loading_of, loading_says, loading_wants, loads_of, told, told_busy, told_closed, told_hears, told_may, told_none, told_reports, told_wants}
 
 -- a read or a write of it failed, and its end was not told
 abbrev pub is_failed : Fate → Bool
@@ -90,6 +90,14 @@ left_over {old} {new} asked left = record {
   known = ap is_failed left.fate;
 }
 
+-- what is so of marks
+abbrev pub OfMarks : Type 1
+OfMarks = List (List Mark) → Type 0
+
+-- of those that a deed of the client makes
+abbrev pub Then : Deed client_side → Held Client → OfMarks → OfMarks
+Then deed at Are marks = (old : List (List Mark)) × Are old × Marks deed at old marks
+
 abbrev is_nothing : Wants → Bool
 is_nothing Want.Nothing = true
 is_nothing wants = false
@@ -98,16 +106,18 @@ module _ (read : Reading) (reads : IsReading read) (moments : ℕ → ℕ) (time
   abbrev Stands : (deeds : List (Deed client_side)) (between : Between) (count : ℕ) (server : Stand server_side) (client : Stand client_side) → Type 0
   Stands deeds between count server client = At read reads moments timed b fair deeds between count server client
 
-  -- a world is beside both drives, with marks of these deeds
-  pub record Whole (deeds : List (Deed client_side)) (between : Between) (count : ℕ) (server : Stand server_side) (client : Stand client_side) : Type 0 where
+  -- a world is beside both drives, with such marks
+  pub record Whole (Are : OfMarks) (deeds : List (Deed client_side)) (between : Between) (count : ℕ) (server : Stand server_side)
+      (client : Stand client_side) : Type 0 where
     pub at : Stands deeds between count server client
     pub marks : List (List Mark)
-    pub are_marks : AreMarks deeds marks
+    pub are_marks : Are marks
     pub marked : at.world.marks ≡ marks
     pub unsent : IsPlainBy Unsent client.owner.end.view
 
   -- or it is beside one that was not told
-  pub record Lags (deeds : List (Deed client_side)) (between : Between) (count : ℕ) (server : Stand server_side) (client : Stand client_side) : Type 0 where
+  pub record Lags (Are : OfMarks) (deeds : List (Deed client_side)) (between : Between) (count : ℕ) (server : Stand server_side)
+      (client : Stand client_side) : Type 0 where
     pub was : Held Client
     pub at : Stands deeds (unbroken between) count server (beside was client)
     pub loads : Loading was.end.view
@@ -115,8 +125,8 @@ module _ (read : Reading) (reads : IsReading read) (moments : ℕ → ℕ) (time
     pub hold : between.near ≡ Has_lost
     pub lane : Leftover client.owner.lane
     pub marks : List (List Mark)
-    pub are_marks : AreMarks deeds marks
-    pub are_broken : (came : ℕ) → AreMarks deeds (marked_last (Broken came) marks)
+    pub are_marks : Are marks
+    pub are_broken : (came : ℕ) → HasTaken was.end.view.job came → Are (marked_last (Broken came) marks)
     pub marked : at.world.marks ≡ marks
     pub unsent : IsPlainBy Unsent was.end.view
     pub fresh : StaysFresh between client
@@ -136,8 +146,8 @@ module _ (read : Reading) (reads : IsReading read) (moments : ℕ → ℕ) (time
             (subst (λ (v : Near). IsPlainJob Unsent v.job) (sym near_is) unsent.job) (ap near.wants near_is ∙ wants),
       )
 
-  module _ (deeds : List (Deed client_side)) (puts : AskAll (begun_at moments deeds)) (between : Between) (count : ℕ) (server : Stand server_side)
-      (client : Stand client_side) (l : Lags deeds between count server client) where
+  module _ {Are : OfMarks} (deeds : List (Deed client_side)) (puts : AskAll (begun_at moments deeds)) (between : Between) (count : ℕ)
+      (server : Stand server_side) (client : Stand client_side) (l : Lags Are deeds between count server client) where
     carried : AreCarried (begun_at moments deeds)
     carried = all_carried (begun_at moments deeds) puts
 
@@ -155,7 +165,7 @@ module _ (read : Reading) (reads : IsReading read) (moments : ℕ → ℕ) (time
     feeds = (feeding_at deeds puts (unbroken between) count server (beside l.was client) l.at l.unsent (loading_wants n l.loads)).1
 
     -- where it has let it go the world's client is told
-    pub leaves : w.far.session.connection ≡ Data.Free → Whole deeds between count server client
+    pub leaves : w.far.session.connection ≡ Data.Free → Whole Are deeds between count server client
     leaves free =
         let begun = begun_at moments deeds in
         let old = beside l.was client in
@@ -173,10 +183,11 @@ module _ (read : Reading) (reads : IsReading read) (moments : ℕ → ℕ) (time
         (broken_plain read begun server old client _ w l.at.serves asks_now l.at.plain known_now l.at.last l.at.ahead (unbroken between) between count
         l.at.together is refl refl refl refl l.lane.dry l.lane.takes l.lane.written free wants loads)
         l.fresh in
+        let taken : HasTaken n.job w.came = subst (λ (v : Near). HasTaken v.job w.came) near_is (loads_taken w.near feeds.loads w.came feeds.read) in
         record {
           at = got.0;
           marks = marked_last (Broken w.came) l.marks;
-          are_marks = l.are_broken w.came;
+          are_marks = l.are_broken w.came taken;
           marked = got.1 ∙ ap (marked_last (Broken w.came)) l.marked;
           unsent = subst (IsPlainBy Unsent) (sym is) (faulted_plain Unsent n loads l.unsent);
         }
@@ -197,9 +208,10 @@ module _ (read : Reading) (reads : IsReading read) (moments : ℕ → ℕ) (time
       -- so it lags on, where a step of one that was not told is known
       lags_on : (was : Held Client) → Again read reads moments timed b fair (deed ∷ deeds) (unbroken next) count server (beside was new) w.marks
           → Loading was.end.view → new.owner.end.view ≡ told was.end.view → next.near ≡ Has_lost → Leftover new.owner.lane
-          → ((marks : List (List Mark)) → Marks deed marks marks) → IsPlainBy Unsent was.end.view → StaysFresh next new
-          → Lags (deed ∷ deeds) next count server new
-      lags_on was got loads view hold lane none unsent fresh = record {
+          → ((marks : List (List Mark)) → Marks deed client.owner marks marks)
+          → ((came : ℕ) → HasTaken was.end.view.job came → HasTaken n.job came) → IsPlainBy Unsent was.end.view → StaysFresh next new
+          → Lags (Then deed client.owner Are) (deed ∷ deeds) next count server new
+      lags_on was got loads view hold lane none back unsent fresh = record {
         was = was;
         at = got.0;
         loads = loads;
@@ -208,7 +220,7 @@ module _ (read : Reading) (reads : IsReading read) (moments : ℕ → ℕ) (time
         lane = lane;
         marks = l.marks;
         are_marks = (l.marks, l.are_marks, none l.marks);
-        are_broken = λ came. (marked_last (Broken came) l.marks, l.are_broken came, none (marked_last (Broken came) l.marks));
+        are_broken = λ came has. (marked_last (Broken came) l.marks, l.are_broken came (back came has), none (marked_last (Broken came) l.marks));
         marked = got.1 ∙ l.marked;
         unsent = unsent;
         fresh = fresh;
@@ -233,7 +245,7 @@ module _ (read : Reading) (reads : IsReading read) (moments : ℕ → ℕ) (time
     -- octets are said
     says_on : (octets : List ℕ) (next : Between) (new : Stand client_side) → ClientIsCalm client.owner new.owner
         → CanTurn (ByClient (Says octets)) between next → SaysNext octets client new
-        → Lags (Says octets ∷ deeds) next count server new
+        → Lags (Then (Says octets) client.owner Are) (Says octets ∷ deeds) next count server new
     says_on octets next new calm can did =
         let said : ℕ = did.gives.count in
         let was : Held Client = viewed (gives_control said n) l.was in
@@ -253,13 +265,13 @@ module _ (read : Reading) (reads : IsReading read) (moments : ℕ → ℕ) (time
         (unbroken next) (ap unbroken can) count server l.at done)
         (loading_says n said l.loads) (did.gives.gave.0 ∙ ap (gives_control said) l.view) (ap (λ (m : Between). m.near) can ∙ l.hold)
         (leftover_as client.owner.lane new.owner.lane l.lane (ap (λ (x : Lane). x.stands) did.gives.lane) (ap (λ (x : Lane). x.fate) did.gives.lane)
-        (ap (λ (x : Lane). x.untold) did.gives.lane) (ap (λ (x : Lane). x.unwritten) did.gives.lane)) (λ marks. refl)
+        (ap (λ (x : Lane). x.untold) did.gives.lane) (ap (λ (x : Lane). x.unwritten) did.gives.lane)) (λ marks. refl) (λ came has. has)
         (record { job = l.unsent.job; port = l.unsent.port; run = l.unsent.run }) (stays (Says octets) next new can tt (tt, calm) did)
 
     -- octets are read
     reads_on : (octets : List ℕ) (next : Between) (new : Stand client_side) → ClientIsCalm client.owner new.owner
         → CanTurn (ByClient (Read octets)) between next → ReadsNext octets client new
-        → Lags (Read octets ∷ deeds) next count server new
+        → Lags (Then (Read octets) client.owner Are) (Read octets ∷ deeds) next count server new
     reads_on octets next new calm can did =
         let done : ReadsNext octets (beside l.was client) (beside l.was new) = record {
           due = (sym (ap (λ (v : Near). v.owed) l.view) ∙ did.due.0, λ e. absurd (true≢false (sym e)));
@@ -275,13 +287,13 @@ module _ (read : Reading) (reads : IsReading read) (moments : ℕ → ℕ) (time
         (unbroken next) (can.0, ap unbroken can.1) count server l.at done)
         l.loads (ap (λ o. o.end.view) did.owner ∙ l.view) (ap (λ (m : Between). m.near) can.1 ∙ l.hold)
         (leftover_as client.owner.lane new.owner.lane l.lane (ap (λ o. o.lane.stands) did.owner) (ap (λ o. o.lane.fate) did.owner)
-        (ap (λ o. o.lane.untold) did.owner) (ap (λ o. o.lane.unwritten) did.owner)) (λ marks. refl) l.unsent
+        (ap (λ o. o.lane.untold) did.owner) (ap (λ o. o.lane.unwritten) did.owner)) (λ marks. refl) (λ came has. has) l.unsent
         (stays (Read octets) next new can tt (tt, calm) did)
 
     -- octets are heard, of one that then takes octets still
     heard_on : (octets : List ℕ) (next : Between) (new : Stand client_side) → ClientIsCalm client.owner new.owner
         → CanTurn (ByClient (Heard octets)) between next → HearsNext octets client new → Loading (hears n octets)
-        → Lags (Heard octets ∷ deeds) next count server new
+        → Lags (Then (Heard octets) client.owner Are) (Heard octets ∷ deeds) next count server new
     heard_on octets next new calm can did then_loads =
         let was : Held Client = record { end = record l.was.end { view = hears n octets }; lane = seen (near.wants n) l.was.lane } in
         let first : take (length octets) client.unheard ≡ octets = ap (take (length octets)) did.next ∙ take_front octets new.unheard in
@@ -308,7 +320,7 @@ module _ (read : Reading) (reads : IsReading read) (moments : ℕ → ℕ) (time
         ((did.hears.0.0.0 calm).0 ∙ ap (hears client.owner.end.view) first ∙ ap (λ v. hears v octets) l.view ∙ told_hears n l.loads octets then_loads)
         (ap (λ (m : Between). m.near) can ∙ l.hold)
         (leftover_as client.owner.lane new.owner.lane l.lane (ap (λ (x : Lane). x.stands) did.hears.1) (ap (λ (x : Lane). x.fate) did.hears.1)
-        (ap (λ (x : Lane). x.untold) did.hears.1) (ap (λ (x : Lane). x.unwritten) did.hears.1)) (λ marks. refl)
+        (ap (λ (x : Lane). x.untold) did.hears.1) (ap (λ (x : Lane). x.unwritten) did.hears.1)) (λ marks. refl) (hears_taken n l.loads octets then_loads)
         (hears_plain Unsent unsent_kept octets n l.unsent) (stays (Heard octets) next new can tt (tt, calm) did)
 
     -- while the server has not let it go
@@ -339,7 +351,7 @@ module _ (read : Reading) (reads : IsReading read) (moments : ℕ → ℕ) (time
 
     -- a deed of one that was told
     pub lag_step : (deed : Deed client_side) (next : Between) (new : Stand client_side) → ClientSuffers deed client.owner new.owner
-        → CanTurn (ByClient deed) between next → Done deed client new → Going → Lags (deed ∷ deeds) next count server new
+        → CanTurn (ByClient deed) between next → Done deed client new → Going → Lags (Then deed client.owner Are) (deed ∷ deeds) next count server new
     lag_step (Heard octets) next new is can did going = heard_on octets next new is.1 can did (loads_then octets new.unheard did.next going)
     lag_step (Says octets) next new is can did going = says_on octets next new is.1 can did
     lag_step (Read octets) next new is can did going = reads_on octets next new is.1 can did
@@ -347,7 +359,7 @@ module _ (read : Reading) (reads : IsReading read) (moments : ℕ → ℕ) (time
         lags_on (Other (Aside (Reporting None))) next new can l.was
         (idles_on (Other (Aside (Reporting None))) next new can (ap (beside l.was) did.1) (ap unbroken can) refl refl) l.loads
         (did.0.0.1.0 ∙ ap near.reports l.view ∙ told_reports n l.loads) (ap (λ (m : Between). m.near) can ∙ l.hold)
-        (subst Leftover (sym did.0.1) l.lane) (λ marks. refl) l.unsent (stays (Other (Aside (Reporting None))) next new can tt (tt, is.1) did)
+        (subst Leftover (sym did.0.1) l.lane) (λ marks. refl) (λ came has. has) l.unsent (stays (Other (Aside (Reporting None))) next new can tt (tt, is.1) did)
     lag_step (Other (Aside (Reporting (Some said)))) next new is can did going =
         absurd (some_none (did.0.0.0 ∙ ap report_of l.view ∙ told_none n l.loads))
       where
@@ -380,21 +392,21 @@ module _ (read : Reading) (reads : IsReading read) (moments : ℕ → ℕ) (time
           };
           written = ap (λ (x : Lane). x.unwritten) lane ∙ l.lane.written;
           known = ap (λ (x : Lane). is_failed x.fate) lane ∙ l.lane.known;
-        }) (λ marks. refl) l.unsent (stays (Other (LetGo octets)) next new can tt (tt, is.1) did)
+        }) (λ marks. refl) (λ came has. has) l.unsent (stays (Other (LetGo octets)) next new can tt (tt, is.1) did)
     lag_step (Other (Left (EndedBy left written))) next new is can did going = absurd (true≢false (ap is_had (sym can.0 ∙ l.hold)))
     lag_step (Other (Left (Reset left written))) next new is can did going =
         lags_on (Other (Left (Reset left written))) next new can l.was
         (idles_on (Other (Left (Reset left written))) next new can (ap (beside l.was) did.1) (ap unbroken can.1) refl refl) l.loads
-        (ap (λ c. c.view) did.0.0 ∙ l.view) (ap (λ (m : Between). m.near) can.1) (left_over (Reset left written) did.0.1) (λ marks. refl)
+        (ap (λ c. c.view) did.0.0 ∙ l.view) (ap (λ (m : Between). m.near) can.1) (left_over (Reset left written) did.0.1) (λ marks. refl) (λ came has. has)
         l.unsent (reset_fresh client new between next left written l.fresh did can)
     lag_step (Other (Left Shut)) next new is can did going =
         lags_on (Other (Left Shut)) next new can l.was (idles_on (Other (Left Shut)) next new can (ap (beside l.was) did.1) (ap unbroken can) refl refl) l.loads
-        (ap (λ c. c.view) did.0.0 ∙ l.view) (ap (λ (m : Between). m.near) can ∙ l.hold) (left_over Shut did.0.1) (λ marks. refl)
+        (ap (λ c. c.view) did.0.0 ∙ l.view) (ap (λ (m : Between). m.near) can ∙ l.hold) (left_over Shut did.0.1) (λ marks. refl) (λ came has. has)
         l.unsent (stays (Other (Left Shut)) next new can tt (tt, is.1) did)
     lag_step (Other Closed) next new is can did going =
         lags_on (Other Closed) next new can l.was (idles_on (Other Closed) next new can (ap (beside l.was) did.1) (ap unbroken can) refl refl) l.loads
         (did.0.0.0 ∙ ap data_closed l.view ∙ told_closed n l.loads) (ap (λ (m : Between). m.near) can ∙ l.hold)
-        (subst Leftover (sym did.0.1.0) l.lane) (λ marks. refl) l.unsent (stays (Other Closed) next new can tt (tt, is.1) did)
+        (subst Leftover (sym did.0.1.0) l.lane) (λ marks. refl) (λ came has. has) l.unsent (stays (Other Closed) next new can tt (tt, is.1) did)
     lag_step (Other Failed) next new is can did going = absurd (dry_shut client.owner.lane l.lane did.0.1.1)
     lag_step (Other Break) next new is can did going = absurd (both (ap is_failed is.0.0) l.lane.known)
     lag_step deed next new is can did going = absurd is.0

@@ -1,4 +1,5 @@
 pub mod Late
+pub mod Counting
 pub mod Faults
 pub mod Unsent
 pub mod ClientBroken

@@ -30,12 +30,13 @@ use Rattle.ftp_pair_transfers.proofs.Aborting.{given_untaken}
 use Rattle.ftp_pair_transfers.proofs.Beside.{is_taking, open_takes}
 use Rattle.ftp_pair_transfers.proofs.Known.{is_near_held}
 use Rattle.ftp_pair_transfers.proofs.Simulating.{known, runs}
-use Rattle.ftp_pair_breaks.specs.Deeds.{AreMarks, ServerYields}
+use Rattle.ftp_pair_breaks.specs.Deeds.{ServerYields}
 use Rattle.ftp_pair_breaks.proofs.Faults.{Loads}
 use Rattle.ftp_pair_breaks.proofs.BothBroken.{broke, level, sends_far}
 use Rattle.ftp_pair_breaks.proofs.Drained.{dry, unless_broken}
 use Rattle.ftp_pair_breaks.proofs.Failing.{closes}
 use Rattle.ftp_pair_breaks.proofs.Feeding.{Gives, pushed_gives}
+use Rattle.ftp_pair_breaks.proofs.Lagging.{OfMarks}
 use Rattle.ftp_pair_breaks.proofs.Rows.{Steady, breaking, gives_heard}
 use Rattle.ftp_pair_breaks.proofs.Steps.{At}
 use Rattle.ftp_pair_breaks.proofs.Unaware.{taken_loads}
@@ -109,7 +110,8 @@ module _ (read : Reading) (reads : IsReading read) (moments : ℕ → ℕ) (time
         by false is = absurd (both (ap is_near_held gives_at.link) (o.together.keeping.over is))
 
   -- the server was told first: a world is beside one that was not, and a client that heard nothing of what the server said since
-  pub record Precedes (deeds : List (Deed client_side)) (between : Between) (count : ℕ) (server : Stand server_side) (client : Stand client_side) : Type 0 where
+  pub record Precedes (Are : OfMarks) (deeds : List (Deed client_side)) (between : Between) (count : ℕ) (server : Stand server_side)
+      (client : Stand client_side) : Type 0 where
     pub were : Stand server_side
     pub sends : far.wants were.owner.end.server.view ≡ Want.Send
     pub refusals : ℕ
@@ -118,7 +120,7 @@ module _ (read : Reading) (reads : IsReading read) (moments : ℕ → ℕ) (time
     pub at : Stands deeds (behind between) count were (unaware refusals near queue client.owner.lane)
     pub unsent : IsPlainBy Unsent near
     pub marks : List (List Mark)
-    pub are_marks : AreMarks deeds marks
+    pub are_marks : Are marks
     pub marked : at.world.marks ≡ marks
     -- the server
     pub said : List ℕ
@@ -138,8 +140,8 @@ module _ (read : Reading) (reads : IsReading read) (moments : ℕ → ℕ) (time
     pub split : queue ++ said ≡ heard ++ (client.unheard ++ between.control.to_client)
     pub late : (heard ≡ []) ⊎ (queue ≡ [])
 
-  module _ (deeds : List (Deed client_side)) (puts : AskAll (begun_at moments deeds)) (between : Between) (count : ℕ) (server : Stand server_side)
-      (client : Stand client_side) (p : Precedes deeds between count server client) where
+  module _ {Are : OfMarks} (deeds : List (Deed client_side)) (puts : AskAll (begun_at moments deeds)) (between : Between) (count : ℕ)
+      (server : Stand server_side) (client : Stand client_side) (p : Precedes Are deeds between count server client) where
     abbrev pub virtual : Stand client_side
     virtual = unaware p.refusals p.near p.queue client.owner.lane
 
@@ -237,7 +239,7 @@ module _ (read : Reading) (reads : IsReading read) (moments : ℕ → ℕ) (time
       -- the client is as before, and the server may have said more
       on : (said left : List ℕ) → new.owner.end.server.view ≡ record f { owed = left } → p.left ≡ said ++ left → new.unheard ≡ server.unheard
           → new.owner.lane.untold ≡ [] → (dry new.owner.lane).unwritten ≡ [] → is_taking new.owner.lane ≡ false → next.far ≡ Has_lost
-          → behind next ≡ behind between → next.control.to_client ≡ between.control.to_client ++ said → Precedes deeds next count new client
+          → behind next ≡ behind between → next.control.to_client ≡ between.control.to_client ++ said → Precedes Are deeds next count new client
       on said left view more unread untold none shut hold same ways = record {
         were = p.were;
         sends = p.sends;
@@ -274,21 +276,21 @@ module _ (read : Reading) (reads : IsReading read) (moments : ℕ → ℕ) (time
       -- where it says nothing
       stays : new.owner.end.server.view ≡ f → new.unheard ≡ server.unheard → new.owner.lane.untold ≡ [] → (dry new.owner.lane).unwritten ≡ []
           → is_taking new.owner.lane ≡ false → next.far ≡ Has_lost → behind next ≡ behind between → next.control.to_client ≡ between.control.to_client
-          → Precedes deeds next count new client
+          → Precedes Are deeds next count new client
       stays view unread untold none shut hold same ways =
           on [] p.left (view ∙ ap (λ o. record f { owed = o }) (ap (λ (y : Far). y.owed) p.far_is)) refl unread untold none shut hold same
           (ways ∙ sym (append-nil between.control.to_client))
 
       -- and its lane is as before
       idles : new.owner.end.server.view ≡ f → new.unheard ≡ server.unheard → new.owner.lane ≡ server.owner.lane → next ≡ between
-          → Precedes deeds next count new client
+          → Precedes Are deeds next count new client
       idles view unread lane same =
           stays view unread (ap (λ (l : Lane). l.untold) lane ∙ p.untold) (ap (λ (l : Lane). (dry l).unwritten) lane ∙ p.none) (ap is_taking lane ∙ p.shut)
           (ap (λ (m : Between). m.far) same ∙ p.hold) (ap behind same) (ap (λ (m : Between). m.control.to_client) same)
 
       -- octets are said
       says : (octets : List ℕ) → ServerIsCalm server.owner new.owner → CanTurn (ByServer (Says octets)) between next → Done (Says octets) server new
-          → Precedes deeds next count new client
+          → Precedes Are deeds next count new client
       says octets calm can did =
           let lane : new.owner.lane ≡ server.owner.lane = did.gives.lane in
           let some : ℕ = did.gives.count in
@@ -302,7 +304,7 @@ module _ (read : Reading) (reads : IsReading read) (moments : ℕ → ℕ) (time
           (ap (λ (m : Between). m.far) can ∙ p.hold) (ap behind can) (ap (λ (m : Between). m.control.to_client) can)
 
       -- none are read, and none heard
-      reads_none : (octets : List ℕ) → CanTurn (ByServer (Read octets)) between next → Done (Read octets) server new → Precedes deeds next count new client
+      reads_none : (octets : List ℕ) → CanTurn (ByServer (Read octets)) between next → Done (Read octets) server new → Precedes Are deeds next count new client
       reads_none octets can did =
           let empty = both_empty octets next.control.to_server (sym can.0 ∙ quiet.1) in
           let lane : new.owner.lane ≡ server.owner.lane = ap (λ o. o.lane) did.owner in
@@ -312,7 +314,7 @@ module _ (read : Reading) (reads : IsReading read) (moments : ℕ → ℕ) (time
           (ap (λ (m : Between). m.control.to_client) can.1)
 
       hears_none : (octets : List ℕ) → ServerIsCalm server.owner new.owner → next ≡ between → HearsNext octets server new
-          → Precedes deeds next count new client
+          → Precedes Are deeds next count new client
       hears_none octets calm can did =
           let empty = both_empty octets new.unheard (sym did.next ∙ quiet.0) in
           let lane = did.hears.1 in
@@ -324,7 +326,7 @@ module _ (read : Reading) (reads : IsReading read) (moments : ℕ → ℕ) (time
           (ap (λ (m : Between). m.far) can ∙ p.hold) (ap behind can) (ap (λ (m : Between). m.control.to_client) can)
 
       -- what came is let go: there is none
-      lets_go : (octets : List ℕ) → next ≡ between → Calls {side = server_side} (LetGo octets) server new → Precedes deeds next count new client
+      lets_go : (octets : List ℕ) → next ≡ between → Calls {side = server_side} (LetGo octets) server new → Precedes Are deeds next count new client
       lets_go octets can did =
           let lane : new.owner.lane ≡ with_untold new.owner.lane.untold server.owner.lane = did.0.1.1 in
           let empty = both_empty octets new.owner.lane.untold (sym did.0.1.0 ∙ p.untold) in
@@ -334,7 +336,7 @@ module _ (read : Reading) (reads : IsReading read) (moments : ℕ → ℕ) (time
 
       -- it leaves its data connection
       leaves : (asked : Asked) → next.far ≡ Has_lost → behind next ≡ behind between → next.control.to_client ≡ between.control.to_client
-          → Calls {side = server_side} (Left asked) server new → Precedes deeds next count new client
+          → Calls {side = server_side} (Left asked) server new → Precedes Are deeds next count new client
       leaves asked hold same ways did =
           let l : IsLeft asked server.owner.lane new.owner.lane = did.0.1 in
           stays (ap (λ at. at.server.view) did.0.0) (ap (λ (y : Stand server_side). y.unheard) did.1) l.untold (ap₂ unless_broken l.fate l.unwritten)
@@ -346,7 +348,7 @@ module _ (read : Reading) (reads : IsReading read) (moments : ℕ → ℕ) (time
 
     -- each deed of it
     pub precede_server : (deed : Deed server_side) (next : Between) (new : Stand server_side) → ServerYields deed server.owner new.owner
-        → CanTurn (ByServer deed) between next → Done deed server new → Precedes deeds next count new client
+        → CanTurn (ByServer deed) between next → Done deed server new → Precedes Are deeds next count new client
     precede_server (Heard octets) next new is can did = hears_none next new octets is.1 can did
     precede_server (Says octets) next new is can did = says next new octets is.1 can did
     precede_server (Read octets) next new is can did = reads_none next new octets can did

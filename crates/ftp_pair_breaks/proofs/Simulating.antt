@@ -40,15 +40,15 @@ use Rattle.ftp_pair_transfers.proofs.Reaching.{earlier, starts_so}
 use Rattle.ftp_pair_transfers.proofs.Simulating.{asks, known, never}
 use Rattle.ftp_pair_breaks.specs.Claims.{AreSame, BreaksAreOfWorlds, IsClientFirst, IsServerFirst, ReportAlike, SufferingIsOfWorld}
 use Rattle.ftp_server_model.specs.declared.session.ServerLink.TheVariants as Data
-use Rattle.ftp_pair_breaks.specs.Deeds.{AreMarks, ClientSuffers, Marks, ServerYields, SuffersAlong, YieldsAlong}
+use Rattle.ftp_pair_breaks.specs.Deeds.{AreMarks, ClientSuffers, HasTaken, Marks, ServerYields, SuffersAlong, YieldsAlong}
 use Rattle.ftp_pair_breaks.proofs.BothBroken.{broke, broke_step}
 use Rattle.ftp_pair_breaks.proofs.BothTold.{told_after, told_first, told_last}
 use Rattle.ftp_pair_breaks.proofs.ClientBroken.{broken_closing, broken_lane, broken_plain, broken_sound, client_broken, closing_by, closing_plain, closing_sound}
 use Rattle.ftp_pair_breaks.proofs.Drained.{BreaksNot, IsLone, dried, dried_none, dried_step, dried_told}
-use Rattle.ftp_pair_breaks.proofs.Faults.{Loads, faulted_plain}
+use Rattle.ftp_pair_breaks.proofs.Faults.{Loads, faulted_plain, loads_taken}
 use Rattle.ftp_pair_breaks.proofs.Feeding.{Feeding, is_final}
 use Rattle.ftp_pair_breaks.proofs.Following.{follows}
-use Rattle.ftp_pair_breaks.proofs.Lagging.{Lags, Leftover, Whole, beside, feeding_at, feeds, is_failed, lag_step, leaves, unbroken}
+use Rattle.ftp_pair_breaks.proofs.Lagging.{Lags, Leftover, OfMarks, Then, Whole, beside, feeding_at, feeds, is_failed, lag_step, leaves, unbroken}
 use Rattle.ftp_pair_breaks.proofs.Preceding.{Precedes, behind, gives_now, asks_none, precede_server, steady_here, steady_now, unaware}
 use Rattle.ftp_pair_breaks.proofs.Steps.{Again, At, again, client_step, idle_again, server_step, told_late}
 use Rattle.ftp_pair_breaks.proofs.Unaware.{steady_alike}
@@ -78,27 +78,32 @@ none_lost octets m none =
     ap (λ o. with_lost o m) none ∙ ap (λ t. record m { data_ways = record m.data_ways { to_client = t } }) (append-nil m.data_ways.to_client)
 
 module _ (read : Reading) (reads : IsReading read) (moments : ℕ → ℕ) (timed : AreMoments moments) (b : Beginning) (fair : IsFair b) where
-  abbrev pub W : (deeds : List (Deed client_side)) (between : Between) (count : ℕ) (server : Stand server_side) (client : Stand client_side) → Type 0
-  W deeds between count server client = Whole read reads moments timed b fair deeds between count server client
+  abbrev pub W : (Are : OfMarks) (deeds : List (Deed client_side)) (between : Between) (count : ℕ) (server : Stand server_side)
+      (client : Stand client_side) → Type 0
+  W Are deeds between count server client = Whole read reads moments timed b fair Are deeds between count server client
 
-  abbrev pub L : (deeds : List (Deed client_side)) (between : Between) (count : ℕ) (server : Stand server_side) (client : Stand client_side) → Type 0
-  L deeds between count server client = Lags read reads moments timed b fair deeds between count server client
+  abbrev pub L : (Are : OfMarks) (deeds : List (Deed client_side)) (between : Between) (count : ℕ) (server : Stand server_side)
+      (client : Stand client_side) → Type 0
+  L Are deeds between count server client = Lags read reads moments timed b fair Are deeds between count server client
 
-  abbrev pub P : (deeds : List (Deed client_side)) (between : Between) (count : ℕ) (server : Stand server_side) (client : Stand client_side) → Type 0
-  P deeds between count server client = Precedes read reads moments timed b fair deeds between count server client
+  abbrev pub P : (Are : OfMarks) (deeds : List (Deed client_side)) (between : Between) (count : ℕ) (server : Stand server_side)
+      (client : Stand client_side) → Type 0
+  P Are deeds between count server client = Precedes read reads moments timed b fair Are deeds between count server client
 
   -- a world is beside both drives, or beside the server's and a client that was not told of a break
-  abbrev pub Lone : (deeds : List (Deed client_side)) (between : Between) (count : ℕ) (server : Stand server_side) (client : Stand client_side) → Type 0
-  Lone deeds between count server client = W deeds between count server client ⊎ L deeds between count server client
+  abbrev pub Lone : (Are : OfMarks) (deeds : List (Deed client_side)) (between : Between) (count : ℕ) (server : Stand server_side)
+      (client : Stand client_side) → Type 0
+  Lone Are deeds between count server client = W Are deeds between count server client ⊎ L Are deeds between count server client
 
   -- so it is of the server's as if it had nothing unwritten of what it was told that it broke; or the server was told first
-  abbrev pub Suffered : (deeds : List (Deed client_side)) (between : Between) (count : ℕ) (server : Stand server_side) (client : Stand client_side) → Type 0
-  Suffered deeds between count server client = Lone deeds between count (dried server) client ⊎ P deeds between count server client
+  abbrev pub Suffered : (Are : OfMarks) (deeds : List (Deed client_side)) (between : Between) (count : ℕ) (server : Stand server_side)
+      (client : Stand client_side) → Type 0
+  Suffered Are deeds between count server client = Lone Are deeds between count (dried server) client ⊎ P Are deeds between count server client
 
   -- ---- a deed of the client, where a world is beside both
 
-  module _ (deeds : List (Deed client_side)) (puts : AskAll (begun_at moments deeds)) (p q : Between) (count : ℕ) (server : Stand server_side)
-      (old new : Stand client_side) (o : W deeds p count server old) where
+  module _ {Are : OfMarks} (deeds : List (Deed client_side)) (puts : AskAll (begun_at moments deeds)) (p q : Between) (count : ℕ) (server : Stand server_side)
+      (old new : Stand client_side) (o : W Are deeds p count server old) where
     abbrev w : World
     w = o.at.world
 
@@ -115,8 +120,9 @@ module _ (read : Reading) (reads : IsReading read) (moments : ℕ → ℕ) (time
     old_known = known read reads moments timed b fair deeds p count server old _ o.at carried
 
     -- it goes on beside both
-    on : (deed : Deed client_side) (marks : List (List Mark)) → Marks deed o.marks marks → (m : List (List Mark)) → m ≡ marks
-        → Again read reads moments timed b fair (deed ∷ deeds) q count server new m → IsPlainBy Unsent new.owner.end.view → W (deed ∷ deeds) q count server new
+    on : (deed : Deed client_side) (marks : List (List Mark)) → Marks deed old.owner o.marks marks → (m : List (List Mark)) → m ≡ marks
+        → Again read reads moments timed b fair (deed ∷ deeds) q count server new m → IsPlainBy Unsent new.owner.end.view
+        → W (Then deed old.owner Are) (deed ∷ deeds) q count server new
     on deed marks marked m same got unsent =
         record { at = got.0; marks = marks; are_marks = (o.marks, o.are_marks, marked); marked = got.1 ∙ same; unsent = unsent }
 
@@ -133,7 +139,8 @@ module _ (read : Reading) (reads : IsReading read) (moments : ℕ → ℕ) (time
     -- it resets what it has
     resets_on : (left written : Option (List ℕ)) → ClientSuffers (Other (Left (Reset left written))) old.owner new.owner
         → CanTurn (Client (Other (Left (Reset left written)))) p q
-        → Done (Other (Left (Reset left written))) old new → W (Other (Left (Reset left written)) ∷ deeds) q count server new
+        → Done (Other (Left (Reset left written))) old new → W (Then (Other (Left (Reset left written))) old.owner Are)
+        (Other (Left (Reset left written)) ∷ deeds) q count server new
     resets_on left written is can did =
         on (Other (Left (Reset left written))) o.marks refl w.marks o.marked
         (again read reads moments timed b fair (Other (Left (Reset left written))) deeds o.at w.marks q new
@@ -173,7 +180,7 @@ module _ (read : Reading) (reads : IsReading read) (moments : ℕ → ℕ) (time
       faulted_now Kept loads p = subst (IsPlainBy Kept) (sym now_is) (faulted_plain Kept v loads p)
 
       -- as it is to close anyway
-      breaks_closing : v.closing ≡ true → W (Other Break ∷ deeds) q count server new
+      breaks_closing : v.closing ≡ true → W (Then (Other Break) old.owner Are) (Other Break ∷ deeds) q count server new
       breaks_closing closing =
           on (Other Break) o.marks (inl refl) w.marks o.marked
           (again read reads moments timed b fair (Other Break) deeds o.at w.marks q new
@@ -187,13 +194,14 @@ module _ (read : Reading) (reads : IsReading read) (moments : ℕ → ℕ) (time
           o.unsent)
 
       -- as the server has let it go
-      breaks_late : near.wants v ≡ Want.Receive → Loads v → w.far.session.connection ≡ Data.Free → W (Other Break ∷ deeds) q count server new
-      breaks_late wants loads free =
+      breaks_late : HasTaken v.job w.came → near.wants v ≡ Want.Receive → Loads v → w.far.session.connection ≡ Data.Free
+          → W (Then (Other Break) old.owner Are) (Other Break ∷ deeds) q count server new
+      breaks_late taken wants loads free =
           let unheard = ap (λ (y : Stand client_side). y.unheard) did.1 in
           let control = ap (λ (m : Between). m.control) can.1 in
           let hold = ap (λ (m : Between). m.far) can.1 in
           let ways = ap (λ (m : Between). m.data_ways.to_server) can.1 in
-          on (Other Break) (marked_last (Broken w.came) o.marks) (inr (w.came, refl)) (marked_last (Broken w.came) w.marks)
+          on (Other Break) (marked_last (Broken w.came) o.marks) (inr (w.came, taken, refl)) (marked_last (Broken w.came) w.marks)
           (ap (marked_last (Broken w.came)) o.marked)
           (again read reads moments timed b fair (Other Break) deeds o.at (marked_last (Broken w.came) w.marks) q new
           (client_broken read (begun_at moments deeds) server old new (reports_in deeds) w o.at.serves old_asks o.at.plain old_known o.at.last o.at.ahead p q
@@ -205,7 +213,7 @@ module _ (read : Reading) (reads : IsReading read) (moments : ℕ → ℕ) (time
           (broken_fresh (faulted_now Fresh loads))) (faulted_now Unsent loads o.unsent)
 
       -- while the server has not: a world tells its client later
-      breaks_early : Loading v → L (Other Break ∷ deeds) q count server new
+      breaks_early : Loading v → L (Then (Other Break) old.owner Are) (Other Break ∷ deeds) q count server new
       breaks_early loads =
           let whole : unbroken q ≡ p = ap unbroken can.1 ∙ ap (λ h. with_hold TheClient h p) (sym can.0) in
           let same : beside old.owner new ≡ old = ap (beside old.owner) did.1 in
@@ -222,23 +230,24 @@ module _ (read : Reading) (reads : IsReading read) (moments : ℕ → ℕ) (time
             lane = left;
             marks = o.marks;
             are_marks = (o.marks, o.are_marks, inl refl);
-            are_broken = λ came. (o.marks, o.are_marks, inr (came, refl));
+            are_broken = λ came has. (o.marks, o.are_marks, inr (came, has, refl));
             marked = got.1 ∙ o.marked;
             unsent = o.unsent;
             fresh = broken_fresh (faulted_now Fresh (loads_of v loads));
           }
 
-      breaks_on : Lone (Other Break ∷ deeds) q count server new
+      breaks_on : Lone (Then (Other Break) old.owner Are) (Other Break ∷ deeds) q count server new
       breaks_on = elim is.0.2 [
         | inl wants ↦ by wants (feeding_at read reads moments timed b fair deeds puts p count server old o.at o.unsent wants)
         | inr closing ↦ inl (breaks_closing closing)
       ]
         where
-          by : near.wants v ≡ Want.Receive → (w.near ≡ v) × Feeding w → Lone (Other Break ∷ deeds) q count server new
+          by : near.wants v ≡ Want.Receive → (w.near ≡ v) × Feeding w → Lone (Then (Other Break) old.owner Are) (Other Break ∷ deeds) q count server new
           by wants f =
               let there = subst Loads f.0 f.1.loads in
+              let taken : HasTaken v.job w.came = subst (λ (n : Near). HasTaken n.job w.came) f.0 (loads_taken w.near f.1.loads w.came f.1.read) in
               elim f.1.far [
-                | inl free ↦ inl (breaks_late wants there free)
+                | inl free ↦ inl (breaks_late taken wants there free)
                 | inr going ↦
                     let loads = subst (λ (n : Near). (l : Loads n) × (is_final l.replied ≡ false)) f.0 (f.1.loads, going.0) in
                     inr (breaks_early (loading_of v loads.0 loads.1))
@@ -246,14 +255,15 @@ module _ (read : Reading) (reads : IsReading read) (moments : ℕ → ℕ) (time
 
     -- as where none breaks
     pub steps_on : (deed : Deed client_side) → BreaksNone deed → ClientSuffers deed old.owner new.owner → ClientTries deed old.owner new.owner
-        → Marks deed o.marks (marked_by deed o.marks) → CanTurn (Client deed) p q → Done deed old new → W (deed ∷ deeds) q count server new
+        → Marks deed old.owner o.marks (marked_by deed o.marks) → CanTurn (Client deed) p q → Done deed old new
+        → W (Then deed old.owner Are) (deed ∷ deeds) q count server new
     steps_on deed unbroken is tries marks can did =
         on deed (marked_by deed o.marks) marks (marked_by deed w.marks) (ap (marked_by deed) o.marked)
         (client_step read reads moments timed b fair deed unbroken old new tries deeds carried p q can count server o.at did)
         (stays_unsent deed unbroken is did)
 
     whole_step : (deed : Deed client_side) → ClientSuffers deed old.owner new.owner → CanTurn (Client deed) p q → Done deed old new
-        → Lone (deed ∷ deeds) q count server new
+        → Lone (Then deed old.owner Are) (deed ∷ deeds) q count server new
     whole_step (Other (Left (Reset left written))) is can did = inl (resets_on left written is can did)
     whole_step (Other Break) is can did = breaks_on is can did
     whole_step (Other (Aside (Starting op))) is can did = inl (steps_on (Other (Aside (Starting op))) tt is (is.0.0, is.1) refl can did)
@@ -262,11 +272,11 @@ module _ (read : Reading) (reads : IsReading read) (moments : ℕ → ℕ) (time
   -- ---- one after another
 
   -- a deed of the client
-  lone_client : (deed : Deed client_side) (deeds : List (Deed client_side)) → AskAll (begun_at moments deeds) → (p q : Between) (count : ℕ)
-      (server : Stand server_side) (old new : Stand client_side) → Lone deeds p count server old → ClientSuffers deed old.owner new.owner
-      → CanTurn (Client deed) p q → Done deed old new → Lone (deed ∷ deeds) q count server new
-  lone_client deed deeds puts p q count server old new (inl o) is can did = whole_step deeds puts p q count server old new o deed is can did
-  lone_client deed deeds puts p q count server old new (inr l) is can did =
+  lone_client : {Are : OfMarks} (deed : Deed client_side) (deeds : List (Deed client_side)) → AskAll (begun_at moments deeds) → (p q : Between) (count : ℕ)
+      (server : Stand server_side) (old new : Stand client_side) → Lone Are deeds p count server old → ClientSuffers deed old.owner new.owner
+      → CanTurn (Client deed) p q → Done deed old new → Lone (Then deed old.owner Are) (deed ∷ deeds) q count server new
+  lone_client {Are} deed deeds puts p q count server old new (inl o) is can did = whole_step deeds puts p q count server old new o deed is can did
+  lone_client {Are} deed deeds puts p q count server old new (inr l) is can did =
       elim (feeds read reads moments timed b fair deeds puts p count server old l).far [
         | inl free ↦
             whole_step deeds puts p q count server old new (leaves read reads moments timed b fair deeds puts p count server old l free) deed is can did
@@ -274,26 +284,28 @@ module _ (read : Reading) (reads : IsReading read) (moments : ℕ → ℕ) (time
       ]
 
   -- so it is where the server was told first
-  pub client_turn : (deed : Deed client_side) (deeds : List (Deed client_side)) → AskAll (begun_at moments deeds) → (before : List (Deed server_side))
-      → ArePorts before → (p q : Between) (server : Stand server_side) (old new : Stand client_side) → Suffered deeds p (listened_in before) server old
+  pub client_turn : {Are : OfMarks} (deed : Deed client_side) (deeds : List (Deed client_side)) → AskAll (begun_at moments deeds)
+      → (before : List (Deed server_side))
+      → ArePorts before → (p q : Between) (server : Stand server_side) (old new : Stand client_side) → Suffered Are deeds p (listened_in before) server old
       → ClientSuffers deed old.owner new.owner → CanTurn (Client deed) p q → Done deed old new
-      → Suffered (deed ∷ deeds) q (listened_in before) server new
-  client_turn deed deeds puts before ports p q server old new (inl o) is can did =
+      → Suffered (Then deed old.owner Are) (deed ∷ deeds) q (listened_in before) server new
+  client_turn {Are} deed deeds puts before ports p q server old new (inl o) is can did =
       inl (lone_client deed deeds puts p q (listened_in before) (dried server) old new o is can did)
-  client_turn deed deeds puts before ports p q server old new (inr l) is can did = by deed is can did
+  client_turn {Are} deed deeds puts before ports p q server old new (inr l) is can did = by deed is can did
     where
       by : (deed : Deed client_side) → ClientSuffers deed old.owner new.owner → CanTurn (Client deed) p q → Done deed old new
-          → Suffered (deed ∷ deeds) q (listened_in before) server new
+          → Suffered (Then deed old.owner Are) (deed ∷ deeds) q (listened_in before) server new
       by (Other Break) is can did =
           inl (inl (told_last read reads moments timed b fair deeds puts before ports p q server old new l is can did))
       by deed is can did = inr (follows read reads moments timed b fair deeds puts p (listened_in before) server old l deed tt q new is can did)
 
   -- the client was told, and its world's was not: it lags on, or its world's is told now
-  lags_still : (deeds : List (Deed client_side)) → AskAll (begun_at moments deeds) → (p q : Between) (told count : ℕ) (old new : Stand server_side)
-      (client : Stand client_side) (l : L deeds p told old client)
+  lags_still : {Are : OfMarks} (deeds : List (Deed client_side)) → AskAll (begun_at moments deeds)
+      → (p q : Between) (told count : ℕ) (old new : Stand server_side)
+      (client : Stand client_side) (l : L Are deeds p told old client)
       → Again read reads moments timed b fair deeds (unbroken q) count new (beside l.was client) l.at.world.marks → q.near ≡ Has_lost → StaysFresh q client
-      → Lone deeds q count new client
-  lags_still deeds puts p q told count old new client l got hold fresh = by (record {
+      → Lone Are deeds q count new client
+  lags_still {Are} deeds puts p q told count old new client l got hold fresh = by (record {
     was = l.was;
     at = got.0;
     loads = l.loads;
@@ -308,47 +320,49 @@ module _ (read : Reading) (reads : IsReading read) (moments : ℕ → ℕ) (time
     fresh = fresh;
   })
     where
-      by : L deeds q count new client → Lone deeds q count new client
+      by : L Are deeds q count new client → Lone Are deeds q count new client
       by l = elim (feeds read reads moments timed b fair deeds puts q count new client l).far [
         | inl free ↦ inl (leaves read reads moments timed b fair deeds puts q count new client l free)
         | inr going ↦ inr l
       ]
 
   -- a deed of the server that is told of no break
-  lone_server : (deed : Deed server_side) (deeds : List (Deed client_side)) → AskAll (begun_at moments deeds) → (before : List (Deed server_side))
-      → ArePorts (deed ∷ before) → (p q : Between) (old new : Stand server_side) (client : Stand client_side) → Lone deeds p (listened_in before) old client
+  lone_server : {Are : OfMarks} (deed : Deed server_side) (deeds : List (Deed client_side)) → AskAll (begun_at moments deeds)
+      → (before : List (Deed server_side))
+      → ArePorts (deed ∷ before) → (p q : Between) (old new : Stand server_side) (client : Stand client_side) → Lone Are deeds p (listened_in before) old client
       → IsLone deed old.owner → ServerIsCalm old.owner new.owner → Sees deed old p q → (did : Done deed old new)
-      → IsToldAt deed old new did (last_of moments (number_in deeds)) → Lone deeds q (listened_in (deed ∷ before)) new client
-  lone_server deed deeds puts before ports p q old new client (inl o) is calm can did told =
+      → IsToldAt deed old new did (last_of moments (number_in deeds)) → Lone Are deeds q (listened_in (deed ∷ before)) new client
+  lone_server {Are} deed deeds puts before ports p q old new client (inl o) is calm can did told =
       let got = server_step read reads moments timed b fair deed old new is calm deeds (all_carried (begun_at moments deeds) puts) before ports p q can client
       o.at did told in
       inl (record { at = got.0; marks = o.marks; are_marks = o.are_marks; marked = got.1 ∙ o.marked; unsent = o.unsent })
-  lone_server deed deeds puts before ports p q old new client (inr l) is calm can did told =
+  lone_server {Are} deed deeds puts before ports p q old new client (inr l) is calm can did told =
       let there = sees_unbroken deed old is p q l.hold can in
       let got = server_step read reads moments timed b fair deed old new is calm deeds (all_carried (begun_at moments deeds) puts) before ports (unbroken p)
       (unbroken q) there.0 (beside l.was client) l.at did told in
       lags_still deeds puts p q (listened_in before) (listened_in (deed ∷ before)) old new client l got there.1 (sees_fresh deed old is p q client l.fresh can)
 
   -- one that is told of the break of what is to close
-  lone_late : (deeds : List (Deed client_side)) → AskAll (begun_at moments deeds) → (before : List (Deed server_side)) (p : Between)
-      (old new : Stand server_side) (client : Stand client_side) → Lone deeds p (listened_in before) (dried old) client → ServerIsCalm old.owner new.owner
+  lone_late : {Are : OfMarks} (deeds : List (Deed client_side)) → AskAll (begun_at moments deeds) → (before : List (Deed server_side)) (p : Between)
+      (old new : Stand server_side) (client : Stand client_side) → Lone Are deeds p (listened_in before) (dried old) client → ServerIsCalm old.owner new.owner
       → old.owner.end.server.view.session.closing ≡ true → p.far ≡ Has → Calls {side = server_side} Break old new
-      → Lone deeds (dropped (dried old) p) (listened_in before) (dried new) client
-  lone_late deeds puts before p old new client (inl o) calm closing has did =
+      → Lone Are deeds (dropped (dried old) p) (listened_in before) (dried new) client
+  lone_late {Are} deeds puts before p old new client (inl o) calm closing has did =
       let got = told_late read reads moments timed b fair old new calm did closing deeds (all_carried (begun_at moments deeds) puts) before p has client o.at in
       inl (record { at = got.0; marks = o.marks; are_marks = o.are_marks; marked = got.1 ∙ o.marked; unsent = o.unsent })
-  lone_late deeds puts before p old new client (inr l) calm closing has did =
+  lone_late {Are} deeds puts before p old new client (inr l) calm closing has did =
       let got = told_late read reads moments timed b fair old new calm did closing deeds (all_carried (begun_at moments deeds) puts) before (unbroken p) has
       (beside l.was client) l.at in
       lags_still deeds puts p (dropped (dried old) p) (listened_in before) (listened_in before) (dried old) (dried new) client l got l.hold
       (λ called. absurd (true≢false (sym called)))
 
   -- where a world is beside the server as if it had nothing unwritten of what it was told that it broke
-  module _ (deeds : List (Deed client_side)) (puts : AskAll (begun_at moments deeds)) (before : List (Deed server_side)) (p q : Between)
-      (old new : Stand server_side) (client : Stand client_side) (o : Lone deeds p (listened_in before) (dried old) client) where
+  module _ {Are : OfMarks} (deeds : List (Deed client_side)) (puts : AskAll (begun_at moments deeds)) (before : List (Deed server_side)) (p q : Between)
+      (old new : Stand server_side) (client : Stand client_side) (o : Lone Are deeds p (listened_in before) (dried old) client) where
     -- it is told of a break while it gives
     told_giving : (far.wants old.owner.end.server.view ≡ Want.Send) × ServerIsCalm old.owner new.owner → Can TheServer ToldBreak p q
-        → Calls {side = server_side} Break old new → Lone deeds p (listened_in before) (dried old) client → Suffered deeds q (listened_in before) new client
+        → Calls {side = server_side} Break old new → Lone Are deeds p (listened_in before) (dried old) client
+        → Suffered Are deeds q (listened_in before) new client
     told_giving is can did (inl w) =
         inr (told_first read reads moments timed b fair deeds puts p q (listened_in before) old new client is can did w)
     told_giving is can did (inr l) =
@@ -356,18 +370,18 @@ module _ (read : Reading) (reads : IsReading read) (moments : ℕ → ℕ) (time
 
     -- or once that is to close
     told_of_it : ServerYields (Other Break) old.owner new.owner → IsTold (dried old) p q → Calls {side = server_side} Break old new
-        → Suffered deeds q (listened_in before) new client
+        → Suffered Are deeds q (listened_in before) new client
     told_of_it is can did = elim can [
       | inl sends ↦ told_giving (sends.0, is.1) sends.1 did o
       | inr closing ↦
-          subst (λ (m : Between). Suffered deeds m (listened_in before) new client) (sym closing.2)
+          subst (λ (m : Between). Suffered Are deeds m (listened_in before) new client) (sym closing.2)
           (inl (lone_late deeds puts before p old new client o is.1 closing.0 closing.1 did))
     ]
 
     -- a deed but that
     goes_on : (deed : Deed server_side) → BreaksNot deed → ArePorts (deed ∷ before) → ServerYields deed old.owner new.owner → Sees deed (dried old) p q
         → (did : Done deed old new) → IsToldAt deed old new did (last_of moments (number_in deeds))
-        → Suffered deeds q (listened_in (deed ∷ before)) new client
+        → Suffered Are deeds q (listened_in (deed ∷ before)) new client
     goes_on deed kept ports is can did told =
         let step = dried_step old new deed kept is.0 did in
         inl (lone_server deed deeds puts before ports p q (dried old) (dried new) client o step.0 is.1 can step.1
@@ -375,18 +389,18 @@ module _ (read : Reading) (reads : IsReading read) (moments : ℕ → ℕ) (time
 
     lone_turn : (deed : Deed server_side) → ArePorts (deed ∷ before) → ServerYields deed old.owner new.owner → Sees deed (dried old) p q
         → (did : Done deed old new) → IsToldAt deed old new did (last_of moments (number_in deeds))
-        → Suffered deeds q (listened_in (deed ∷ before)) new client
+        → Suffered Are deeds q (listened_in (deed ∷ before)) new client
     lone_turn (Other Break) ports is can did told = told_of_it is can did
     lone_turn deed ports is can did told = goes_on deed tt ports is can did told
 
   -- where the server was told first
-  module _ (deeds : List (Deed client_side)) (puts : AskAll (begun_at moments deeds)) (before : List (Deed server_side)) (p q : Between)
-      (old new : Stand server_side) (client : Stand client_side) (l : P deeds p (listened_in before) old client) where
+  module _ {Are : OfMarks} (deeds : List (Deed client_side)) (puts : AskAll (begun_at moments deeds)) (before : List (Deed server_side)) (p q : Between)
+      (old new : Stand server_side) (client : Stand client_side) (l : P Are deeds p (listened_in before) old client) where
     lost_not : p.far ≡ Has → ⊥
     lost_not has = true≢false (ap is_had (sym has ∙ l.hold))
 
     precede_turn : (deed : Deed server_side) → ServerYields deed old.owner new.owner → Sees deed (dried old) p q → Done deed old new
-        → Suffered deeds q (listened_in (deed ∷ before)) new client
+        → Suffered Are deeds q (listened_in (deed ∷ before)) new client
     precede_turn (Other (Listening port)) is can did =
         absurd (asks_none read reads moments timed b fair deeds puts p (listened_in before) old client l port new did)
     precede_turn (Other Break) is can did = absurd (elim can [
@@ -400,26 +414,30 @@ module _ (read : Reading) (reads : IsReading read) (moments : ℕ → ℕ) (time
         inr (precede_server read reads moments timed b fair deeds puts p (listened_in before) old client l deed q new is can did)
 
   -- a deed of the server, as a world sees it
-  pub server_turn : (deed : Deed server_side) (deeds : List (Deed client_side)) → AskAll (begun_at moments deeds) → (before : List (Deed server_side))
-      → ArePorts (deed ∷ before) → (p q : Between) (old new : Stand server_side) (client : Stand client_side) → Suffered deeds p (listened_in before) old client
+  pub server_turn : {Are : OfMarks} (deed : Deed server_side) (deeds : List (Deed client_side)) → AskAll (begun_at moments deeds)
+      → (before : List (Deed server_side))
+      → ArePorts (deed ∷ before) → (p q : Between) (old new : Stand server_side) (client : Stand client_side)
+      → Suffered Are deeds p (listened_in before) old client
       → ServerYields deed old.owner new.owner → Sees deed (dried old) p q → (did : Done deed old new)
-      → IsToldAt deed old new did (last_of moments (number_in deeds)) → Suffered deeds q (listened_in (deed ∷ before)) new client
-  server_turn deed deeds puts before ports p q old new client (inl o) is can did told =
+      → IsToldAt deed old new did (last_of moments (number_in deeds)) → Suffered Are deeds q (listened_in (deed ∷ before)) new client
+  server_turn {Are} deed deeds puts before ports p q old new client (inl o) is can did told =
       lone_turn deeds puts before p q old new client o deed ports is can did told
-  server_turn deed deeds puts before ports p q old new client (inr l) is can did told = precede_turn deeds puts before p q old new client l deed is can did
+  server_turn {Are} deed deeds puts before ports p q old new client
+      (inr l) is can did told = precede_turn deeds puts before p q old new client l deed is can did
 
   -- octets are unwritten only where it has a data connection
-  pub spare_now : (deeds : List (Deed client_side)) (between : Between) (count : ℕ) (server : Stand server_side) (client : Stand client_side)
-      → Suffered deeds between count server client → is_had between.far ≡ false → (dried server).owner.lane.unwritten ≡ []
-  spare_now deeds between count server client (inl (inl o)) = o.at.together.serves.spare
-  spare_now deeds between count server client (inl (inr l)) = l.at.together.serves.spare
-  spare_now deeds between count server client (inr p) = λ e. p.none
+  pub spare_now : {Are : OfMarks} (deeds : List (Deed client_side)) (between : Between) (count : ℕ) (server : Stand server_side) (client : Stand client_side)
+      → Suffered Are deeds between count server client → is_had between.far ≡ false → (dried server).owner.lane.unwritten ≡ []
+  spare_now {Are} deeds between count server client (inl (inl o)) = o.at.together.serves.spare
+  spare_now {Are} deeds between count server client (inl (inr l)) = l.at.together.serves.spare
+  spare_now {Are} deeds between count server client (inr p) = λ e. p.none
 
   -- so it is as a world sees what lies between
-  record Stood (deeds : List (Deed client_side)) (between : Between) (count : ℕ) (server : Stand server_side) (client : Stand client_side) : Type 0 where
+  record Stood (Are : OfMarks) (deeds : List (Deed client_side)) (between : Between) (count : ℕ) (server : Stand server_side)
+      (client : Stand client_side) : Type 0 where
     seen : Between
     is_seen : IsSeen between seen
-    suffered : Suffered deeds seen count server client
+    suffered : Suffered Are deeds seen count server client
 
   -- deed by deed
   reaches : (turns : List Turn) (between : Between) → Happened turns between
@@ -429,22 +447,23 @@ module _ (read : Reading) (reads : IsReading read) (moments : ℕ → ℕ) (time
       → (server_led : Led (server_deeds turns) server_start server) (client_led : Led (client_deeds turns) client_start client)
       → YieldsAlong (server_deeds turns) server_start server server_led → SuffersAlong (client_deeds turns) client_start client client_led
       → ArePorts (server_deeds turns) → AreToldAt moments turns server_start server server_led
-      → Stood (client_deeds turns) between (listened_in (server_deeds turns)) server client
+      → Stood (AreMarks (client_deeds turns) client_start client client_led) (client_deeds turns) between (listened_in (server_deeds turns)) server client
   reaches [] between happened server_start server client_start client begins untold unwritten far_unwritten near_untold server_led client_led takes gives
       ports told =
       let start = starts_so read reads moments timed b fair server_start client_start begins untold unwritten far_unwritten near_untold in
-      subst (λ (m : Between). Stood [] m 0 server client) (sym happened)
-      (subst (λ (s : Stand server_side). Stood [] nothing_yet 0 s client) (sym server_led)
-      (subst (λ (c : Stand client_side). Stood [] nothing_yet 0 server_start c) (sym client_led) (record {
+      subst (λ (m : Between). Stood (λ marks. marks ≡ []) [] m 0 server client) (sym happened)
+      (subst (λ (s : Stand server_side). Stood (λ marks. marks ≡ []) [] nothing_yet 0 s client) (sym server_led)
+      (subst (λ (c : Stand client_side). Stood (λ marks. marks ≡ []) [] nothing_yet 0 server_start c) (sym client_led) (record {
         seen = nothing_yet;
         is_seen = seen_itself nothing_yet;
-        suffered = inl (subst (λ (s : Stand server_side). Lone [] nothing_yet 0 s client_start) (sym (dried_none server_start far_unwritten)) (inl (record {
-          at = start.0;
-          marks = [];
-          are_marks = refl;
-          marked = start.1;
-          unsent = subst (IsPlainBy Unsent) (sym begins.client_view) (record { job = tt; port = refl; run = refl });
-        })));
+        suffered = inl (subst (λ (s : Stand server_side). Lone (λ marks. marks ≡ []) [] nothing_yet 0 s client_start)
+            (sym (dried_none server_start far_unwritten)) (inl (record {
+              at = start.0;
+              marks = [];
+              are_marks = refl;
+              marked = start.1;
+              unsent = subst (IsPlainBy Unsent) (sym begins.client_view) (record { job = tt; port = refl; run = refl });
+            })));
       })))
   reaches (Server deed ∷ before) between happened server_start server client_start client begins untold unwritten far_unwritten near_untold server_led
       client_led takes gives ports told =
@@ -477,12 +496,16 @@ breaks_are_of_worlds read reads b fair moments timed turns between server client
     did.unwritten did.server_unwritten did.client_untold did.server_led did.client_led did.takes did.suffers did.ports did.told in
     by stood.seen stood.suffered
   where
+    -- those of the deeds
+    are_marks : List (List Mark) → Type 0
+    are_marks marks = AreMarks (client_deeds turns) did.client_start client did.client_led marks
+
     of_world : (were : Stand server_side) (was : Stand client_side) (m : Between)
         → AreSame server were client was ⊎ (IsClientFirst server were client was ⊎ IsServerFirst server were client was)
         → ReportAlike client.owner.end.view was.owner.end.view
         → server.owner.end.server.view.session.table ≡ were.owner.end.server.view.session.table
         → (o : At read reads moments timed b fair (client_deeds turns) m (listened_in (server_deeds turns)) were was) (marks : List (List Mark))
-        → AreMarks (client_deeds turns) marks → o.world.marks ≡ marks → SufferingIsOfWorld read b moments turns server client
+        → are_marks marks → o.world.marks ≡ marks → SufferingIsOfWorld read b moments turns between server client did
     of_world were was m is alike table o marks are marked =
         let s = o.together.beside in
         record {
@@ -516,8 +539,8 @@ breaks_are_of_worlds read reads b fair moments timed turns between server client
     puts = in_all moments (client_deeds turns) did.client_start client did.client_led did.suffers
 
     -- the server was told first
-    first : (m : Between) → Precedes read reads moments timed b fair (client_deeds turns) m (listened_in (server_deeds turns)) server client
-        → SufferingIsOfWorld read b moments turns server client
+    first : (m : Between) → Precedes read reads moments timed b fair are_marks (client_deeds turns) m (listened_in (server_deeds turns)) server client
+        → SufferingIsOfWorld read b moments turns between server client did
     first m p =
         let were : Far = p.were.owner.end.server.view in
         let broken : break_step (clock_step p.moment were) ≡ clock_step p.moment (broke were) = broke_step p.were p.at.serves p.sends p.moment in
@@ -544,8 +567,8 @@ breaks_are_of_worlds read reads b fair moments timed turns between server client
         heard_front queue said heard rest split (inl none) = (said, ap (λ o. o ++ said) (sym none))
         heard_front queue said heard rest split (inr empty) = (rest, ap (λ o. o ++ said) (sym empty) ∙ split)
 
-    by : (m : Between) → Suffered read reads moments timed b fair (client_deeds turns) m (listened_in (server_deeds turns)) server client
-        → SufferingIsOfWorld read b moments turns server client
+    by : (m : Between) → Suffered read reads moments timed b fair are_marks (client_deeds turns) m (listened_in (server_deeds turns)) server client
+        → SufferingIsOfWorld read b moments turns between server client did
     by m (inl (inl o)) = of_world (dried server) client m (inl (refl, refl)) (refl, refl) refl o.at o.marks o.are_marks o.marked
     by m (inl (inr l)) =
         of_world (dried server) (beside l.was client) (unbroken m) (inr (inl (refl, l.view ∙ sym (fault_told l.was.end.view l.loads))))

@@ -13,6 +13,7 @@ use Rattle.ftp_client_model.specs.declared.client.Ending.TheVariants as Endings
 use Rattle.ftp_client_model.specs.declared.client.Replied.{Replied}
 use Rattle.ftp_client_model.specs.declared.client.Replied.TheVariants as Replies
 use Rattle.ftp_pair_breaks.specs.Claims.{ReportAlike}
+use Rattle.ftp_pair_breaks.specs.Deeds.{HasRead, HasTaken}
 use Rattle.ftp_pair_breaks.specs.Late.{downloading}
 use Rattle.ftp_pair_breaks.proofs.Faults.{Loads}
 use Rattle.ftp_pair_breaks.proofs.Feeding.{is_final}
@@ -126,6 +127,18 @@ module _ (n : Near) (l : Loading n) (octets : List ℕ) (then_loads : Loading (h
           ap (λ v. hears (told v) octets) l.near
           ∙ ap (λ v. hears v octets) (sym (lost_told l.op l.all l.replied l.decoder l.mark n l.unfinal)) ∙ g.breaks l.decoder l.mark
           ∙ lost_told l.op l.all g.next l.decoder l.mark g.last unfinal ∙ ap told (sym is)
+
+  -- it has taken what it had
+  pub hears_taken : (came : ℕ) → HasTaken (hears n octets).job came → HasTaken n.job came
+  hears_taken came has = by (hears_turns l.op l.all octets l.replied n)
+    where
+      by : Turns l.op l.all (λ v. hears v octets) l.replied n → HasTaken n.job came
+      by (inl stops) =
+          absurd (not_over (hears n octets) then_loads (subst (λ v. IsOver (hears v octets)) (sym l.near) (stops l.decoder l.mark)))
+      by (inr g) =
+          let is : hears n octets ≡ down l.op l.all g.next l.decoder l.mark g.last = ap (λ v. hears v octets) l.near ∙ g.stays l.decoder l.mark in
+          let read : HasRead l.decoder came = subst (λ (v : Near). HasTaken v.job came) is has in
+          subst (λ (v : Near). HasTaken v.job came) (sym l.near) read
 
   -- each octet may be heard by both alike
   pub told_may : (k : ℕ) → may_hear (hears n (take k octets)) ≡ may_hear (hears (told n) (take k octets))

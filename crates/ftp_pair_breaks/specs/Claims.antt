@@ -65,14 +65,14 @@ pub record IsServerFirst (server were : Stand server_side) (client was : Stand c
 -- Events of a world lead from the beginning to one that holds what the server holds and what the client holds, or what both held before one of them was told of
 -- a break that a world tells later: once the server has let the data connection go, or the other was told, too. It has marks of these deeds; they began the
 -- same operations at these moments.
-pub record SufferingIsOfWorld (read : Reading) (b : Beginning) (moments : ℕ → ℕ) (turns : List Turn) (server : Stand server_side)
-    (client : Stand client_side) : Type 0 where
+pub record SufferingIsOfWorld (read : Reading) (b : Beginning) (moments : ℕ → ℕ) (turns : List Turn) (between : Between) (server : Stand server_side)
+    (client : Stand client_side) (did : DidSuffer b moments turns between server client) : Type 0 where
   pub events : List Event
   pub timed : AreTimed events
   pub world : World
   pub leads : Leads read (world_of b) events (begun_at moments (client_deeds turns)) world
   pub marks : List (List Mark)
-  pub are_marks : AreMarks (client_deeds turns) marks
+  pub are_marks : AreMarks (client_deeds turns) did.client_start client did.client_led marks
   pub were : Stand server_side
   pub was : Stand client_side
   pub is : AreSame server were client was ⊎ (IsClientFirst server were client was ⊎ IsServerFirst server were client was)
@@ -86,14 +86,15 @@ abbrev pub BreaksAreOfWorlds : Type 0
 BreaksAreOfWorlds =
     (read : Reading) → IsReading read → (b : Beginning) → IsFair b → (moments : ℕ → ℕ) → AreMoments moments
     → (turns : List Turn) (between : Between) (server : Stand server_side) (client : Stand client_side)
-    → DidSuffer b moments turns between server client → SufferingIsOfWorld read b moments turns server client
+    → (did : DidSuffer b moments turns between server client) → SufferingIsOfWorld read b moments turns between server client did
 
 -- so reports and map agree with what was begun, a report that was not taken yet among them: an operation is cut only where the client was told of a break
 abbrev pub BreaksAgree : Type 0
 BreaksAgree =
     (b : Beginning) → IsFair b → (moments : ℕ → ℕ) → AreMoments moments
     → (turns : List Turn) (between : Between) (server : Stand server_side) (client : Stand client_side)
-    → DidSuffer b moments turns between server client → (marks : List (List Mark)) × AreMarks (client_deeds turns) marks
+    → (did : DidSuffer b moments turns between server client) → (marks : List (List Mark)) × AreMarks
+    (client_deeds turns) did.client_start client did.client_led marks
     × Agrees (state_of b) (begun_at moments (client_deeds turns)) marks None
     (reports_in (client_deeds turns) ++ option_to_list (report_of client.owner.end.view)) server.owner.end.server.view.session.table
 
@@ -102,6 +103,7 @@ abbrev pub BreaksPartingAgree : Type 0
 BreaksPartingAgree =
     (b : Beginning) → IsFair b → (moments : ℕ → ℕ) → AreMoments moments
     → (turns : List Turn) (between : Between) (server : Stand server_side) (client : Stand client_side)
-    → DidSuffer b moments turns between server client → (marks : List (List Mark)) × AreMarks (client_deeds turns) marks
+    → (did : DidSuffer b moments turns between server client) → (marks : List (List Mark)) × AreMarks
+    (client_deeds turns) did.client_start client did.client_led marks
     × Agrees (state_of b) (begun_at moments (client_deeds turns)) marks (Some (length marks))
     (reports_in (client_deeds turns) ++ option_to_list (report_of (control_end client.owner.end.view))) server.owner.end.server.view.session.table

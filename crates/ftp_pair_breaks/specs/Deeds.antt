@@ -9,7 +9,9 @@ use Rattle.ftp_client_drive.specs.Side.{Starting, client_side}
 use Rattle.ftp_client_model.specs.Calls.{wants}
 use Rattle.ftp_client_model.specs.Failing.{Client}
 use Rattle.ftp_client_model.specs.Plan.{count_of}
+use Rattle.ftp_client_model.specs.View.{Flow, Job, Receiving, Sending, Transferring}
 use Rattle.ftp_ends.specs.declared.link.Wants.TheVariants as Want
+use Rattle.ftp_mode.specs.Reading.{Place, going}
 use Rattle.ftp_pair_deeds.specs.Deeds.{Along}
 use Rattle.ftp_pair_drives.specs.Alone.{ClientIsCalm, ServerIsCalm}
 use Rattle.ftp_pair_transfers.specs.Deeds.{IsServing}
@@ -17,6 +19,7 @@ use Rattle.ftp_pair_transfers.specs.Refusals.{IsTrying, marked_by}
 use Rattle.ftp_pair_world.specs.World.{Broken, Mark, marked_last}
 use Rattle.ftp_server_drive.specs.Side.{Timed, server_side}
 use Rattle.ftp_server_model.specs.Calls as far
+use Rattle.ftp_wire.specs.Decoder.{Decoder}
 
 -- ---- the server
 
@@ -55,12 +58,27 @@ SuffersAlong deeds start now led = Along ClientSuffers deeds start now led
 
 -- ---- the marks
 
--- a break may mark the operation that was begun last: it broke at some octet, and the law leaves open at which
-abbrev pub Marks : Deed client_side → (old new : List (List Mark)) → Type 0
-Marks (Other Break) old new = (new ≡ old) ⊎ ((came : ℕ) × (new ≡ marked_last (Broken came) old))
-Marks deed old new = new ≡ marked_by deed old
+-- a decoder has read so many octets, and each stood in its place
+abbrev pub HasRead : Decoder → ℕ → Type 0
+HasRead decoder came = (at : Place) × (decoder.reading ≡ going came at)
+
+-- so many octets came of a download, the octets of the link, not of the file
+abbrev pub HasBrought : Flow → ℕ → Type 0
+HasBrought (Receiving decoder mark) came = HasRead decoder came
+HasBrought (Sending left mark) came = ⊥
+
+-- so many octets were taken of the download that is under way
+abbrev pub HasTaken : Job → ℕ → Type 0
+HasTaken (Transferring op transfer) came = HasBrought transfer.flow came
+HasTaken job came = ⊥
+
+-- a break may mark the operation that was begun last: it broke after as many octets as the client had taken of it as it was told
+abbrev pub Marks : Deed client_side → Held Client → (old new : List (List Mark)) → Type 0
+Marks (Other Break) at old new = (new ≡ old) ⊎ ((came : ℕ) × HasTaken at.end.view.job came × (new ≡ marked_last (Broken came) old))
+Marks deed at old new = new ≡ marked_by deed old
 
 -- those of deeds, the last one first
-abbrev pub AreMarks : List (Deed client_side) → List (List Mark) → Type 0
-AreMarks [] marks = marks ≡ []
-AreMarks (deed ∷ before) marks = (old : List (List Mark)) × AreMarks before old × Marks deed old marks
+abbrev pub AreMarks : (deeds : List (Deed client_side)) (start now : Stand client_side) → Led deeds start now → List (List Mark) → Type 0
+AreMarks [] start now led marks = marks ≡ []
+AreMarks (deed ∷ before) start now led marks =
+    (old : List (List Mark)) × AreMarks before start led.0 led.1 old × Marks deed led.0.owner old marks

@@ -76,5 +76,6 @@ pub record AreOver (b : Beginning) (moments : ℕ → ℕ) (asked : List (Op (Li
 abbrev pub OverDrivesAgree : Type 0
 OverDrivesAgree =
     (b : Beginning) → IsFair b → (moments : ℕ → ℕ) → AreMoments moments → (asked : List (Op (List ℕ) × Said)) (server : Stand server_side)
-    → (over : AreOver b moments asked server) → (marks : List (List Mark)) × AreMarks (client_deeds over.turns) marks
+    → (over : AreOver b moments asked server) → (led : Led (client_deeds over.turns) over.client_start over.client)
+    × (marks : List (List Mark)) × AreMarks (client_deeds over.turns) over.client_start over.client led marks
     × Agrees (state_of b) (orders_at moments asked) marks None (answers_of asked) server.owner.end.server.view.session.table

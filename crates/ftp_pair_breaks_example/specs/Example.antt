@@ -5,7 +5,7 @@ use Rattle.ftp_client_model.specs.Octets.{download_flow}
 use Rattle.ftp_client_model.specs.View.{Transferring}
 use Rattle.ftp_client_model.specs.declared.client.Abort.TheVariants as Aborts
 use Rattle.ftp_client_model.specs.declared.client.Replied.TheVariants as Replies
-use Rattle.ftp_control.specs.Deeds.{Stand}
+use Rattle.ftp_control.specs.Deeds.{Led, Stand}
 use Rattle.ftp_operation.specs.Answer.{Broken, Said}
 use Rattle.ftp_operation.specs.declared.op.Op.{Op}
 use Rattle.ftp_operation.specs.declared.op.Op.TheVariants as Ops
@@ -60,7 +60,8 @@ pub record Passes (b : Beginning) (moments : ℕ → ℕ) (asked : List (Op (Lis
 -- its answers and the map that is left agree with what was asked, with marks of its deeds
 abbrev pub HasAgreed : {b : Beginning} {moments : ℕ → ℕ} {asked : List (Op (List ℕ) × Said)} {At : Moment} → Passes b moments asked At → Type 0
 HasAgreed {b} {moments} {asked} {At} p =
-    (marks : List (List Mark)) × AreMarks (client_deeds p.over.turns) marks
+    (led : Led (client_deeds p.over.turns) p.over.client_start p.over.client)
+    × (marks : List (List Mark)) × AreMarks (client_deeds p.over.turns) p.over.client_start p.over.client led marks
     × Agrees (state_of b) (orders_at moments asked) marks None (answers_of asked) p.server.owner.end.server.view.session.table
 
 -- ---- the server is told first

@@ -39,10 +39,12 @@ use Rattle.ftp_pair_cuts.proofs.Climbing.{HasGiven, world_given}
 use Rattle.ftp_pair_cuts.proofs.Lifting.{Lifts, fault_begun, form, lifts_plain}
 use Rattle.ftp_pair_cuts.proofs.Notes.{begun}
 use Rattle.ftp_pair_cuts.proofs.UpLagging.{Spent, UpLags}
+use Rattle.ftp_pair_cuts.specs.Deeds.{AreMarks}
 
 module _ (read : Reading) (reads : IsReading read) (moments : ℕ → ℕ) (timed : AreMoments moments) (b : Beginning) (fair : IsFair b)
     (deeds : List (Deed client_side)) (puts : AskAll (begun_at moments deeds)) (p q : Between) (count : ℕ) (server : Stand server_side)
-    (old new : Stand client_side) (o : Whole read reads moments timed b fair deeds p count server old) (calm : ClientIsCalm old.owner new.owner)
+    (old new : Stand client_side) (o : Whole read reads moments timed b fair (AreMarks deeds) deeds p count server old)
+    (calm : ClientIsCalm old.owner new.owner)
     (can : Can TheClient ToldBreak p q) (did : Calls {side = client_side} Break old new) where
   abbrev w : World
   w = o.at.world

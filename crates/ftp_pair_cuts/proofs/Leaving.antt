@@ -34,13 +34,13 @@ use Rattle.ftp_pair_transfers.proofs.Beside.{Together, is_taking}
 use Rattle.ftp_pair_transfers.proofs.ClientStays.{client_keeps}
 use Rattle.ftp_pair_transfers.proofs.Known.{AreCarried, Known, is_giving, is_near_held}
 use Rattle.ftp_pair_transfers.proofs.Simulating.{known}
-use Rattle.ftp_pair_breaks.specs.Deeds.{IsSuffering, Marks}
+use Rattle.ftp_pair_breaks.specs.Deeds.{IsSuffering}
 use Rattle.ftp_pair_breaks.proofs.Faults.{closing_same}
 use Rattle.ftp_pair_breaks.proofs.Lagging.{Whole, feeding_at}
 use Rattle.ftp_pair_breaks.proofs.Simulating.{steps_on}
 use Rattle.ftp_pair_breaks.proofs.Steps.{Again, idle_again, same_again}
 use Rattle.ftp_pair_breaks.proofs.Unsent.{AskAll, Unsent, all_carried}
-use Rattle.ftp_pair_cuts.specs.Deeds.{ClientGives}
+use Rattle.ftp_pair_cuts.specs.Deeds.{AreMarks, ClientGives, Marks}
 use Rattle.ftp_pair_cuts.proofs.Seen.{dry, is_left}
 
 -- ---- one that has left it
@@ -123,7 +123,7 @@ left_called hold e = refl
 
 module _ (read : Reading) (reads : IsReading read) (moments : ℕ → ℕ) (timed : AreMoments moments) (b : Beginning) (fair : IsFair b) where
   abbrev W : (deeds : List (Deed client_side)) (between : Between) (count : ℕ) (server : Stand server_side) (client : Stand client_side) → Type 0
-  W deeds between count server client = Whole read reads moments timed b fair deeds between count server client
+  W deeds between count server client = Whole read reads moments timed b fair (AreMarks deeds) deeds between count server client
 
   -- a world is beside one that has left its data connection, of which the server has none
   pub record Leaves (deeds : List (Deed client_side)) (between : Between) (count : ℕ) (server : Stand server_side) (client : Stand client_side) : Type 0 where

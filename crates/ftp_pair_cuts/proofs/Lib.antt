@@ -9,6 +9,7 @@ pub mod Written
 pub mod Marking
 pub mod ClientTold
 pub mod Serving
+pub mod Freeing
 pub mod Simulating
 pub mod Concluding
 pub mod Ending

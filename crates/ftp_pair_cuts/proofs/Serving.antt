@@ -43,7 +43,7 @@ use Rattle.ftp_pair_transfers.proofs.Simulating.{asks, known, runs}
 use Rattle.ftp_pair_breaks.proofs.Lagging.{Lags, Whole, beside, feeds, unbroken}
 use Rattle.ftp_pair_breaks.proofs.Steps.{Again, At, idle_again}
 use Rattle.ftp_pair_breaks.proofs.Unsent.{AskAll, Unsent, all_carried}
-use Rattle.ftp_pair_cuts.specs.Deeds.{IsOut}
+use Rattle.ftp_pair_cuts.specs.Deeds.{AreMarks, IsOut}
 use Rattle.ftp_pair_cuts.proofs.Leaving.{gone, lost}
 use Rattle.ftp_pair_cuts.proofs.Lifting.{IsClosing, StillGives, closes_alike, gives_fault, lifts_none, lifts_plain, lifts_rest, lifts_sound, lifts_taken, was_none}
 use Rattle.ftp_pair_cuts.proofs.Seen.{dry}
@@ -201,7 +201,7 @@ module _ (read : Reading) (reads : IsReading read) (moments : ℕ → ℕ) (time
         ∙ ahead_upload o.ahead o.last old.owner.end.server.view o.together.beside.fits (wants_upload old.owner.end.server.view o.serves.running wants)
 
     -- then no world's client takes octets of a download that broke
-    pub lags_never : Lags read reads moments timed b fair deeds p count old client → ⊥
+    pub lags_never : Lags read reads moments timed b fair (AreMarks deeds) deeds p count old client → ⊥
     lags_never l =
         let takes : is_upload l.at.world.far.session.connection ≡ true = world_upload l.at in
         elim (feeds read reads moments timed b fair deeds puts p count old client l).far [
@@ -224,8 +224,8 @@ module _ (read : Reading) (reads : IsReading read) (moments : ℕ → ℕ) (time
       sound_then sound = ap (λ (n : Near). is_sound n.standing) out.view ∙ sound
 
       -- where a world is beside both: its client alone has closed the link
-      pub whole_cut : Whole read reads moments timed b fair deeds p count old client → IsOut p.near ⊎ (client.owner.end.view.closing ≡ true)
-          → Whole read reads moments timed b fair (Other Break ∷ deeds) next count new after
+      pub whole_cut : Whole read reads moments timed b fair (AreMarks deeds) deeds p count old client → IsOut p.near ⊎ (client.owner.end.view.closing ≡ true)
+          → Whole read reads moments timed b fair (AreMarks (Other Break ∷ deeds)) (Other Break ∷ deeds) next count new after
       whole_cut o is_out =
           let w : World = o.at.world in
           let t = o.at.together in
@@ -314,7 +314,7 @@ module _ (read : Reading) (reads : IsReading read) (moments : ℕ → ℕ) (time
             let link : there.link ≡ ClosedByNear = link_closed read reads moments timed b fair deeds puts p count old client l closes in
             remains there.near (ap (λ k. broken_by k (lends_none there)) link) (ap is_gone link) (near_there ∙ closes_alike n u l.lifts closes)
 
-        pub lag_cut : Whole read reads moments timed b fair (Other Break ∷ deeds) next count new after
+        pub lag_cut : Whole read reads moments timed b fair (AreMarks (Other Break ∷ deeds)) (Other Break ∷ deeds) next count new after
         lag_cut =
             let got = cut_again deeds puts (unbroken p) count old new (beside l.was client) calm l.at next after did wants told
             (elim l.lifts.kind [

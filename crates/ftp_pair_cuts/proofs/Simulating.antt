@@ -32,10 +32,10 @@ use Rattle.ftp_pair_transfers.specs.Deeds.{AreMoments, AreToldAt, IsToldAt, begu
 use Rattle.ftp_pair_transfers.proofs.Lost.{IsSeen, far_done, near_done, seen_itself}
 use Rattle.ftp_pair_transfers.proofs.Reaching.{earlier, starts_so}
 use Rattle.ftp_pair_breaks.specs.Claims.{AreSame, IsClientFirst, IsServerFirst, ReportAlike}
-use Rattle.ftp_pair_breaks.specs.Deeds.{AreMarks, IsSuffering, IsYielding}
+use Rattle.ftp_pair_breaks.specs.Deeds.{IsSuffering, IsYielding}
 use Rattle.ftp_pair_breaks.proofs.BothBroken.{broke, broke_step, sends_far}
 use Rattle.ftp_pair_breaks.proofs.Drained.{BreaksNot, dried, dried_none, dried_step, dried_told}
-use Rattle.ftp_pair_breaks.proofs.Lagging.{Lags, Whole, beside, unbroken}
+use Rattle.ftp_pair_breaks.proofs.Lagging.{Lags, Then, Whole, beside, unbroken}
 use Rattle.ftp_pair_breaks.proofs.Preceding.{Precedes, behind, far_nothing, gives_now, steady_here, steady_now, unaware}
 use Rattle.ftp_pair_breaks.proofs.Simulating as breaking
 use Rattle.ftp_pair_breaks.proofs.Steps.{At, server_step}
@@ -45,7 +45,8 @@ use Rattle.ftp_pair_breaks.proofs.Unbroken.{sees_unbroken}
 use Rattle.ftp_pair_breaks.proofs.Unsent.{AskAll, Unsent, all_carried}
 use Rattle.ftp_pair_breaks.proofs.Untold.{fault_told, told_alike}
 use Rattle.ftp_pair_cuts.specs.Claims.{CutIsOfWorld, CutsAreOfWorlds}
-use Rattle.ftp_pair_cuts.specs.Deeds.{AreToldLate, ClientGives, GivesAlong, IsOut, IsToldLate, LosesAlong, ServerLoses, marking, with_cut}
+use Rattle.ftp_pair_cuts.specs.Deeds.{AreMarks, AreToldLate, ClientGives, GivesAlong, IsOut, IsToldLate, LosesAlong, ServerLoses, marking, with_cut}
+use Rattle.ftp_pair_cuts.proofs.Freeing.{free_marks, suffered_so}
 use Rattle.ftp_pair_cuts.proofs.ClientTold.{told_closing, told_giving}
 use Rattle.ftp_pair_cuts.proofs.Leaving.{Leaves, gone, leave_step, lost}
 use Rattle.ftp_pair_cuts.proofs.LeavingServed.{leave_served}
@@ -69,7 +70,10 @@ is_lost hold = false
 
 module _ (read : Reading) (reads : IsReading read) (moments : ℕ → ℕ) (timed : AreMoments moments) (b : Beginning) (fair : IsFair b) where
   abbrev Suffered : (deeds : List (Deed client_side)) (between : Between) (count : ℕ) (server : Stand server_side) (client : Stand client_side) → Type 0
-  Suffered deeds between count server client = breaking.Suffered read reads moments timed b fair deeds between count server client
+  Suffered deeds between count server client = breaking.Suffered read reads moments timed b fair (AreMarks deeds) deeds between count server client
+
+  abbrev W : (deeds : List (Deed client_side)) (between : Between) (count : ℕ) (server : Stand server_side) (client : Stand client_side) → Type 0
+  W deeds between count server client = Whole read reads moments timed b fair (AreMarks deeds) deeds between count server client
 
   -- a world is beside both drives, or was before one was told of the break of a download; between it may lie dry
   record Beside (deeds : List (Deed client_side)) (between : Between) (count : ℕ) (server : Stand server_side) (client : Stand client_side) : Type 0 where
@@ -100,8 +104,10 @@ module _ (read : Reading) (reads : IsReading read) (moments : ℕ → ℕ) (time
           middle = there.0;
           seen = there.1;
           written = deed_written deed old new none did o.written;
-          suffered = breaking.client_turn read reads moments timed b fair deed deeds puts before ports o.middle there.0 server old new o.suffered (is, gives.1)
-              there.2 did;
+          suffered = suffered_so read reads moments timed b fair (Then deed old.owner (AreMarks deeds)) (AreMarks (deed ∷ deeds))
+              (free_marks deed deeds old.owner) (deed ∷ deeds) there.0 count server new
+              (breaking.client_turn read reads moments timed b fair deed deeds puts before ports o.middle there.0 server old new o.suffered (is, gives.1)
+              there.2 did);
         })
 
     -- it is told of the break of an upload
@@ -110,7 +116,7 @@ module _ (read : Reading) (reads : IsReading read) (moments : ℕ → ℕ) (time
         → Cut (Other Break ∷ deeds) q count server new
     told_on is gives can did = by (subst (λ (m : Between). Suffered deeds m count server old) (seen_held p o.middle o.seen can.0) o.suffered) is.1
       where
-        by_closing : old.owner.end.view.closing ≡ true → Whole read reads moments timed b fair deeds p count (dried server) old → (octets : List ℕ)
+        by_closing : old.owner.end.view.closing ≡ true → W deeds p count (dried server) old → (octets : List ℕ)
             → old.owner.lane.unwritten ≡ octets → Cut (Other Break ∷ deeds) q count server new
         by_closing closing w [] none = suffers_on (Other Break) (λ e. none) (is.0, none, inr closing) gives can did
         by_closing closing w (octet ∷ more) some =
@@ -243,27 +249,27 @@ module _ (read : Reading) (reads : IsReading read) (moments : ℕ → ℕ) (time
 
       -- a world sees what lies between lie dry
       beside_dry : is_left p.near ≡ true → IsWritten client.owner.lane
-          → Whole read reads moments timed b fair (Other Break ∷ deeds) (dry q) told_ports new client → Cut (Other Break ∷ deeds) q told_ports new client
+          → W (Other Break ∷ deeds) (dry q) told_ports new client → Cut (Other Break ∷ deeds) q told_ports new client
       beside_dry left written w = inl (record {
         middle = dry q;
         seen = lost_dry q (ap (λ (m : Between). is_left m.near) can.1 ∙ left) lost_now;
         written = written;
-        suffered = inl (inl (subst (λ (s : Stand server_side). Whole read reads moments timed b fair (Other Break ∷ deeds) (dry q) told_ports s client)
+        suffered = inl (inl (subst (λ (s : Stand server_side). W (Other Break ∷ deeds) (dry q) told_ports s client)
             (sym new_dried) w));
       })
 
       -- or is beside one that has left
-      beside_gone : client.owner.lane.stands ≡ true → Whole read reads moments timed b fair (Other Break ∷ deeds) (lost q) told_ports new (gone client)
+      beside_gone : client.owner.lane.stands ≡ true → W (Other Break ∷ deeds) (lost q) told_ports new (gone client)
           → Cut (Other Break ∷ deeds) q told_ports new client
       beside_gone stands w = inr (inr (record {
-        whole = subst (λ (s : Stand server_side). Whole read reads moments timed b fair (Other Break ∷ deeds) (lost q) told_ports s (gone client))
+        whole = subst (λ (s : Stand server_side). W (Other Break ∷ deeds) (lost q) told_ports s (gone client))
             (sym new_dried) w;
         stands = stands;
         far = ap is_left lost_now;
       }))
 
       -- where it was beside both
-      by_whole : Whole read reads moments timed b fair deeds p told_ports old client
+      by_whole : W deeds p told_ports old client
           → IsOut p.near ⊎ ((client.owner.end.view.closing ≡ true) × (client.owner.lane.stands ≡ true)) → Cut (Other Break ∷ deeds) q told_ports new client
       by_whole w late = by client.owner.lane.stands refl late
         where
@@ -299,10 +305,10 @@ module _ (read : Reading) (reads : IsReading read) (moments : ℕ → ℕ) (time
       by_suffered : Suffered deeds p told_ports old client → IsOut p.near ⊎ ((client.owner.end.view.closing ≡ true) × (client.owner.lane.stands ≡ true))
           → Cut (Other Break ∷ deeds) q told_ports new client
       by_suffered (inl (inl w)) late =
-          by_whole (subst (λ (s : Stand server_side). Whole read reads moments timed b fair deeds p told_ports s client) old_dried w) late
+          by_whole (subst (λ (s : Stand server_side). W deeds p told_ports s client) old_dried w) late
       by_suffered (inl (inr l)) late =
           absurd (lags_never read reads moments timed b fair deeds puts p q told_ports old new client calm wants
-          (subst (λ (s : Stand server_side). Lags read reads moments timed b fair deeds p told_ports s client) old_dried l))
+          (subst (λ (s : Stand server_side). Lags read reads moments timed b fair (AreMarks deeds) deeds p told_ports s client) old_dried l))
       by_suffered (inr l) late =
           absurd (true≢false (ap is_receive (sym wants ∙ far_nothing read reads moments timed b fair deeds puts p told_ports old client l)))
 
@@ -409,7 +415,7 @@ module _ (read : Reading) (reads : IsReading read) (moments : ℕ → ℕ) (time
   reaches [] between happened server_start server client_start client begins untold unwritten far_unwritten near_untold server_led client_led takes gives
       ports told late =
       let start = starts_so read reads moments timed b fair server_start client_start begins untold unwritten far_unwritten near_untold in
-      let whole : Whole read reads moments timed b fair [] nothing_yet 0 server_start client_start = record {
+      let whole : W [] nothing_yet 0 server_start client_start = record {
         at = start.0;
         marks = [];
         are_marks = refl;
@@ -426,7 +432,7 @@ module _ (read : Reading) (reads : IsReading read) (moments : ℕ → ℕ) (time
           middle = nothing_yet;
           seen = inl refl;
           written = λ e. unwritten;
-          suffered = inl (inl (subst (λ (s : Stand server_side). Whole read reads moments timed b fair [] nothing_yet 0 s client_start)
+          suffered = inl (inl (subst (λ (s : Stand server_side). W [] nothing_yet 0 s client_start)
               (sym (dried_none server_start far_unwritten)) whole));
         });
       })))
@@ -524,7 +530,8 @@ cuts_are_of_worlds read reads b fair moments timed turns between server client d
         ]
 
     -- the server was told first
-    first : (m : Between) → Precedes read reads moments timed b fair deeds m count server client → CutIsOfWorld read b moments turns between server client did
+    first : (m : Between) → Precedes read reads moments timed b fair (AreMarks deeds) deeds m count server client
+        → CutIsOfWorld read b moments turns between server client did
     first m p =
         let were : Far = p.were.owner.end.server.view in
         let broken : break_step (clock_step p.moment were) ≡ clock_step p.moment (broke were) = broke_step p.were p.at.serves p.sends p.moment in
@@ -553,7 +560,7 @@ cuts_are_of_worlds read reads b fair moments timed turns between server client d
         heard_front queue said heard rest split (inl none) = (said, ap (λ o. o ++ said) (sym none))
         heard_front queue said heard rest split (inr empty) = (rest, ap (λ o. o ++ said) (sym empty) ∙ split)
 
-    by_suffered : (m : Between) → breaking.Suffered read reads moments timed b fair deeds m count server client
+    by_suffered : (m : Between) → breaking.Suffered read reads moments timed b fair (AreMarks deeds) deeds m count server client
         → CutIsOfWorld read b moments turns between server client did
     by_suffered m (inl (inl o)) =
         of_world (dried server) client client m (inl (refl, refl)) (refl, refl) refl o.at o.marks o.are_marks o.marked refl refl

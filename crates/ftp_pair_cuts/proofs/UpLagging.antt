@@ -37,12 +37,11 @@ use Rattle.ftp_pair_transfers.proofs.Called.{BreaksNone, StaysFresh, near_fresh}
 use Rattle.ftp_pair_transfers.proofs.Known.{AreCarried, Known}
 use Rattle.ftp_pair_transfers.proofs.Simulating.{known, runs}
 use Rattle.ftp_pair_transfers.specs.Refusals.{ClientTries}
-use Rattle.ftp_pair_breaks.specs.Deeds.{AreMarks, Marks}
 use Rattle.ftp_pair_breaks.proofs.Feeding.{is_final}
 use Rattle.ftp_pair_breaks.proofs.Lagging.{beside, is_failed, unbroken}
 use Rattle.ftp_pair_breaks.proofs.Steps.{Again, At, client_step, idle_again}
 use Rattle.ftp_pair_breaks.proofs.Unsent.{AskAll, Unsent, all_carried, reset_fresh, unsent_kept}
-use Rattle.ftp_pair_cuts.specs.Deeds.{ClientGives}
+use Rattle.ftp_pair_cuts.specs.Deeds.{AreMarks, ClientGives, Marks}
 use Rattle.ftp_pair_cuts.proofs.Climbing.{Climbing, pushed_climbs}
 use Rattle.ftp_pair_cuts.proofs.Lifting.{IsClosing, Lifts, StillGives, hears_closing, hears_lifts, hears_may, is_idle, lifts_busy, lifts_closes, lifts_idle, lifts_none, lifts_plain, lifts_reports, lifts_says, was_taken}
 use Rattle.ftp_pair_cuts.proofs.Notes.{Past, begun, is_past}

@@ -4,8 +4,7 @@ use Rattle.ftp_control.specs.Deeds.{Led, Stand}
 use Rattle.ftp_client_drive.specs.Side.{client_side}
 use Rattle.ftp_client_model.specs.Calls.{control_end, data_closed, report_of, reports}
 use Rattle.ftp_pair_breaks.specs.Claims.{AreSame, IsClientFirst, IsServerFirst, ReportAlike}
-use Rattle.ftp_pair_breaks.specs.Deeds.{AreMarks}
-use Rattle.ftp_pair_cuts.specs.Deeds.{AreToldLate, GivesAlong, LosesAlong, marking}
+use Rattle.ftp_pair_cuts.specs.Deeds.{AreMarks, AreToldLate, GivesAlong, LosesAlong, marking}
 use Rattle.ftp_pair_drives.specs.Alone.{reports_in}
 use Rattle.ftp_pair_drives.specs.Between.{Between, Happened, Turn, client_deeds, server_deeds}
 use Rattle.ftp_pair_drives.specs.Claims.{Begins}

@@ -13,7 +13,9 @@ use Rattle.ftp_pair_deeds.specs.Deeds.{Along}
 use Rattle.ftp_pair_drives.specs.Alone.{ClientIsCalm, ServerIsCalm}
 use Rattle.ftp_pair_drives.specs.Between.{Between, Client as ByClient, Has_ended, Has_lost, Happened, Hold, Server as ByServer, Turn, client_deeds, server_deeds}
 use Rattle.ftp_pair_transfers.specs.Deeds.{last_of, number_in}
+use Rattle.ftp_pair_transfers.specs.Refusals.{marked_by}
 use Rattle.ftp_pair_breaks.specs.Deeds.{IsSuffering, IsYielding}
+use Rattle.ftp_pair_world.specs.World.{Broken, Mark, marked_last}
 use Rattle.ftp_server_drive.specs.Side.{Timed, server_side}
 use Rattle.ftp_server_model.specs.Calls as far
 
@@ -89,3 +91,15 @@ marking [] start now led = []
 marking (ByServer (Other Break) ∷ before) start now led = with_cut (far.wants led.0.owner.end.server.view) (marking before start led.0 led.1)
 marking (ByServer deed ∷ before) start now led = marking before start led.0 led.1
 marking (ByClient deed ∷ before) start now led = deed ∷ marking before start now led
+
+-- ---- the marks
+
+-- a break may mark the operation that was begun last: it broke at some octet, and the law leaves open at which
+abbrev pub Marks : Deed client_side → (old new : List (List Mark)) → Type 0
+Marks (Other Break) old new = (new ≡ old) ⊎ ((came : ℕ) × (new ≡ marked_last (Broken came) old))
+Marks deed old new = new ≡ marked_by deed old
+
+-- those of deeds, the last one first
+abbrev pub AreMarks : List (Deed client_side) → List (List Mark) → Type 0
+AreMarks [] marks = marks ≡ []
+AreMarks (deed ∷ before) marks = (old : List (List Mark)) × AreMarks before old × Marks deed old marks

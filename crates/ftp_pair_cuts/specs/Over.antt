@@ -18,8 +18,7 @@ use Rattle.ftp_pair_drives.specs.Over.{Answers, answers_of, deeds_of_drive, deed
 use Rattle.ftp_pair_deeds.specs.Deeds.{AreMidst, ArePorts}
 use Rattle.ftp_pair_transfers.specs.Deeds.{AreMoments, AreToldAt}
 use Rattle.ftp_pair_transfers.specs.Over.{orders_at}
-use Rattle.ftp_pair_breaks.specs.Deeds.{AreMarks}
-use Rattle.ftp_pair_cuts.specs.Deeds.{AreToldLate, GivesAlong, LosesAlong, marking}
+use Rattle.ftp_pair_cuts.specs.Deeds.{AreMarks, AreToldLate, GivesAlong, LosesAlong, marking}
 
 -- ---- the client
 
