@@ -32,18 +32,17 @@ use Rattle.ftp_pair_transfers.proofs.Known.{AreCarried, Known, Lifting}
 use Rattle.ftp_pair_transfers.proofs.Simulating.{known, runs}
 use Rattle.ftp_pair_breaks.proofs.ClientBroken.{broken_lane}
 use Rattle.ftp_pair_breaks.proofs.Faults.{closing_same}
-use Rattle.ftp_pair_breaks.proofs.Lagging.{Whole, beside, is_failed, unbroken}
+use Rattle.ftp_pair_breaks.proofs.Lagging.{OfMarks, Then, Whole, beside, is_failed, unbroken}
 use Rattle.ftp_pair_breaks.proofs.Steps.{Again, idle_again}
 use Rattle.ftp_pair_breaks.proofs.Unsent.{AskAll, all_carried}
 use Rattle.ftp_pair_cuts.proofs.Climbing.{HasGiven, world_given}
 use Rattle.ftp_pair_cuts.proofs.Lifting.{Lifts, fault_begun, form, lifts_plain}
 use Rattle.ftp_pair_cuts.proofs.Notes.{begun}
 use Rattle.ftp_pair_cuts.proofs.UpLagging.{Spent, UpLags}
-use Rattle.ftp_pair_cuts.specs.Deeds.{AreMarks}
 
 module _ (read : Reading) (reads : IsReading read) (moments : ℕ → ℕ) (timed : AreMoments moments) (b : Beginning) (fair : IsFair b)
-    (deeds : List (Deed client_side)) (puts : AskAll (begun_at moments deeds)) (p q : Between) (count : ℕ) (server : Stand server_side)
-    (old new : Stand client_side) (o : Whole read reads moments timed b fair (AreMarks deeds) deeds p count server old)
+    {Are : OfMarks} (deeds : List (Deed client_side)) (puts : AskAll (begun_at moments deeds)) (p q : Between) (count : ℕ) (server : Stand server_side)
+    (old new : Stand client_side) (o : Whole read reads moments timed b fair Are deeds p count server old)
     (calm : ClientIsCalm old.owner new.owner)
     (can : Can TheClient ToldBreak p q) (did : Calls {side = client_side} Break old new) where
   abbrev w : World
@@ -77,7 +76,7 @@ module _ (read : Reading) (reads : IsReading read) (moments : ℕ → ℕ) (time
 
   -- so the world lags
   lags : Lifts v u → (v.closing ≡ true → has_octets old.owner.lane.unwritten ≡ true)
-      → UpLags read reads moments timed b fair (Other Break ∷ deeds) q count server new
+      → UpLags read reads moments timed b fair (Then (Other Break) old.owner Are) (Other Break ∷ deeds) q count server new
   lags lifts due =
       let whole : unbroken q ≡ p = ap unbroken can.1 ∙ ap (λ h. with_hold TheClient h p) (sym can.0) in
       let same : beside old.owner new ≡ old = ap (beside old.owner) did.1 in
@@ -140,7 +139,7 @@ module _ (read : Reading) (reads : IsReading read) (moments : ℕ → ℕ) (time
       kind = inl (ap (λ (n : Near). n.connection) is, ap (λ (n : Near). n.closing) is, refl, refl, refl);
     }
 
-    pub told_giving : UpLags read reads moments timed b fair (Other Break ∷ deeds) q count server new
+    pub told_giving : UpLags read reads moments timed b fair (Then (Other Break) old.owner Are) (Other Break ∷ deeds) q count server new
     told_giving = lags told_lifts (λ e. absurd (both e open_now))
 
   -- ---- one that gave all, and did not write all
@@ -187,5 +186,5 @@ module _ (read : Reading) (reads : IsReading read) (moments : ℕ → ℕ) (time
           kind = inr (over, closing, refl, refl);
         }
 
-    pub told_closing : UpLags read reads moments timed b fair (Other Break ∷ deeds) q count server new
+    pub told_closing : UpLags read reads moments timed b fair (Then (Other Break) old.owner Are) (Other Break ∷ deeds) q count server new
     told_closing = lags closes_lifts (λ e. due)

@@ -11,7 +11,7 @@ use Rattle.ftp_pair_drives.specs.Between.{client_deeds}
 use Rattle.ftp_pair_transfers.specs.Deeds.{begun_at}
 use Rattle.ftp_pair_breaks.proofs.Concluding.{marked_agree, marked_parting_agree}
 use Rattle.ftp_pair_cuts.specs.Claims.{CutsAgree, CutsPartingAgree}
-use Rattle.ftp_pair_cuts.proofs.Simulating.{cuts_are_of_worlds}
+use Rattle.ftp_pair_cuts.proofs.OfWorlds.{cuts_are_of_worlds}
 
 pub cuts_agree : CutsAgree
 cuts_agree b fair moments timed turns between server client did =

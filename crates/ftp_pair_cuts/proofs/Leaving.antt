@@ -34,13 +34,13 @@ use Rattle.ftp_pair_transfers.proofs.Beside.{Together, is_taking}
 use Rattle.ftp_pair_transfers.proofs.ClientStays.{client_keeps}
 use Rattle.ftp_pair_transfers.proofs.Known.{AreCarried, Known, is_giving, is_near_held}
 use Rattle.ftp_pair_transfers.proofs.Simulating.{known}
-use Rattle.ftp_pair_breaks.specs.Deeds.{IsSuffering}
+use Rattle.ftp_pair_breaks.specs.Deeds.{IsSuffering, Marks}
 use Rattle.ftp_pair_breaks.proofs.Faults.{closing_same}
-use Rattle.ftp_pair_breaks.proofs.Lagging.{Whole, feeding_at}
+use Rattle.ftp_pair_breaks.proofs.Lagging.{OfMarks, Then, Whole, feeding_at}
 use Rattle.ftp_pair_breaks.proofs.Simulating.{steps_on}
 use Rattle.ftp_pair_breaks.proofs.Steps.{Again, idle_again, same_again}
 use Rattle.ftp_pair_breaks.proofs.Unsent.{AskAll, Unsent, all_carried}
-use Rattle.ftp_pair_cuts.specs.Deeds.{AreMarks, ClientGives, Marks}
+use Rattle.ftp_pair_cuts.specs.Deeds.{ClientGives}
 use Rattle.ftp_pair_cuts.proofs.Seen.{dry, is_left}
 
 -- ---- one that has left it
@@ -122,25 +122,28 @@ left_called Is_called e = absurd (true≢false (sym e))
 left_called hold e = refl
 
 module _ (read : Reading) (reads : IsReading read) (moments : ℕ → ℕ) (timed : AreMoments moments) (b : Beginning) (fair : IsFair b) where
-  abbrev W : (deeds : List (Deed client_side)) (between : Between) (count : ℕ) (server : Stand server_side) (client : Stand client_side) → Type 0
-  W deeds between count server client = Whole read reads moments timed b fair (AreMarks deeds) deeds between count server client
+  abbrev W : (Are : OfMarks) (deeds : List (Deed client_side)) (between : Between) (count : ℕ) (server : Stand server_side) (client : Stand client_side)
+      → Type 0
+  W Are deeds between count server client = Whole read reads moments timed b fair Are deeds between count server client
 
   -- a world is beside one that has left its data connection, of which the server has none
-  pub record Leaves (deeds : List (Deed client_side)) (between : Between) (count : ℕ) (server : Stand server_side) (client : Stand client_side) : Type 0 where
-    pub whole : W deeds (lost between) count server (gone client)
+  pub record Leaves (Are : OfMarks) (deeds : List (Deed client_side)) (between : Between) (count : ℕ) (server : Stand server_side)
+      (client : Stand client_side) : Type 0 where
+    pub whole : W Are deeds (lost between) count server (gone client)
     pub stands : client.owner.lane.stands ≡ true
     pub far : is_left between.far ≡ true
 
   -- nothing is left of its data connection, and a world that saw it lie dry is beside it
-  pub record HasLeft (deeds : List (Deed client_side)) (between : Between) (count : ℕ) (server : Stand server_side) (client : Stand client_side) : Type 0 where
-    pub whole : W deeds (dry between) count server client
+  pub record HasLeft (Are : OfMarks) (deeds : List (Deed client_side)) (between : Between) (count : ℕ) (server : Stand server_side)
+      (client : Stand client_side) : Type 0 where
+    pub whole : W Are deeds (dry between) count server client
     pub near : is_left between.near ≡ true
     pub far : is_left between.far ≡ true
     pub written : client.owner.lane.unwritten ≡ []
 
-  module _ (deeds : List (Deed client_side)) (puts : AskAll (begun_at moments deeds)) (p q : Between) (count : ℕ) (server : Stand server_side)
-      (old new : Stand client_side) (l : Leaves deeds p count server old) where
-    abbrev o : W deeds (lost p) count server (gone old)
+  module _ {Are : OfMarks} (deeds : List (Deed client_side)) (puts : AskAll (begun_at moments deeds)) (p q : Between) (count : ℕ)
+      (server : Stand server_side) (old new : Stand client_side) (l : Leaves Are deeds p count server old) where
+    abbrev o : W Are deeds (lost p) count server (gone old)
     o = l.whole
 
     abbrev w : World
@@ -203,21 +206,22 @@ module _ (read : Reading) (reads : IsReading read) (moments : ℕ → ℕ) (time
 
     -- ---- it goes on so
 
-    on : (deed : Deed client_side) → W (deed ∷ deeds) (lost q) count server (gone new) → new.owner.lane.stands ≡ old.owner.lane.stands
-        → is_left q.far ≡ true → Leaves (deed ∷ deeds) q count server new
+    on : (deed : Deed client_side) → W (Then deed old.owner Are) (deed ∷ deeds) (lost q) count server (gone new) → new.owner.lane.stands ≡ old.owner.lane.stands
+        → is_left q.far ≡ true → Leaves (Then deed old.owner Are) (deed ∷ deeds) q count server new
     on deed whole stands far = record { whole = whole; stands = stands ∙ l.stands; far = far }
 
     -- nothing is done of one that has left
     idles : (deed : Deed client_side) → new ≡ with_owner new.owner old → new.owner.end ≡ old.owner.end → lost q ≡ lost p
-        → begun_by (moments (number_in deeds)) deed ≡ [] → reported_by deed ≡ [] → Marks deed o.marks o.marks
-        → new.owner.lane.stands ≡ old.owner.lane.stands → is_left q.far ≡ true → Leaves (deed ∷ deeds) q count server new
+        → begun_by (moments (number_in deeds)) deed ≡ [] → reported_by deed ≡ [] → Marks deed old.owner o.marks o.marks
+        → new.owner.lane.stands ≡ old.owner.lane.stands → is_left q.far ≡ true → Leaves (Then deed old.owner Are) (deed ∷ deeds) q count server new
     idles deed is end ways begins reports marks stands far =
         let got = idle_again read reads moments timed b fair deed deeds o.at begins reports in
-        let whole : W (deed ∷ deeds) (lost p) count server (gone old) =
+        let whole : W (Then deed old.owner Are) (deed ∷ deeds) (lost p) count server (gone old) =
         record { at = got.0; marks = o.marks; are_marks = (o.marks, o.are_marks, marks); marked = got.1 ∙ o.marked; unsent = o.unsent } in
         on deed
-        (subst (λ (m : Between). W (deed ∷ deeds) m count server (gone new)) (sym ways)
-        (subst (λ (c : Stand client_side). W (deed ∷ deeds) (lost p) count server c) (sym (gone_same old new is end)) whole)) stands far
+        (subst (λ (m : Between). W (Then deed old.owner Are) (deed ∷ deeds) m count server (gone new)) (sym ways)
+        (subst (λ (c : Stand client_side). W (Then deed old.owner Are) (deed ∷ deeds) (lost p) count server c)
+        (sym (gone_same old new is end)) whole)) stands far
 
     -- one that has left does nothing as the drive's leaves its data connection
     after_left : (asked : Asked) → Again read reads moments timed b fair (Other (Left asked) ∷ deeds) (lost p) count server (gone old) w.marks
@@ -228,7 +232,7 @@ module _ (read : Reading) (reads : IsReading read) (moments : ℕ → ℕ) (time
 
     -- it leaves its data connection
     left_on : (asked : Asked) → Calls {side = client_side} (Left asked) old new → q.control ≡ p.control → q.far ≡ p.far → is_left q.near ≡ true
-        → HasLeft (Other (Left asked) ∷ deeds) q count server new
+        → HasLeft (Then (Other (Left asked)) old.owner Are) (Other (Left asked) ∷ deeds) q count server new
     left_on asked did control hold out =
         let lane : IsLeft asked old.owner.lane new.owner.lane = did.0.1 in
         let got = after_left asked in
@@ -266,7 +270,7 @@ module _ (read : Reading) (reads : IsReading read) (moments : ℕ → ℕ) (time
     -- ---- each deed of the client
 
     pub leave_step : (deed : Deed client_side) → ClientGives deed old.owner new.owner → CanTurn (ByClient deed) p q → Done deed old new
-        → Leaves (deed ∷ deeds) q count server new ⊎ HasLeft (deed ∷ deeds) q count server new
+        → Leaves (Then deed old.owner Are) (deed ∷ deeds) q count server new ⊎ HasLeft (Then deed old.owner Are) (deed ∷ deeds) q count server new
     leave_step (Heard octets) is can did =
         let none : no_lane None ≡ seen (near.wants v) (no_lane None) = seen_none (near.wants v) not_sends in
         inl (on (Heard octets)
@@ -335,7 +339,7 @@ module _ (read : Reading) (reads : IsReading read) (moments : ℕ → ℕ) (time
     leave_step (Other Closed) is can did = absurd (both l.stands did.0.1.1)
     leave_step (Other Break) is can did = by is.0
       where
-        closes : v.closing ≡ true → Leaves (Other Break ∷ deeds) q count server new
+        closes : v.closing ≡ true → Leaves (Then (Other Break) old.owner Are) (Other Break ∷ deeds) q count server new
         closes closing =
             let view : new.owner.end.view ≡ v = did.0.0.0.0 is.1 ∙ closing_same v closing in
             idles (Other Break) did.1 (λ i. record { view = view i; refusals = is.1 i })
@@ -344,7 +348,8 @@ module _ (read : Reading) (reads : IsReading read) (moments : ℕ → ℕ) (time
 
         by : IsSuffering (Other Break) old.owner
             ⊎ ((old.owner.lane.fate ≡ Fates.Failed) × ((near.wants v ≡ Want.Send) ⊎ (v.closing ≡ true)))
-            → Leaves (Other Break ∷ deeds) q count server new ⊎ HasLeft (Other Break ∷ deeds) q count server new
+            → Leaves (Then (Other Break) old.owner Are) (Other Break ∷ deeds) q count server new ⊎ HasLeft (Then (Other Break) old.owner Are)
+            (Other Break ∷ deeds) q count server new
         by (inl suffers) = elim suffers.2 [
           | inl wants ↦ absurd (no_receive wants)
           | inr closing ↦ inl (closes closing)

@@ -14,6 +14,7 @@ use Rattle.ftp_pair_drives.specs.Touches.{Accepts, Dials, Ends, IsDenied, IsMiss
 use Rattle.ftp_pair_deeds.specs.Deeds.{ArePorts, listened_in}
 use Rattle.ftp_pair_transfers.specs.Deeds.{AreMoments, IsToldAt, begun_at, last_of, number_in}
 use Rattle.ftp_pair_breaks.specs.Deeds.{IsYielding}
+use Rattle.ftp_pair_breaks.proofs.Lagging.{OfMarks}
 use Rattle.ftp_pair_breaks.proofs.Drained.{BreaksNot, IsLone, dried, dried_step, dried_told}
 use Rattle.ftp_pair_breaks.proofs.Seen.{Sees}
 use Rattle.ftp_pair_breaks.proofs.Steps.{server_step}
@@ -51,12 +52,13 @@ sees_lost deed server is p q out can = can_lost (touch_in deed) p q (serving_dia
 
 -- so it goes on
 pub leave_served : (read : Reading) (reads : IsReading read) (moments : ℕ → ℕ) (timed : AreMoments moments) (b : Beginning) (fair : IsFair b)
-    (deed : Deed server_side) → BreaksNot deed → (deeds : List (Deed client_side)) → AskAll (begun_at moments deeds) → (before : List (Deed server_side))
+    {Are : OfMarks} (deed : Deed server_side) → BreaksNot deed → (deeds : List (Deed client_side)) → AskAll (begun_at moments deeds)
+    → (before : List (Deed server_side))
     → ArePorts (deed ∷ before) → (p q : Between) (old new : Stand server_side) (client : Stand client_side)
-    → Leaves read reads moments timed b fair deeds p (listened_in before) (dried old) client → IsYielding deed old.owner → ServerIsCalm old.owner new.owner
+    → Leaves read reads moments timed b fair Are deeds p (listened_in before) (dried old) client → IsYielding deed old.owner → ServerIsCalm old.owner new.owner
     → Sees deed (dried old) p q → (did : Done deed old new) → IsToldAt deed old new did (last_of moments (number_in deeds))
-    → Leaves read reads moments timed b fair deeds q (listened_in (deed ∷ before)) (dried new) client
-leave_served read reads moments timed b fair deed kept deeds puts before ports p q old new client l is calm can did told =
+    → Leaves read reads moments timed b fair Are deeds q (listened_in (deed ∷ before)) (dried new) client
+leave_served read reads moments timed b fair {Are} deed kept deeds puts before ports p q old new client l is calm can did told =
     let step = dried_step old new deed kept is did in
     let there = sees_lost deed (dried old) step.0 p q l.far can in
     let got = server_step read reads moments timed b fair deed (dried old) (dried new) step.0 calm deeds (all_carried (begun_at moments deeds) puts) before

@@ -9,8 +9,8 @@ pub mod Written
 pub mod Marking
 pub mod ClientTold
 pub mod Serving
-pub mod Freeing
 pub mod Simulating
+pub mod OfWorlds
 pub mod Concluding
 pub mod Ending
 pub mod Leaving

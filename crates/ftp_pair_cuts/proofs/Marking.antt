@@ -1,5 +1,5 @@
 -- What may mark begins, reports and numbers the same as what the client did, and all that is begun asks for all.
-use Rattle.std.proofs.Common.{◌≡◌, inl, inr, ℕ, suc, true≢false, List, [], ◌∷◌, ◌++◌, refl, sym, ap, ◌∙◌, append-nil}
+use Rattle.std.proofs.Common.{◌≡◌, inl, inr, ℕ, suc, false, true≢false, List, [], ◌∷◌, ◌++◌, refl, sym, ap, ◌∙◌, append-nil}
 use Rattle.ftp_control.specs.Deeds.{Deed, Led, Other, Stand}
 use Rattle.ftp_control.specs.Machine.{Aside, Break, Held}
 use Rattle.ftp_client_drive.specs.Side.{Starting, client_side}
@@ -9,20 +9,35 @@ use Rattle.ftp_server_drive.specs.Side.{Timed, server_side}
 use Rattle.ftp_server_model.specs.Calls as far
 use Rattle.ftp_pair_drives.specs.Alone.{begun_by, reported_by, reports_in}
 use Rattle.ftp_pair_drives.specs.Between.{Client as ByClient, Server as ByServer, Turn, client_deeds, server_deeds}
+use Rattle.ftp_pair_data.proofs.Known.{is_receive}
 use Rattle.ftp_pair_deeds.proofs.FarForms.{no_close}
 use Rattle.ftp_pair_transfers.specs.Deeds.{begun_at, number_in}
 use Rattle.ftp_pair_breaks.specs.Deeds.{IsYielding}
 use Rattle.ftp_pair_breaks.proofs.Unsent.{AskAll, both_all}
-use Rattle.ftp_pair_cuts.specs.Deeds.{ClientGives, GivesAlong, marking, with_cut}
+use Rattle.ftp_pair_cuts.specs.Deeds.{ClientGives, GivesAlong}
+
+-- ---- what may mark
+
+-- a break that a server is told of may mark an operation where it wants octets, those of an upload
+abbrev pub with_cut : Wants → List (Deed client_side) → List (Deed client_side)
+with_cut Want.Receive deeds = Other Break ∷ deeds
+with_cut wants deeds = deeds
+
+-- those that may mark an operation: what the client did, and breaks that the server was told of while it took octets
+abbrev pub marking : (turns : List Turn) (start now : Stand server_side) → Led (server_deeds turns) start now → List (Deed client_side)
+marking [] start now led = []
+marking (ByServer (Other Break) ∷ before) start now led = with_cut (far.wants led.0.owner.end.server.view) (marking before start led.0 led.1)
+marking (ByServer deed ∷ before) start now led = marking before start led.0 led.1
+marking (ByClient deed ∷ before) start now led = deed ∷ marking before start now led
 
 -- ---- a break of the server's
 
--- one that takes no octets marks nothing
-pub cuts_none : (at : Held Timed) (deeds : List (Deed client_side)) → IsYielding (Other Break) at → with_cut (far.wants at.end.server.view) deeds ≡ deeds
-cuts_none at deeds (inl sends) = ap (λ w. with_cut w deeds) sends
-cuts_none at deeds (inr closing) = by (far.wants at.end.server.view) refl
+-- one of what it gives, or is to close, is of none that takes octets
+pub takes_none : (at : Held Timed) → IsYielding (Other Break) at → is_receive (far.wants at.end.server.view) ≡ false
+takes_none at (inl sends) = ap is_receive sends
+takes_none at (inr closing) = by (far.wants at.end.server.view) refl
   where
-    by : (wants : Wants) → far.wants at.end.server.view ≡ wants → with_cut wants deeds ≡ deeds
+    by : (wants : Wants) → far.wants at.end.server.view ≡ wants → is_receive wants ≡ false
     by Want.Receive is = absurd (true≢false (sym closing ∙ no_close at.end.server.view Want.Receive is refl))
     by wants is = refl
 

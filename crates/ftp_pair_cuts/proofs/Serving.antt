@@ -40,10 +40,10 @@ use Rattle.ftp_pair_transfers.proofs.FarForms.{is_receive, receives_upload, uplo
 use Rattle.ftp_pair_transfers.proofs.Known.{AreCarried, Known, is_giving, is_near_held}
 use Rattle.ftp_pair_transfers.proofs.Running.{world_timed}
 use Rattle.ftp_pair_transfers.proofs.Simulating.{asks, known, runs}
-use Rattle.ftp_pair_breaks.proofs.Lagging.{Lags, Whole, beside, feeds, unbroken}
+use Rattle.ftp_pair_breaks.proofs.Lagging.{Lags, OfMarks, Whole, beside, feeds, unbroken}
 use Rattle.ftp_pair_breaks.proofs.Steps.{Again, At, idle_again}
 use Rattle.ftp_pair_breaks.proofs.Unsent.{AskAll, Unsent, all_carried}
-use Rattle.ftp_pair_cuts.specs.Deeds.{AreMarks, IsOut}
+use Rattle.ftp_pair_cuts.specs.Deeds.{IsOut, cut_marks}
 use Rattle.ftp_pair_cuts.proofs.Leaving.{gone, lost}
 use Rattle.ftp_pair_cuts.proofs.Lifting.{IsClosing, StillGives, closes_alike, gives_fault, lifts_none, lifts_plain, lifts_rest, lifts_sound, lifts_taken, was_none}
 use Rattle.ftp_pair_cuts.proofs.Seen.{dry}
@@ -201,8 +201,8 @@ module _ (read : Reading) (reads : IsReading read) (moments : ℕ → ℕ) (time
         ∙ ahead_upload o.ahead o.last old.owner.end.server.view o.together.beside.fits (wants_upload old.owner.end.server.view o.serves.running wants)
 
     -- then no world's client takes octets of a download that broke
-    pub lags_never : Lags read reads moments timed b fair (AreMarks deeds) deeds p count old client → ⊥
-    lags_never l =
+    pub lags_never : {Are : OfMarks} → Lags read reads moments timed b fair Are deeds p count old client → ⊥
+    lags_never {Are} l =
         let takes : is_upload l.at.world.far.session.connection ≡ true = world_upload l.at in
         elim (feeds read reads moments timed b fair deeds puts p count old client l).far [
           | inl free ↦ both takes (ap is_upload free)
@@ -224,9 +224,10 @@ module _ (read : Reading) (reads : IsReading read) (moments : ℕ → ℕ) (time
       sound_then sound = ap (λ (n : Near). is_sound n.standing) out.view ∙ sound
 
       -- where a world is beside both: its client alone has closed the link
-      pub whole_cut : Whole read reads moments timed b fair (AreMarks deeds) deeds p count old client → IsOut p.near ⊎ (client.owner.end.view.closing ≡ true)
-          → Whole read reads moments timed b fair (AreMarks (Other Break ∷ deeds)) (Other Break ∷ deeds) next count new after
-      whole_cut o is_out =
+      pub whole_cut : {Are : OfMarks} → Whole read reads moments timed b fair Are deeds p count old client
+          → IsOut p.near ⊎ (client.owner.end.view.closing ≡ true)
+          → Whole read reads moments timed b fair (cut_marks Want.Receive Are) (Other Break ∷ deeds) next count new after
+      whole_cut {Are} o is_out =
           let w : World = o.at.world in
           let t = o.at.together in
           let carried = all_carried (begun_at moments deeds) puts in
@@ -266,7 +267,7 @@ module _ (read : Reading) (reads : IsReading read) (moments : ℕ → ℕ) (time
           }
 
       -- where it is beside a client that was not told: it is told too, or has closed the link
-      module _ (l : UpLags read reads moments timed b fair deeds p count old client) where
+      module _ {Are : OfMarks} (l : UpLags read reads moments timed b fair Are deeds p count old client) where
         abbrev n : Near
         n = l.was.end.view
 
@@ -314,7 +315,7 @@ module _ (read : Reading) (reads : IsReading read) (moments : ℕ → ℕ) (time
             let link : there.link ≡ ClosedByNear = link_closed read reads moments timed b fair deeds puts p count old client l closes in
             remains there.near (ap (λ k. broken_by k (lends_none there)) link) (ap is_gone link) (near_there ∙ closes_alike n u l.lifts closes)
 
-        pub lag_cut : Whole read reads moments timed b fair (AreMarks (Other Break ∷ deeds)) (Other Break ∷ deeds) next count new after
+        pub lag_cut : Whole read reads moments timed b fair (cut_marks Want.Receive Are) (Other Break ∷ deeds) next count new after
         lag_cut =
             let got = cut_again deeds puts (unbroken p) count old new (beside l.was client) calm l.at next after did wants told
             (elim l.lifts.kind [

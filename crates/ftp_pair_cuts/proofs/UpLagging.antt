@@ -37,11 +37,12 @@ use Rattle.ftp_pair_transfers.proofs.Called.{BreaksNone, StaysFresh, near_fresh}
 use Rattle.ftp_pair_transfers.proofs.Known.{AreCarried, Known}
 use Rattle.ftp_pair_transfers.proofs.Simulating.{known, runs}
 use Rattle.ftp_pair_transfers.specs.Refusals.{ClientTries}
+use Rattle.ftp_pair_breaks.specs.Deeds.{Marks}
 use Rattle.ftp_pair_breaks.proofs.Feeding.{is_final}
-use Rattle.ftp_pair_breaks.proofs.Lagging.{beside, is_failed, unbroken}
+use Rattle.ftp_pair_breaks.proofs.Lagging.{OfMarks, Then, beside, is_failed, unbroken}
 use Rattle.ftp_pair_breaks.proofs.Steps.{Again, At, client_step, idle_again}
 use Rattle.ftp_pair_breaks.proofs.Unsent.{AskAll, Unsent, all_carried, reset_fresh, unsent_kept}
-use Rattle.ftp_pair_cuts.specs.Deeds.{AreMarks, ClientGives, Marks}
+use Rattle.ftp_pair_cuts.specs.Deeds.{ClientGives}
 use Rattle.ftp_pair_cuts.proofs.Climbing.{Climbing, pushed_climbs}
 use Rattle.ftp_pair_cuts.proofs.Lifting.{IsClosing, Lifts, StillGives, hears_closing, hears_lifts, hears_may, is_idle, lifts_busy, lifts_closes, lifts_idle, lifts_none, lifts_plain, lifts_reports, lifts_says, was_taken}
 use Rattle.ftp_pair_cuts.proofs.Notes.{Past, begun, is_past}
@@ -89,7 +90,8 @@ unfinal_past op (Replies.Final code) left mark e = absurd (true≢false e)
 
 module _ (read : Reading) (reads : IsReading read) (moments : ℕ → ℕ) (timed : AreMoments moments) (b : Beginning) (fair : IsFair b) where
   -- a world is beside one that was not told; one that gave all has octets that it did not write
-  pub record UpLags (deeds : List (Deed client_side)) (between : Between) (count : ℕ) (server : Stand server_side) (client : Stand client_side) : Type 0 where
+  pub record UpLags (Are : OfMarks) (deeds : List (Deed client_side)) (between : Between) (count : ℕ) (server : Stand server_side)
+      (client : Stand client_side) : Type 0 where
     pub was : Held Client
     pub at : At read reads moments timed b fair deeds (unbroken between) count server (beside was client)
     pub lifts : Lifts was.end.view client.owner.end.view
@@ -97,13 +99,13 @@ module _ (read : Reading) (reads : IsReading read) (moments : ℕ → ℕ) (time
     pub hold : between.near ≡ Has_lost
     pub lane : Spent client.owner.lane
     pub marks : List (List Mark)
-    pub are_marks : AreMarks deeds marks
+    pub are_marks : Are marks
     pub marked : at.world.marks ≡ marks
     pub unsent : IsPlainBy Unsent was.end.view
     pub fresh : StaysFresh between client
 
-  module _ (deeds : List (Deed client_side)) (puts : AskAll (begun_at moments deeds)) (between : Between) (count : ℕ) (server : Stand server_side)
-      (client : Stand client_side) (l : UpLags deeds between count server client) where
+  module _ {Are : OfMarks} (deeds : List (Deed client_side)) (puts : AskAll (begun_at moments deeds)) (between : Between) (count : ℕ)
+      (server : Stand server_side) (client : Stand client_side) (l : UpLags Are deeds between count server client) where
     carried : AreCarried (begun_at moments deeds)
     carried = all_carried (begun_at moments deeds) puts
 
@@ -178,8 +180,8 @@ module _ (read : Reading) (reads : IsReading read) (moments : ℕ → ℕ) (time
       -- so it lags on, where a step of one that was not told is known
       lags_on : (was : Held Client) → Again read reads moments timed b fair (deed ∷ deeds) (unbroken next) count server (beside was new) w.marks
           → Lifts was.end.view new.owner.end.view → (was.end.view.closing ≡ true → has_octets was.lane.unwritten ≡ true) → next.near ≡ Has_lost
-          → Spent new.owner.lane → ((marks : List (List Mark)) → Marks deed marks marks) → IsPlainBy Unsent was.end.view → StaysFresh next new
-          → UpLags (deed ∷ deeds) next count server new
+          → Spent new.owner.lane → ((marks : List (List Mark)) → Marks deed client.owner marks marks) → IsPlainBy Unsent was.end.view → StaysFresh next new
+          → UpLags (Then deed client.owner Are) (deed ∷ deeds) next count server new
       lags_on was got lifts due hold lane none unsent fresh = record {
         was = was;
         at = got.0;
@@ -213,7 +215,7 @@ module _ (read : Reading) (reads : IsReading read) (moments : ℕ → ℕ) (time
     -- octets are said
     says_on : (octets : List ℕ) (next : Between) (new : Stand client_side) → ClientIsCalm client.owner new.owner
         → CanTurn (ByClient (Says octets)) between next → SaysNext octets client new
-        → UpLags (Says octets ∷ deeds) next count server new
+        → UpLags (Then (Says octets) client.owner Are) (Says octets ∷ deeds) next count server new
     says_on octets next new calm can did =
         let said : ℕ = did.gives.count in
         let was : Held Client = viewed (gives_control said n) l.was in
@@ -240,7 +242,7 @@ module _ (read : Reading) (reads : IsReading read) (moments : ℕ → ℕ) (time
     -- octets are read
     reads_on : (octets : List ℕ) (next : Between) (new : Stand client_side) → ClientIsCalm client.owner new.owner
         → CanTurn (ByClient (Read octets)) between next → ReadsNext octets client new
-        → UpLags (Read octets ∷ deeds) next count server new
+        → UpLags (Then (Read octets) client.owner Are) (Read octets ∷ deeds) next count server new
     reads_on octets next new calm can did =
         let owed : n.owed ≡ u.owed = sym (ap (λ (v : Near). v.owed) l.lifts.told) in
         let done : ReadsNext octets (beside l.was client) (beside l.was new) = record {
@@ -260,7 +262,8 @@ module _ (read : Reading) (reads : IsReading read) (moments : ℕ → ℕ) (time
 
     -- octets are heard
     heard_on : (octets : List ℕ) (next : Between) (new : Stand client_side) → ClientIsCalm client.owner new.owner
-        → CanTurn (ByClient (Heard octets)) between next → HearsNext octets client new → UpLags (Heard octets ∷ deeds) next count server new
+        → CanTurn (ByClient (Heard octets)) between next → HearsNext octets client new → UpLags (Then (Heard octets) client.owner Are)
+        (Heard octets ∷ deeds) next count server new
     heard_on octets next new calm can did =
         let was : Held Client = record { end = record l.was.end { view = hears n octets }; lane = seen (near.wants n) l.was.lane } in
         let none = unfinal octets new.unheard did.next in
@@ -293,7 +296,7 @@ module _ (read : Reading) (reads : IsReading read) (moments : ℕ → ℕ) (time
 
     -- a deed of one that was told
     pub up_lag_step : (deed : Deed client_side) (next : Between) (new : Stand client_side) → ClientGives deed client.owner new.owner
-        → CanTurn (ByClient deed) between next → Done deed client new → UpLags (deed ∷ deeds) next count server new
+        → CanTurn (ByClient deed) between next → Done deed client new → UpLags (Then deed client.owner Are) (deed ∷ deeds) next count server new
     up_lag_step (Heard octets) next new is can did = heard_on octets next new is.1 can did
     up_lag_step (Says octets) next new is can did = says_on octets next new is.1 can did
     up_lag_step (Read octets) next new is can did = reads_on octets next new is.1 can did

@@ -4,7 +4,7 @@ use Rattle.ftp_control.specs.Deeds.{Led, Stand}
 use Rattle.ftp_client_drive.specs.Side.{client_side}
 use Rattle.ftp_client_model.specs.Calls.{control_end, data_closed, report_of, reports}
 use Rattle.ftp_pair_breaks.specs.Claims.{AreSame, IsClientFirst, IsServerFirst, ReportAlike}
-use Rattle.ftp_pair_cuts.specs.Deeds.{AreMarks, AreToldLate, GivesAlong, LosesAlong, marking}
+use Rattle.ftp_pair_cuts.specs.Deeds.{AreMarks, AreToldLate, GivesAlong, LosesAlong}
 use Rattle.ftp_pair_drives.specs.Alone.{reports_in}
 use Rattle.ftp_pair_drives.specs.Between.{Between, Happened, Turn, client_deeds, server_deeds}
 use Rattle.ftp_pair_drives.specs.Claims.{Begins}
@@ -48,7 +48,7 @@ pub record CutIsOfWorld (read : Reading) (b : Beginning) (moments : ℕ → ℕ)
   pub world : World
   pub leads : Leads read (world_of b) events (begun_at moments (client_deeds turns)) world
   pub marks : List (List Mark)
-  pub are_marks : AreMarks (marking turns did.server_start server did.server_led) marks
+  pub are_marks : AreMarks turns did.server_start server did.server_led did.client_start client did.client_led marks
   pub were : Stand server_side
   pub was : Stand client_side
   pub is : AreSame server were client was ⊎ (IsClientFirst server were client was ⊎ IsServerFirst server were client was)
@@ -71,7 +71,7 @@ CutsAgree =
     (b : Beginning) → IsFair b → (moments : ℕ → ℕ) → AreMoments moments
     → (turns : List Turn) (between : Between) (server : Stand server_side) (client : Stand client_side)
     → (did : DidCut b moments turns between server client)
-    → (marks : List (List Mark)) × AreMarks (marking turns did.server_start server did.server_led) marks
+    → (marks : List (List Mark)) × AreMarks turns did.server_start server did.server_led did.client_start client did.client_led marks
     × Agrees (state_of b) (begun_at moments (client_deeds turns)) marks None
     (reports_in (client_deeds turns) ++ option_to_list (report_of client.owner.end.view)) server.owner.end.server.view.session.table
 
@@ -81,6 +81,6 @@ CutsPartingAgree =
     (b : Beginning) → IsFair b → (moments : ℕ → ℕ) → AreMoments moments
     → (turns : List Turn) (between : Between) (server : Stand server_side) (client : Stand client_side)
     → (did : DidCut b moments turns between server client)
-    → (marks : List (List Mark)) × AreMarks (marking turns did.server_start server did.server_led) marks
+    → (marks : List (List Mark)) × AreMarks turns did.server_start server did.server_led did.client_start client did.client_led marks
     × Agrees (state_of b) (begun_at moments (client_deeds turns)) marks (Some (length marks))
     (reports_in (client_deeds turns) ++ option_to_list (report_of (control_end client.owner.end.view))) server.owner.end.server.view.session.table

@@ -13,8 +13,7 @@ use Rattle.ftp_pair_deeds.specs.Deeds.{Along}
 use Rattle.ftp_pair_drives.specs.Alone.{ClientIsCalm, ServerIsCalm}
 use Rattle.ftp_pair_drives.specs.Between.{Between, Client as ByClient, Has_ended, Has_lost, Happened, Hold, Server as ByServer, Turn, client_deeds, server_deeds}
 use Rattle.ftp_pair_transfers.specs.Deeds.{last_of, number_in}
-use Rattle.ftp_pair_transfers.specs.Refusals.{marked_by}
-use Rattle.ftp_pair_breaks.specs.Deeds.{IsSuffering, IsYielding}
+use Rattle.ftp_pair_breaks.specs.Deeds.{IsSuffering, IsYielding, Marks}
 use Rattle.ftp_pair_world.specs.World.{Broken, Mark, marked_last}
 use Rattle.ftp_server_drive.specs.Side.{Timed, server_side}
 use Rattle.ftp_server_model.specs.Calls as far
@@ -80,26 +79,20 @@ AreToldLate moments (ByServer deed ∷ before) between happened server_start ser
 AreToldLate moments (ByClient deed ∷ before) between happened server_start server server_led client_start client client_led =
     AreToldLate moments before happened.0 happened.1 server_start server server_led client_start client_led.0 client_led.1
 
--- a break that a server is told of may mark an operation where it wants octets, those of an upload
-abbrev pub with_cut : Wants → List (Deed client_side) → List (Deed client_side)
-with_cut Want.Receive deeds = Other Break ∷ deeds
-with_cut wants deeds = deeds
-
--- those that may mark an operation: what the client did, and breaks that the server was told of while it took octets
-abbrev pub marking : (turns : List Turn) (start now : Stand server_side) → Led (server_deeds turns) start now → List (Deed client_side)
-marking [] start now led = []
-marking (ByServer (Other Break) ∷ before) start now led = with_cut (far.wants led.0.owner.end.server.view) (marking before start led.0 led.1)
-marking (ByServer deed ∷ before) start now led = marking before start led.0 led.1
-marking (ByClient deed ∷ before) start now led = deed ∷ marking before start now led
-
 -- ---- the marks
 
--- a break may mark the operation that was begun last: it broke at some octet, and the law leaves open at which
-abbrev pub Marks : Deed client_side → (old new : List (List Mark)) → Type 0
-Marks (Other Break) old new = (new ≡ old) ⊎ ((came : ℕ) × (new ≡ marked_last (Broken came) old))
-Marks deed old new = new ≡ marked_by deed old
+-- a break that the server is told of may mark the operation that was begun last where it wants octets, those of an upload; at which octet is left open
+abbrev pub cut_marks : Wants → (List (List Mark) → Type 0) → List (List Mark) → Type 0
+cut_marks Want.Receive Are marks = (old : List (List Mark)) × Are old × ((marks ≡ old) ⊎ ((came : ℕ) × (marks ≡ marked_last (Broken came) old)))
+cut_marks wants Are marks = Are marks
 
--- those of deeds, the last one first
-abbrev pub AreMarks : List (Deed client_side) → List (List Mark) → Type 0
-AreMarks [] marks = marks ≡ []
-AreMarks (deed ∷ before) marks = (old : List (List Mark)) × AreMarks before old × Marks deed old marks
+-- those of deeds, the last one first: what the client does marks as where downloads alone break
+abbrev pub AreMarks : (turns : List Turn) (start now : Stand server_side) → Led (server_deeds turns) start now
+    → (client_start client : Stand client_side) → Led (client_deeds turns) client_start client → List (List Mark) → Type 0
+AreMarks [] start now led client_start client client_led marks = marks ≡ []
+AreMarks (ByServer (Other Break) ∷ before) start now led client_start client client_led marks =
+    cut_marks (far.wants led.0.owner.end.server.view) (AreMarks before start led.0 led.1 client_start client client_led) marks
+AreMarks (ByServer deed ∷ before) start now led client_start client client_led marks =
+    AreMarks before start led.0 led.1 client_start client client_led marks
+AreMarks (ByClient deed ∷ before) start now led client_start client client_led marks =
+    (old : List (List Mark)) × AreMarks before start now led client_start client_led.0 client_led.1 old × Marks deed client_led.0.owner old marks

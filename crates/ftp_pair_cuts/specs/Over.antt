@@ -18,7 +18,7 @@ use Rattle.ftp_pair_drives.specs.Over.{Answers, answers_of, deeds_of_drive, deed
 use Rattle.ftp_pair_deeds.specs.Deeds.{AreMidst, ArePorts}
 use Rattle.ftp_pair_transfers.specs.Deeds.{AreMoments, AreToldAt}
 use Rattle.ftp_pair_transfers.specs.Over.{orders_at}
-use Rattle.ftp_pair_cuts.specs.Deeds.{AreMarks, AreToldLate, GivesAlong, LosesAlong, marking}
+use Rattle.ftp_pair_cuts.specs.Deeds.{AreMarks, AreToldLate, GivesAlong, LosesAlong}
 
 -- ---- the client
 
@@ -70,5 +70,5 @@ abbrev pub CutDrivesAgree : Type 0
 CutDrivesAgree =
     (b : Beginning) → IsFair b → (moments : ℕ → ℕ) → AreMoments moments → (asked : List (Op (List ℕ) × Said)) (server : Stand server_side)
     → (over : AreOver b moments asked server)
-    → (marks : List (List Mark)) × AreMarks (marking over.turns over.server_start over.last over.server_led) marks
+    → (marks : List (List Mark)) × AreMarks over.turns over.server_start over.last over.server_led over.client_start over.client over.client_led marks
     × Agrees (state_of b) (orders_at moments asked) marks None (answers_of asked) server.owner.end.server.view.session.table
