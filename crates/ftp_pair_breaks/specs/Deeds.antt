@@ -1,5 +1,5 @@
--- The deeds of one server's drive and of drives of one client of which a download's data connection breaks, at any time: the client is told so, or the server
--- while it gives or after it gave all, or both, in either order (RFC 959, section 3.3).
+-- The deeds of one server's drive and of drives of one client of which a download's data connection breaks: the client is told so while it takes octets, or the
+-- server while it gives or after it gave all, or both, in either order (RFC 959, section 3.3).
 use Rattle.std.specs.Prelude.{◌≡◌, ◌⊎◌, ⊤, ℕ, true, List, [], ◌∷◌, None}
 use Rattle.ftp_control.specs.Asking.{Reset}
 use Rattle.ftp_control.specs.Deeds.{Deed, Led, Other, Stand}
