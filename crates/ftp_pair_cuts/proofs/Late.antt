@@ -35,7 +35,7 @@ abbrev is_send : Wants → Bool
 is_send Want.Send = true
 is_send other = false
 
-over_sends : (v : View) → IsOver v → wants v ≡ Want.Send → ⊥
+pub over_sends : (v : View) → IsOver v → wants v ≡ Want.Send → ⊥
 unfolding wants
 over_sends v o e = by v.closing (is_sound v.standing) v.connection v.job o.told (ap is_send e)
   where
@@ -86,7 +86,7 @@ module _ (op : Op (List ℕ)) (all : count_of op ≡ None) (first : ℕ) (more :
   aborting count replied mark n =
       if true && true && has_settled count (flow mark) then sends_abort op (so_far replied mark) (up replied mark n) else up replied mark n
 
-  goes_open : (replied : Replied) (mark : Option ℕ) (n : View) → carries_on (up replied mark n) ≡ up replied mark n
+  pub goes_open : (replied : Replied) (mark : Option ℕ) (n : View) → carries_on (up replied mark n) ≡ up replied mark n
   goes_open Replies.Nothing mark n = refl
   goes_open Replies.Begun mark n = ap (λ k. answers_once_over (aborting k Replies.Begun mark n)) all
   goes_open (Replies.Final code) mark n = ap (λ k. answers_once_over (aborting k (Replies.Final code) mark n)) all
@@ -143,7 +143,7 @@ module _ (op : Op (List ℕ)) (all : count_of op ≡ None) (first : ℕ) (more :
   Turns does replied mark n = IsOver (does (up replied mark n)) ⊎ Goes does replied mark n
 
   -- one that has its answer, whatever was read
-  read_over : (read : Option Said) (v : View) → v.standing ≡ Stands.Entered → v.run ≡ None → (transfer : Transfer) → v.job ≡ Transferring op transfer
+  pub read_over : (read : Option Said) (v : View) → v.standing ≡ Stands.Entered → v.run ≡ None → (transfer : Transfer) → v.job ≡ Transferring op transfer
       → IsOver (finishes_read read v)
   read_over read v standing run transfer job =
       subst (λ w. IsOver (finishes_read read w)) (λ i. record v { standing = sym standing i; run = sym run i; job = sym job i }) (by read)

@@ -1,4 +1,5 @@
 pub mod Late
+pub mod Giving
 pub mod Notes
 pub mod Seen
 pub mod ServerCut

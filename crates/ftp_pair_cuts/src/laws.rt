@@ -1,11 +1,13 @@
 //! Laws of uploads whose data connections break: functions that do nothing, whose contracts are the claims of `specs/`.
 ghost use Rattle.ftp_pair_cuts.specs.Claims.{CutsAgree, CutsAreOfWorlds, CutsPartingAgree};
-ghost use Rattle.ftp_pair_cuts.specs.Late.{UploadsBreakLate};
+ghost use Rattle.ftp_pair_cuts.specs.Late.{UploadsBreakLate, UploadsGiveLate};
 ghost use Rattle.ftp_pair_cuts.specs.Over.{CutDrivesAgree};
 
-/// What a client of an upload holds does not depend on what comes to it first: octets of the control connection, or the break of its data connection.
+/// What a client of an upload holds does not depend on what comes to it first: octets of the control connection, or the break of its data connection,
+/// or octets that it gives over that.
 pub fn uploads_break_late()
-    ensures { UploadsBreakLate }
+    ensures broken { UploadsBreakLate }
+    ensures given { UploadsGiveLate }
 {}
 
 /// One server's drive and drives of one client, of which data connections break, those of uploads too, leave what a list of the world's events leads to from
