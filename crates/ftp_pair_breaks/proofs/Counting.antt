@@ -1,5 +1,6 @@
 -- A decoder counts the octets that it reads: of octets that are a front of a whole text it has read as many as they are.
 use Rattle.std.proofs.Common.{◌≡◌, ℕ, suc, ◌+◌, Bool, true, false, true≢false, List, [], ◌∷◌, ◌++◌, length, ◌==◌, Option, Some, None, refl, sym, ap, subst, ◌∙◌, arith}
+use Rattle.std.specs.Option.{is_some}
 use Rattle.std.specs.Prelude.{⊤, ◌-◌, ◌&&◌, if◌then◌else◌, nat_lt}
 use Rattle.ftp_client_model.specs.Dialogue.{judged}
 use Rattle.ftp_client_model.specs.Octets.{broken_answer, content_answer, cut_answer, has_settled}
@@ -22,7 +23,7 @@ use Rattle.ftp_operation.specs.declared.op.Op.{Op}
 use Rattle.ftp_settings.specs.Marker.{is_marker_octet}
 use Rattle.ftp_settings.specs.declared.marker.TheConstants.{MARKER_LIMIT}
 use Rattle.ftp_settings.specs.declared.representation.Representation.{Representation}
-use Rattle.ftp_wire.specs.Decoder.{Decoder, decoder_of, ended as file_ended, is_ended_in, is_whole, no_octets}
+use Rattle.ftp_wire.specs.Decoder.{Decoder, decoder_of, ended as file_ended, fault_in, fault_of, is_ended_in, is_whole, no_octets}
 use Rattle.ftp_wire.proofs.DecoderLemmas.{decodes}
 use Rattle.ftp_pair_world.specs.World.{counted}
 use Rattle.ftp_pair_breaks.specs.Deeds.{HasRead}
@@ -76,7 +77,21 @@ stays_failed : (fault : FrameFault) (octets : List ℕ) → after reader (failed
 stays_failed fault [] = refl
 stays_failed fault (octet ∷ octets) = stays_failed fault octets
 
--- a decoder of a front of a whole text has read all of it
+-- a decoder that met no fault has read all that came
+pub faultless_read : (settings : Representation) (came : List ℕ) → fault_of (decoder_of settings came) ≡ None
+    → HasRead (decoder_of settings came) (counted (length came))
+faultless_read settings came none =
+    let first : Reading = (no_octets settings).reading in
+    by (after reader first came) (decodes (no_octets settings) came).reading (subst (IsAt (after reader first came)) none_first (all_read came first 0 refl))
+  where
+    none_first : 0 + length came ≡ length came
+    none_first = omega arith
+
+    by : (r : Reading) → (decoder_of settings came).reading ≡ r → IsAt r (length came) → HasRead (decoder_of settings came) (counted (length came))
+    by (going count at) here is = (at, here ∙ ap (λ n. going n at) is)
+    by (failed fault) here is = absurd (true≢false (ap is_some (sym (ap fault_in here) ∙ none)))
+
+-- so has one of a front of a whole text
 pub front_read : (settings : Representation) (came rest wire : List ℕ) → came ++ rest ≡ wire → is_whole (decoder_of settings wire) ≡ true
     → HasRead (decoder_of settings came) (counted (length came))
 front_read settings came rest wire is whole =
@@ -84,15 +99,11 @@ front_read settings came rest wire is whole =
     let here : (decoder_of settings came).reading ≡ after reader first came = (decodes (no_octets settings) came).reading in
     let all : is_ended_in (after reader (after reader first came) rest) ≡ true =
     ap is_ended_in (sym (after-append reader first came rest) ∙ ap (after reader first) is ∙ sym (decodes (no_octets settings) wire).reading) ∙ whole in
-    by (after reader first came) here (subst (IsAt (after reader first came)) none_first (all_read came first 0 refl)) all
+    faultless_read settings came (ap fault_in here ∙ by (after reader first came) all)
   where
-    none_first : 0 + length came ≡ length came
-    none_first = omega arith
-
-    by : (r : Reading) → (decoder_of settings came).reading ≡ r → IsAt r (length came) → is_ended_in (after reader r rest) ≡ true
-        → HasRead (decoder_of settings came) (counted (length came))
-    by (going count at) here is all = (at, here ∙ ap (λ n. going n at) is)
-    by (failed fault) here is all = absurd (true≢false (sym all ∙ ap is_ended_in (stays_failed fault rest)))
+    by : (r : Reading) → is_ended_in (after reader r rest) ≡ true → fault_in r ≡ None
+    by (going count at) all = refl
+    by (failed fault) all = absurd (true≢false (sym all ∙ ap is_ended_in (stays_failed fault rest)))
 
 -- ---- a text that is answered whole
 

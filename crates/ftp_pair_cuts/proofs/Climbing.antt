@@ -1,5 +1,6 @@
--- What is so of a world whose server takes octets of an upload: its client has no final reply; and one that has closed the link has given all.
-use Rattle.std.proofs.Common.{◌≡◌, inl, inr, ℕ, Bool, true, false, true≢false, List, [], ◌∷◌, Option, None, refl, sym, ap, ◌∙◌}
+-- What is so of a world whose server takes octets of an upload: its client has no final reply, and it counts those that came; and one that has closed the link
+-- has given all.
+use Rattle.std.proofs.Common.{◌≡◌, inl, inr, ℕ, Bool, true, false, true≢false, List, [], ◌∷◌, ◌++◌, length, Option, None, refl, sym, ap, subst, ◌∙◌}
 use Rattle.ftp_client_model.specs.Plan.{count_of}
 use Rattle.ftp_client_model.specs.View.{View as Near}
 use Rattle.ftp_client_model.specs.declared.client.ClientLink.TheVariants as NearData
@@ -13,18 +14,18 @@ use Rattle.ftp_operation.specs.declared.op.Op.{Op}
 use Rattle.ftp_path.specs.Path.{Names}
 use Rattle.ftp_server_model.specs.Calls.{is_upload}
 use Rattle.ftp_server_model.specs.Machine.{IsReading, Reading}
-use Rattle.ftp_server_model.specs.View.{Session, Transfer}
+use Rattle.ftp_server_model.specs.View.{Session, Transfer, direct_of}
 use Rattle.ftp_server_model.specs.declared.session.Pending.{Pending}
 use Rattle.ftp_server_model.specs.declared.session.ServerLink.{ServerLink}
 use Rattle.ftp_pair_world.specs.Agreement.{Order}
 use Rattle.ftp_pair_world.specs.Events.{ControlToClient, is_closed_by_near, pushed}
-use Rattle.ftp_pair_world.specs.World.{ClosedByNear, Mark, Stands, World}
-use Rattle.ftp_pair_dialogues.specs.Fetches.{Ask, IsAsk, Rise, busy, linked}
-use Rattle.ftp_pair_dialogues.specs.Stage.{Way}
-use Rattle.ftp_pair_agreement.specs.Cut.{PlacedAt}
+use Rattle.ftp_pair_world.specs.World.{ClosedByNear, Mark, Stands, World, counted}
+use Rattle.ftp_pair_dialogues.specs.Fetches.{Ask, IsAsk, IsSteady, Rise, busy, kept, linked}
+use Rattle.ftp_pair_dialogues.specs.Stage.{Answering, Asking, Way}
+use Rattle.ftp_pair_agreement.specs.Cut.{Cut, PlacedAt, world_at}
 use Rattle.ftp_pair_agreement.specs.Follows.{Phase}
 use Rattle.ftp_pair_agreement.specs.Over.{OverRuns}
-use Rattle.ftp_pair_agreement.specs.Rising.{Declined, Lift, Offered, Risen, Rising, Settled, Unjoined, lifts, sending}
+use Rattle.ftp_pair_agreement.specs.Rising.{Declined, Lift, Offered, Risen, Rising, Settled, Unjoined, lift_far, lift_state, lifts, sending}
 use Rattle.ftp_pair_agreement.specs.Runs.{IsFetching, IsFetchingOn}
 use Rattle.ftp_pair_agreement.specs.Stages.{Answers, Aside as LeavesAside, AtFetch, Awaits, Carries, Closed, Course, Dialled, Dials, Dismissed, Early, Ended, Given as GaveAll, Giving, Holds, Leaving, LinkLeft, LinkOpen, LinkParting, Lost, PortAsked, PortDenied, PortSaid, PortTaken, PortTold, PortWanted, Ported, Refusing, Restarts, Retrieves, Rises, Severed, Tells, Unaccepted, Unclosed, Unopened, early_far, far_link, gives_on, tie_of}
 use Rattle.ftp_pair_agreement.proofs.FetchRuns.{pushed_client, serving_first}
@@ -39,10 +40,12 @@ use Rattle.ftp_pair_transfers.proofs.Halting.{halt_stands, halt_unclosed}
 use Rattle.ftp_pair_transfers.proofs.Known.{AreCarried, aside_rests, gives_none, is_ready, last_carried}
 use Rattle.ftp_pair_transfers.proofs.Running.{not_trailing}
 use Rattle.ftp_pair_breaks.proofs.Feeding.{is_final}
+use Rattle.ftp_pair_cuts.specs.Coming.{CameOver}
+use Rattle.ftp_pair_cuts.proofs.Coming.{CameIn, rise_came, steady_direct, world_came}
 
 -- ---- the client
 
--- its upload was begun, and its final reply is not in
+-- its upload was begun, and its final reply is not in; its server took as many octets as are counted
 pub record Climbing (w : World) : Type 0 where
   pub op : Op (List ℕ)
   pub replied : Replied
@@ -50,6 +53,7 @@ pub record Climbing (w : World) : Type 0 where
   pub mark : Option ℕ
   pub job : w.near.job ≡ sending op replied left mark
   pub unfinal : is_final replied ≡ false
+  pub came : CameIn w
 
 -- it has given all of its upload, and closed the link
 pub record HasGiven (w : World) : Type 0 where
@@ -91,31 +95,41 @@ module _ (read : Reading) (state : State) (ask : Ask) (good : IsAsk ask) (own : 
           → is_upload link ≡ false → Climbing w
       never link closing pending is none = absurd (true≢false (sym takes ∙ ap (λ (t : Session). is_upload t.connection) (of.session ∙ is) ∙ none))
 
+      -- the octets of a link are counted as in its base
+      came_in : (way : Way) (cut : Cut) → w ≡ world_at s.base way cut → w.came ≡ s.base.came
+      came_in (Asking text) cut is = ap (λ (u : World). u.came) is
+      came_in (Answering replies) cut is = ap (λ (u : World). u.came) is
+
+      -- what a server holds of octets that rise, of which so many came
+      rises_so : (rise : Rise) (lift : Lift) (h : Holds state ask own (Rises rise lift) s.way s.base) (replied : Replied) (left : List ℕ) (mark : Option ℕ)
+          (count : ℕ) → w.near.job ≡ sending ask.op replied left mark → s.base.came ≡ count → is_final replied ≡ false → lift_state state ask rise lift ≡ state
+          → CameOver (lift_far state ask rise lift) state (sending ask.op replied left mark) count → Climbing w
+      rises_so rise lift h replied left mark count job counts unfinal same came =
+          let steady : IsSteady state (kept s.base.near s.base.far) = subst (λ v. IsSteady v (kept s.base.near s.base.far)) same h.steady in
+          record {
+            op = ask.op;
+            replied = replied;
+            left = left;
+            mark = mark;
+            job = job;
+            unfinal = unfinal;
+            came = world_came w (lift_far state ask rise lift) state (sending ask.op replied left mark) count
+                (ap (λ (t : Session). t.connection) (of.session ∙ h.session))
+                (ap direct_of of.session ∙ steady_direct state s.base.near s.base.far steady h.ready.1) job
+                (came_in s.way s.cut s.is ∙ counts) came;
+          }
+
       by_lift : (rise : Rise) (lift : Lift) → Holds state ask own (Rises rise lift) s.way s.base → Climbing w
-      by_lift rise Offered h = record {
-        op = ask.op;
-        replied = Replies.Nothing;
-        left = _;
-        mark = None;
-        job = of.job ∙ ap (λ (n : Near). n.job) h.near;
-        unfinal = refl;
-      }
-      by_lift rise (Rising past octet more came queue mark notes) h = record {
-        op = ask.op;
-        replied = Replies.Begun;
-        left = octet ∷ more;
-        mark = mark;
-        job = of.job ∙ ap (λ (n : Near). n.job) h.near;
-        unfinal = refl;
-      }
-      by_lift rise (Risen past closed came queue mark notes) h = record {
-        op = ask.op;
-        replied = Replies.Begun;
-        left = [];
-        mark = mark;
-        job = of.job ∙ ap (λ (n : Near). n.job) h.near;
-        unfinal = refl;
-      }
+      by_lift rise Offered h =
+          rises_so rise Offered h Replies.Nothing rise.text None 0 (of.job ∙ ap (λ (n : Near). n.job) h.near) h.came refl refl (_, refl)
+      by_lift rise (Rising past octet more came queue mark notes) h =
+          rises_so rise (Rising past octet more came queue mark notes) h Replies.Begun (octet ∷ more) mark (counted (length came))
+          (of.job ∙ ap (λ (n : Near). n.job) h.near) h.came refl refl
+          (rise_came state ask rise h.ready.2 came (queue ++ octet ∷ more) h.fine.1 past mark notes h.fine Replies.Begun (octet ∷ more) mark)
+      by_lift rise (Risen past closed came queue mark notes) h =
+          rises_so rise (Risen past closed came queue mark notes) h Replies.Begun [] mark (counted (length came))
+          (of.job ∙ ap (λ (n : Near). n.job) h.near) h.came refl refl
+          (rise_came state ask rise h.ready.2 came queue h.fine.1 past mark notes h.fine Replies.Begun [] mark)
       by_lift rise (Settled begun mark notes fate left after) h = never _ _ _ h.session refl
       by_lift rise (Declined why door) h = never _ _ _ h.session refl
       by_lift rise Unjoined h = never _ _ _ h.session refl
@@ -206,6 +220,10 @@ module _ (read : Reading) (reads : IsReading read) (from : State) (begun : List 
           let h = on.halting in absurd (true≢false (sym takes ∙ (halt_stands h.now h.ask h.own w h.stands).untaken))
       by (inr (inl trying)) = absurd (last_carried trying.going.done _ begun trying.going.begun_is puts)
       by (inr (inr tailing)) = absurd (last_carried tailing.going.done _ begun tailing.going.begun_is puts)
+
+  -- whose server takes octets
+  pub world_climbs : is_upload w.far.session.connection ≡ true → Climbing w
+  world_climbs takes = pushed_climbs 0 takes
 
   -- one whose link the client alone has closed
   pub world_given : w.link ≡ ClosedByNear → HasGiven w

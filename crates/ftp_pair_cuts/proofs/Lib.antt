@@ -3,6 +3,7 @@ pub mod Giving
 pub mod Notes
 pub mod Seen
 pub mod ServerCut
+pub mod Coming
 pub mod Climbing
 pub mod Lifting
 pub mod UpLagging

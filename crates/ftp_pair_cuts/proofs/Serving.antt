@@ -5,14 +5,14 @@ use Rattle.ftp_control.specs.Machine.{Break}
 use Rattle.ftp_client_drive.specs.Side.{client_side}
 use Rattle.ftp_client_model.specs.Calls as near
 use Rattle.ftp_client_model.specs.Calls.{data_closed, is_sound, report_of}
-use Rattle.ftp_client_model.specs.View.{View as Near}
+use Rattle.ftp_client_model.specs.View.{Job, View as Near}
 use Rattle.ftp_ends.specs.declared.link.Wants.TheVariants as Want
 use Rattle.ftp_operation.specs.Answer.{Said}
 use Rattle.ftp_server_drive.specs.Side.{server_side}
 use Rattle.ftp_server_model.specs.Calls as far
 use Rattle.ftp_server_model.specs.Calls.{clock_step, is_upload}
 use Rattle.ftp_server_model.specs.Machine.{IsReading, Reading}
-use Rattle.ftp_server_model.specs.View.{Transfer, View as Far}
+use Rattle.ftp_server_model.specs.View.{Transfer, View as Far, direct_of}
 use Rattle.ftp_server_model.specs.declared.session.Life.TheVariants as Lives
 use Rattle.ftp_server_model.specs.declared.session.ServerLink.{ServerLink}
 use Rattle.ftp_server_model.specs.declared.session.ServerLink.TheVariants as Data
@@ -26,6 +26,7 @@ use Rattle.ftp_pair_drives.specs.Between.{Between, Can, Far as TheServer, Has, H
 use Rattle.ftp_pair_drives.specs.Touches.{ToldBreak}
 use Rattle.ftp_pair_drives.proofs.Taken.{taken, taken_none}
 use Rattle.ftp_pair_drives.proofs.Worlds.{LeadsOn, leads_then}
+use Rattle.ftp_pair_data.proofs.Ahead.{closed_is}
 use Rattle.ftp_pair_data.proofs.Served.{far_wants, rests}
 use Rattle.ftp_pair_deeds.proofs.FarForms.{no_close, told_passive}
 use Rattle.ftp_pair_deeds.proofs.Holding.{both, is_called, is_false, is_had, unclosed}
@@ -43,7 +44,10 @@ use Rattle.ftp_pair_transfers.proofs.Simulating.{asks, known, runs}
 use Rattle.ftp_pair_breaks.proofs.Lagging.{Lags, OfMarks, Whole, beside, feeds, unbroken}
 use Rattle.ftp_pair_breaks.proofs.Steps.{Again, At, idle_again}
 use Rattle.ftp_pair_breaks.proofs.Unsent.{AskAll, Unsent, all_carried}
+use Rattle.ftp_pair_cuts.specs.Coming.{CameOver, HasCome}
 use Rattle.ftp_pair_cuts.specs.Deeds.{IsOut, cut_marks}
+use Rattle.ftp_pair_cuts.proofs.Climbing.{Climbing, world_climbs}
+use Rattle.ftp_pair_cuts.proofs.Coming.{came_idle}
 use Rattle.ftp_pair_cuts.proofs.Leaving.{gone, lost}
 use Rattle.ftp_pair_cuts.proofs.Lifting.{IsClosing, StillGives, closes_alike, gives_fault, lifts_none, lifts_plain, lifts_rest, lifts_sound, lifts_taken, was_none}
 use Rattle.ftp_pair_cuts.proofs.Seen.{dry}
@@ -64,6 +68,14 @@ ahead_upload Level moment v fits takes = takes
 ahead_upload Opens moment v fits takes = absurd (both fits (upload_takes v.session.connection takes).alone)
 ahead_upload (Listens port) moment v fits takes = absurd (both fits (upload_takes v.session.connection takes).unasked)
 ahead_upload (Parted accepted) moment v fits takes = absurd (both takes (left_rests accepted v.session.connection fits).0)
+
+-- it is ahead by nothing
+ahead_none : (ahead : Ahead) (v : Far) → v.session.closing ≡ false → Fits ahead v.session.connection → is_upload v.session.connection ≡ true
+    → far_ahead ahead v ≡ v
+ahead_none Level v unclosed fits takes = closed_is v unclosed
+ahead_none Opens v unclosed fits takes = absurd (both fits (upload_takes v.session.connection takes).alone)
+ahead_none (Listens port) v unclosed fits takes = absurd (both fits (upload_takes v.session.connection takes).unasked)
+ahead_none (Parted accepted) v unclosed fits takes = absurd (both takes (left_rests accepted v.session.connection fits).0)
 
 -- one that gives, or over whose link nothing was asked for, takes none
 pub giving_takes : (link : ServerLink Transfer) → is_giving link ≡ true → is_upload link ≡ false
@@ -200,6 +212,21 @@ module _ (read : Reading) (reads : IsReading read) (moments : ℕ → ℕ) (time
         ap (λ (f : Far). is_upload f.session.connection) o.together.beside.far
         ∙ ahead_upload o.ahead o.last old.owner.end.server.view o.together.beside.fits (wants_upload old.owner.end.server.view o.serves.running wants)
 
+    -- as many octets came to it as that world counts
+    has_come : {m : Between} {c : Stand client_side} (o : At read reads moments timed b fair deeds m count old c) → HasCome old.owner c.owner o.world.came
+    has_come {m} {c} o =
+        let v : Far = old.owner.end.server.view in
+        let t = o.together.beside in
+        let carried = all_carried (begun_at moments deeds) puts in
+        let climbing : Climbing o.world = world_climbs read reads (state_of b) (begun_at moments deeds) carried o.world
+        (runs read reads moments timed b fair deeds m count old c _ o carried) t.control t.unready (world_upload o) in
+        let far_is : o.world.far ≡ clock_step o.last v =
+        t.far ∙ ap (clock_step o.last)
+        (ahead_none o.ahead v (no_close v Want.Receive wants refl) t.fits (wants_upload v o.serves.running wants)) in
+        came_idle v.session.connection (direct_of v.session) c.owner.end.view.job o.world.came
+        (subst (λ (n : Near). CameOver v.session.connection (direct_of v.session) n.job o.world.came) t.near
+        (subst (λ (f : Far). CameOver f.session.connection (direct_of f.session) o.world.near.job o.world.came) far_is climbing.came))
+
     -- then no world's client takes octets of a download that broke
     pub lags_never : {Are : OfMarks} → Lags read reads moments timed b fair Are deeds p count old client → ⊥
     lags_never {Are} l =
@@ -226,7 +253,7 @@ module _ (read : Reading) (reads : IsReading read) (moments : ℕ → ℕ) (time
       -- where a world is beside both: its client alone has closed the link
       pub whole_cut : {Are : OfMarks} → Whole read reads moments timed b fair Are deeds p count old client
           → IsOut p.near ⊎ (client.owner.end.view.closing ≡ true)
-          → Whole read reads moments timed b fair (cut_marks Want.Receive Are) (Other Break ∷ deeds) next count new after
+          → Whole read reads moments timed b fair (cut_marks Want.Receive (HasCome old.owner client.owner) Are) (Other Break ∷ deeds) next count new after
       whole_cut {Are} o is_out =
           let w : World = o.at.world in
           let t = o.at.together in
@@ -261,7 +288,7 @@ module _ (read : Reading) (reads : IsReading read) (moments : ℕ → ℕ) (time
           record {
             at = got.0;
             marks = marked_last (Broken w.came) o.marks;
-            are_marks = (o.marks, o.are_marks, inr (w.came, refl));
+            are_marks = (o.marks, o.are_marks, inr (w.came, has_come o.at, refl));
             marked = got.1 ∙ ap (marked_last (Broken w.came)) o.marked;
             unsent = subst (IsPlainBy Unsent) (sym out.view) o.unsent;
           }
@@ -279,6 +306,13 @@ module _ (read : Reading) (reads : IsReading read) (moments : ℕ → ℕ) (time
 
         near_there : there.near ≡ data_closed n
         near_there = near_is read reads moments timed b fair deeds puts p count old client l
+
+        -- and as many octets came to it
+        lag_come : HasCome old.owner client.owner there.came
+        lag_come =
+            let s = old.owner.end.server.view.session in
+            subst (λ (j : Job). CameOver s.connection (direct_of s) j there.came)
+            (ap (λ (m : Near). m.job) l.lifts.near ∙ sym (ap (λ (m : Near). m.job) l.lifts.told)) (has_come l.at)
 
         -- with this client then
         remains : (view : Near) → broken_by there.link (lends_none there) ≡ record (lends_none there) { near = view; far = far.data_fault there.far }
@@ -315,7 +349,7 @@ module _ (read : Reading) (reads : IsReading read) (moments : ℕ → ℕ) (time
             let link : there.link ≡ ClosedByNear = link_closed read reads moments timed b fair deeds puts p count old client l closes in
             remains there.near (ap (λ k. broken_by k (lends_none there)) link) (ap is_gone link) (near_there ∙ closes_alike n u l.lifts closes)
 
-        pub lag_cut : Whole read reads moments timed b fair (cut_marks Want.Receive Are) (Other Break ∷ deeds) next count new after
+        pub lag_cut : Whole read reads moments timed b fair (cut_marks Want.Receive (HasCome old.owner client.owner) Are) (Other Break ∷ deeds) next count new after
         lag_cut =
             let got = cut_again deeds puts (unbroken p) count old new (beside l.was client) calm l.at next after did wants told
             (elim l.lifts.kind [
@@ -326,7 +360,7 @@ module _ (read : Reading) (reads : IsReading read) (moments : ℕ → ℕ) (time
             record {
               at = got.0;
               marks = marked_last (Broken there.came) l.marks;
-              are_marks = (l.marks, l.are_marks, inr (there.came, refl));
+              are_marks = (l.marks, l.are_marks, inr (there.came, lag_come, refl));
               marked = got.1 ∙ ap (marked_last (Broken there.came)) l.marked;
               unsent = subst (IsPlainBy Unsent) (sym out.view) (lifts_plain n u l.lifts Unsent l.unsent);
             }

@@ -38,6 +38,7 @@ use Rattle.ftp_pair_breaks.proofs.Unaware.{steady_open, steady_wants}
 use Rattle.ftp_pair_breaks.proofs.Seen.{IsTold, Sees, far_sees, sees_fresh}
 use Rattle.ftp_pair_breaks.proofs.Unbroken.{sees_unbroken}
 use Rattle.ftp_pair_breaks.proofs.Unsent.{AskAll, Unsent, all_carried}
+use Rattle.ftp_pair_cuts.specs.Coming.{HasCome}
 use Rattle.ftp_pair_cuts.specs.Deeds.{AreMarks, AreToldLate, ClientGives, GivesAlong, IsOut, IsToldLate, LosesAlong, ServerLoses, cut_marks}
 use Rattle.ftp_pair_cuts.proofs.ClientTold.{told_closing, told_giving}
 use Rattle.ftp_pair_cuts.proofs.Leaving.{Leaves, gone, leave_step, lost}
@@ -169,9 +170,9 @@ module _ (read : Reading) (reads : IsReading read) (moments : ℕ → ℕ) (time
   -- ---- a deed of the server
 
   -- what is so of the marks then
-  abbrev marked_so : Deed server_side → Stand server_side → OfMarks → OfMarks
-  marked_so (Other Break) at Are = cut_marks (far.wants at.owner.end.server.view) Are
-  marked_so deed at Are = Are
+  abbrev marked_so : Deed server_side → Stand server_side → Stand client_side → OfMarks → OfMarks
+  marked_so (Other Break) at client Are = cut_marks (far.wants at.owner.end.server.view) (HasCome at.owner client.owner) Are
+  marked_so deed at client Are = Are
 
   -- what may mark then
   abbrev marked_deeds : Deed server_side → Stand server_side → List (Deed client_side) → List (Deed client_side)
@@ -236,6 +237,10 @@ module _ (read : Reading) (reads : IsReading read) (moments : ℕ → ℕ) (time
     module _ (calm : ServerIsCalm old.owner new.owner) (wants : far.wants old.owner.end.server.view ≡ Want.Receive)
         (did : Calls {side = server_side} Break old new) (untold : old.owner.lane.untold ≡ []) (unwritten : old.owner.lane.unwritten ≡ [])
         (can : Can TheServer ToldBreak p q) (told : did.0.0.0 ≡ last_of moments (number_in deeds)) where
+      -- as many octets of the upload as came
+      abbrev came_now : ℕ → Type 0
+      came_now = HasCome old.owner client.owner
+
       abbrev told_ports : ℕ
       told_ports = listened_in before
 
@@ -273,18 +278,18 @@ module _ (read : Reading) (reads : IsReading read) (moments : ℕ → ℕ) (time
       -- where it was beside both
       by_whole : {Are : OfMarks} → W Are deeds p told_ports old client
           → IsOut p.near ⊎ ((client.owner.end.view.closing ≡ true) × (client.owner.lane.stands ≡ true))
-          → Cut (cut_marks Want.Receive Are) (Other Break ∷ deeds) q told_ports new client
+          → Cut (cut_marks Want.Receive came_now Are) (Other Break ∷ deeds) q told_ports new client
       by_whole {Are} w late = by client.owner.lane.stands refl late
         where
           gone_on : client.owner.lane.stands ≡ true → IsOut p.near ⊎ (client.owner.end.view.closing ≡ true)
-              → Cut (cut_marks Want.Receive Are) (Other Break ∷ deeds) q told_ports new client
+              → Cut (cut_marks Want.Receive came_now Are) (Other Break ∷ deeds) q told_ports new client
           gone_on stands out =
               beside_gone stands
               (whole_cut read reads moments timed b fair deeds puts p q told_ports old new client calm wants did told untold unwritten (gone client)
               (lost q) (out_gone client p q can) w out)
 
           by : (stands : Bool) → client.owner.lane.stands ≡ stands → IsOut p.near ⊎ ((client.owner.end.view.closing ≡ true) × (client.owner.lane.stands ≡ true))
-              → Cut (cut_marks Want.Receive Are) (Other Break ∷ deeds) q told_ports new client
+              → Cut (cut_marks Want.Receive came_now Are) (Other Break ∷ deeds) q told_ports new client
           by stands is (inr closing) = gone_on closing.1 (inr closing.0)
           by true is (inl out) = gone_on is (inl out)
           by false is (inl out) =
@@ -294,10 +299,10 @@ module _ (read : Reading) (reads : IsReading read) (moments : ℕ → ℕ) (time
 
       -- where it was beside one that was not told
       by_lag : {Are : OfMarks} → UpLags read reads moments timed b fair Are deeds p told_ports old client
-          → Cut (cut_marks Want.Receive Are) (Other Break ∷ deeds) q told_ports new client
+          → Cut (cut_marks Want.Receive came_now Are) (Other Break ∷ deeds) q told_ports new client
       by_lag {Are} l = by client.owner.lane.stands refl
         where
-          by : (stands : Bool) → client.owner.lane.stands ≡ stands → Cut (cut_marks Want.Receive Are) (Other Break ∷ deeds) q told_ports new client
+          by : (stands : Bool) → client.owner.lane.stands ≡ stands → Cut (cut_marks Want.Receive came_now Are) (Other Break ∷ deeds) q told_ports new client
           by true is =
               beside_gone is
               (lag_cut read reads moments timed b fair deeds puts p q told_ports old new client calm wants did told untold unwritten (gone client)
@@ -309,7 +314,7 @@ module _ (read : Reading) (reads : IsReading read) (moments : ℕ → ℕ) (time
 
       by_suffered : {Are : OfMarks} → Suffered Are deeds p told_ports old client → IsOut p.near ⊎
           ((client.owner.end.view.closing ≡ true) × (client.owner.lane.stands ≡ true))
-          → Cut (cut_marks Want.Receive Are) (Other Break ∷ deeds) q told_ports new client
+          → Cut (cut_marks Want.Receive came_now Are) (Other Break ∷ deeds) q told_ports new client
       by_suffered {Are} (inl (inl w)) late =
           by_whole (subst (λ (s : Stand server_side). W Are deeds p told_ports s client) old_dried w) late
       by_suffered {Are} (inl (inr l)) late =
@@ -320,7 +325,7 @@ module _ (read : Reading) (reads : IsReading read) (moments : ℕ → ℕ) (time
 
       cut_on : {Are : OfMarks} → IsOut p.near ⊎ ((client.owner.end.view.closing ≡ true) × (client.owner.lane.stands ≡ true))
           → Cut Are deeds p told_ports old client
-          → Cut (cut_marks Want.Receive Are) (Other Break ∷ deeds) q told_ports new client
+          → Cut (cut_marks Want.Receive came_now Are) (Other Break ∷ deeds) q told_ports new client
       cut_on {Are} late (inl o) =
           by_suffered (subst (λ (m : Between). Suffered Are deeds m told_ports old client) (seen_whole p o.middle o.seen can.0) o.suffered) late
       cut_on {Are} late (inr (inl l)) =
@@ -363,7 +368,7 @@ module _ (read : Reading) (reads : IsReading read) (moments : ℕ → ℕ) (time
       (old new : Stand server_side) (client : Stand client_side) (o : Stood Are deeds p (listened_in before) old client) (deed : Deed server_side)
       → ArePorts (deed ∷ before) → ServerLoses deed old.owner new.owner → CanTurn (Server deed) p q → (did : Done deed old new)
       → IsToldAt deed old new did (last_of moments (number_in deeds)) → IsToldLate (last_of moments (number_in deeds)) deed p client old new did
-      → Stood (marked_so deed old Are) (marked_deeds deed old deeds) q (listened_in (deed ∷ before)) new client
+      → Stood (marked_so deed old client Are) (marked_deeds deed old deeds) q (listened_in (deed ∷ before)) new client
   server_turn {Are} deeds puts before p q old new client o deed ports is can did told late = by deed ports is can did told late
     where
       yields : (deed : Deed server_side) → ArePorts (deed ∷ before) → IsYielding deed old.owner → ServerIsCalm old.owner new.owner
@@ -379,18 +384,18 @@ module _ (read : Reading) (reads : IsReading read) (moments : ℕ → ℕ) (time
 
       -- a break of what takes no octets marks nothing
       unmarked : (wants : Wants) → is_receive wants ≡ false → Stood Are deeds q (listened_in before) new client
-          → Stood (cut_marks wants Are) (with_cut wants deeds) q (listened_in before) new client
+          → Stood (cut_marks wants (HasCome old.owner client.owner) Are) (with_cut wants deeds) q (listened_in before) new client
       unmarked Want.Receive takes s = absurd (true≢false takes)
       unmarked wants takes s = s
 
       by : (deed : Deed server_side) → ArePorts (deed ∷ before) → ServerLoses deed old.owner new.owner → CanTurn (Server deed) p q
           → (did : Done deed old new) → IsToldAt deed old new did (last_of moments (number_in deeds))
           → IsToldLate (last_of moments (number_in deeds)) deed p client old new did
-          → Stood (marked_so deed old Are) (marked_deeds deed old deeds) q (listened_in (deed ∷ before)) new client
+          → Stood (marked_so deed old client Are) (marked_deeds deed old deeds) q (listened_in (deed ∷ before)) new client
       by (Other Break) ports is can did told late = elim is.0 [
         | inl is_one ↦
             unmarked (far.wants old.owner.end.server.view) (takes_none old.owner is_one) (yields (Other Break) ports is_one is.1 can did told)
-        | inr breaks ↦ subst (λ w. Stood (cut_marks w Are) (with_cut w deeds) q (listened_in before) new client) (sym breaks.0) (
+        | inr breaks ↦ subst (λ w. Stood (cut_marks w (HasCome old.owner client.owner) Are) (with_cut w deeds) q (listened_in before) new client) (sym breaks.0) (
             let there = far_done p q o.view o.is_seen ToldBreak can in
             let told_late = late breaks.0 in
             record {
@@ -407,7 +412,7 @@ module _ (read : Reading) (reads : IsReading read) (moments : ℕ → ℕ) (time
   -- so it is of all deeds
   so_marked : (deed : Deed server_side) (before : List Turn) (between : Between) (count : ℕ) (start now : Stand server_side)
       (led : Led (deed ∷ server_deeds before) start now) (client_start client : Stand client_side) (client_led : Led (client_deeds before) client_start client)
-      → Stood (marked_so deed led.0 (AreMarks before start led.0 led.1 client_start client client_led))
+      → Stood (marked_so deed led.0 client (AreMarks before start led.0 led.1 client_start client client_led))
       (marked_deeds deed led.0 (marking before start led.0 led.1)) between count now client
       → Stood (AreMarks (Server deed ∷ before) start now led client_start client client_led) (marking (Server deed ∷ before) start now led) between count now
       client

@@ -14,6 +14,7 @@ use Rattle.ftp_pair_drives.specs.Alone.{ClientIsCalm, ServerIsCalm}
 use Rattle.ftp_pair_drives.specs.Between.{Between, Client as ByClient, Has_ended, Has_lost, Happened, Hold, Server as ByServer, Turn, client_deeds, server_deeds}
 use Rattle.ftp_pair_transfers.specs.Deeds.{last_of, number_in}
 use Rattle.ftp_pair_breaks.specs.Deeds.{IsSuffering, IsYielding, Marks}
+use Rattle.ftp_pair_cuts.specs.Coming.{HasCome}
 use Rattle.ftp_pair_world.specs.World.{Broken, Mark, marked_last}
 use Rattle.ftp_server_drive.specs.Side.{Timed, server_side}
 use Rattle.ftp_server_model.specs.Calls as far
@@ -81,17 +82,19 @@ AreToldLate moments (ByClient deed ∷ before) between happened server_start ser
 
 -- ---- the marks
 
--- a break that the server is told of may mark the operation that was begun last where it wants octets, those of an upload; at which octet is left open
-abbrev pub cut_marks : Wants → (List (List Mark) → Type 0) → List (List Mark) → Type 0
-cut_marks Want.Receive Are marks = (old : List (List Mark)) × Are old × ((marks ≡ old) ⊎ ((came : ℕ) × (marks ≡ marked_last (Broken came) old)))
-cut_marks wants Are marks = Are marks
+-- a break that the server is told of may mark the operation that was begun last where it wants octets, those of an upload: it broke after as many as came
+abbrev pub cut_marks : Wants → (Came : ℕ → Type 0) → (List (List Mark) → Type 0) → List (List Mark) → Type 0
+cut_marks Want.Receive Came Are marks =
+    (old : List (List Mark)) × Are old × ((marks ≡ old) ⊎ ((came : ℕ) × Came came × (marks ≡ marked_last (Broken came) old)))
+cut_marks wants Came Are marks = Are marks
 
 -- those of deeds, the last one first: what the client does marks as where downloads alone break
 abbrev pub AreMarks : (turns : List Turn) (start now : Stand server_side) → Led (server_deeds turns) start now
     → (client_start client : Stand client_side) → Led (client_deeds turns) client_start client → List (List Mark) → Type 0
 AreMarks [] start now led client_start client client_led marks = marks ≡ []
 AreMarks (ByServer (Other Break) ∷ before) start now led client_start client client_led marks =
-    cut_marks (far.wants led.0.owner.end.server.view) (AreMarks before start led.0 led.1 client_start client client_led) marks
+    cut_marks (far.wants led.0.owner.end.server.view) (HasCome led.0.owner client.owner)
+    (AreMarks before start led.0 led.1 client_start client client_led) marks
 AreMarks (ByServer deed ∷ before) start now led client_start client client_led marks =
     AreMarks before start led.0 led.1 client_start client client_led marks
 AreMarks (ByClient deed ∷ before) start now led client_start client client_led marks =

@@ -1,4 +1,5 @@
 pub mod Late
+pub mod Coming
 pub mod Deeds
 pub mod Claims
 pub mod Over
