@@ -53,7 +53,7 @@ breaking first = record {
   gives = λ deed old new is. (yields deed old is.0, is.1);
   takes = λ deed old new midst unbroken is. (suffers deed old midst unbroken is.0, is.1);
   Keeps = λ turns between happened. AreAfter first turns;
-  far_keeps = λ deed before old new happened can after. (Server deed ∷ after.0, ap (λ l. Server deed ∷ l) after.1);
+  far_keeps = λ deed at next gives before old new happened can after. (Server deed ∷ after.0, ap (λ l. Server deed ∷ l) after.1);
   near_keeps = λ deed unbroken before old new happened can after. (Client deed ∷ after.0, ap (λ l. Client deed ∷ l) after.1);
 }
 

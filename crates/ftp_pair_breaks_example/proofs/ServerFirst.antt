@@ -18,7 +18,7 @@ use Rattle.ftp_server_model.specs.declared.reply.FixedReply.TheVariants as Texts
 use Rattle.ftp_tree.specs.Map.{Dir, File}
 use Rattle.ftp_tree.specs.Tree.{Table, node_at, under}
 use Rattle.ftp_tree.proofs.LawLemmas.{under-stands}
-use Rattle.ftp_pair_drives.specs.Between.{Client, Has, Has_lost}
+use Rattle.ftp_pair_drives.specs.Between.{Client, Has, Has_lost, Server}
 use Rattle.ftp_pair_drives.specs.Example.{example}
 use Rattle.ftp_pair_example.specs.Example.{example_name, example_octets}
 use Rattle.ftp_pair_example.proofs.Calling.{client_first, far_done, far_first, near_first, starts_so, still}
@@ -55,12 +55,13 @@ module _ (table : Table) (moments : ℕ → ℕ) where
         let sent = lies [] down [] first_octet Has Has in
         let lost = lies [] down [] first_octet Has Has_lost in
         let said = lies [] all [] first_octet Has Has_lost in
+        let given = sends table moments root stamp file in
         let failed = far_does moments (Starts table) begun get (Other Failed) ((λ before. (refl, λ ports. ports)), λ old new done moment. tt) 1 sent sent
-        (far_in more_stands half []) (far_in more_failed half []) client (tt, refl) (far_fails half) refl
-        (sends table moments root stamp file) in
+        (far_in more_stands half []) (far_in more_failed half []) client (tt, refl) (far_fails half) refl given
+        (Server (Other Failed) ∷ given.resets.0, ap (λ l. Server (Other Failed) ∷ l) given.resets.1) in
         let told = far_does moments (Starts table) begun get (Other Break) ((λ before. (refl, λ ports. ports)), λ old new done moment. tt) 1 sent lost
         (far_in more_failed half []) (far_in more_broken far_told []) client (inl refl, refl) (far_breaks half half far_told refl refl)
-        (refl, refl) failed in
+        (refl, refl) failed (Server (Other Break) ∷ failed.resets.0, ap (λ l. Server (Other Break) ∷ l) failed.resets.1) in
         let says = far_says moments (Starts table) begun get 1 [] first_octet Has Has_lost [] down more_broken far_told client refl told in
         far_turn moments (Starts table) begun get (Other (Left (Reset None None))) ((λ before. (refl, λ ports. ports)), λ old new done moment. tt) 1 said said
         (far_in more_broken (far_done table) []) (far_in none_yet (far_done table) []) client (tt, refl) (far_drops (far_done table)) (tt, refl) says

@@ -204,7 +204,8 @@ module _ (kind : Kind) (none : kind.Keeps [] nothing_yet refl) (table : Table) (
         record {
           turns = Server (Other (Listening 49152)) ∷ p.turns;
           happened = (before, p.happened, (tt, refl));
-          resets = kind.far_keeps (Other (Listening 49152)) p.turns before there p.happened (tt, refl) p.resets;
+          resets = kind.far_keeps (Other (Listening 49152)) asked.owner (far_in none_yet (far_told table) []).owner (tt, refl) p.turns before there p.happened
+              (tt, refl) p.resets;
           far_led = (asked, p.far_led, done);
           gives = (p.gives, kind.gives (Other (Listening 49152)) asked.owner (far_in none_yet (far_told table) []).owner (tt, refl));
           midst = p.midst;

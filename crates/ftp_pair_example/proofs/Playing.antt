@@ -107,8 +107,9 @@ pub record Kind : Type 1 where
   pub gives : (deed : Deed server_side) (old new : Held Timed) → ServerTransfers deed old new → Gives deed old new
   pub takes : (deed : Deed client_side) (old new : Held NearEnd) → IsMidst deed → IsUnbroken deed → ClientTransfers deed old new → Takes deed old new
   pub Keeps : (turns : List Turn) (between : Between) → Happened turns between → Type 0
-  pub far_keeps : (deed : Deed server_side) (before : List Turn) (old new : Between) (happened : Happened before old) (can : CanTurn (Server deed) old new)
-      → Keeps before old happened → Keeps (Server deed ∷ before) new (old, happened, can)
+  pub far_keeps : (deed : Deed server_side) (at next : Held Timed) → ServerTransfers deed at next → (before : List Turn) (old new : Between)
+      (happened : Happened before old) (can : CanTurn (Server deed) old new) → Keeps before old happened
+      → Keeps (Server deed ∷ before) new (old, happened, can)
   pub near_keeps : (deed : Deed client_side) → IsUnbroken deed → (before : List Turn) (old new : Between) (happened : Happened before old)
       (can : CanTurn (Client deed) old new) → Keeps before old happened → Keeps (Client deed ∷ before) new (old, happened, can)
 
@@ -140,7 +141,7 @@ transferring = record {
   gives = λ deed old new gives. gives;
   takes = λ deed old new midst unbroken takes. takes;
   Keeps = AreResets;
-  far_keeps = λ deed before old new happened can resets. resets;
+  far_keeps = λ deed at next gives before old new happened can resets. resets;
   near_keeps = near_resets;
 }
 
@@ -152,12 +153,13 @@ Played moments start begun op listened between server client = PlayedBy transfer
 module _ {kind : Kind} (moments : ℕ → ℕ) (start : Stand server_side) (begun : Stand client_side) (op : Op (List ℕ)) where
   -- a deed of the server, of that kind
   pub far_does : (deed : Deed server_side) → IsQuiet deed → (listened : ℕ) (old new : Between) (at next : Stand server_side) (client : Stand client_side)
-      → kind.Gives deed at.owner next.owner → Done deed at next → CanTurn (Server deed) old new
-      → PlayedBy kind moments start begun op listened old at client → PlayedBy kind moments start begun op listened new next client
-  far_does deed quiet listened old new at next client gives done can p = record {
+      → kind.Gives deed at.owner next.owner → Done deed at next → (can : CanTurn (Server deed) old new)
+      → (p : PlayedBy kind moments start begun op listened old at client)
+      → kind.Keeps (Server deed ∷ p.turns) new (old, p.happened, can) → PlayedBy kind moments start begun op listened new next client
+  far_does deed quiet listened old new at next client gives done can p keeps = record {
     turns = Server deed ∷ p.turns;
     happened = (old, p.happened, can);
-    resets = kind.far_keeps deed p.turns old new p.happened can p.resets;
+    resets = keeps;
     far_led = (at, p.far_led, done);
     gives = (p.gives, gives);
     midst = p.midst;
@@ -179,6 +181,7 @@ module _ {kind : Kind} (moments : ℕ → ℕ) (start : Stand server_side) (begu
       → PlayedBy kind moments start begun op listened old at client → PlayedBy kind moments start begun op listened new next client
   far_turn deed quiet listened old new at next client gives done can p =
       far_does deed quiet listened old new at next client (kind.gives deed at.owner next.owner gives) done can p
+      (kind.far_keeps deed at.owner next.owner gives p.turns old new p.happened can p.resets)
 
   -- the server is told that the data connection ended, at the moment of the operation
   pub far_is_told : (listened : ℕ) (old new : Between) (at next : Stand server_side) (client : Stand client_side)
@@ -187,7 +190,7 @@ module _ {kind : Kind} (moments : ℕ → ℕ) (start : Stand server_side) (begu
   far_is_told listened old new at next client gives done timely can p = record {
     turns = Server (Other End) ∷ p.turns;
     happened = (old, p.happened, can);
-    resets = kind.far_keeps (Other End) p.turns old new p.happened can p.resets;
+    resets = kind.far_keeps (Other End) at.owner next.owner gives p.turns old new p.happened can p.resets;
     far_led = (at, p.far_led, done);
     gives = (p.gives, kind.gives (Other End) at.owner next.owner gives);
     midst = p.midst;
