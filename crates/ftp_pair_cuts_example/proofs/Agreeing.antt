@@ -1,0 +1,23 @@
+-- Their answers agree, by the law of drives that are over.
+use Rattle.std.proofs.Common.{ℕ}
+use Rattle.ftp_pair_cuts.proofs.Ending.{cut_drives_agree}
+use Rattle.ftp_pair_example.specs.Example.{file_alone}
+use Rattle.ftp_pair_example.proofs.Fair.{file_alone_is_there}
+use Rattle.ftp_pair_transfers.specs.Deeds.{AreMoments}
+use Rattle.ftp_pair_world.specs.Claims.{Beginning, IsFair}
+use Rattle.ftp_pair_cuts_example.specs.Example.{ClientFirstAgrees, HasAgreed, Moment, Passes, ServerAloneAgrees, cut_asked}
+use Rattle.ftp_pair_cuts_example.proofs.Sending.{client_first_is_over, server_alone_is_over}
+
+-- of a session that is fair
+has_agreed : (b : Beginning) → IsFair b → (moments : ℕ → ℕ) → AreMoments moments → (At : Moment) → (p : Passes b moments At) → HasAgreed p
+has_agreed b fair moments timed At p = cut_drives_agree b fair moments timed cut_asked p.server p.over
+
+pub client_first_agrees : ClientFirstAgrees
+client_first_agrees moments timed =
+    let there = file_alone_is_there in
+    let p = client_first_is_over file_alone 0 moments there.has there.room in (p, has_agreed _ there.fair moments timed _ p)
+
+pub server_alone_agrees : ServerAloneAgrees
+server_alone_agrees moments timed =
+    let there = file_alone_is_there in
+    let p = server_alone_is_over file_alone 0 moments there.has there.room in (p, has_agreed _ there.fair moments timed _ p)

@@ -1,0 +1,155 @@
+-- Deeds of two drives of which an upload breaks, as a kind of those that are played one after another: the server is told of a break late, right after the
+-- moment of the operation.
+use Rattle.std.proofs.Common.{◌≡◌, inl, ℕ, List, [], ◌∷◌, ◌++◌, refl, sym, ap, subst, ◌∙◌}
+use Rattle.std.specs.Prelude.{⊤}
+use Rattle.ftp_control.specs.Asking.{Reset}
+use Rattle.ftp_control.specs.Deeds.{Calls, Deed, Done, Led, Other, Stand}
+use Rattle.ftp_control.specs.Machine.{Break, Held, Left}
+use Rattle.ftp_client_drive.specs.Side.{Begun, client_side}
+use Rattle.ftp_client_model.specs.Failing.{Client as NearEnd}
+use Rattle.ftp_operation.specs.declared.op.Op.{Op}
+use Rattle.ftp_server_drive.specs.Side.{Timed, server_side}
+use Rattle.ftp_server_model.specs.Calls as far
+use Rattle.ftp_server_model.specs.Machine.{later}
+use Rattle.ftp_server_model.specs.View.{View as Far}
+use Rattle.ftp_pair_breaks_example.proofs.Breaking.{AreAfter, suffers, yields}
+use Rattle.ftp_pair_cuts.specs.Deeds.{AreToldLate, ClientGives, IsGiving, IsLosing, IsOut, LosesAlong, ServerLoses}
+use Rattle.ftp_pair_deeds.specs.Deeds.{Along, IsMidst}
+use Rattle.ftp_pair_deeds.proofs.Along.{Went}
+use Rattle.ftp_pair_drives.specs.Alone.{ServerIsCalm}
+use Rattle.ftp_pair_drives.specs.Between.{Between, CanTurn, Client, Happened, Server, Turn, client_deeds, server_deeds}
+use Rattle.ftp_pair_drives.proofs.Calm.{first_is_calm}
+use Rattle.ftp_pair_transfers.specs.Deeds.{IsAsking, IsServing, last_of, number_in}
+use Rattle.ftp_pair_example.proofs.Playing.{IsUnbroken, Kind, PlayedBy, midst_numbers}
+
+-- ---- the kind
+
+-- a server for which nothing breaks does what one does for which an upload may
+pub loses : (deed : Deed server_side) (at : Held Timed) → IsServing deed at → IsLosing deed at
+loses (Other Break) at is = absurd is
+loses deed at is = yields deed at is
+
+-- so does a client in the midst of a drive
+pub gives_so : (deed : Deed client_side) (at : Held NearEnd) → IsMidst deed → IsUnbroken deed → IsAsking deed at → IsGiving deed at
+gives_so (Other Break) at midst unbroken is = absurd unbroken
+gives_so (Other (Left (Reset left written))) at midst unbroken is = inl (suffers (Other (Left (Reset left written))) at midst unbroken is)
+gives_so deed at midst unbroken is = suffers deed at midst unbroken is
+
+-- a server that is told of a break holds this, and is told this moment
+abbrev pub IsThen : Far → ℕ → Deed server_side → (old new : Held Timed) → Type 0
+IsThen v moment (Other Break) old new = (old.end.server.view ≡ v) × (new.end.server.view.footing.moment ≡ moment)
+IsThen v moment deed old new = ⊤
+
+pub then_served : (v : Far) (moment : ℕ) (deed : Deed server_side) (old new : Held Timed) → IsServing deed old → IsThen v moment deed old new
+then_served v moment (Other Break) old new is = absurd is
+then_served v moment deed old new is = tt
+
+-- it is told after the client has left, of the first operation
+abbrev pub AreOut : (turns : List Turn) (between : Between) → Happened turns between → Type 0
+AreOut [] between happened = ⊤
+AreOut (Server (Other Break) ∷ before) between happened =
+    AreOut before happened.0 happened.1 × IsOut happened.0.near × (number_in (client_deeds before) ≡ 1)
+AreOut (Server deed ∷ before) between happened = AreOut before happened.0 happened.1
+AreOut (Client deed ∷ before) between happened = AreOut before happened.0 happened.1
+
+pub served_out : (deed : Deed server_side) (at : Held Timed) → IsServing deed at → (before : List Turn) (old new : Between) (happened : Happened before old)
+    (can : CanTurn (Server deed) old new) → AreOut before old happened → AreOut (Server deed ∷ before) new (old, happened, can)
+served_out (Other Break) at is before old new happened can out = absurd is
+served_out deed at is before old new happened can out = out
+
+-- turns are after these still, once there is one more
+pub one_more : (turn : Turn) {first turns : List Turn} → AreAfter first turns → AreAfter first (turn ∷ turns)
+one_more turn after = (turn ∷ after.0, ap (λ l. turn ∷ l) after.1)
+
+-- an upload may break, and the turns are after these
+abbrev pub cutting : List Turn → Far → ℕ → Kind
+cutting first v moment = record {
+  Gives = λ deed old new. ServerLoses deed old new × IsThen v moment deed old new;
+  Takes = ClientGives;
+  gives = λ deed old new is. ((loses deed old is.0, is.1), then_served v moment deed old new is.0);
+  takes = λ deed old new midst unbroken is. (gives_so deed old midst unbroken is.0, is.1);
+  Keeps = λ turns between happened. AreAfter first turns × AreOut turns between happened;
+  far_keeps = λ deed at next gives before old new happened can keeps.
+      (one_more (Server deed) keeps.0, served_out deed at gives.0 before old new happened can keeps.1);
+  near_keeps = λ deed unbroken before old new happened can keeps. (one_more (Client deed) keeps.0, keeps.1);
+}
+
+module _ {first : List Turn} {v : Far} {moment : ℕ} {moments : ℕ → ℕ} {start : Stand server_side} {begun : Stand client_side} {op : Op (List ℕ)}
+    {listened : ℕ} {between : Between} {server : Stand server_side} {client : Stand client_side} where
+  -- from here on turns are after those so far
+  pub from_here : (p : PlayedBy (cutting first v moment) moments start begun op listened between server client)
+      → PlayedBy (cutting p.turns v moment) moments start begun op listened between server client
+  from_here p = record {
+    turns = p.turns;
+    happened = p.happened;
+    resets = (([], refl), p.resets.1);
+    far_led = p.far_led;
+    gives = p.gives;
+    midst = p.midst;
+    are = p.are;
+    client_is = p.client_is;
+    later = p.later;
+    turns_are = p.turns_are;
+    later_midst = p.later_midst;
+    near_led = p.near_led;
+    takes = p.takes;
+    listened_is = p.listened_is;
+    ports = p.ports;
+    told = p.told;
+  }
+
+  -- one operation was begun
+  pub began_one : (p : PlayedBy (cutting first v moment) moments start begun op listened between server client) → number_in (client_deeds p.turns) ≡ 1
+  began_one p = ap number_in p.client_is ∙ midst_numbers p.midst (Other (Begun op) ∷ []) p.are
+
+-- a client did deeds after it began an operation
+pub went_on : (op : Op (List ℕ)) (midst : List (Deed client_side)) (old begun now : Stand client_side) → Went ClientGives midst begun now
+    → Done (Other (Begun op)) old begun → ClientGives (Other (Begun op)) old.owner begun.owner → Went ClientGives (midst ++ Other (Begun op) ∷ []) old now
+went_on op [] old begun now went done is =
+    subst (λ n. Went ClientGives (Other (Begun op) ∷ []) old n) (sym went.0) ((old, refl, done), (tt, is))
+went_on op (deed ∷ midst) old begun now went done is =
+    let rest = went_on op midst old begun went.0.0 (went.0.1, went.1.0) done is in ((went.0.0, rest.0, went.0.2), (rest.1, went.1.1))
+
+-- ---- the server's breaks
+
+module _ (v : Far) (moment : ℕ) where
+  abbrev Gives : Deed server_side → (old new : Held Timed) → Type 0
+  Gives deed old new = ServerLoses deed old new × IsThen v moment deed old new
+
+  -- it does what one does of whose client an upload may break
+  pub loses_along : (deeds : List (Deed server_side)) (start now : Stand server_side) (led : Led deeds start now) → Along Gives deeds start now led
+      → LosesAlong deeds start now led
+  loses_along [] start now led gives = tt
+  loses_along (deed ∷ before) start now led gives = (loses_along before start led.0 led.1 gives.0, gives.1.0)
+
+  module _ (steps : (told : ℕ) → (later (far.break_step (later (far.clock_step told v)))).footing.moment ≡ told) where
+    -- the moment that it is told is the one that it holds then
+    told_then : (old new : Stand server_side) → ServerIsCalm old.owner new.owner → old.owner.end.server.view ≡ v
+        → (did : Calls {side = server_side} Break old new) → did.0.0.0 ≡ new.owner.end.server.view.footing.moment
+    told_then old new calm is did =
+        let acts = did.0.0.3 in
+        let calls = did.0.0.4 in
+        let first : did.0.0.1.counts ≡ old.owner.end.server.counts =
+        first_is_calm old.owner.end.server.counts did.0.0.1.counts new.owner.end.server.counts acts.counted calls.counted calm in
+        let told : new.owner.end.server.view ≡ later (far.break_step (later (far.clock_step did.0.0.0 v))) =
+        calls.done (calm ∙ sym first) ∙ ap (λ w. later (far.break_step w)) (acts.done first ∙ ap (λ w. later (far.clock_step did.0.0.0 w)) is) in
+        sym (ap (λ (w : Far). w.footing.moment) told ∙ steps did.0.0.0)
+
+    -- so it is told late
+    pub late_along : (moments : ℕ → ℕ) → moment ≡ moments 0 → (turns : List Turn) (between : Between) (happened : Happened turns between)
+        → AreOut turns between happened → (start server : Stand server_side) (led : Led (server_deeds turns) start server)
+        → Along Gives (server_deeds turns) start server led
+        → (client_start client : Stand client_side) (client_led : Led (client_deeds turns) client_start client)
+        → AreToldLate moments turns between happened start server led client_start client client_led
+    late_along moments is [] between happened out start server led gives client_start client client_led = tt
+    late_along moments is (Server (Other Break) ∷ before) between happened out start server led gives client_start client client_led = (
+      late_along moments is before happened.0 happened.1 out.0 start led.0 led.1 gives.0 client_start client client_led,
+      λ wants. (
+        inl out.1,
+        told_then led.0 server gives.1.0.1 gives.1.1.0 led.2 ∙ gives.1.1.1 ∙ is ∙ sym (ap (last_of moments) out.2),
+      ),
+    )
+    late_along moments is (Server deed ∷ before) between happened out start server led gives client_start client client_led =
+        (late_along moments is before happened.0 happened.1 out start led.0 led.1 gives.0 client_start client client_led, tt)
+    late_along moments is (Client deed ∷ before) between happened out start server led gives client_start client client_led =
+        late_along moments is before happened.0 happened.1 out start server led gives client_start client_led.0 client_led.1

@@ -1,0 +1,5 @@
+pub mod Cutting
+pub mod Ending
+pub mod Session
+pub mod Sending
+pub mod Agreeing
