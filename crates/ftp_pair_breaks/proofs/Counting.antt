@@ -29,7 +29,7 @@ use Rattle.ftp_pair_world.specs.World.{counted}
 use Rattle.ftp_pair_breaks.specs.Deeds.{HasRead}
 
 -- so many were read, or one of them stands in no text
-abbrev IsAt : Reading → ℕ → Type 0
+abbrev pub IsAt : Reading → ℕ → Type 0
 IsAt (going count at) n = count ≡ counted n
 IsAt (failed fault) n = ⊤
 
@@ -61,7 +61,7 @@ place_reads (marking d left text) count octet n is =
     (failed (Faults.BadMarker count)) (next_counted count n is) tt (is_marker_octet octet && nat_lt (length text) MARKER_LIMIT)
 place_reads ended count octet n is = next_counted count n is
 
-step_reads : (r : Reading) (octet n : ℕ) → IsAt r n → IsAt (read_step r octet) (n + 1)
+pub step_reads : (r : Reading) (octet n : ℕ) → IsAt r n → IsAt (read_step r octet) (n + 1)
 step_reads (going count at) octet n is = place_reads at count octet n is
 step_reads (failed fault) octet n is = tt
 

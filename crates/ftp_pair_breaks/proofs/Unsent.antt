@@ -70,7 +70,7 @@ last_all done order begun is all = by done (subst AskAll is all)
 abbrev pub Unsent : Op (List ℕ) → Transfer → Type 0
 Unsent op transfer = count_of op ≡ None → transfer.abort ≡ Aborts.Unsent
 
-never_aborts : (link : ClientLink) (op : Op (List ℕ)) (transfer : Transfer) → count_of op ≡ None → is_to_abort link op transfer ≡ false
+pub never_aborts : (link : ClientLink) (op : Op (List ℕ)) (transfer : Transfer) → count_of op ≡ None → is_to_abort link op transfer ≡ false
 never_aborts Data.Open op transfer all =
     ap (λ (c : Option ℕ). is_unsent transfer.abort && has_begun transfer.replied && has_settled c transfer.flow) all
     ∙ three (is_unsent transfer.abort) (has_begun transfer.replied)

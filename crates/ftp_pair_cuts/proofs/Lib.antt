@@ -4,6 +4,7 @@ pub mod Notes
 pub mod Seen
 pub mod ServerCut
 pub mod Coming
+pub mod Counted
 pub mod Climbing
 pub mod Lifting
 pub mod UpLagging

@@ -56,7 +56,7 @@ ends_shut : (why : Option Refusal) (moment : ℕ) (path : Names) (keep : Keep) (
 ends_shut (Some why) moment path keep octets text s = (refl, refl)
 ends_shut None moment path keep octets text s = (refl, refl)
 
-transfer_shut : (moment : ℕ) (transfer : Transfer) (s : Session)
+pub transfer_shut : (moment : ℕ) (transfer : Transfer) (s : Session)
     → ((at_break moment transfer s).0.connection ≡ s.connection) × ((at_break moment transfer s).0.life ≡ s.life)
 transfer_shut moment (Transfers.Upload path keep d) s =
     ends_shut (end_refusal path keep (broken d).content s) moment path keep (broken d).content Texts.Broken s

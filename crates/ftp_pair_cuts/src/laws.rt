@@ -1,5 +1,6 @@
 //! Laws of uploads whose data connections break: functions that do nothing, whose contracts are the claims of `specs/`.
 ghost use Rattle.ftp_pair_cuts.specs.Claims.{CutsAgree, CutsAreOfWorlds, CutsPartingAgree};
+ghost use Rattle.ftp_pair_cuts.specs.Counted.{DownloadsAreCounted, UploadsAreCounted};
 ghost use Rattle.ftp_pair_cuts.specs.Late.{UploadsBreakLate, UploadsGiveLate};
 ghost use Rattle.ftp_pair_cuts.specs.Over.{CutDrivesAgree};
 
@@ -8,6 +9,12 @@ ghost use Rattle.ftp_pair_cuts.specs.Over.{CutDrivesAgree};
 pub fn uploads_break_late()
     ensures broken { UploadsBreakLate }
     ensures given { UploadsGiveLate }
+{}
+
+/// From any moment of a transfer on a decoder reads as many octets as the deeds of its end tell, a server's of an upload and a client's of a download.
+pub fn octets_are_counted()
+    ensures uploads { UploadsAreCounted }
+    ensures downloads { DownloadsAreCounted }
 {}
 
 /// One server's drive and drives of one client, of which data connections break, those of uploads too, leave what a list of the world's events leads to from
