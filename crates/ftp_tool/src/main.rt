@@ -8,12 +8,13 @@ mod several;
 
 use at_once::Batch;
 use clap::{ArgMatches, Error};
+use ftp_tool_asking::Openings;
 use ftp_tool_command::{
     BadValue, PLACE_OPTION, Program, Refusal, asked_of, command, each_got, fetch_task_of,
     get_task_of, is_matched, mirror_of, openings_of, program_of, rounds_of, script_server_of,
     script_user_of, serving_of, settings_of, task_of, told_of, url_in, urls_in,
 };
-use ftp_tool_fetch::{Each, Openings, Pair, Simple, Target, Task};
+use ftp_tool_fetch::{Each, Pair, Simple, Target, Task};
 use ftp_tool_quiet::{Hushed, Told};
 use ftp_tool_shown::Shown;
 use ftp_tool_status::Status;

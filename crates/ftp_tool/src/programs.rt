@@ -1,8 +1,9 @@
 // The programs, each one call: what stands on a trait without types of its own is proved for less than on those of the system's sockets, files and
 // streams.
 use crate::perform::perform;
+use ftp_tool_asking::ServerAddress;
 use ftp_tool_command::Task;
-use ftp_tool_fetch::{Each, Pair, ServerAddress, Target};
+use ftp_tool_fetch::{Each, Pair, Target};
 use ftp_tool_mirror::Mirror;
 use ftp_tool_pair::PairSettings;
 use ftp_tool_quiet::Hushed;

@@ -3,8 +3,8 @@ ghost use Rattle.std.specs.Prelude.{◌≡◌, ◌<◌, ◌++◌, ◌∷◌, [],
 ghost use Rattle.ftp_tool_words.specs.Placing.{says_directory};
 
 use clap::ArgMatches;
+use ftp_tool_asking::Openings;
 use ftp_tool_command::{BadValue, PLACE_OPTION, Refusal, asked_of, is_matched};
-use ftp_tool_fetch::Openings;
 use ftp_tool_words::{Location, UrlPlace, is_url, last_part, says_directory};
 
 /// The places that `get` fetches, and where they go: the last of several words says it, if it is no URL. Where none does, each goes into the folder

@@ -7,7 +7,7 @@ use crate::words::{
     timeout_in,
 };
 use clap::ArgMatches;
-use ftp_tool_connection::{Openings, ServerAddress};
+use ftp_tool_asking::{Openings, ServerAddress};
 use ftp_tool_files::representation_of;
 use ftp_tool_local::Flush;
 use ftp_tool_mirror::{Check, Deeds, Doing, Extra, Mirror, Rules, Way};

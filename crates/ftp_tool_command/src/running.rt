@@ -3,7 +3,7 @@ use crate::help;
 use crate::refusal::Refusal;
 use crate::words::{Form, PASSWORD_FILE, Subcommand, TIMEOUT, Value, Word, number_in, text_in};
 use clap::ArgMatches;
-use ftp_tool_fetch::ServerAddress;
+use ftp_tool_asking::ServerAddress;
 use ftp_tool_words::{User, server_port_of};
 
 /// The words of `run`.

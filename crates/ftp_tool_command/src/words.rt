@@ -4,7 +4,7 @@ use crate::refusal::Refusal;
 use clap::builder::{ValueParser, ValueRange};
 use clap::{Arg, ArgAction, ArgMatches, Command};
 use ftp_operation::How;
-use ftp_tool_connection::{Opening, Openings};
+use ftp_tool_asking::{Opening, Openings};
 use ftp_tool_files::{Representation, number_of, representation_of};
 use ftp_tool_quiet::Told;
 use std::alloc::{AllocError, Global};

@@ -4,9 +4,9 @@ use Rattle.ftp_operation.specs.declared.answer.Answer.{Answer}
 use Rattle.ftp_operation.specs.declared.answer.Answer.TheVariants as Answers
 use Rattle.ftp_tool_connection.specs.declared.again.Loss.{Loss}
 use Rattle.ftp_tool_connection.specs.declared.again.Loss.TheVariants as Losses
-use Rattle.ftp_tool_connection.specs.declared.fault.SessionFault.{SessionFault}
-use Rattle.ftp_tool_connection.specs.declared.fault.Phase.{Phase}
-use Rattle.ftp_tool_connection.specs.declared.fault.Phase.TheVariants as Phases
+use Rattle.ftp_tool_asking.specs.declared.fault.SessionFault.{SessionFault}
+use Rattle.ftp_tool_asking.specs.declared.fault.Phase.{Phase}
+use Rattle.ftp_tool_asking.specs.declared.fault.Phase.TheVariants as Phases
 
 -- one that ended before the answer, or none that could be made, where this was under way
 abbrev pub loss_amid : Phase → Option Loss

@@ -1,39 +1,15 @@
 -- How an answer comes about: the client is begun with what is requested, and then its drive reports (RFC 959, section 2.3).
-use Rattle.std.specs.Prelude.{◌≡◌, ℕ, Bool, true, false, List, Option, Some, None}
+use Rattle.std.specs.Prelude.{◌≡◌, Bool, Option}
 use Rattle.std.specs.Option.{unwrap_or}
 use Rattle.ftp_control.specs.Deeds.{Stand, with_owner}
 use Rattle.ftp_control.specs.Machine.{held}
 use Rattle.ftp_control.specs.declared.cause.Cause.{Cause}
 use Rattle.ftp_client_drive.specs.Driving.{Drives}
-use Rattle.ftp_client_drive.specs.Side.{Starting, Uploading, client_machine, client_side}
-use Rattle.ftp_client_model.specs.Calls.{is_busy}
-use Rattle.ftp_client_model.specs.Failing.{Client, Holds}
-use Rattle.ftp_client_model.specs.Tries.{over_breaks}
+use Rattle.ftp_client_drive.specs.Side.{client_side}
+use Rattle.ftp_client_model.specs.Failing.{Client}
 use Rattle.ftp_operation.specs.Answer.{Said, Lost}
-use Rattle.ftp_operation.specs.declared.op.How.{How}
-use Rattle.ftp_operation.specs.declared.op.Op.{Op}
-use Rattle.ftp_tool_connection.specs.declared.request.Request.{Request}
-use Rattle.ftp_tool_connection.specs.declared.request.Request.TheVariants.{One, Upload, Download, Drawn}
-
--- an operation is begun by a client that is not busy: that is the deed before those of its drive
-abbrev pub BeginsOne : Option (Op (List ℕ)) → (old new : Client) → Type 0
-BeginsOne None old new = Holds old new old.view
-BeginsOne (Some op) old new =
-    (is_busy old.view ≡ false → client_machine.Owns (Starting op) old new) × (is_busy old.view ≡ true → Holds old new old.view)
-
--- an upload over breaks, of a path and the octets of the file
-abbrev pub BeginsUpload : Option (List ℕ × List ℕ) → How → (old new : Client) → Type 0
-BeginsUpload None how old new = Holds old new old.view
-BeginsUpload (Some file) how old new =
-    (is_busy old.view ≡ false → client_machine.Owns (Uploading (over_breaks file.0 file.1 how)) old new)
-    × (is_busy old.view ≡ true → Holds old new old.view)
-
--- a client is begun with what is requested
-abbrev pub Begins : Request → (old new : Client) → Type 0
-Begins (One op) old new = BeginsOne op old new
-Begins (Download op terms) old new = BeginsOne op old new
-Begins (Drawn op span) old new = BeginsOne op old new
-Begins (Upload file how) old new = BeginsUpload file how old new
+use Rattle.ftp_tool_asking.specs.Beginning.{Begins}
+use Rattle.ftp_tool_asking.specs.declared.request.Request.{Request}
 
 -- the answer is the report of its drive from there, and Lost where that has none
 pub record Answers (request : Request) (answer : Said) (failed : Bool) (old new : Stand client_side) : Type 0 where

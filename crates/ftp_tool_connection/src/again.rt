@@ -3,11 +3,8 @@ ghost use Rattle.std.specs.Prelude.{◌≡◌};
 ghost use Rattle.ftp_tool_connection.specs.Again.{gives_up, loss_by, silence_left};
 
 use crate::conversing::{Converses, Logins, converse_as};
-use crate::fault::{Phase, SessionFault};
-use crate::last_reply::LastReply;
-use crate::live::SessionTask;
-use crate::server::ServerAddress;
 use ftp_operation::Answer;
+use ftp_tool_asking::{LastReply, Phase, ServerAddress, SessionFault, SessionTask};
 use ftp_tool_sockets::pause;
 use ftp_tool_words::User;
 use std::alloc::Global;

@@ -1,11 +1,8 @@
 // Who can ask servers, as whoever asks sees it: what stands on traits without types of their own is proved for less than on those of the system's
 // sockets, files and environment.
-use crate::fault::{Phase, SessionFault, at};
-use crate::last_reply::LastReply;
-use crate::live::SessionTask;
-use crate::server::ServerAddress;
 use crate::talking;
 use ftp_operation::Login;
+use ftp_tool_asking::{LastReply, Phase, ServerAddress, SessionFault, SessionTask, at};
 use ftp_tool_words::{User, login_of};
 use std::alloc::Global;
 use std::env::Env;

@@ -1,10 +1,10 @@
 // A client of which each line is taken that its server says last, for whoever tells what a server said.
-use crate::last_reply::LastReply;
 use ftp_client_model::Near;
 use ftp_endpoint::Host;
 use ftp_ends::Wants;
 use ftp_facts::Text;
 use ftp_operation::{Answer, How, Op};
+use ftp_tool_asking::LastReply;
 use std::alloc::Global;
 
 /// A client, and what its server said last.

@@ -2,12 +2,10 @@
 ghost use Rattle.std.specs.Prelude.{◌≤◌, None};
 ghost use Rattle.ftp_control.specs.Asking.{Closes};
 
-use crate::course::Course;
 use crate::live::Opens;
-use crate::rate::{pause_of, piece_of};
-use crate::server::ServerAddress;
 use ftp_control::{Accepted, Duplex, For, Ports, Ready, Spoken, Whole};
 use ftp_endpoint::Endpoint;
+use ftp_tool_asking::{Course, ServerAddress, pause_of, piece_of};
 use ftp_tool_sockets::{Link, Patience, SocketPorts, pause};
 use ftp_tool_status::pace_of;
 use std::io;

@@ -2,27 +2,12 @@
 ghost use Rattle.std.specs.Prelude.{◌≡◌};
 ghost use Rattle.ftp_tool_connection.specs.Again.{share_of};
 
+use ftp_tool_asking::ServerAddress;
 use ftp_tool_sockets::{keep_alive, say_goodbye};
 use std::io;
 use std::io::{Error, ErrorKind, Write};
 use std::net::{Net, SocketAddr, TcpListener, TcpStream, ToSocketAddrs};
 use std::time::Duration;
-
-/// Which server is asked.
-#[derive(Clone, Copy)]
-pub struct ServerAddress<'a> {
-    /// An address or a name.
-    pub host: &'a str,
-    pub port: u16,
-    /// For how many seconds the server may say, take and send nothing, before its control connection counts as ended; 0: without a limit.
-    pub timeout: u32,
-    /// Whether a transfer that takes more than a second is told of, each second at most.
-    pub progress: bool,
-    /// The most octets a second over all data connections at once; 0: without a limit.
-    pub rate: u64,
-    /// How many control connections there are at once, where so much can be asked; 8 at most.
-    pub at_once: u32,
-}
 
 /// A control connection.
 pub(crate) fn connected<R>(rt: &R, server: ServerAddress<'_>) -> io::Result<TcpStream>

@@ -2,16 +2,7 @@
 ghost use Rattle.std.specs.Prelude.{◌≡◌};
 ghost use Rattle.ftp_tool_connection.specs.Several.{lanes_of, part_of};
 
-use crate::course::Course;
-use crate::fault::{Phase, SessionFault, at};
-use crate::lane::{Lane, TakesTurns};
-use crate::lane_ports::LanePorts;
-use crate::lanes::{Lanes, MOST_LANES};
-use crate::last_reply::LastReply;
-use crate::live::SessionTask;
-use crate::saying::say;
-use crate::seat::{Seat, Stand};
-use crate::server::{ServerAddress, connected, connected_to};
+use crate::server::{connected, connected_to};
 use ftp_client::Client;
 use ftp_client_drive::Control;
 use ftp_client_model::Near;
@@ -19,6 +10,11 @@ use ftp_client_steps::ClientTransfer;
 use ftp_client_transfer::OperationTransfer;
 use ftp_facts::Text;
 use ftp_operation::Login;
+use ftp_tool_asking::{
+    Course, LastReply, Phase, ServerAddress, SessionFault, SessionTask, at, say,
+};
+use ftp_tool_lane::{Lane, LanePorts, TakesTurns};
+use ftp_tool_lanes::{Lanes, MOST_LANES, Seat, Stand};
 use ftp_tool_looking::{Limits, Line, LinePorts, LineReader, LineWriter, PassivePorts};
 use ftp_tool_sockets::{Sockets, host_of};
 use std::alloc::Global;

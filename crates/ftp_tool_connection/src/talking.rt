@@ -1,11 +1,8 @@
 // A control connection from its beginning to its end, and the one client at it.
-use crate::course::Course;
-use crate::fault::{Phase, SessionFault, at};
 use crate::hearing::Hearing;
-use crate::last_reply::LastReply;
-use crate::live::{LiveSession, Opens, SessionTask};
+use crate::live::{LiveSession, Opens};
 use crate::progress::MeteredPorts;
-use crate::server::{ServerAddress, connected, leave};
+use crate::server::{connected, leave};
 use crate::several::converse_by_several;
 use ftp_client::Client;
 use ftp_client_drive::{Control, Data};
@@ -14,6 +11,7 @@ use ftp_client_steps::ClientTransfer;
 use ftp_client_transfer::OperationTransfer;
 use ftp_endpoint::Host;
 use ftp_operation::Login;
+use ftp_tool_asking::{Course, LastReply, Phase, ServerAddress, SessionFault, SessionTask, at};
 use ftp_tool_sockets::{ControlReader, ControlWriter, Patience, host_of};
 use std::alloc::Global;
 use std::io;

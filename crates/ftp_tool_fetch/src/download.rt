@@ -4,7 +4,8 @@ use crate::target::Target;
 use ftp_facts::Moment;
 use ftp_operation::{Answer, How};
 use ftp_settings::{Mode, Structure};
-use ftp_tool_connection::{Converses, LastReply, Logins, Phase, SessionFault, at, say, told};
+use ftp_tool_asking::{LastReply, Phase, SessionFault, at, say, told};
+use ftp_tool_connection::{Converses, Logins};
 use ftp_tool_local::{Beside, Flush, Kept, LocalFiles, OpenPart};
 use ftp_tool_status::{Arrival, Status};
 use ftp_tool_transfer::{

@@ -1,10 +1,8 @@
 // Several things of one kind that are asked of a server, one after another: over several control connections what comes next is asked ahead.
 use crate::target::Target;
 use ftp_operation::Answer;
-use ftp_tool_connection::{
-    ClientSession, Converses, LastReply, Logins, Phase, SessionFault, SessionTask, ask, at,
-    converse_as,
-};
+use ftp_tool_asking::{ClientSession, LastReply, Phase, SessionFault, SessionTask, at};
+use ftp_tool_connection::{Converses, Logins, ask, converse_as};
 use ftp_tool_shown::Shown;
 use ftp_tool_status::Status;
 use std::alloc::Global;

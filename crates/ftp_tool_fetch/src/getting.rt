@@ -6,7 +6,7 @@ use crate::download::{
 use crate::errands::Errand;
 use crate::target::Target;
 use ftp_operation::Answer;
-use ftp_tool_connection::{ClientSession, LastReply, SessionFault};
+use ftp_tool_asking::{ClientSession, LastReply, SessionFault};
 use ftp_tool_local::LocalFiles;
 use ftp_tool_status::Status;
 use ftp_tool_transfer::{Downloading, limit_held};

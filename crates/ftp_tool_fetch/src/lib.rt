@@ -22,7 +22,6 @@ mod upload;
 pub use download::{Download, Parts};
 pub use each::{Each, Pair, fetch_each};
 pub use fetching::{Task, fetch};
-pub use ftp_tool_connection::{Opening, Openings, ServerAddress};
 pub use listing::Lines;
 pub use running::{run, run_as};
 pub use simple::Simple;

@@ -9,10 +9,10 @@ use crate::single::{Single, Wish};
 use crate::target::Target;
 use ftp_facts::Text;
 use ftp_operation::{Answer, ListVerb};
-use ftp_tool_connection::{
-    ClientSession, Converses, Ending, LastReply, Logins, Phase, SessionFault, SessionTask, ask, at,
-    told,
+use ftp_tool_asking::{
+    ClientSession, Ending, LastReply, Phase, SessionFault, SessionTask, at, told,
 };
+use ftp_tool_connection::{Converses, Logins, ask};
 use ftp_tool_listing::{Item, chosen_items, chosen_names, items_of_columns, items_of_facts};
 use ftp_tool_local::LocalFiles;
 use ftp_tool_shown::Shown;

@@ -6,10 +6,8 @@ use crate::simple::report;
 use crate::target::Target;
 use ftp_facts::Text;
 use ftp_operation::{Answer, Op};
-use ftp_tool_connection::{
-    ClientSession, Converses, LastReply, Logins, Phase, Request, SessionFault, SessionTask, at,
-    converse_as,
-};
+use ftp_tool_asking::{ClientSession, LastReply, Phase, Request, SessionFault, SessionTask, at};
+use ftp_tool_connection::{Converses, Logins, converse_as};
 use ftp_tool_status::Status;
 use std::alloc::Global;
 use std::io::{Eprint, Print};

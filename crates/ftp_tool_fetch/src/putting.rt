@@ -3,7 +3,7 @@ use crate::errands::Errand;
 use crate::target::Target;
 use crate::upload::{Loaded, TooLarge, load};
 use ftp_operation::Answer;
-use ftp_tool_connection::{ClientSession, LastReply, Phase, SessionFault, SessionTask, at};
+use ftp_tool_asking::{ClientSession, LastReply, Phase, SessionFault, SessionTask, at};
 use ftp_tool_local::LocalFiles;
 use ftp_tool_status::Status;
 use ftp_tool_transfer::{Sending, Uploading, tell_too_large};

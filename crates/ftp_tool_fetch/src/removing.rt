@@ -4,7 +4,7 @@ use crate::simple::report;
 use crate::target::Target;
 use ftp_facts::Text;
 use ftp_operation::{Answer, Op};
-use ftp_tool_connection::{ClientSession, LastReply, Request, SessionFault};
+use ftp_tool_asking::{ClientSession, LastReply, Request, SessionFault};
 use ftp_tool_status::Status;
 use std::alloc::{AllocError, Global};
 use std::io;

@@ -1,10 +1,11 @@
 // A script of operations over one control connection: each is done and reported before the next begins.
 use ftp_facts::Text;
 use ftp_operation::Answer;
-use ftp_tool_connection::{
-    ClientSession, Converses, LastReply, Logins, Phase, Request, ServerAddress, SessionFault,
-    SessionTask, Subject, at, converse_as, told,
+use ftp_tool_asking::{
+    ClientSession, LastReply, Phase, Request, ServerAddress, SessionFault, SessionTask, Subject,
+    at, told,
 };
+use ftp_tool_connection::{Converses, Logins, converse_as};
 use ftp_tool_script::{NoScript, Order, Script, read_script, write_report};
 use ftp_tool_status::Status;
 use ftp_tool_words::User;

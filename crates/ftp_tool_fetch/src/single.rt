@@ -5,10 +5,10 @@ use crate::target::Target;
 use ftp_facts::Text;
 use ftp_operation::{Answer, How, ListVerb, Op};
 use ftp_reply::code::UNAVAILABLE;
-use ftp_tool_connection::{
-    ClientSession, Converses, Ending, LastReply, Logins, Openings, Phase, Request, SessionFault,
-    SessionTask, ask, at, converse_as,
+use ftp_tool_asking::{
+    ClientSession, Ending, LastReply, Openings, Phase, Request, SessionFault, SessionTask, at,
 };
+use ftp_tool_connection::{Converses, Logins, ask, converse_as};
 use ftp_tool_listing::lists_nothing;
 use ftp_tool_words::{last_part, says_directory};
 use std::alloc::{AllocError, Global};

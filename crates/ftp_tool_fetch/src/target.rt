@@ -1,6 +1,6 @@
 // Which file of which server is meant, and who asks.
 use ftp_operation::How;
-use ftp_tool_connection::{Openings, ServerAddress, Stranger, Subject};
+use ftp_tool_asking::{Openings, ServerAddress, Stranger, Subject};
 use ftp_tool_words::{Location, User};
 
 /// What is asked of which server, by whom.

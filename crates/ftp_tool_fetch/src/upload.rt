@@ -1,7 +1,8 @@
 // An upload: what goes, and what is told of it.
 use crate::single::ask_at;
 use crate::target::Target;
-use ftp_tool_connection::{Converses, LastReply, Logins, Phase, SessionFault, at};
+use ftp_tool_asking::{LastReply, Phase, SessionFault, at};
+use ftp_tool_connection::{Converses, Logins};
 use ftp_tool_local::{LocalFiles, Reading, read_most};
 use ftp_tool_status::Status;
 use ftp_tool_transfer::{Source, Uploading, limit_held, tell_too_large};

@@ -1,7 +1,7 @@
 // What is mirrored, and how.
 use ftp_facts::Text;
 use ftp_operation::How;
-use ftp_tool_connection::{Openings, ServerAddress};
+use ftp_tool_asking::{Openings, ServerAddress};
 use ftp_tool_listing::Rules;
 use ftp_tool_local::Flush;
 use ftp_tool_words::{User, joined};

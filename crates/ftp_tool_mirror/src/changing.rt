@@ -4,7 +4,7 @@ use crate::server::done_by;
 use crate::trouble::Trouble;
 use ftp_facts::Text;
 use ftp_operation::Op;
-use ftp_tool_connection::ClientSession;
+use ftp_tool_asking::ClientSession;
 use ftp_tool_local::Change;
 use std::alloc::Global;
 

@@ -5,7 +5,7 @@ use crate::telling::shown;
 use crate::trouble::Trouble;
 use ftp_facts::Moment;
 use ftp_operation::{Answer, Op};
-use ftp_tool_connection::{ClientSession, Request};
+use ftp_tool_asking::{ClientSession, Request};
 use ftp_tool_listing::Facts;
 use ftp_tool_local::{LocalFiles, Reading};
 use ftp_tool_places::Places;

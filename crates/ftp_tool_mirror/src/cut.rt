@@ -3,7 +3,7 @@ use crate::copying::{begun, discard, download};
 use crate::machine::Machine;
 use crate::trouble::Trouble;
 use crate::walk::Walk;
-use ftp_tool_connection::ClientSession;
+use ftp_tool_asking::ClientSession;
 use ftp_tool_listing::Facts;
 use ftp_tool_local::LocalFiles;
 use ftp_tool_transfer::{Downloading, limit_held};

@@ -10,7 +10,7 @@ use crate::todo::{Chore, Work};
 use crate::trouble::Trouble;
 use ftp_facts::Text;
 use ftp_operation::Op;
-use ftp_tool_connection::{ClientSession, Request, Terms};
+use ftp_tool_asking::{ClientSession, Request, Terms};
 use ftp_tool_listing::{Deed, Facts, Way};
 use ftp_tool_places::Places;
 use ftp_tool_transfer::{download_row, limit_held};

@@ -3,7 +3,7 @@ use crate::asked::Mirror;
 use crate::copying::{begun, discard};
 use crate::machine::Machine;
 use crate::trouble::Trouble;
-use ftp_tool_connection::{ClientSession, Request};
+use ftp_tool_asking::{ClientSession, Request};
 use ftp_tool_listing::Facts;
 use ftp_tool_transfer::Downloading;
 use std::alloc::Global;

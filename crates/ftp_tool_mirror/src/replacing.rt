@@ -6,7 +6,7 @@ use crate::todo::Chore;
 use crate::trouble::Trouble;
 use crate::walk::Walk;
 use ftp_operation::Op;
-use ftp_tool_connection::ClientSession;
+use ftp_tool_asking::ClientSession;
 use ftp_tool_listing::{Deed, Listing, Way};
 use ftp_tool_local::Change;
 use ftp_tool_words::last_part;

@@ -8,7 +8,7 @@ use crate::telling::shown;
 use crate::trouble::Trouble;
 use ftp_facts::Text;
 use ftp_operation::{Answer, Op};
-use ftp_tool_connection::{ClientSession, Request};
+use ftp_tool_asking::{ClientSession, Request};
 use ftp_tool_local::{Content, LocalFiles, Reading};
 use ftp_tool_places::{OpenBelow, Places};
 use ftp_tool_transfer::{Sending, Source, Uploading, Wrong, limit_held};

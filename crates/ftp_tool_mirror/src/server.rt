@@ -5,7 +5,7 @@ use crate::trouble::Trouble;
 use ftp_facts::Text;
 use ftp_operation::{Answer, Op};
 use ftp_reply::code::{NOT_IMPLEMENTED, UNAVAILABLE, UNKNOWN};
-use ftp_tool_connection::{ClientSession, Ending, Request};
+use ftp_tool_asking::{ClientSession, Ending, Request};
 use ftp_tool_listing::Listing;
 use std::alloc::{AllocError, Global};
 

@@ -7,7 +7,7 @@ use crate::folder::put_item;
 use crate::trouble::Trouble;
 use ftp_facts::Text;
 use ftp_operation::{Answer, ListVerb, Op};
-use ftp_tool_connection::{ClientSession, MOST_ENTRIES, Request};
+use ftp_tool_asking::{ClientSession, MOST_ENTRIES, Request};
 use ftp_tool_listing::{
     Facts, Item, Kind, Listing, Way, is_name, items_of_columns, items_of_facts,
 };

@@ -5,7 +5,7 @@ use crate::server::check_dir;
 use crate::trouble::Trouble;
 use crate::walk::Walk;
 use ftp_operation::ListVerb;
-use ftp_tool_connection::ClientSession;
+use ftp_tool_asking::ClientSession;
 use ftp_tool_listing::{Listing, Way};
 use ftp_tool_local::Change;
 use std::alloc::Global;

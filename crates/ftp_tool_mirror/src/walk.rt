@@ -16,7 +16,7 @@ use crate::telling::{deed_line, shown, tell, tell_no_text, tell_too_many, tell_t
 use crate::todo::{Chore, Todo, Work};
 use crate::trouble::Trouble;
 use ftp_operation::Answer;
-use ftp_tool_connection::{ClientSession, SessionFault, SessionTask};
+use ftp_tool_asking::{ClientSession, SessionFault, SessionTask};
 use ftp_tool_listing::{Deed, Extra, Facts, Listing, Rules, Way};
 use ftp_tool_local::Change;
 use std::alloc::{AllocError, Global};

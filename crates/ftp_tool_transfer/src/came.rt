@@ -3,7 +3,7 @@ use ftp_client_stream::{Outlet, Pouring};
 use ftp_facts::Text;
 use ftp_operation::Answer;
 use ftp_settings::Representation;
-use ftp_tool_connection::{Poured, SharedFile};
+use ftp_tool_asking::{Poured, SharedFile};
 use ftp_tool_local::OpenPart;
 use ftp_wire::Sink;
 use std::alloc::{AllocError, Global};

@@ -9,7 +9,7 @@ use crate::trying::{ended_of, is_counted, moment_request, size_request};
 use ftp_client_steps::MOST_TRIES;
 use ftp_facts::{Moment, Text};
 use ftp_operation::{Answer, How, Op};
-use ftp_tool_connection::{
+use ftp_tool_asking::{
     ClientSession, Ending, Openings, Poured, Request, SessionFault, SessionTask, Terms, say,
 };
 use ftp_tool_local::{LocalFiles, OpenPart};

@@ -1,7 +1,7 @@
 // What a transfer asks of a server, as far as its first try, for whoever asks it ahead.
 use crate::trying::{is_counted, moment_request, size_request};
 use ftp_operation::How;
-use ftp_tool_connection::Request;
+use ftp_tool_asking::Request;
 use std::alloc::{AllocError, Global};
 
 /// What a download of the file at a path asks one directly behind another, where its first try is this request and all comes: which file the server has

@@ -3,7 +3,7 @@ use crate::trying::{is_counted, size_request};
 use ftp_client_stream::{Drawing, Inlet};
 use ftp_facts::Text;
 use ftp_operation::{How, Op};
-use ftp_tool_connection::{ClientSession, Openings, Request};
+use ftp_tool_asking::{ClientSession, Openings, Request};
 use ftp_tool_local::{LocalFiles, OpenSource};
 use ftp_tool_status::Span;
 use std::alloc::Global;

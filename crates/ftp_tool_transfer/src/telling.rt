@@ -1,6 +1,6 @@
 // What an answer that is none of those wished for tells, in a sentence and an exit status.
 use ftp_operation::Answer;
-use ftp_tool_connection::{LastReply, Refusal, Stranger, told};
+use ftp_tool_asking::{LastReply, Refusal, Stranger, told};
 use ftp_tool_shown::Shown;
 use ftp_tool_status::Status;
 use std::alloc::Global;

@@ -6,7 +6,7 @@ use ftp_facts::Text;
 use ftp_operation::{Answer, How, Op};
 use ftp_reply::code::{GIVEN_UP, UNAVAILABLE};
 use ftp_settings::{Kind, Structure};
-use ftp_tool_connection::Request;
+use ftp_tool_asking::Request;
 use ftp_tool_status::{Ended, There};
 use std::alloc::{AllocError, Global};
 

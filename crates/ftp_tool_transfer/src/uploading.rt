@@ -6,7 +6,7 @@ use ftp_client_steps::MOST_TRIES;
 use ftp_facts::Text;
 use ftp_operation::{Answer, How, Op};
 use ftp_reply::code::UNAVAILABLE;
-use ftp_tool_connection::{
+use ftp_tool_asking::{
     ClientSession, LastReply, Openings, Phase, Request, SessionFault, SessionTask, at, say, told,
 };
 use ftp_tool_local::LocalFiles;

@@ -3,7 +3,7 @@ use crate::seat::played;
 use crate::tries::Row;
 use ftp_facts::Moment;
 use ftp_operation::Answer;
-use ftp_tool_connection::{Openings, SessionFault};
+use ftp_tool_asking::{Openings, SessionFault};
 use ftp_tool_local::{LocalFiles, OpenPart, Reading, read_from};
 use ftp_tool_status::Arrival;
 use ftp_tool_transfer::{Downloading, Stamp};

@@ -3,7 +3,7 @@ use crate::tries::Row;
 use ftp_client_stream::Carries;
 use ftp_facts::{Moment, Text};
 use ftp_operation::{Answer, How, Op};
-use ftp_tool_connection::{ClientSession, Ending, Freight, Request, SessionFault, SessionTask};
+use ftp_tool_asking::{ClientSession, Ending, Freight, Request, SessionFault, SessionTask};
 use rows_base::{Paper, cut, found, number, split};
 use std::alloc::Global;
 use std::cell::Cell;

@@ -2,9 +2,8 @@
 use crate::handle::Handle;
 use ftp_operation::How;
 use ftp_settings::{Kind, Mode, Representation, Structure};
-use ftp_tool_fetch::{
-    Download, Lines, Opening, Openings, Parts, ServerAddress, Target, Task, fetch, run,
-};
+use ftp_tool_asking::{Opening, Openings, ServerAddress};
+use ftp_tool_fetch::{Download, Lines, Parts, Target, Task, fetch, run};
 use ftp_tool_status::Status;
 use ftp_tool_words::{Location, User};
 use rows_base::Paper;

@@ -4,7 +4,7 @@ use crate::statuses::HOW;
 use crate::{downloads, uploads};
 use ftp_operation::How;
 use ftp_settings::{Kind, Representation};
-use ftp_tool_connection::Opening;
+use ftp_tool_asking::Opening;
 use rows_base::{Paper, cut, found, split};
 use std::io;
 

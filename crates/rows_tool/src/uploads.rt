@@ -2,7 +2,7 @@
 use crate::seat::played;
 use crate::tries::Row;
 use ftp_operation::Answer;
-use ftp_tool_connection::{LastReply, Openings, SessionFault};
+use ftp_tool_asking::{LastReply, Openings, SessionFault};
 use ftp_tool_local::LocalFiles;
 use ftp_tool_transfer::{Source, Uploading};
 use rows_base::Paper;

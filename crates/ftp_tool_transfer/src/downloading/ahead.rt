@@ -5,7 +5,7 @@ ghost use Rattle.ftp_tool_transfer.specs.Ahead.{is_foreseen};
 use crate::downloading::{Downloading, Sight, Stamp};
 use crate::trying::{moment_request, size_request};
 use ftp_operation::Answer;
-use ftp_tool_connection::{ClientSession, Request};
+use ftp_tool_asking::{ClientSession, Request};
 use ftp_tool_local::LocalFiles;
 use ftp_tool_status::Size;
 use std::alloc::{AllocError, Global};

@@ -76,7 +76,7 @@ impl Cargo {
     }
 
     /// Whether nothing is carried.
-    pub(crate) fn is_own(&self) -> bool {
+    pub fn is_own(&self) -> bool {
         matches!(self, Cargo::Own)
     }
 }

@@ -1,16 +1,11 @@
 // Several control connections to a server in one thread: what comes next is asked ahead over those that are free, and all of them have turns.
 use crate::ahead::{changes_none, wants_login_of};
-use crate::cargo::{Cargo, Freight};
-use crate::course::Ending;
-use crate::lane::TakesTurns;
-use crate::last_reply::{LastReply, Said};
-use crate::live::ClientSession;
-use crate::request::Request;
 use crate::row::Row;
-use crate::saying::say;
 use crate::seat::{Came, Doing, Seat};
 use ftp_control::TURNS;
 use ftp_operation::Answer;
+use ftp_tool_asking::{Cargo, ClientSession, Ending, Freight, LastReply, Request, Said, say};
+use ftp_tool_lane::TakesTurns;
 use ftp_tool_looking::{Awaits, Leaving};
 use ftp_tool_sockets::monotonic_millis;
 use libc::net as c;
@@ -22,7 +17,7 @@ use std::io::Eprint;
 use std::{fmt, mem};
 
 /// The most control connections at once.
-pub(crate) const MOST_LANES: usize = 8;
+pub const MOST_LANES: usize = 8;
 
 /// The rows of a poll: two for each lane.
 const ROWS: usize = 16;
@@ -34,7 +29,7 @@ const PIECE_MILLIS: u64 = 1_000;
 const LAST_MILLIS: u64 = 1_000;
 
 /// The lanes, and what was asked of them last.
-pub(crate) struct Lanes<'n, 'r, R, L> {
+pub struct Lanes<'n, 'r, R, L> {
     rt: &'r R,
     alloc: Global,
     seats: Vec<Seat<L>, Global>,
@@ -73,7 +68,7 @@ impl<'n, 'r, R, L: Drop> Drop for Lanes<'n, 'r, R, L> {
 
 impl<'n, 'r, R: Eprint, L: TakesTurns + Drop> Lanes<'n, 'r, R, L> {
     /// Nothing was asked yet.
-    pub(crate) fn new(
+    pub fn new(
         rt: &'r R,
         alloc: Global,
         seats: Vec<Seat<L>, Global>,
@@ -330,7 +325,7 @@ impl<'n, 'r, R: Eprint, L: TakesTurns + Drop> Lanes<'n, 'r, R, L> {
     }
 
     /// Says goodbye over each lane, and waits a moment for the ends of all.
-    pub(crate) fn leave(&mut self) {
+    pub fn leave(&mut self) {
         self.noticed.add_opened(self.opened);
         let mut leaving = Vec::new(self.alloc);
         for seat in self.seats.iter_mut() {

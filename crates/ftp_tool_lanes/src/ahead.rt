@@ -1,14 +1,12 @@
 // What is asked ahead of its turn, and how it is known again.
 ghost use Rattle.std.specs.Prelude.{◌≡◌, IfSome, IsTrue, Some};
 ghost use Rattle.std.specs.Option.{option_map};
-ghost use Rattle.ftp_tool_connection.specs.Ahead.{asked_ahead, is_done, is_fact, is_given, is_removed, is_told, leaves_all, says_none, wants_login};
+ghost use Rattle.ftp_tool_lanes.specs.Ahead.{asked_ahead, is_done, is_fact, is_given, is_removed, is_told, leaves_all, says_none, wants_login};
 
-use crate::cargo::Cargo;
-use crate::course::Ending;
-use crate::request::Request;
 use ftp_facts::Text;
 use ftp_operation::{Answer, Op};
 use ftp_reply::code::{NOT_IMPLEMENTED, UNAVAILABLE, UNKNOWN};
+use ftp_tool_asking::{Cargo, Ending, Request};
 use std::alloc::Global;
 
 /// What can be asked ahead of a path.

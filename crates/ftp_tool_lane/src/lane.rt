@@ -1,12 +1,10 @@
 // One of several control connections in one thread: a client between its connections, which takes turns and waits for nothing.
-use crate::cargo::Cargo;
-use crate::course::{Course, Ending};
-use crate::lane_ports::{LaneLink, LanePorts};
-use crate::request::{Request, begin};
+use crate::ports::{LaneLink, LanePorts};
 use ftp_client_drive::{Control, Data, Driven, Turned, drive_some};
 use ftp_client_model::Near;
 use ftp_client_stream::{CarriedLink, CarriedPorts};
 use ftp_operation::Answer;
+use ftp_tool_asking::{Cargo, Course, Ending, Request, begin};
 use ftp_tool_looking::{Awaits, Leaving, Line, LineReader, LineWriter};
 use ftp_tool_sockets::Sockets;
 use std::alloc::Global;
@@ -29,7 +27,7 @@ enum Stands {
 }
 
 /// One over whom things are asked, one after another, in turns between those of others.
-pub(crate) trait TakesTurns {
+pub trait TakesTurns {
     /// Whether its control connection ended.
     fn is_gone(&self) -> bool;
 
@@ -68,7 +66,7 @@ pub(crate) trait TakesTurns {
 }
 
 /// A client, beside its connections.
-pub(crate) struct Lane<'a, R: Sockets, N: Near<Global>> {
+pub struct Lane<'a, R: Sockets, N: Near<Global>> {
     client: N,
     line: Rc<Line, Global>,
     control: Control<LineReader, LineWriter>,
@@ -97,7 +95,7 @@ impl<'a, R: Sockets, N: Near<Global>> Drop for Lane<'a, R, N> {
 
 impl<'a, R: Sockets, N: Near<Global>> Lane<'a, R, N> {
     /// A client at its control connection.
-    pub(crate) fn new(
+    pub fn new(
         client: N,
         line: Rc<Line, Global>,
         control: Control<LineReader, LineWriter>,

@@ -5,10 +5,10 @@ use Rattle.ftp_operation.specs.declared.answer.Answer.TheVariants as Answers
 use Rattle.ftp_operation.specs.declared.op.ListVerb.{ListVerb}
 use Rattle.ftp_operation.specs.declared.op.ListVerb.TheVariants as Verbs
 use Rattle.ftp_reply.specs.declared.code.TheConstants.{BAD_ARGUMENT, BAD_PROTOCOL, NOT_IMPLEMENTED, UNKNOWN}
-use Rattle.ftp_tool_connection.specs.declared.opening.Opening.{Opening}
-use Rattle.ftp_tool_connection.specs.declared.opening.Opening.TheVariants as Openings
-use Rattle.ftp_tool_connection.specs.declared.opening.Stranger.{Stranger}
-use Rattle.ftp_tool_connection.specs.declared.opening.Stranger.TheVariants as Strangers
+use Rattle.ftp_tool_asking.specs.declared.opening.Opening.{Opening}
+use Rattle.ftp_tool_asking.specs.declared.opening.Opening.TheVariants as Openings
+use Rattle.ftp_tool_asking.specs.declared.opening.Stranger.{Stranger}
+use Rattle.ftp_tool_asking.specs.declared.opening.Stranger.TheVariants as Strangers
 
 -- the codes of a server that does not know a command, or not with this argument (RFC 959, section 4.2.2), or not this protocol of the network (RFC 2428)
 abbrev pub means_unknown : ℕ → Bool

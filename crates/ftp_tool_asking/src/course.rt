@@ -1,6 +1,6 @@
 // What is asked over one control connection, as its data connections know it, and how the last of these ended.
 ghost use Rattle.std.specs.Prelude.{◌≡◌};
-ghost use Rattle.ftp_tool_connection.specs.Course.{is_past, is_unended, says_done};
+ghost use Rattle.ftp_tool_asking.specs.Course.{is_past, is_unended, says_done};
 
 use crate::cargo::Cargo;
 use crate::request::{Request, most_of, span_of};
@@ -34,25 +34,25 @@ pub enum Ending {
 
 /// What is known of the request under way.
 #[derive(Drop)]
-pub(crate) struct Course {
+pub struct Course {
     most: Cell<Most>,
     span: Cell<Span>,
     /// Whether a wait for its data connection found no end.
     is_silent: Cell<bool>,
     ending: Cell<Ending>,
     /// What goes over its data connection, where that is carried, while none has it.
-    pub(crate) cargo: Cell<Option<Cargo>>,
+    pub cargo: Cell<Option<Cargo>>,
 }
 
 impl Course {
     /// Nothing is asked yet.
-    pub(crate) fn new() -> Course {
+    pub fn new() -> Course {
         Course::around(Cell::new(None))
     }
 
     /// Nothing is asked yet, and this will hold what goes over its data connection. It is handed in, so that who makes a list of these
     /// names its type, without which the list has no proof.
-    pub(crate) fn around(cargo: Cell<Option<Cargo>>) -> Course {
+    pub fn around(cargo: Cell<Option<Cargo>>) -> Course {
         Course {
             most: Cell::new(Most {
                 octets: 0,
@@ -69,7 +69,7 @@ impl Course {
     }
 
     /// This is asked now.
-    pub(crate) fn begin(&self, request: &Request) {
+    pub fn begin(&self, request: &Request) {
         self.most.set(most_of(request));
         self.span.set(span_of(request));
         self.is_silent.set(false);
@@ -77,26 +77,26 @@ impl Course {
     }
 
     /// A wait for the data connection ended so.
-    pub(crate) fn waited(&self, ready: Ready) {
+    pub fn waited(&self, ready: Ready) {
         if ready == Ready::Lost {
             self.is_silent.set(true);
         }
     }
 
     /// This is reported, and the server said this line last.
-    pub(crate) fn reported(&self, report: &Option<Answer<Global>>, line: &[u8]) {
+    pub fn reported(&self, report: &Option<Answer<Global>>, line: &[u8]) {
         if is_unended(self.is_silent.get(), report, line) {
             self.ending.set(Ending::Unended);
         }
     }
 
     /// Whether lines of the data connection are counted.
-    pub(crate) fn counts_lines(&self) -> bool {
+    pub fn counts_lines(&self) -> bool {
         self.most.get().lines.is_some()
     }
 
     /// Whether so many octets and lines of the data connection are more than may come; then it is cut off.
-    pub(crate) fn cuts_off(&self, octets: u64, lines: u64) -> bool {
+    pub fn cuts_off(&self, octets: u64, lines: u64) -> bool {
         let is_past = is_past(self.most.get(), octets, lines);
         if is_past {
             self.ending.set(Ending::PastLimit);
@@ -105,12 +105,12 @@ impl Course {
     }
 
     /// What the request moves.
-    pub(crate) fn span(&self) -> Span {
+    pub fn span(&self) -> Span {
         self.span.get()
     }
 
     /// How the last data connection ended.
-    pub(crate) fn ending(&self) -> Ending {
+    pub fn ending(&self) -> Ending {
         self.ending.get()
     }
 }

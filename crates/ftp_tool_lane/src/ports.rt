@@ -2,10 +2,9 @@
 ghost use Rattle.std.specs.Prelude.{◌≡◌, ◌≤◌, None};
 ghost use Rattle.ftp_control.specs.Asking.{Closes};
 
-use crate::course::Course;
-use crate::rate::{pause_of, piece_of};
 use ftp_control::{Accepted, Awaited, Beside, Duplex, For, Ports, Ready, Spoken, Whole};
 use ftp_endpoint::Endpoint;
+use ftp_tool_asking::{Course, pause_of, piece_of};
 use ftp_tool_looking::{Awaits, LineLink, LinePorts};
 use ftp_tool_sockets::{Sockets, monotonic_millis};
 use std::io;
@@ -13,7 +12,7 @@ use std::io::{Error, ErrorKind, Read, Write};
 
 /// Data connections of which none is waited for.
 #[derive(Drop)]
-pub(crate) struct LanePorts<'a, R: Sockets> {
+pub struct LanePorts<'a, R: Sockets> {
     ports: LinePorts<'a, R>,
     course: &'a Course,
     /// The most octets a second; 0: without a limit.
@@ -26,7 +25,7 @@ pub(crate) struct LanePorts<'a, R: Sockets> {
 
 /// A data connection of which nothing is waited for.
 #[derive(Drop)]
-pub(crate) struct LaneLink<'a> {
+pub struct LaneLink<'a> {
     link: LineLink,
     course: &'a Course,
     rate: u64,
@@ -40,7 +39,7 @@ pub(crate) struct LaneLink<'a> {
 
 impl<'a, R: Sockets> LanePorts<'a, R> {
     /// None was opened yet.
-    pub(crate) fn new(ports: LinePorts<'a, R>, course: &'a Course, rate: u64) -> LanePorts<'a, R> {
+    pub fn new(ports: LinePorts<'a, R>, course: &'a Course, rate: u64) -> LanePorts<'a, R> {
         LanePorts {
             ports,
             course,

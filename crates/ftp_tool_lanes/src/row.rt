@@ -1,7 +1,6 @@
 // What is asked ahead over one of several control connections, one thing after another, and what was answered of it.
 use crate::ahead::{Done, Key, is_fact, is_given, is_transfer};
-use crate::cargo::Cargo;
-use crate::request::Request;
+use ftp_tool_asking::{Cargo, Request};
 use std::alloc::Global;
 use std::mem;
 

@@ -1,6 +1,6 @@
 // By which commands data connections and listings are asked for: what a server does not know is asked otherwise, from then on.
 ghost use Rattle.std.specs.Prelude.{◌≡◌};
-ghost use Rattle.ftp_tool_connection.specs.Opening.{asks_extended, list_verb_by, opening_by, says_unknown, stranger_by};
+ghost use Rattle.ftp_tool_asking.specs.Opening.{asks_extended, list_verb_by, opening_by, says_unknown, stranger_by};
 
 use ftp_operation::{Answer, How, ListVerb};
 use ftp_reply::code::{BAD_ARGUMENT, BAD_PROTOCOL, NOT_IMPLEMENTED, UNKNOWN};

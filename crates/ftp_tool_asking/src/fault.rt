@@ -56,7 +56,7 @@ pub fn at<T: Drop>(stage: Phase, done: io::Result<T>) -> Result<T, SessionFault>
 
 impl SessionFault {
     /// Memory was refused before anything was asked.
-    pub(crate) fn of_memory() -> SessionFault {
+    pub fn of_memory() -> SessionFault {
         SessionFault {
             stage: Phase::Asking,
             error: Error::from(ErrorKind::OutOfMemory),
@@ -64,7 +64,7 @@ impl SessionFault {
     }
 
     /// What was under way.
-    pub(crate) fn stage(&self) -> Phase
+    pub fn stage(&self) -> Phase
         ensures { result ≡ self.now.stage }
     {
         self.stage

@@ -1,5 +1,5 @@
 // What is asked of a client.
-ghost use Rattle.ftp_tool_connection.specs.Answering.{Begins};
+ghost use Rattle.ftp_tool_asking.specs.Beginning.{Begins};
 
 use crate::course::Most;
 use ftp_client_model::Near;
@@ -95,7 +95,7 @@ fn start_of(op: &Option<Op<Text<Global>>>) -> u64 {
 }
 
 /// Begins what is requested, which is taken out of there.
-pub(crate) fn begin<N: Near<Global>>(client: &mut N, request: &mut Request)
+pub fn begin<N: Near<Global>>(client: &mut N, request: &mut Request)
     ensures { Begins request.old (N.client client.old) (N.client client.new) }
 {
     match request {

@@ -37,7 +37,7 @@ impl LastReply {
     }
 
     /// The same, with so many data connections opened.
-    pub(crate) fn with_opened(&self, opened: u32) -> LastReply {
+    pub fn with_opened(&self, opened: u32) -> LastReply {
         LastReply {
             line: self.line,
             len: self.len,
@@ -49,27 +49,27 @@ impl LastReply {
     }
 
     /// The control connection ended since the server was silent for so many seconds.
-    pub(crate) fn fell_silent(&mut self, seconds: u32) {
+    pub fn fell_silent(&mut self, seconds: u32) {
         self.silence = Some(seconds);
     }
 
     /// So many data connections more were opened.
-    pub(crate) fn add_opened(&mut self, count: u32) {
+    pub fn add_opened(&mut self, count: u32) {
         self.opened = self.opened.saturating_add(count);
     }
 
     /// So many seconds more went by.
-    pub(crate) fn add_spent(&mut self, seconds: u32) {
+    pub fn add_spent(&mut self, seconds: u32) {
         self.spent = self.spent.saturating_add(seconds);
     }
 
     /// How many whole seconds went by.
-    pub(crate) fn spent(&self) -> u32 {
+    pub fn spent(&self) -> u32 {
         self.spent
     }
 
     /// Whether the server said a line, over any control connection.
-    pub(crate) fn is_heard(&self) -> bool {
+    pub fn is_heard(&self) -> bool {
         self.is_heard
     }
 
@@ -100,7 +100,7 @@ impl LastReply {
     }
 
     /// Why a further control connection is over, as it is told behind a sentence: the server says why; nothing where it does not.
-    pub(crate) fn parting(&self) -> Said<'_> {
+    pub fn parting(&self) -> Said<'_> {
         let line = self.line();
         Said {
             line: match code_of(line) {
@@ -143,13 +143,13 @@ impl LastReply {
     }
 
     /// A control connection begins, on which no line was said.
-    pub(crate) fn begin(&mut self) {
+    pub fn begin(&mut self) {
         self.len = 0;
         self.silence = None;
     }
 
     /// This line was said last, without its end; an empty one is none.
-    pub(crate) fn keep(&mut self, line: &[u8]) {
+    pub fn keep(&mut self, line: &[u8]) {
         if line.is_empty() || self.stays() {
             return;
         }

@@ -1,11 +1,10 @@
 // One of several control connections, and what is asked over it: in its turn, or ahead.
 use crate::ahead::Done;
-use crate::cargo::Cargo;
-use crate::lane::TakesTurns;
-use crate::request::Request;
 use crate::row::Row;
 use ftp_operation::{Answer, Op};
 use ftp_reply::code::NOT_LOGGED_IN;
+use ftp_tool_asking::{Cargo, Request};
+use ftp_tool_lane::TakesTurns;
 use ftp_tool_looking::Awaits;
 use std::alloc::Global;
 use std::mem;
@@ -24,7 +23,7 @@ pub(crate) enum Doing {
 
 /// How far a lane is relied on.
 #[derive(Clone, Copy)]
-pub(crate) enum Stand {
+pub enum Stand {
     /// Nothing was answered over it yet that is given: only what is asked ahead goes over it.
     Untried,
     Tried,
@@ -57,7 +56,7 @@ impl Came {
 }
 
 /// A lane, and what it does.
-pub(crate) struct Seat<L> {
+pub struct Seat<L> {
     pub(crate) lane: L,
     stand: Stand,
     doing: Doing,
@@ -84,7 +83,7 @@ impl<L: Drop> Drop for Seat<L> {
 
 impl<L: TakesTurns + Drop> Seat<L> {
     /// A lane of which nothing is asked.
-    pub(crate) fn new(lane: L, stand: Stand) -> Seat<L> {
+    pub fn new(lane: L, stand: Stand) -> Seat<L> {
         Seat {
             lane,
             stand,

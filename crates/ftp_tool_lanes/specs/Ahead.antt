@@ -5,10 +5,10 @@ use Rattle.ftp_operation.specs.declared.answer.Answer.TheVariants as Answers
 use Rattle.ftp_operation.specs.declared.op.Op.{Op}
 use Rattle.ftp_operation.specs.declared.op.Op.TheVariants as Ops
 use Rattle.ftp_reply.specs.declared.code.TheConstants.{NOT_IMPLEMENTED, UNAVAILABLE, UNKNOWN}
-use Rattle.ftp_tool_connection.specs.declared.ahead.What.{What}
-use Rattle.ftp_tool_connection.specs.declared.ahead.What.TheVariants as Whats
-use Rattle.ftp_tool_connection.specs.declared.request.Request.{Request}
-use Rattle.ftp_tool_connection.specs.declared.request.Request.TheVariants.{One, Upload, Download, Drawn}
+use Rattle.ftp_tool_lanes.specs.declared.ahead.What.{What}
+use Rattle.ftp_tool_lanes.specs.declared.ahead.What.TheVariants as Whats
+use Rattle.ftp_tool_asking.specs.declared.request.Request.{Request}
+use Rattle.ftp_tool_asking.specs.declared.request.Request.TheVariants.{One, Upload, Download, Drawn}
 
 -- what an operation without octets of a file asks of which path, where it is asked ahead: a listing, that a file is removed, its size, or its moment
 abbrev pub ahead_of : Op (List ℕ) → Option (What × List ℕ)

@@ -1,0 +1,8 @@
+-- How a client is begun with what is requested.
+pub mod Beginning
+-- When a data connection did not end, and how much it may bring.
+pub mod Course
+-- How long a data connection waits before it moves more.
+pub mod Rate
+-- By which commands a data connection is asked for, and when by the others.
+pub mod Opening

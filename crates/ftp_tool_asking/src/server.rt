@@ -1,0 +1,16 @@
+// Which server is asked, and on which terms.
+/// Which server is asked.
+#[derive(Clone, Copy)]
+pub struct ServerAddress<'a> {
+    /// An address or a name.
+    pub host: &'a str,
+    pub port: u16,
+    /// For how many seconds the server may say, take and send nothing, before its control connection counts as ended; 0: without a limit.
+    pub timeout: u32,
+    /// Whether a transfer that takes more than a second is told of, each second at most.
+    pub progress: bool,
+    /// The most octets a second over all data connections at once; 0: without a limit.
+    pub rate: u64,
+    /// How many control connections there are at once, where so much can be asked; 8 at most.
+    pub at_once: u32,
+}

@@ -1,0 +1,2 @@
+-- What is asked ahead of its turn.
+pub mod Ahead
