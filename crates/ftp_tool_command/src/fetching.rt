@@ -11,7 +11,7 @@ use clap::ArgMatches;
 use ftp_operation::How;
 use ftp_tool_asking::Openings;
 use ftp_tool_fetch::{Download, Each, Lines, Parts, Simple, Target, Task};
-use ftp_tool_listing::is_pattern;
+use ftp_tool_pattern::is_pattern;
 use ftp_tool_words::{Location, UrlPlace};
 
 pub const GET: Subcommand<'static> = Subcommand {

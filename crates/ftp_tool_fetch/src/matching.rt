@@ -13,8 +13,9 @@ use ftp_tool_asking::{
     ClientSession, Ending, LastReply, Phase, SessionFault, SessionTask, at, told,
 };
 use ftp_tool_connection::{Converses, Logins, ask};
-use ftp_tool_listing::{Item, chosen_items, chosen_names, items_of_columns, items_of_facts};
+use ftp_tool_listing::{Item, items_of_columns, items_of_facts};
 use ftp_tool_local::LocalFiles;
+use ftp_tool_pattern::{chosen_items, chosen_names};
 use ftp_tool_shown::Shown;
 use ftp_tool_status::Status;
 use ftp_tool_transfer::tell;

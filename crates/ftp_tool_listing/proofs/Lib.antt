@@ -1,6 +1,3 @@
-mod LinesLemmas
-mod PlanLemmas
-pub mod PatternLemmas
-pub mod IndexLemmas
+pub mod LinesLemmas
 pub mod TextLemmas
 pub mod UnixLemmas

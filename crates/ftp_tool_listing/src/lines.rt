@@ -134,7 +134,7 @@ pub fn strange_names(path: &[u8], names: &[Text<Global>]) -> usize
 }
 
 /// Whether a name is one of a single file, alone or behind the path of the directory that is listed.
-pub(crate) fn is_listed(path: &[u8], name: &[u8]) -> bool
+pub fn is_listed(path: &[u8], name: &[u8]) -> bool
     ensures { result ≡ is_listed path.now name.now }
 {
     is_name(name) || is_below(path, name)
@@ -159,8 +159,8 @@ fn is_below(path: &[u8], name: &[u8]) -> bool
     !path.is_empty() && name.starts_with(path) && is_name(without_slash(&name[path.len()..]))
 }
 
-/// Octets without a slash at their front.
-pub(crate) fn without_slash(octets: &[u8]) -> &[u8]
+/// Octets without a slash at their front: a name that stands behind the path of its directory.
+pub fn without_slash(octets: &[u8]) -> &[u8]
     ensures { result.now ≡ without_slash octets.now }
 {
     match octets {

@@ -1,7 +1,7 @@
 -- What a mirror asks of a file that LIST tells (RFC 959, section 4.1.3, leaves the form of its lines open), and how it sends one (own choice).
 use Rattle.std.specs.Prelude.{ℕ, Bool, true, false, Option, Some, None, nat_lt}
-use Rattle.ftp_tool_listing.specs.declared.deeds.Way.{Way}
-use Rattle.ftp_tool_listing.specs.declared.deeds.Way.TheVariants as Ways
+use Rattle.ftp_tool_plan.specs.declared.deeds.Way.{Way}
+use Rattle.ftp_tool_plan.specs.declared.deeds.Way.TheVariants as Ways
 
 -- the moment of a file is asked for: where the file may be fetched, since of it LIST tells the day at most, and else where LIST tells none
 abbrev pub asks_moment : Way → Option ℕ → Bool

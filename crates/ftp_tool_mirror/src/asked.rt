@@ -2,8 +2,8 @@
 use ftp_facts::Text;
 use ftp_operation::How;
 use ftp_tool_asking::{Openings, ServerAddress};
-use ftp_tool_listing::Rules;
 use ftp_tool_local::Flush;
+use ftp_tool_plan::Rules;
 use ftp_tool_words::{User, joined};
 use std::alloc::{AllocError, Global};
 

@@ -1,7 +1,8 @@
 // What stands in a folder of this machine.
 use ftp_facts::Text;
 use ftp_tool_asking::MOST_ENTRIES;
-use ftp_tool_listing::{Facts, Item, Kind, Listing, is_excluded};
+use ftp_tool_listing::{Facts, Item, Kind, Listing};
+use ftp_tool_pattern::is_excluded;
 use ftp_tool_places::{Places, Sighting, Sightings};
 use std::alloc::{AllocError, Global};
 use std::fs::Metadata;

@@ -11,8 +11,9 @@ use crate::trouble::Trouble;
 use ftp_facts::Text;
 use ftp_operation::Op;
 use ftp_tool_asking::{ClientSession, Request, Terms};
-use ftp_tool_listing::{Deed, Facts, Way};
+use ftp_tool_listing::Facts;
 use ftp_tool_places::Places;
+use ftp_tool_plan::{Deed, Way};
 use ftp_tool_transfer::{download_row, limit_held};
 use std::alloc::{AllocError, Global};
 

@@ -1,5 +1,5 @@
 //! The program `mirror`: copies a tree of a server's into a folder of this machine, or back, over one control connection (RFC 959; RFC 3659). What
-//! is done in a directory is decided by `ftp_tool_listing`.
+//! is done in a directory is decided by `ftp_tool_plan`.
 #![tactic(auto)]
 
 mod asked;
@@ -25,5 +25,4 @@ mod unlisted;
 mod walk;
 
 pub use asked::{Deeds, Doing, Mirror};
-pub use ftp_tool_listing::{Check, Extra, Rules, Way};
 pub use mirroring::mirror;

@@ -1,6 +1,6 @@
 // Why something was not done, as it is told behind the path.
 use crate::trouble::Trouble;
-use ftp_tool_listing::Reason;
+use ftp_tool_plan::Reason;
 use std::fmt;
 use std::fmt::{Display, Formatter};
 

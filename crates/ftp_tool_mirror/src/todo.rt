@@ -2,7 +2,8 @@
 use crate::removals::{Counts, Settled};
 use crate::telling::shown_below;
 use crate::trouble::Trouble;
-use ftp_tool_listing::{Deed, Extra, Item, Kind, Listing, Rules, Step, is_name, may_remove, plan};
+use ftp_tool_listing::{Item, Kind, Listing, is_name};
+use ftp_tool_plan::{Deed, Extra, Rules, Step, may_remove, plan};
 use ftp_tool_words::joined;
 use std::alloc::{AllocError, Global};
 use std::mem;

@@ -8,9 +8,8 @@ use crate::trouble::Trouble;
 use ftp_facts::Text;
 use ftp_operation::{Answer, ListVerb, Op};
 use ftp_tool_asking::{ClientSession, MOST_ENTRIES, Request};
-use ftp_tool_listing::{
-    Facts, Item, Kind, Listing, Way, is_name, items_of_columns, items_of_facts,
-};
+use ftp_tool_listing::{Facts, Item, Kind, Listing, is_name, items_of_columns, items_of_facts};
+use ftp_tool_plan::Way;
 use ftp_tool_words::joined;
 use std::alloc::{AllocError, Global};
 

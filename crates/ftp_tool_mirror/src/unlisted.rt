@@ -6,8 +6,9 @@ use crate::trouble::Trouble;
 use crate::walk::Walk;
 use ftp_operation::ListVerb;
 use ftp_tool_asking::ClientSession;
-use ftp_tool_listing::{Listing, Way};
+use ftp_tool_listing::Listing;
 use ftp_tool_local::Change;
+use ftp_tool_plan::Way;
 use std::alloc::Global;
 
 impl<'a, R: Machine> Walk<'a, R> {

@@ -17,8 +17,9 @@ use crate::todo::{Chore, Todo, Work};
 use crate::trouble::Trouble;
 use ftp_operation::Answer;
 use ftp_tool_asking::{ClientSession, SessionFault, SessionTask};
-use ftp_tool_listing::{Deed, Extra, Facts, Listing, Rules, Way};
+use ftp_tool_listing::{Facts, Listing};
 use ftp_tool_local::Change;
+use ftp_tool_plan::{Deed, Extra, Rules, Way};
 use std::alloc::{AllocError, Global};
 use std::io::ErrorKind;
 

@@ -1,0 +1,4 @@
+-- Patterns of names and paths.
+pub mod Pattern
+pub mod Chosen
+pub mod PatternRows

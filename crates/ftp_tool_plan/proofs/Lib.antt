@@ -1,0 +1,2 @@
+mod PlanLemmas
+pub mod IndexLemmas
