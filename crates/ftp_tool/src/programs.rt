@@ -3,8 +3,8 @@
 use crate::perform::perform;
 use ftp_tool_asking::ServerAddress;
 use ftp_tool_command::Task;
+use ftp_tool_copying::Mirror;
 use ftp_tool_fetch::{Each, Pair, Target};
-use ftp_tool_mirror::Mirror;
 use ftp_tool_pair::PairSettings;
 use ftp_tool_quiet::Hushed;
 use ftp_tool_serve::Serving;

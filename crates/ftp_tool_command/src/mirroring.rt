@@ -8,9 +8,9 @@ use crate::words::{
 };
 use clap::ArgMatches;
 use ftp_tool_asking::{Openings, ServerAddress};
+use ftp_tool_copying::{Deeds, Doing, Mirror};
 use ftp_tool_files::representation_of;
 use ftp_tool_local::Flush;
-use ftp_tool_mirror::{Deeds, Doing, Mirror};
 use ftp_tool_plan::{Check, Extra, Rules, Way};
 use ftp_tool_words::{Location, UrlPlace};
 

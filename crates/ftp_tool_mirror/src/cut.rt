@@ -1,9 +1,8 @@
 // A download of a mirror, over as many control connections as it takes.
-use crate::copying::{begun, discard, download};
 use crate::machine::Machine;
-use crate::trouble::Trouble;
 use crate::walk::Walk;
 use ftp_tool_asking::ClientSession;
+use ftp_tool_copying::{Trouble, begun, discard, download};
 use ftp_tool_listing::Facts;
 use ftp_tool_local::LocalFiles;
 use ftp_tool_transfer::{Downloading, limit_held};

@@ -1,24 +1,19 @@
 // What will be asked of a server for what waits to be done.
-use crate::asked::{Doing, Mirror};
-use crate::copying::moment_of;
-use crate::folder::facts_here;
 use crate::machine::Machine;
 use crate::prepared::AllPrepared;
-use crate::sending::{foresee_drawn, is_drawn, octets_of, size_request};
-use crate::server::listing_request;
-use crate::todo::{Chore, Work};
-use crate::trouble::Trouble;
 use ftp_facts::Text;
 use ftp_operation::Op;
 use ftp_tool_asking::{ClientSession, Request, Terms};
+use ftp_tool_copying::{
+    AHEAD, Doing, Mirror, Trouble, facts_here, foresee_drawn, is_drawn, listing_request, moment_of,
+    octets_of, size_request,
+};
 use ftp_tool_listing::Facts;
 use ftp_tool_places::Places;
 use ftp_tool_plan::{Deed, Way};
+use ftp_tool_todo::{Chore, Work};
 use ftp_tool_transfer::{download_row, limit_held};
 use std::alloc::{AllocError, Global};
-
-/// The most octets of a file that is asked ahead where it is held in memory until its turn, or where an upload that breaks begins anew.
-pub(crate) const AHEAD: u64 = 67_108_864;
 
 /// Tells what will surely be asked of the server for this, where it can be asked ahead: the octets of a file that is fetched, those of one that is sent, with
 /// the questions for size and moment beside them, or the entries of a directory that is gone into; nothing of what depends on more than is known now.

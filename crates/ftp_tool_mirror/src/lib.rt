@@ -2,27 +2,13 @@
 //! is done in a directory is decided by `ftp_tool_plan`.
 #![tactic(auto)]
 
-mod asked;
-mod changing;
-mod copying;
 mod cut;
-mod folder;
 mod foreseeing;
 mod machine;
 mod mirroring;
 mod prepared;
-mod removals;
 mod replacing;
-mod sending;
-mod sentence;
-mod server;
-mod tally;
-mod telling;
-mod todo;
-mod told;
-mod trouble;
 mod unlisted;
 mod walk;
 
-pub use asked::{Deeds, Doing, Mirror};
 pub use mirroring::mirror;

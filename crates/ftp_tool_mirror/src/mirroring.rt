@@ -1,10 +1,10 @@
 // A mirror from its first connection to its last line.
-use crate::asked::Mirror;
 use crate::machine::Machine;
 use crate::walk::Walk;
 use ftp_operation::Answer;
 use ftp_tool_asking::{LastReply, SessionFault, Subject, say, told};
 use ftp_tool_connection::{Converses, Logins, ask};
+use ftp_tool_copying::Mirror;
 use ftp_tool_status::Status;
 use std::alloc::Global;
 use std::env::Env;

@@ -1,9 +1,7 @@
 // Downloads that are asked ahead of their turn, each with the part of its file here to which it goes as it comes.
-use crate::asked::Mirror;
-use crate::copying::{begun, discard};
 use crate::machine::Machine;
-use crate::trouble::Trouble;
 use ftp_tool_asking::{ClientSession, Request};
+use ftp_tool_copying::{Mirror, Trouble, begun, discard};
 use ftp_tool_listing::Facts;
 use ftp_tool_transfer::Downloading;
 use std::alloc::Global;

@@ -1,15 +1,13 @@
 // What comes in the place of something else: it is made beside it, that is renamed aside, and removed last.
-use crate::asked::Doing;
 use crate::machine::Machine;
-use crate::server::{done_by, stands_there};
-use crate::todo::Chore;
-use crate::trouble::Trouble;
 use crate::walk::Walk;
 use ftp_operation::Op;
 use ftp_tool_asking::ClientSession;
+use ftp_tool_copying::{Doing, Trouble, done_by, stands_there};
 use ftp_tool_listing::Listing;
 use ftp_tool_local::Change;
 use ftp_tool_plan::{Deed, Way};
+use ftp_tool_todo::Chore;
 use ftp_tool_words::last_part;
 use itoa::Buffer;
 use std::alloc::{AllocError, Global};

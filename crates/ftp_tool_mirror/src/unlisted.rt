@@ -1,11 +1,9 @@
 // A directory of a server whose LIST tells nothing of whether it stands.
-use crate::asked::Doing;
 use crate::machine::Machine;
-use crate::server::check_dir;
-use crate::trouble::Trouble;
 use crate::walk::Walk;
 use ftp_operation::ListVerb;
 use ftp_tool_asking::ClientSession;
+use ftp_tool_copying::{Doing, Trouble, check_dir};
 use ftp_tool_listing::Listing;
 use ftp_tool_local::Change;
 use ftp_tool_plan::Way;

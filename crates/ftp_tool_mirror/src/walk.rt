@@ -1,25 +1,19 @@
 // The way through a tree, one thing after another.
-use crate::asked::{Deeds, Doing, Mirror};
-use crate::changing::{change_there, word_of};
-use crate::copying::{discard, is_current, is_same, leave};
 use crate::cut::Cut;
-use crate::folder::entries_here;
 use crate::foreseeing::foresee;
 use crate::machine::Machine;
 use crate::prepared::AllPrepared;
-use crate::removals::Settled;
-use crate::sending::{Upward, copy_up};
-use crate::sentence::reason_told;
-use crate::server::{entries_there, stands_there};
-use crate::tally::{Progress, Tally};
-use crate::telling::{deed_line, shown, tell, tell_no_text, tell_too_many, tell_trouble};
-use crate::todo::{Chore, Todo, Work};
-use crate::trouble::Trouble;
 use ftp_operation::Answer;
 use ftp_tool_asking::{ClientSession, SessionFault, SessionTask};
+use ftp_tool_copying::{
+    Deeds, Doing, Mirror, Trouble, Upward, change_there, copy_up, deed_line, discard, entries_here,
+    entries_there, is_current, is_same, leave, reason_told, shown, stands_there, tell,
+    tell_no_text, tell_trouble, word_of,
+};
 use ftp_tool_listing::{Facts, Listing};
 use ftp_tool_local::Change;
 use ftp_tool_plan::{Deed, Extra, Rules, Way};
+use ftp_tool_todo::{Chore, Progress, Settled, Tally, Todo, Work, tell_too_many};
 use std::alloc::{AllocError, Global};
 use std::io::ErrorKind;
 

@@ -10,7 +10,7 @@ use std::io;
 use std::os::unix::fs::MetadataExt;
 
 /// The entries of the directory `below` a folder. Links are not followed.
-pub(crate) fn entries_here<R: Places>(
+pub fn entries_here<R: Places>(
     rt: &R,
     alloc: Global,
     folder: &str,
@@ -73,7 +73,7 @@ pub(crate) fn put_item(
 }
 
 /// What is known of the file `below` a folder; none where no file stands there, or the system tells nothing of it.
-pub(crate) fn facts_here<R: Places>(rt: &R, folder: &str, below: &str) -> Option<Facts> {
+pub fn facts_here<R: Places>(rt: &R, folder: &str, below: &str) -> Option<Facts> {
     match rt.found(folder, below) {
         Ok(Some(found)) => match kind_of(&found) {
             Kind::File(facts) => Some(facts),

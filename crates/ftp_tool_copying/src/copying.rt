@@ -15,7 +15,7 @@ use std::alloc::{AllocError, Global};
 use std::io::Eprint;
 
 /// Moves the part of a file that came over its name here, last changed at the moment that the server told last of it. Gives how many octets it has.
-pub(crate) fn leave<R: Places + LocalFiles + Eprint>(
+pub fn leave<R: Places + LocalFiles + Eprint>(
     rt: &R,
     mirror: &Mirror<'_>,
     below: &str,
@@ -34,7 +34,7 @@ pub(crate) fn leave<R: Places + LocalFiles + Eprint>(
 }
 
 /// Removes the part of a file that is to be here, where it has one.
-pub(crate) fn discard<R: Places + LocalFiles + Eprint>(
+pub fn discard<R: Places + LocalFiles + Eprint>(
     rt: &R,
     mirror: &Mirror<'_>,
     below: &str,
@@ -46,13 +46,13 @@ pub(crate) fn discard<R: Places + LocalFiles + Eprint>(
 }
 
 /// The moment of a file, where it is known.
-pub(crate) fn moment_of(facts: Facts) -> Option<Moment> {
+pub fn moment_of(facts: Facts) -> Option<Moment> {
     Moment::new(facts.moment?)
 }
 
 /// The download of a file that is listed so, of which nothing came yet, and which may have `limit` octets at most. What comes goes to a part of the file that
 /// is to be here, and where there is none it is held in memory.
-pub(crate) fn begun<'a, R: Places + LocalFiles + Eprint>(
+pub fn begun<'a, R: Places + LocalFiles + Eprint>(
     rt: &'a R,
     alloc: Global,
     mirror: &Mirror<'a>,
@@ -90,10 +90,7 @@ fn expect<R: LocalFiles + Eprint>(downloading: &mut Downloading<'_, R>, facts: F
 }
 
 /// Goes on with a download until all of it came.
-pub(crate) fn download<R, S>(
-    downloading: &mut Downloading<'_, R>,
-    seat: &mut S,
-) -> Result<(), Trouble>
+pub fn download<R, S>(downloading: &mut Downloading<'_, R>, seat: &mut S) -> Result<(), Trouble>
 where
     R: LocalFiles + Eprint,
     S: ClientSession,
@@ -127,7 +124,7 @@ fn check_whole(arrived: Arrival, count: u64, limit: u64) -> Result<(), Trouble> 
 
 /// Whether the file here is the server's still, though the listing tells another moment: it has the size that is listed, and the moment that the server
 /// tells when it is asked for this file alone, which is what a copy is given (RFC 3659, section 3).
-pub(crate) fn is_current<R, S>(
+pub fn is_current<R, S>(
     rt: &R,
     alloc: Global,
     seat: &mut S,
@@ -153,7 +150,7 @@ where
 }
 
 /// Whether a file here has the octets that came.
-pub(crate) fn is_same<R: Places>(
+pub fn is_same<R: Places>(
     rt: &R,
     mirror: &Mirror<'_>,
     below: &str,

@@ -1,6 +1,6 @@
 // What stands in a directory of a server, by its listing as text.
 ghost use Rattle.std.specs.Prelude.{◌≡◌};
-ghost use Rattle.ftp_tool_mirror.specs.Copying.{asks_moment};
+ghost use Rattle.ftp_tool_copying.specs.Copying.{asks_moment};
 
 use crate::asked::Mirror;
 use crate::folder::put_item;

@@ -10,7 +10,7 @@ use ftp_tool_listing::Listing;
 use std::alloc::{AllocError, Global};
 
 /// Asks a server to do something that has no other answer than that it is done.
-pub(crate) fn done_by<S: ClientSession>(seat: &mut S, op: Op<Text<Global>>) -> Result<(), Trouble> {
+pub fn done_by<S: ClientSession>(seat: &mut S, op: Op<Text<Global>>) -> Result<(), Trouble> {
     match &seat.answer(Request::One(Some(op))) {
         Answer::Done | Answer::Path(_) => Ok(()),
         answer => Err(Trouble::of(answer)),
@@ -18,7 +18,7 @@ pub(crate) fn done_by<S: ClientSession>(seat: &mut S, op: Op<Text<Global>>) -> R
 }
 
 /// Whether a server has something at a path, as it says of that alone (MLST, RFC 3659, section 7).
-pub(crate) fn stands_there<S: ClientSession>(
+pub fn stands_there<S: ClientSession>(
     alloc: Global,
     seat: &mut S,
     mirror: &Mirror<'_>,
@@ -39,7 +39,7 @@ pub(crate) fn stands_there<S: ClientSession>(
 }
 
 /// Fails where the directory of a server does not stand: it is gone into (CWD, RFC 959, section 4.1.1), and left for where the client was before.
-pub(crate) fn check_dir<S: ClientSession>(
+pub fn check_dir<S: ClientSession>(
     alloc: Global,
     seat: &mut S,
     mirror: &Mirror<'_>,
@@ -74,7 +74,7 @@ fn file_stands_there<S: ClientSession>(
 }
 
 /// The entries of a directory of a server, which is called `below` in the tree.
-pub(crate) fn entries_there<S: ClientSession>(
+pub fn entries_there<S: ClientSession>(
     alloc: Global,
     seat: &mut S,
     mirror: &Mirror<'_>,
@@ -125,7 +125,7 @@ fn opened<S: ClientSession>(
 }
 
 /// What asks for the entries of a directory.
-pub(crate) fn listing_request(
+pub fn listing_request(
     alloc: Global,
     mirror: &Mirror<'_>,
     below: &str,

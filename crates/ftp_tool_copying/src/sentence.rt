@@ -6,7 +6,7 @@ use std::fmt::{Display, Formatter};
 
 /// A sentence with up to two numbers.
 #[derive(Clone, Copy)]
-pub(crate) enum Sentence {
+pub enum Sentence {
     Plain(&'static str),
     /// A number between two texts.
     Around(&'static str, u64, &'static str),
@@ -25,7 +25,7 @@ impl Display for Sentence {
 }
 
 /// Why an entry is refused.
-pub(crate) fn reason_told(reason: Reason) -> Sentence {
+pub fn reason_told(reason: Reason) -> Sentence {
     match reason {
         Reason::Emptied(count) => Sentence::Around(
             "the source lists nothing there, and ",

@@ -1,9 +1,8 @@
 // One file that is copied to the server.
 ghost use Rattle.std.specs.Prelude.{◌≡◌};
-ghost use Rattle.ftp_tool_mirror.specs.Copying.{is_drawn};
+ghost use Rattle.ftp_tool_copying.specs.Copying.{is_drawn};
 
 use crate::asked::Mirror;
-use crate::foreseeing::AHEAD;
 use crate::telling::shown;
 use crate::trouble::Trouble;
 use ftp_facts::Text;
@@ -19,19 +18,22 @@ use std::io::Eprint;
 /// The most octets of a file that is held in memory although it could be read as it goes: no more than are held of such a one anyway.
 const SMALL: u64 = 65_536;
 
+/// The most octets of a file that is asked ahead where it is held in memory until its turn, or where an upload that breaks begins anew.
+pub const AHEAD: u64 = 67_108_864;
+
 /// A file below the folder, and where it goes below the directory of the server.
 #[derive(Clone, Copy)]
-pub(crate) struct Upward<'a> {
-    pub(crate) below: &'a str,
-    pub(crate) to: &'a str,
+pub struct Upward<'a> {
+    pub below: &'a str,
+    pub to: &'a str,
     /// How many octets it was listed with.
-    pub(crate) size: Option<u64>,
+    pub size: Option<u64>,
 }
 
 /// Uploads a file, over breaks; the server has to have its size then. Gives how many octets it has. A file that is not small is read as it goes. `is_blind` as of
 /// an upload before, and of this one then. Over several control connections the size of what stands there is not asked for before: it may be of the upload that
 /// was asked ahead.
-pub(crate) fn copy_up<R, S>(
+pub fn copy_up<R, S>(
     rt: &R,
     alloc: Global,
     seat: &mut S,
@@ -54,7 +56,7 @@ where
 }
 
 /// Whether a file that was listed with so many octets is read as it goes: one that is not small.
-pub(crate) fn is_drawn(size: Option<u64>) -> bool
+pub fn is_drawn(size: Option<u64>) -> bool
     ensures { result ≡ is_drawn size }
 {
     match size {
@@ -108,7 +110,7 @@ where
 }
 
 /// Asks ahead that a file goes, which is read as it goes, and then how many octets of it the server has.
-pub(crate) fn foresee_drawn<R, S>(
+pub fn foresee_drawn<R, S>(
     rt: &R,
     alloc: Global,
     seat: &mut S,
@@ -161,7 +163,7 @@ fn sent(
 }
 
 /// The octets of a file here.
-pub(crate) fn octets_of<R: Places>(
+pub fn octets_of<R: Places>(
     rt: &R,
     mirror: &Mirror<'_>,
     below: &str,
@@ -229,7 +231,7 @@ fn done(answer: &Answer<Global>, count: u64) -> Result<u64, Trouble> {
 }
 
 /// A question for the size of a file of the server (RFC 3659, section 4).
-pub(crate) fn size_request(
+pub fn size_request(
     alloc: Global,
     mirror: &Mirror<'_>,
     below: &str,

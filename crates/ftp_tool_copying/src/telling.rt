@@ -1,5 +1,4 @@
 // What is told of a path, in a line.
-use crate::removals::Counts;
 use crate::sentence::sentence_of;
 use crate::trouble::Trouble;
 use ftp_tool_listing::put_json_deed;
@@ -10,7 +9,7 @@ use std::io;
 use std::io::Eprint;
 
 /// A path, as a terminal is to show it; that of the root is a point.
-pub(crate) fn shown(alloc: Global, below: &str) -> Result<String<Global>, AllocError> {
+pub fn shown(alloc: Global, below: &str) -> Result<String<Global>, AllocError> {
     if below.is_empty() {
         return String::from_str(alloc, ".");
     }
@@ -20,11 +19,7 @@ pub(crate) fn shown(alloc: Global, below: &str) -> Result<String<Global>, AllocE
 }
 
 /// The path of an entry of a directory, as a terminal is to show it; its name need be no text.
-pub(crate) fn shown_below(
-    alloc: Global,
-    below: &str,
-    name: &[u8],
-) -> Result<String<Global>, AllocError> {
+pub fn shown_below(alloc: Global, below: &str, name: &[u8]) -> Result<String<Global>, AllocError> {
     let mut octets = Vec::new(alloc);
     if !below.is_empty() {
         put_shown(below.as_bytes(), &mut octets)?;
@@ -35,11 +30,7 @@ pub(crate) fn shown_below(
 }
 
 /// The line of what is done of a path, as JSON; the path of the root is a point.
-pub(crate) fn deed_line(
-    alloc: Global,
-    what: &str,
-    below: &str,
-) -> Result<Vec<u8, Global>, AllocError> {
+pub fn deed_line(alloc: Global, what: &str, below: &str) -> Result<Vec<u8, Global>, AllocError> {
     let path = if below.is_empty() { "." } else { below };
     let mut line = Vec::new(alloc);
     put_json_deed(what.as_bytes(), path.as_bytes(), &mut line)?;
@@ -47,20 +38,12 @@ pub(crate) fn deed_line(
 }
 
 /// Tells that an entry, whose path is shown so, has a name that is no text.
-pub(crate) fn tell_no_text<R: Eprint>(rt: &R, shown: &str) -> io::Result<()> {
+pub fn tell_no_text<R: Eprint>(rt: &R, shown: &str) -> io::Result<()> {
     eprintln!(rt; "error: {shown}: the name is no text (UTF-8), and can't be sent; it is left out")
 }
 
-/// Tells that so many entries of the target would be removed that none is.
-pub(crate) fn tell_too_many<R: Eprint>(rt: &R, counts: Counts) -> io::Result<()> {
-    let Counts { held, removed } = counts;
-    eprintln!(rt;
-        "error: {removed} of the {held} entries of the target would be removed; nothing is, without --delete-any"
-    )
-}
-
 /// Tells of a path on standard error, in a line: what kind of a line it is, the path, and what is told of it.
-pub(crate) fn tell<R: Eprint, D: Display>(
+pub fn tell<R: Eprint, D: Display>(
     rt: &R,
     alloc: Global,
     kind: &str,
@@ -72,7 +55,7 @@ pub(crate) fn tell<R: Eprint, D: Display>(
 }
 
 /// Tells why something was not done of a path.
-pub(crate) fn tell_trouble<R: Eprint>(
+pub fn tell_trouble<R: Eprint>(
     rt: &R,
     alloc: Global,
     below: &str,

@@ -6,17 +6,17 @@ use std::fmt::{Display, Formatter};
 
 /// What was done so far.
 #[derive(Clone, Copy)]
-pub(crate) struct Tally {
-    pub(crate) files: u64,
-    pub(crate) dirs: u64,
-    pub(crate) removed: u64,
-    pub(crate) failed: u64,
-    pub(crate) octets: u64,
+pub struct Tally {
+    pub files: u64,
+    pub dirs: u64,
+    pub removed: u64,
+    pub failed: u64,
+    pub octets: u64,
 }
 
 impl Tally {
     /// Nothing yet.
-    pub(crate) fn new() -> Tally {
+    pub fn new() -> Tally {
         Tally {
             files: 0,
             dirs: 0,
@@ -27,20 +27,21 @@ impl Tally {
     }
 
     /// A file of so many octets was copied.
-    pub(crate) fn add_file(&mut self, octets: u64) {
+    pub fn add_file(&mut self, octets: u64) {
         self.files = self.files.saturating_add(1);
         self.octets = self.octets.saturating_add(octets);
     }
 
     /// The target was changed so.
-    pub(crate) fn add_change(&mut self, change: Change) {
+    pub fn add_change(&mut self, change: Change) {
         match change {
             Change::MakeDir => self.dirs = self.dirs.saturating_add(1),
             Change::RemoveFile | Change::RemoveDir => self.removed = self.removed.saturating_add(1),
         }
     }
 
-    pub(crate) fn add_failed(&mut self) {
+    /// Something was not done.
+    pub fn add_failed(&mut self) {
         self.failed = self.failed.saturating_add(1);
     }
 }
@@ -64,9 +65,9 @@ impl Display for Tally {
 
 /// How far a mirror is, where so many things wait.
 #[derive(Clone, Copy)]
-pub(crate) struct Progress {
-    pub(crate) tally: Tally,
-    pub(crate) left: usize,
+pub struct Progress {
+    pub tally: Tally,
+    pub left: usize,
 }
 
 impl Display for Progress {

@@ -9,7 +9,7 @@ use ftp_tool_local::Change;
 use std::alloc::Global;
 
 /// What a change does, as it is told.
-pub(crate) fn word_of(change: Change) -> &'static str {
+pub fn word_of(change: Change) -> &'static str {
     match change {
         Change::MakeDir => "make",
         Change::RemoveFile | Change::RemoveDir => "remove",
@@ -26,7 +26,7 @@ fn op_of(change: Change, path: Text<Global>) -> Op<Text<Global>> {
 }
 
 /// Changes the directory of the server.
-pub(crate) fn change_there<S: ClientSession>(
+pub fn change_there<S: ClientSession>(
     alloc: Global,
     seat: &mut S,
     mirror: &Mirror<'_>,

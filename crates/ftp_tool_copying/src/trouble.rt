@@ -7,7 +7,7 @@ use std::io::ErrorKind;
 
 /// Why something was not done.
 #[derive(Clone, Copy)]
-pub(crate) enum Trouble {
+pub enum Trouble {
     /// The server refuses it, by this code.
     Refused(u16),
     /// The server knows neither MLSD nor LIST: the code of its reply.
@@ -46,7 +46,7 @@ pub(crate) enum Trouble {
 
 impl Trouble {
     /// An answer that is not what was asked for.
-    pub(crate) fn of(answer: &Answer<Global>) -> Trouble {
+    pub fn of(answer: &Answer<Global>) -> Trouble {
         match answer {
             Answer::Refused(code) => Trouble::Refused(*code),
             Answer::Lost => Trouble::Lost,
@@ -57,7 +57,7 @@ impl Trouble {
     }
 
     /// What a mirror answers that does nothing more for this reason.
-    pub(crate) fn answer(self) -> Answer<Global> {
+    pub fn answer(self) -> Answer<Global> {
         match self {
             Trouble::Lost => Answer::Lost,
             Trouble::NoListing(code) => Answer::Refused(code),
@@ -66,7 +66,7 @@ impl Trouble {
     }
 
     /// Whether a directory is not there: of a server 550 says so (RFC 959, section 4.2.2), or 501 (RFC 3659, section 7.2.1).
-    pub(crate) fn is_missing(self) -> bool {
+    pub fn is_missing(self) -> bool {
         match self {
             Trouble::Refused(UNAVAILABLE | BAD_ARGUMENT) => true,
             Trouble::Here(error) => error.kind() == ErrorKind::NotFound,

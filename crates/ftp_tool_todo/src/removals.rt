@@ -1,10 +1,12 @@
 // How much of the target would be removed.
+use std::io;
+use std::io::Eprint;
 
 /// How many entries the target held, as far as it was looked at, and how many of them would be removed.
 #[derive(Clone, Copy)]
-pub(crate) struct Counts {
-    pub(crate) held: u64,
-    pub(crate) removed: u64,
+pub struct Counts {
+    pub held: u64,
+    pub removed: u64,
 }
 
 impl Counts {
@@ -21,11 +23,19 @@ impl Counts {
 
 /// What becomes of the removals, once all else is done.
 #[derive(Clone, Copy)]
-pub(crate) enum Settled {
+pub enum Settled {
     /// There are none.
     Nothing,
     /// They are next.
     Begun,
     /// They are too many, and not done.
     TooMany(Counts),
+}
+
+/// Tells that so many entries of the target would be removed that none is.
+pub fn tell_too_many<R: Eprint>(rt: &R, counts: Counts) -> io::Result<()> {
+    let Counts { held, removed } = counts;
+    eprintln!(rt;
+        "error: {removed} of the {held} entries of the target would be removed; nothing is, without --delete-any"
+    )
 }

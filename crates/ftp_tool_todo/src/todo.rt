@@ -1,7 +1,6 @@
 // What is still to be done, one thing after another.
 use crate::removals::{Counts, Settled};
-use crate::telling::shown_below;
-use crate::trouble::Trouble;
+use ftp_tool_copying::{Trouble, shown_below};
 use ftp_tool_listing::{Item, Kind, Listing, is_name};
 use ftp_tool_plan::{Deed, Extra, Rules, Step, may_remove, plan};
 use ftp_tool_words::joined;
@@ -12,9 +11,9 @@ use std::mem;
 const MOST_STEPS: u64 = 1_000_000;
 
 /// Something that is still to be done, of a path below both roots.
-pub(crate) struct Work {
-    pub(crate) chore: Chore,
-    pub(crate) below: String<Global>,
+pub struct Work {
+    pub chore: Chore,
+    pub below: String<Global>,
 }
 
 /// By hand: a derived drop is proved again, part by part, wherever a work is let go.
@@ -26,7 +25,7 @@ impl Drop for Work {
 
 /// What is to be done.
 #[derive(Clone, Copy)]
-pub(crate) enum Chore {
+pub enum Chore {
     Deed(Deed),
     /// This removes what the listing of the source lacked, once the source says of it alone that it has none: a listing that was cut at the end of a
     /// line looks whole.
@@ -47,7 +46,7 @@ pub(crate) enum Chore {
 
 /// What is still to be done.
 #[derive(Drop)]
-pub(crate) struct Todo {
+pub struct Todo {
     alloc: Global,
     /// The last comes next.
     waiting: Vec<Work, Global>,
@@ -64,7 +63,7 @@ pub(crate) struct Todo {
 
 impl Todo {
     /// Nothing yet.
-    pub(crate) fn new(alloc: Global) -> Todo {
+    pub fn new(alloc: Global) -> Todo {
         Todo {
             alloc,
             waiting: Vec::new(alloc),
@@ -80,23 +79,23 @@ impl Todo {
     }
 
     /// How many things wait.
-    pub(crate) fn count(&self) -> usize {
+    pub fn count(&self) -> usize {
         self.waiting.len().saturating_add(self.removals.len())
     }
 
     /// How many were taken up, and not put back.
-    pub(crate) fn taken(&self) -> u64 {
+    pub fn taken(&self) -> u64 {
         self.taken
     }
 
     /// What comes as many places behind what is next.
-    pub(crate) fn coming(&self, behind: usize) -> Option<&Work> {
+    pub fn coming(&self, behind: usize) -> Option<&Work> {
         let last = self.waiting.len().checked_sub(1)?;
         self.waiting.get(last.checked_sub(behind)?)
     }
 
     /// Takes up what is next.
-    pub(crate) fn next(&mut self) -> Option<Work> {
+    pub fn next(&mut self) -> Option<Work> {
         let work = self.waiting.pop();
         if work.is_some() {
             self.taken = self.taken.saturating_add(1);
@@ -105,7 +104,7 @@ impl Todo {
     }
 
     /// Once all else is done: the removals are next, where so many may be done; else they are forgotten.
-    pub(crate) fn settle(&mut self, extra: Extra) -> Settled {
+    pub fn settle(&mut self, extra: Extra) -> Settled {
         let removals = mem::replace(&mut self.removals, Vec::new(self.alloc));
         if removals.is_empty() {
             return Settled::Nothing;
@@ -119,21 +118,21 @@ impl Todo {
     }
 
     /// Puts back what was taken up: it is next once more.
-    pub(crate) fn put_back(&mut self, work: Work) -> Result<(), AllocError> {
+    pub fn put_back(&mut self, work: Work) -> Result<(), AllocError> {
         self.taken = self.taken.saturating_sub(1);
         self.waiting.push(work)?;
         Ok(())
     }
 
     /// This is next, of the root or of a path below it.
-    pub(crate) fn put(&mut self, chore: Chore, below: &str) -> Result<(), AllocError> {
+    pub fn put(&mut self, chore: Chore, below: &str) -> Result<(), AllocError> {
         let below = String::from_str(self.alloc, below)?;
         self.waiting.push(Work { chore, below })?;
         Ok(())
     }
 
     /// What is planned of two listings of a directory waits, the first of it at the end; removals wait until all else is done.
-    pub(crate) fn plan(
+    pub fn plan(
         &mut self,
         rules: Rules,
         below: &str,
@@ -213,7 +212,7 @@ impl Todo {
     }
 
     /// What stands in a directory that is to be removed is counted, and all below it then; where that is more than a mirror takes on, it stays.
-    pub(crate) fn put_counts(
+    pub fn put_counts(
         &mut self,
         number: usize,
         below: &str,
@@ -261,7 +260,7 @@ impl Todo {
     }
 
     /// The removal of this number is not done: what it removes can't be counted.
-    pub(crate) fn keep(&mut self, number: usize) {
+    pub fn keep(&mut self, number: usize) {
         if let Some(work) = self.removals.get_mut(number) {
             work.chore = Chore::Keep;
         }

@@ -50,12 +50,12 @@ pub struct Mirror<'a> {
 
 impl<'a> Mirror<'a> {
     /// The path at the server of what is called `below` in the tree.
-    pub(crate) fn there(&self, alloc: Global, below: &str) -> Result<String<Global>, AllocError> {
+    pub fn there(&self, alloc: Global, below: &str) -> Result<String<Global>, AllocError> {
         joined(alloc, self.path, below)
     }
 
     /// The same, as it goes into an operation.
-    pub(crate) fn path(&self, alloc: Global, below: &str) -> Result<Text<Global>, AllocError> {
+    pub fn path(&self, alloc: Global, below: &str) -> Result<Text<Global>, AllocError> {
         Text::copy_of(alloc, self.there(alloc, below)?.as_bytes())
     }
 }
