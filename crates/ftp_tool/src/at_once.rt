@@ -1,6 +1,7 @@
 // Several files of a command line over several control connections at once: those that are asked of one server, one directly behind another.
 use crate::programs::Programs;
-use ftp_tool_fetch::{Each, Pair, Target};
+use ftp_tool_fetch::{Each, Pair};
+use ftp_tool_single::Target;
 use ftp_tool_status::Status;
 use std::alloc::Global;
 use std::io;

@@ -14,9 +14,10 @@ use ftp_tool_command::{
     get_task_of, is_matched, mirror_of, openings_of, program_of, rounds_of, script_server_of,
     script_user_of, serving_of, settings_of, task_of, told_of, url_in, urls_in,
 };
-use ftp_tool_fetch::{Each, Pair, Simple, Target, Task};
+use ftp_tool_fetch::{Each, Pair, Task};
 use ftp_tool_quiet::{Hushed, Told};
 use ftp_tool_shown::Shown;
+use ftp_tool_single::{Simple, Target};
 use ftp_tool_status::Status;
 use ftp_tool_words::{Location, UrlPlace, place_for, says_directory};
 use programs::Programs;

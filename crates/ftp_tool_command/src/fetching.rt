@@ -10,8 +10,9 @@ use crate::words::{
 use clap::ArgMatches;
 use ftp_operation::How;
 use ftp_tool_asking::Openings;
-use ftp_tool_fetch::{Download, Each, Lines, Parts, Simple, Target, Task};
+use ftp_tool_fetch::{Each, Lines, Task};
 use ftp_tool_pattern::is_pattern;
+use ftp_tool_single::{Download, Parts, Simple, Target};
 use ftp_tool_words::{Location, UrlPlace};
 
 pub const GET: Subcommand<'static> = Subcommand {

@@ -1,13 +1,11 @@
 // Several files of one server, over several control connections at once.
-use crate::download::Parts;
-use crate::errands::{Errands, Often, Waiting, done_all};
-use crate::getting::{Fetched, Getting};
-use crate::putting::{Putting, Sent};
-use crate::removing::Removed;
-use crate::target::Target;
 use ftp_tool_asking::{LastReply, Phase, SessionFault, at};
 use ftp_tool_connection::{Converses, Logins};
+use ftp_tool_errands::{
+    Errands, Fetched, Getting, Often, Putting, Removed, Sent, Waiting, done_all,
+};
 use ftp_tool_local::LocalFiles;
+use ftp_tool_single::{Parts, Target};
 use ftp_tool_status::Status;
 use std::alloc::Global;
 use std::env::Env;

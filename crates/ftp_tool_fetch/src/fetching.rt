@@ -1,17 +1,12 @@
 // What the subcommands that ask at one place do.
-use crate::download::{Download, get};
 use crate::listing::{Lines, Listing, listing_of};
 use crate::matching::get_matching;
-use crate::parents::make_all;
-use crate::simple::{Simple, do_simple};
-use crate::single::{Wish, ask_for};
-use crate::target::Target;
-use crate::upload::put;
 use ftp_operation::Answer;
 use ftp_reply::code::{NOT_IMPLEMENTED, UNKNOWN};
 use ftp_tool_asking::{LastReply, Phase, SessionFault, at, say};
 use ftp_tool_connection::{Converses, Logins};
 use ftp_tool_local::LocalFiles;
+use ftp_tool_single::{Download, Simple, Target, Wish, ask_for, do_simple, get, make_all, put};
 use ftp_tool_status::Status;
 use ftp_tool_transfer::tell;
 use std::alloc::Global;

@@ -1,22 +1,19 @@
 // The files of a directory whose names are of a pattern, one after another over one control connection.
 ghost use Rattle.std.specs.Prelude.{◌≡◌, ◌++◌};
 
-use crate::download::Download;
-use crate::errands::{Errands, Often, Waiting};
 use crate::fetching::says_unknown;
-use crate::getting::{Fetched, Getting};
-use crate::single::{Single, Wish};
-use crate::target::Target;
 use ftp_facts::Text;
 use ftp_operation::{Answer, ListVerb};
 use ftp_tool_asking::{
     ClientSession, Ending, LastReply, Phase, SessionFault, SessionTask, at, told,
 };
 use ftp_tool_connection::{Converses, Logins, ask};
+use ftp_tool_errands::{Errands, Fetched, Getting, Often, Waiting};
 use ftp_tool_listing::{Item, items_of_columns, items_of_facts};
 use ftp_tool_local::LocalFiles;
 use ftp_tool_pattern::{chosen_items, chosen_names};
 use ftp_tool_shown::Shown;
+use ftp_tool_single::{Download, Single, Target, Wish};
 use ftp_tool_status::Status;
 use ftp_tool_transfer::tell;
 use ftp_tool_words::{joined, last_part};

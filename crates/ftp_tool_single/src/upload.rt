@@ -15,7 +15,7 @@ use std::time::SystemTime;
 const INPUT: &str = "-";
 
 /// Uploads a file, or standard input, and gives the exit status.
-pub(crate) fn put<R>(
+pub fn put<R>(
     rt: &R,
     alloc: Global,
     asked: &Target<'_>,
@@ -42,16 +42,16 @@ where
 
 /// What is not uploaded: it has more octets than may be.
 #[derive(Clone, Copy)]
-pub(crate) struct TooLarge {
-    pub(crate) size: u64,
-    pub(crate) limit: u64,
+pub struct TooLarge {
+    pub size: u64,
+    pub limit: u64,
 }
 
 /// What is uploaded.
-pub(crate) struct Loaded<'a> {
+pub struct Loaded<'a> {
     source: Option<Source<'a>>,
     /// How many octets a file has, and when it was changed last, where that is known; nothing of what is held in memory.
-    pub(crate) seen: Option<(u64, Option<SystemTime>)>,
+    pub seen: Option<(u64, Option<SystemTime>)>,
 }
 
 /// By hand: a derived drop is proved again, part by part, wherever octets are let go.
@@ -63,13 +63,13 @@ impl<'a> Drop for Loaded<'a> {
 
 impl<'a> Loaded<'a> {
     /// Its octets, once.
-    pub(crate) fn take_source(&mut self) -> Option<Source<'a>> {
+    pub fn take_source(&mut self) -> Option<Source<'a>> {
         self.source.take()
     }
 }
 
 /// What is to be uploaded: a file is read as it goes; what comes of standard input, or is no file of a known size, is held in memory.
-pub(crate) fn load<'a, R: LocalFiles + Input>(
+pub fn load<'a, R: LocalFiles + Input>(
     rt: &R,
     alloc: Global,
     file: &'a str,

@@ -1,9 +1,9 @@
 // Several things of one kind that are asked of a server, one after another: over several control connections what comes next is asked ahead.
-use crate::target::Target;
 use ftp_operation::Answer;
 use ftp_tool_asking::{ClientSession, LastReply, Phase, SessionFault, SessionTask, at};
 use ftp_tool_connection::{Converses, Logins, ask, converse_as};
 use ftp_tool_shown::Shown;
+use ftp_tool_single::Target;
 use ftp_tool_status::Status;
 use std::alloc::Global;
 use std::io;
@@ -16,7 +16,7 @@ const ROUNDS: u32 = 1_000_000;
 const MOST_AHEAD: usize = 8;
 
 /// One of several things that are asked of a server.
-pub(crate) trait Errand {
+pub trait Errand {
     /// Asks ahead of its turn what will be asked, if it was not and may be.
     fn foresee<S: ClientSession>(&mut self, seat: &mut S);
 
@@ -49,14 +49,14 @@ pub(crate) trait Errand {
 }
 
 /// What waits until it is taken up.
-pub(crate) trait Waiting<E> {
+pub trait Waiting<E> {
     /// The next one; of it nothing was asked yet.
     fn next(&mut self) -> io::Result<Option<E>>;
 }
 
 /// How often a thing is asked.
 #[derive(Clone, Copy)]
-pub(crate) enum Often {
+pub enum Often {
     /// Once: where its control connection ended, it may be done.
     Once,
     /// On and on, over further control connections, as long as that gets further.
@@ -64,7 +64,7 @@ pub(crate) enum Often {
 }
 
 /// Things that are asked of a server one after another.
-pub(crate) struct Errands<'a, R, E, W> {
+pub struct Errands<'a, R, E, W> {
     rt: &'a R,
     waiting: W,
     /// What was taken up ahead of its turn, in the order of the turns.
@@ -103,7 +103,7 @@ impl<'a, R, E: Drop, W: Drop> Drop for Errands<'a, R, E, W> {
 
 impl<'a, R: Eprint, E: Errand + Drop, W: Waiting<E> + Drop> Errands<'a, R, E, W> {
     /// Of which nothing was asked yet. `done` says what one is not that is not done.
-    pub(crate) fn new(
+    pub fn new(
         rt: &'a R,
         alloc: Global,
         waiting: W,
@@ -125,7 +125,7 @@ impl<'a, R: Eprint, E: Errand + Drop, W: Waiting<E> + Drop> Errands<'a, R, E, W>
     }
 
     /// How far it got: how many had their turn, and how many octets came of the one that has it.
-    pub(crate) fn reach(&self) -> (u64, u64) {
+    pub fn reach(&self) -> (u64, u64) {
         let came = match &self.cut {
             Some(errand) => errand.reach(),
             None => 0,
@@ -134,12 +134,12 @@ impl<'a, R: Eprint, E: Errand + Drop, W: Waiting<E> + Drop> Errands<'a, R, E, W>
     }
 
     /// The worst status so far.
-    pub(crate) fn worst(&self) -> Status {
+    pub fn worst(&self) -> Status {
         self.worst
     }
 
     /// Whether one was in its turn when a control connection ended.
-    pub(crate) fn is_cut(&self) -> bool {
+    pub fn is_cut(&self) -> bool {
         self.cut.is_some()
     }
 
@@ -260,11 +260,7 @@ impl<'a, R: Eprint, E: Errand + Drop, W: Waiting<E> + Drop> Errands<'a, R, E, W>
     }
 
     /// The one that has its turn is left as the server answered, over no control connection any more; says whether there was one.
-    pub(crate) fn give_up(
-        &mut self,
-        answer: &Answer<Global>,
-        noticed: &LastReply,
-    ) -> io::Result<bool> {
+    pub fn give_up(&mut self, answer: &Answer<Global>, noticed: &LastReply) -> io::Result<bool> {
         match self.next()? {
             Some(errand) => {
                 self.left(errand, answer, noticed)?;
@@ -286,7 +282,7 @@ impl<'a, R: Eprint, E: Errand + Drop, W: Waiting<E> + Drop> Errands<'a, R, E, W>
     }
 
     /// What was taken up and has no turn any more leaves nothing at this end.
-    pub(crate) fn abandon(&mut self) {
+    pub fn abandon(&mut self) {
         for errand in self.coming.iter_mut() {
             errand.abandon();
         }
@@ -311,7 +307,7 @@ where
 }
 
 /// Does all of them: one that fails does not stop the others. Gives the worst status.
-pub(crate) fn done_all<R, E, W>(
+pub fn done_all<R, E, W>(
     rt: &R,
     asked: &Target<'_>,
     errands: &mut Errands<'_, R, E, W>,

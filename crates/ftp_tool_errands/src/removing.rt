@@ -1,17 +1,16 @@
 // A file that is one of several which are removed.
 use crate::errands::Errand;
-use crate::simple::report;
-use crate::target::Target;
 use ftp_facts::Text;
 use ftp_operation::{Answer, Op};
 use ftp_tool_asking::{ClientSession, LastReply, Request, SessionFault};
+use ftp_tool_single::{Target, report};
 use ftp_tool_status::Status;
 use std::alloc::{AllocError, Global};
 use std::io;
 use std::io::{Eprint, Print};
 
 /// A file that is one of several which are removed: it is asked once.
-pub(crate) struct Removed<'a, R> {
+pub struct Removed<'a, R> {
     rt: &'a R,
     alloc: Global,
     /// What is asked, with the path of the file.
@@ -33,7 +32,7 @@ impl<'a, R> Drop for Removed<'a, R> {
 
 impl<'a, R: Print + Eprint> Removed<'a, R> {
     /// The file at a path, of which nothing was asked yet.
-    pub(crate) fn new(rt: &'a R, alloc: Global, asked: Target<'a>) -> Removed<'a, R> {
+    pub fn new(rt: &'a R, alloc: Global, asked: Target<'a>) -> Removed<'a, R> {
         Removed {
             rt,
             alloc,

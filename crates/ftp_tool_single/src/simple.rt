@@ -1,6 +1,6 @@
 // Operations that need no data connection: a table, and what is told of their answers.
 ghost use Rattle.std.specs.Prelude.{◌≡◌, IfOk};
-ghost use Rattle.ftp_tool_fetch.specs.Simple.{op_of};
+ghost use Rattle.ftp_tool_single.specs.Simple.{op_of};
 
 use crate::single::ask_once;
 use crate::target::Target;
@@ -46,7 +46,7 @@ pub(crate) fn op_of(
 }
 
 /// Does what a word says, over one control connection, and gives the exit status; a size goes to standard output.
-pub(crate) fn do_simple<R>(
+pub fn do_simple<R>(
     rt: &R,
     alloc: Global,
     asked: &Target<'_>,
@@ -61,7 +61,7 @@ where
 }
 
 /// Tells an answer at a path: a size on standard output, what was done not at all, and anything else as `tell` does.
-pub(crate) fn report<R: Print + Eprint>(
+pub fn report<R: Print + Eprint>(
     rt: &R,
     asked: &Target<'_>,
     answer: &Answer<Global>,

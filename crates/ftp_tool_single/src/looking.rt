@@ -1,7 +1,7 @@
 // A listing that was asked for, of what may be a file.
 ghost use Rattle.std.specs.Prelude.{◌≡◌};
 ghost use Rattle.ftp_path.specs.Path.{IsPathText};
-ghost use Rattle.ftp_tool_fetch.specs.Looking.{is_file, is_file_kind, may_be_file, means_no_directory, says_more, settles};
+ghost use Rattle.ftp_tool_single.specs.Looking.{is_file, is_file_kind, may_be_file, means_no_directory, says_more, settles};
 
 use ftp_facts::{Entry, EntryKind, Text};
 use ftp_operation::Answer;

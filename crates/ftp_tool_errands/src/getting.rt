@@ -1,13 +1,12 @@
 // A file that is one of several which are fetched.
-use crate::download::{
-    Download, Job, OUTPUT, Parts, discard, keep_part, leave, place_text, prepare, stamp_of,
-    tell_unwritten,
-};
 use crate::errands::Errand;
-use crate::target::Target;
 use ftp_operation::Answer;
 use ftp_tool_asking::{ClientSession, LastReply, SessionFault};
 use ftp_tool_local::LocalFiles;
+use ftp_tool_single::{
+    Download, Job, OUTPUT, Parts, Target, discard, keep_part, leave, place_text, prepare, stamp_of,
+    tell_unwritten,
+};
 use ftp_tool_status::Status;
 use ftp_tool_transfer::{Downloading, limit_held};
 use std::alloc::Global;
@@ -16,13 +15,13 @@ use std::io::{Eprint, Error, Print};
 
 /// How files are fetched.
 #[derive(Clone, Copy)]
-pub(crate) struct Getting<'a> {
-    pub(crate) alloc: Global,
+pub struct Getting<'a> {
+    pub alloc: Global,
     /// What is asked, but for the path of a file.
-    pub(crate) asked: Target<'a>,
-    pub(crate) parts: Parts,
+    pub asked: Target<'a>,
+    pub parts: Parts,
     /// Whether the last change of a file is to be at the server's moment of it.
-    pub(crate) moment: bool,
+    pub moment: bool,
 }
 
 impl<'a> Getting<'a> {
@@ -41,7 +40,7 @@ impl<'a> Getting<'a> {
 }
 
 /// A file that is one of several which are fetched.
-pub(crate) struct Fetched<'a, R> {
+pub struct Fetched<'a, R> {
     rt: &'a R,
     getting: Getting<'a>,
     path: String<Global>,
@@ -73,7 +72,7 @@ impl<'a, R> Drop for Fetched<'a, R> {
 
 impl<'a, R: LocalFiles + Print + Eprint> Fetched<'a, R> {
     /// The file at a path of the server, which goes into one here; nothing was asked of it yet. Its notes name it, where a name is given.
-    pub(crate) fn new(
+    pub fn new(
         rt: &'a R,
         getting: Getting<'a>,
         path: String<Global>,

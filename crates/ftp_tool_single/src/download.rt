@@ -16,7 +16,7 @@ use std::io;
 use std::io::{Eprint, Error, Print, Write};
 
 /// The file that stands for standard output.
-pub(crate) const OUTPUT: &str = "-";
+pub const OUTPUT: &str = "-";
 
 /// What becomes of the octets of a download that is not whole.
 #[derive(Clone, Copy)]
@@ -39,10 +39,10 @@ pub struct Download<'a> {
 }
 
 /// A download, and the place of its file at a server.
-pub(crate) struct Job<'a> {
-    pub(crate) alloc: Global,
-    pub(crate) download: Download<'a>,
-    pub(crate) place: String<Global>,
+pub struct Job<'a> {
+    pub alloc: Global,
+    pub download: Download<'a>,
+    pub place: String<Global>,
 }
 
 /// By hand: a derived drop is proved again, part by part, wherever a job is let go.
@@ -57,7 +57,7 @@ impl<'a> Drop for Job<'a> {
 }
 
 /// Asks for the file, and leaves it at this end.
-pub(crate) fn get<R>(
+pub fn get<R>(
     rt: &R,
     alloc: Global,
     asked: &Target<'_>,
@@ -96,7 +96,7 @@ fn begun<'a, R: LocalFiles + Eprint>(
 }
 
 /// The moment is asked for where it is wanted, and where the size of the file tells whether it is the same still.
-pub(crate) fn stamp_of(how: How, moment: bool) -> Stamp {
+pub fn stamp_of(how: How, moment: bool) -> Stamp {
     if moment || is_counted(how) {
         Stamp::Untold
     } else {
@@ -105,14 +105,14 @@ pub(crate) fn stamp_of(how: How, moment: bool) -> Stamp {
 }
 
 /// The place of a file at a server, as its note has it.
-pub(crate) fn place_text(alloc: Global, asked: &Target<'_>) -> io::Result<String<Global>> {
+pub fn place_text(alloc: Global, asked: &Target<'_>) -> io::Result<String<Global>> {
     let place = asked.place;
     Ok(format!(in alloc; "{}:{}/{}", place.host, place.port, place.path)?)
 }
 
 /// Makes the part of the file to which its octets go as they come, or takes up one that was kept. What goes to standard output or into a device is held in
 /// memory.
-pub(crate) fn prepare<R: LocalFiles + Eprint>(
+pub fn prepare<R: LocalFiles + Eprint>(
     rt: &R,
     job: &Job<'_>,
     downloading: &mut Downloading<'_, R>,
@@ -187,7 +187,7 @@ where
 }
 
 /// Leaves at this end what came, as the server answered.
-pub(crate) fn leave<R: LocalFiles + Print + Eprint>(
+pub fn leave<R: LocalFiles + Print + Eprint>(
     rt: &R,
     asked: &Target<'_>,
     job: &Job<'_>,
@@ -245,7 +245,7 @@ fn save<R: LocalFiles + Print + Eprint>(
 }
 
 /// Tells that the octets that came could not be written, and gives the exit status.
-pub(crate) fn tell_unwritten<R: Eprint>(
+pub fn tell_unwritten<R: Eprint>(
     rt: &R,
     asked: &Target<'_>,
     file: &str,
@@ -370,7 +370,7 @@ fn tell_broken<R: Eprint>(rt: &R, came: &Came) -> io::Result<Status> {
 }
 
 /// Keeps the part with the octets that came where they are to be kept, tells where it is, and gives the status; else it is discarded.
-pub(crate) fn keep_part<R: LocalFiles + Eprint>(
+pub fn keep_part<R: LocalFiles + Eprint>(
     rt: &R,
     job: &Job<'_>,
     downloading: &Downloading<'_, R>,
@@ -413,11 +413,7 @@ fn kept<R: LocalFiles + Eprint>(
 }
 
 /// Removes the part, with its note.
-pub(crate) fn discard<R: LocalFiles + Eprint>(
-    rt: &R,
-    job: &Job<'_>,
-    downloading: &Downloading<'_, R>,
-) {
+pub fn discard<R: LocalFiles + Eprint>(rt: &R, job: &Job<'_>, downloading: &Downloading<'_, R>) {
     if let Some(part) = downloading.came().part() {
         let _gone = rt.discard_part(job.download.file, part);
     }

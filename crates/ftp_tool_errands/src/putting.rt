@@ -1,10 +1,9 @@
 // A file that is one of several which are sent.
 use crate::errands::Errand;
-use crate::target::Target;
-use crate::upload::{Loaded, TooLarge, load};
 use ftp_operation::Answer;
 use ftp_tool_asking::{ClientSession, LastReply, Phase, SessionFault, SessionTask, at};
 use ftp_tool_local::LocalFiles;
+use ftp_tool_single::{Loaded, Target, TooLarge, load};
 use ftp_tool_status::Status;
 use ftp_tool_transfer::{Sending, Uploading, tell_too_large};
 use std::alloc::Global;
@@ -13,10 +12,10 @@ use std::io::Eprint;
 
 /// How files are sent.
 #[derive(Clone, Copy)]
-pub(crate) struct Putting<'a> {
-    pub(crate) alloc: Global,
+pub struct Putting<'a> {
+    pub alloc: Global,
     /// What is asked, but for the path of a file.
-    pub(crate) asked: Target<'a>,
+    pub asked: Target<'a>,
 }
 
 /// What is at hand of a file that is sent.
@@ -41,7 +40,7 @@ impl<'a, R> Drop for Hand<'a, R> {
 }
 
 /// A file that is one of several which are sent.
-pub(crate) struct Sent<'a, R> {
+pub struct Sent<'a, R> {
     rt: &'a R,
     putting: Putting<'a>,
     file: &'a str,
@@ -69,12 +68,7 @@ impl<'a, R> Drop for Sent<'a, R> {
 
 impl<'a, R: LocalFiles + Input + Eprint> Sent<'a, R> {
     /// The file of this end, which goes to a path of the server; nothing was asked of it yet.
-    pub(crate) fn new(
-        rt: &'a R,
-        putting: Putting<'a>,
-        file: &'a str,
-        path: &'a str,
-    ) -> Sent<'a, R> {
+    pub fn new(rt: &'a R, putting: Putting<'a>, file: &'a str, path: &'a str) -> Sent<'a, R> {
         Sent {
             rt,
             putting,

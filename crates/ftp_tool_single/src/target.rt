@@ -25,7 +25,7 @@ pub struct Target<'a> {
 
 impl<'a> Target<'a> {
     /// Which server is asked.
-    pub(crate) fn server(&self) -> ServerAddress<'a> {
+    pub fn server(&self) -> ServerAddress<'a> {
         ServerAddress {
             host: self.place.host,
             port: self.place.port,
@@ -37,7 +37,7 @@ impl<'a> Target<'a> {
     }
 
     /// The same at another path of the server.
-    pub(crate) fn at<'b>(&self, path: &'b str) -> Target<'b>
+    pub fn at<'b>(&self, path: &'b str) -> Target<'b>
     where
         'a: 'b,
     {
@@ -48,12 +48,12 @@ impl<'a> Target<'a> {
     }
 
     /// How another host may have come to be at the other end of its data connection.
-    pub(crate) fn stranger(&self) -> Stranger {
+    pub fn stranger(&self) -> Stranger {
         self.openings.stranger(self.how)
     }
 
     /// What a fault may be of, where this is the file of this end.
-    pub(crate) fn subject(&self, file: &'a str) -> Subject<'a> {
+    pub fn subject(&self, file: &'a str) -> Subject<'a> {
         Subject {
             server: self.server(),
             password_file: self.user.password_file,

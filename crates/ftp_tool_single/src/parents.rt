@@ -1,6 +1,6 @@
 // A directory of a server, and those above it that are missing.
 ghost use Rattle.std.specs.Prelude.{◌≡◌};
-ghost use Rattle.ftp_tool_fetch.specs.Parents.{is_passed};
+ghost use Rattle.ftp_tool_single.specs.Parents.{is_passed};
 
 use crate::simple::report;
 use crate::target::Target;
@@ -14,7 +14,7 @@ use std::io::{Eprint, Print};
 
 /// Makes the directory at a path and those above it, over one control connection, and gives the exit status. One that stands is as well; whether the
 /// last does is asked first, and why it can't be made is told.
-pub(crate) fn make_all<R>(
+pub fn make_all<R>(
     rt: &R,
     alloc: Global,
     asked: &Target<'_>,

@@ -3,8 +3,8 @@ use Rattle.std.specs.Prelude.{ℕ, List}
 use Rattle.ftp_operation.specs.declared.op.How.{How}
 use Rattle.ftp_operation.specs.declared.op.Op.{Op}
 use Rattle.ftp_operation.specs.declared.op.Op.TheVariants as Ops
-use Rattle.ftp_tool_fetch.specs.declared.simple.Simple.{Simple}
-use Rattle.ftp_tool_fetch.specs.declared.simple.Simple.TheVariants as Words
+use Rattle.ftp_tool_single.specs.declared.simple.Simple.{Simple}
+use Rattle.ftp_tool_single.specs.declared.simple.Simple.TheVariants as Words
 
 -- the operation of a word at a path
 abbrev pub op_of : Simple → List ℕ → How → Op (List ℕ)

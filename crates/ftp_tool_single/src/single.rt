@@ -16,7 +16,7 @@ use std::io::{Eprint, Error, ErrorKind};
 
 /// What is wished for at a place.
 #[derive(Clone, Copy)]
-pub(crate) enum Wish<'a> {
+pub enum Wish<'a> {
     /// The entries, as text: by MLSD with their facts, or by LIST where the server does not know that.
     Entries,
     Names,
@@ -52,7 +52,7 @@ where
 }
 
 /// Asks for one thing. Where its control connection ends, it is asked anew over another one.
-pub(crate) fn ask_for<R>(
+pub fn ask_for<R>(
     rt: &R,
     alloc: Global,
     asked: &Target<'_>,
@@ -88,12 +88,12 @@ where
 
 /// A wish at a path, whose request is made anew for each control connection.
 #[derive(Drop)]
-pub(crate) struct Single<'a> {
-    pub(crate) alloc: Global,
-    pub(crate) path: &'a str,
-    pub(crate) how: How,
-    pub(crate) openings: &'a Openings,
-    pub(crate) wish: Wish<'a>,
+pub struct Single<'a> {
+    pub alloc: Global,
+    pub path: &'a str,
+    pub how: How,
+    pub openings: &'a Openings,
+    pub wish: Wish<'a>,
 }
 
 impl<'a> Single<'a> {
@@ -162,10 +162,7 @@ impl<'a> Single<'a> {
     }
 
     /// What the server answers; where it does not know the command of a listing, to the same asked for by another one.
-    pub(crate) fn asked<S: ClientSession>(
-        &self,
-        seat: &mut S,
-    ) -> Result<Answer<Global>, AllocError> {
+    pub fn asked<S: ClientSession>(&self, seat: &mut S) -> Result<Answer<Global>, AllocError> {
         let answer = self.opened(seat)?;
         if !self.is_listing() || !self.openings.hear_listing(&answer) {
             return Ok(answer);
