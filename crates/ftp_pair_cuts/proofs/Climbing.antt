@@ -1,6 +1,7 @@
 -- What is so of a world whose server takes octets of an upload: its client has no final reply, and it counts those that came; and one that has closed the link
 -- has given all.
-use Rattle.std.proofs.Common.{◌≡◌, inl, inr, ℕ, Bool, true, false, true≢false, List, [], ◌∷◌, ◌++◌, length, Option, None, refl, sym, ap, subst, ◌∙◌}
+use Rattle.std.proofs.Common.{◌≡◌, inl, inr, ℕ, Bool, true, false, true≢false, List, [], ◌∷◌, ◌++◌, length, Option, Some, None, refl, sym, ap, subst, ◌∙◌}
+use Rattle.std.specs.Option.{unwrap_or}
 use Rattle.ftp_client_model.specs.Plan.{count_of}
 use Rattle.ftp_client_model.specs.View.{View as Near}
 use Rattle.ftp_client_model.specs.declared.client.ClientLink.TheVariants as NearData
@@ -17,7 +18,7 @@ use Rattle.ftp_server_model.specs.Machine.{IsReading, Reading}
 use Rattle.ftp_server_model.specs.View.{Session, Transfer, direct_of}
 use Rattle.ftp_server_model.specs.declared.session.Pending.{Pending}
 use Rattle.ftp_server_model.specs.declared.session.ServerLink.{ServerLink}
-use Rattle.ftp_pair_world.specs.Agreement.{Order}
+use Rattle.ftp_pair_world.specs.Agreement.{Order, Single, Tries}
 use Rattle.ftp_pair_world.specs.Events.{ControlToClient, is_closed_by_near, pushed}
 use Rattle.ftp_pair_world.specs.World.{ClosedByNear, Mark, Stands, World, counted}
 use Rattle.ftp_pair_dialogues.specs.Fetches.{Ask, IsAsk, IsSteady, Rise, busy, kept, linked}
@@ -46,14 +47,23 @@ use Rattle.ftp_pair_cuts.proofs.Coming.{CameIn, rise_came, steady_direct, world_
 -- ---- the client
 
 -- its upload was begun, and its final reply is not in; its server took as many octets as are counted
-pub record Climbing (w : World) : Type 0 where
-  pub op : Op (List ℕ)
+pub record Climbing (op : Op (List ℕ)) (w : World) : Type 0 where
   pub replied : Replied
   pub left : List ℕ
   pub mark : Option ℕ
   pub job : w.near.job ≡ sending op replied left mark
   pub unfinal : is_final replied ≡ false
   pub came : CameIn w
+
+-- this operation was begun last
+abbrev pub IsLast : List Order → Op (List ℕ) → Type 0
+IsLast begun op = (done : List Order) × (moment : ℕ) × (begun ≡ done ++ Single op moment ∷ [])
+
+-- so it is of that
+pub record ClimbsLast (begun : List Order) (w : World) : Type 0 where
+  pub op : Op (List ℕ)
+  pub climbing : Climbing op w
+  pub last : IsLast begun op
 
 -- it has given all of its upload, and closed the link
 pub record HasGiven (w : World) : Type 0 where
@@ -62,15 +72,33 @@ pub record HasGiven (w : World) : Type 0 where
   pub mark : Option ℕ
   pub near : w.near ≡ busy (sending op Replies.Begun [] mark) (NearData.Over Endings.Ours) w.near
 
+-- one operation alone was begun last
+pub same_last : (begun : List Order) (op other : Op (List ℕ)) → IsLast begun op → IsLast begun other → op ≡ other
+same_last begun op other one two =
+    ap (λ o. unwrap_or o op) (sym (ends one.0 op one.1) ∙ ap last_op (sym one.2 ∙ two.2) ∙ ends two.0 other two.1)
+  where
+    later : Order → Option (Op (List ℕ)) → Option (Op (List ℕ))
+    later order (Some op) = Some op
+    later (Single op moment) None = Some op
+    later (Tries upload moment) None = None
+
+    last_op : List Order → Option (Op (List ℕ))
+    last_op [] = None
+    last_op (order ∷ more) = later order (last_op more)
+
+    ends : (done : List Order) (op : Op (List ℕ)) (moment : ℕ) → last_op (done ++ Single op moment ∷ []) ≡ Some op
+    ends [] op moment = refl
+    ends (order ∷ done) op moment = ap (later order) (ends done op moment)
+
 -- ---- by stages
 
 -- none are taken before its command, nor in a download
-early_takes : (host : Host) (early : Early) → is_upload (early_far host early) ≡ false
+pub early_takes : (host : Host) (early : Early) → is_upload (early_far host early) ≡ false
 early_takes host (Dialled true) = refl
 early_takes host (Dialled false) = refl
 early_takes host (Ported port) = refl
 
-carry_takes : (listed : Bool) (course : Course) → is_upload (far_link (gives_on listed course) (tie_of course)) ≡ false
+pub carry_takes : (listed : Bool) (course : Course) → is_upload (far_link (gives_on listed course) (tie_of course)) ≡ false
 carry_takes listed (Giving begun octet more) = gives_none listed (octet ∷ more)
 carry_takes listed (GaveAll heard true) = refl
 carry_takes listed (GaveAll heard false) = refl
@@ -85,14 +113,14 @@ module _ (read : Reading) (state : State) (ask : Ask) (good : IsAsk ask) (own : 
   abbrev At : Way → World → Type 0
   At way b = AtFetch state ask read own way b
 
-  stage_climbs : (w : World) → PlacedAt At w → is_upload w.far.session.connection ≡ true → Climbing w
+  stage_climbs : (w : World) → PlacedAt At w → is_upload w.far.session.connection ≡ true → Climbing ask.op w
   stage_climbs w s takes = by_here s.here
     where
       of : IsSeen s.base w
       of = seen_placed At w s
 
       never : (link : ServerLink Transfer) (closing : Bool) (pending : Pending Names) → s.base.far.session ≡ linked link closing pending s.base.far.session
-          → is_upload link ≡ false → Climbing w
+          → is_upload link ≡ false → Climbing ask.op w
       never link closing pending is none = absurd (true≢false (sym takes ∙ ap (λ (t : Session). is_upload t.connection) (of.session ∙ is) ∙ none))
 
       -- the octets of a link are counted as in its base
@@ -103,11 +131,10 @@ module _ (read : Reading) (state : State) (ask : Ask) (good : IsAsk ask) (own : 
       -- what a server holds of octets that rise, of which so many came
       rises_so : (rise : Rise) (lift : Lift) (h : Holds state ask own (Rises rise lift) s.way s.base) (replied : Replied) (left : List ℕ) (mark : Option ℕ)
           (count : ℕ) → w.near.job ≡ sending ask.op replied left mark → s.base.came ≡ count → is_final replied ≡ false → lift_state state ask rise lift ≡ state
-          → CameOver (lift_far state ask rise lift) state (sending ask.op replied left mark) count → Climbing w
+          → CameOver (lift_far state ask rise lift) state (sending ask.op replied left mark) count → Climbing ask.op w
       rises_so rise lift h replied left mark count job counts unfinal same came =
           let steady : IsSteady state (kept s.base.near s.base.far) = subst (λ v. IsSteady v (kept s.base.near s.base.far)) same h.steady in
           record {
-            op = ask.op;
             replied = replied;
             left = left;
             mark = mark;
@@ -119,7 +146,7 @@ module _ (read : Reading) (state : State) (ask : Ask) (good : IsAsk ask) (own : 
                 (came_in s.way s.cut s.is ∙ counts) came;
           }
 
-      by_lift : (rise : Rise) (lift : Lift) → Holds state ask own (Rises rise lift) s.way s.base → Climbing w
+      by_lift : (rise : Rise) (lift : Lift) → Holds state ask own (Rises rise lift) s.way s.base → Climbing ask.op w
       by_lift rise Offered h =
           rises_so rise Offered h Replies.Nothing rise.text None 0 (of.job ∙ ap (λ (n : Near). n.job) h.near) h.came refl refl (_, refl)
       by_lift rise (Rising past octet more came queue mark notes) h =
@@ -134,13 +161,13 @@ module _ (read : Reading) (state : State) (ask : Ask) (good : IsAsk ask) (own : 
       by_lift rise (Declined why door) h = never _ _ _ h.session refl
       by_lift rise Unjoined h = never _ _ _ h.session refl
 
-      by_leaving : (said : Said) (leaves : Leaving) → Holds state ask own (Answers said leaves) s.way s.base → Climbing w
+      by_leaving : (said : Said) (leaves : Leaving) → Holds state ask own (Answers said leaves) s.way s.base → Climbing ask.op w
       by_leaving said (LeavesAside closes connection pending) h = never connection _ _ h.session (aside_rests connection h.fine.1).0
       by_leaving said LinkOpen h = never _ _ _ h.session refl
       by_leaving said LinkLeft h = never _ _ _ h.session refl
       by_leaving said LinkParting h = never _ _ _ h.session refl
 
-      by_here : At s.way s.base → Climbing w
+      by_here : At s.way s.base → Climbing ask.op w
       by_here (inl l) =
           absurd (true≢false (sym takes
           ∙ (aside_rests w.far.session.connection (leads_still read state ask good.plan own s.base w s.way of l).0.far.aside).0))
@@ -189,25 +216,29 @@ module _ (read : Reading) (state : State) (ask : Ask) (good : IsAsk ask) (own : 
 module _ (read : Reading) (reads : IsReading read) (from : State) (begun : List Order) (puts : AreCarried begun) (w : World)
     (runs : OverRuns read from begun w) (control : w.control ≡ Stands)
     (unready : is_closed_by_near w.link ≡ true → is_ready w.far.session.connection ≡ false) where
-  fetching_climbs : (u : World) → IsFetching read from begun u → is_upload u.far.session.connection ≡ true → Climbing u
-  fetching_climbs u f takes = stage_climbs read f.now f.ask f.is_ask f.own u f.stands takes
+  fetching_climbs : (u : World) → IsFetching read from begun u → is_upload u.far.session.connection ≡ true → ClimbsLast begun u
+  fetching_climbs u f takes = record {
+    op = f.ask.op;
+    climbing = stage_climbs read f.now f.ask f.is_ask f.own u f.stands takes;
+    last = (f.done, f.moment, f.begun_is);
+  }
 
   -- one whose client hears octets while the server takes
-  pub pushed_climbs : (count : ℕ) → is_upload w.far.session.connection ≡ true → Climbing (pushed read ControlToClient count w)
+  pub pushed_climbs : (count : ℕ) → is_upload w.far.session.connection ≡ true → ClimbsLast begun (pushed read ControlToClient count w)
   pushed_climbs count takes = by runs
     where
       new : World
       new = pushed read ControlToClient count w
 
-      still : IsStill w → Climbing new
+      still : IsStill w → ClimbsLast begun new
       still is = absurd (true≢false (sym takes ∙ (aside_rests w.far.session.connection is.far.aside).0))
 
-      by_phase : Phase read from begun w → Climbing new
+      by_phase : Phase read from begun w → ClimbsLast begun new
       by_phase (inl (linked, inl free)) = still (free_still read from begun w free)
       by_phase (inl (linked, inr under)) = still (under_still read from begun w under)
       by_phase (inr lost) = absurd (not_lost read from begun w control lost)
 
-      by : OverRuns read from begun w → Climbing new
+      by : OverRuns read from begun w → ClimbsLast begun new
       by (inl (inl f)) = by_phase f.phase
       by (inl (inr (inl on))) =
           elim (pushed_client read reads from begun count w on.fetching w (serving_first read reads from begun w on)) [
@@ -222,7 +253,7 @@ module _ (read : Reading) (reads : IsReading read) (from : State) (begun : List 
       by (inr (inr tailing)) = absurd (last_carried tailing.going.done _ begun tailing.going.begun_is puts)
 
   -- whose server takes octets
-  pub world_climbs : is_upload w.far.session.connection ≡ true → Climbing w
+  pub world_climbs : is_upload w.far.session.connection ≡ true → ClimbsLast begun w
   world_climbs takes = pushed_climbs 0 takes
 
   -- one whose link the client alone has closed

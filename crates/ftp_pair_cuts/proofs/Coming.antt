@@ -2,10 +2,11 @@
 use Rattle.std.proofs.Common.{◌≡◌, inl, inr, ℕ, ◌+◌, ◌<◌, ◌^◌, Bool, true, false, List, [], ◌∷◌, ◌++◌, length, Option, Some, None, refl, sym, ap, subst, ◌∙◌, arith}
 use Rattle.std.specs.Option.{is_some}
 use Rattle.ftp_client_model.specs.Plan.{settings_of}
-use Rattle.ftp_client_model.specs.View.{Job, Told, View as Near}
+use Rattle.ftp_client_model.specs.View.{Job, Told, Transfer as Running, Transferring, View as Near}
 use Rattle.ftp_client_model.specs.declared.client.Replied.{Replied}
 use Rattle.ftp_direct.specs.Direct.{State, part}
 use Rattle.ftp_mode.specs.Laws.{settled_content}
+use Rattle.ftp_operation.specs.declared.op.Op.{Op}
 use Rattle.ftp_settings.specs.Representation.{form_of}
 use Rattle.ftp_settings.specs.declared.representation.Representation.{Representation}
 use Rattle.ftp_server_model.specs.Keep.{kept_count}
@@ -72,7 +73,8 @@ module _ (state : State) (ask : Ask) (rise : Rise) (upload : HasUpload ask rise)
   -- so as many came as are in front
   pub rise_came : (past : Bool) (mark : Option ℕ) (notes : List Note) → Climbs state ask rise past came coming mark notes
       → (replied : Replied) (left : List ℕ) (heard : Option ℕ)
-      → CameOver (held past (rise.path state) (rise.keep state) (decoder_of ask.settings came)) state (sending ask.op replied left heard) (counted (length came))
+      → CameOver (held past (rise.path state) (rise.keep state) (decoder_of ask.settings came)) state (sending ask.op replied left heard)
+      (counted (length came))
   rise_came false mark notes climbs replied left heard = rise_read (climbs.3.1 refl).0
   rise_came true mark notes climbs replied left heard = (came, rise_passes (climbs.2 refl), refl)
 
@@ -106,3 +108,17 @@ came_idle (Data.Active endpoint) state job came is = absurd is
 came_idle Data.Passive state job came is = absurd is
 came_idle Data.Ready state job came is = absurd is
 came_idle (Data.Opening transfer way) state job came is = absurd is
+
+-- nor is how far its transfer is
+pub came_any : (link : ServerLink Transfer) (state : State) (op : Op (List ℕ)) (now then : Running) (came : ℕ)
+    → CameOver link state (Transferring op now) came → CameOver link state (Transferring op then) came
+came_any (Data.Transferring (Transfers.Upload path keep d)) state op now then came is = is
+came_any (Data.Transferring Transfers.OverLimit) state op now then came is = is
+came_any (Data.Transferring (Transfers.Download rest)) state op now then came is = absurd is
+came_any (Data.Transferring (Transfers.Listing rest)) state op now then came is = absurd is
+came_any Data.Free state op now then came is = absurd is
+came_any (Data.Asked verb) state op now then came is = absurd is
+came_any (Data.Active endpoint) state op now then came is = absurd is
+came_any Data.Passive state op now then came is = absurd is
+came_any Data.Ready state op now then came is = absurd is
+came_any (Data.Opening transfer way) state op now then came is = absurd is

@@ -82,7 +82,7 @@ cut_drives_agree b fair moments timed asked server over =
       gives = over.gives;
       ports = over.ports;
       told = over.told;
-      late = over.late;
+      cut_at = over.cut_at;
     } in
     let agree = cuts_agree b fair moments timed over.turns over.between over.last over.client did in
     let orders : begun_at moments (client_deeds over.turns) ≡ orders_at moments asked =

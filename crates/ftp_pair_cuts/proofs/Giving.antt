@@ -2,6 +2,8 @@
 -- after the last octet.
 use Rattle.std.proofs.Common.{◌≡◌, ◌⊎◌, inl, inr, ℕ, ◌==◌, Bool, true, false, true≢false, List, [], ◌∷◌, ◌++◌, drop, Option, Some, None, refl, sym, ap, subst, ◌∙◌}
 use Rattle.std.specs.Prelude.{if◌then◌else◌}
+use Rattle.ftp_control.specs.Machine.{rest_by, rest_left}
+use Rattle.ftp_control.specs.declared.whole.Rest.TheVariants.{More, Nothing}
 use Rattle.ftp_ends.specs.Ear.{Ear, ear_out, ear_step}
 use Rattle.ftp_ends.proofs.EventLemmas.{out_one}
 use Rattle.ftp_ends.specs.Reply.{reply_limit}
@@ -15,7 +17,7 @@ use Rattle.ftp_reply.specs.Reader.{Between, Faulty, Gathered, GoesOn, Heard, Say
 use Rattle.ftp_reply.specs.Values.{mark_value}
 use Rattle.ftp_reply.specs.declared.code.TheConstants.{BROKEN, MARK, NO_CONNECTION}
 use Rattle.ftp_client_model.specs.Calls.{event_taken, events_taken, gives_data, hears, hears_octet, line_taken, wants}
-use Rattle.ftp_client_model.specs.Dialogue.{answered, carries_on, finishes_read, is_refusal, judged, judged_reply, marked_flow, with_reply}
+use Rattle.ftp_client_model.specs.Dialogue.{answered, carries_on, finishes_read, has_begun, is_refusal, judged, judged_reply, marked_flow, with_reply}
 use Rattle.ftp_client_model.specs.Octets.{broken_answer, content_answer, has_settled, settled_of}
 use Rattle.ftp_client_model.specs.Plan.{count_of}
 use Rattle.ftp_client_model.specs.Replies.{Closing, Completion, Displaced, Intermediate, Negative, Preliminary, Verdict, verdict_of}
@@ -327,6 +329,39 @@ module _ (op : Op (List ℕ)) (all : count_of op ≡ None) where
   leaves_late (first ∷ left) heard mark n g octet more e =
       goes_open op all first left g.next g.after g.last ∙ sym (g.stays first left)
       ∙ ap (λ v. hears v heard) (sym (goes_open op all first left Replies.Begun mark n))
+
+  -- what it has to give then
+  module _ (count octet : ℕ) (more : List ℕ) (mark : Option ℕ) (n : View) where
+    is_more : (first : ℕ) (left : List ℕ) (replied : Replied) → has_begun replied ≡ true → rest_by (wants (up first left replied mark n)) ≡ More
+    unfolding wants
+    is_more first left Replies.Nothing begun = absurd (true≢false (sym begun))
+    is_more first left Replies.Begun begun = refl
+    is_more first left (Replies.Final code) begun = refl
+
+    is_none : (replied : Replied) → has_begun replied ≡ true → rest_by (wants (leaving [] replied mark n)) ≡ Nothing
+    unfolding wants
+    is_none Replies.Nothing begun = absurd (true≢false (sym begun))
+    is_none Replies.Begun begun = refl
+    is_none (Replies.Final code) begun = ap (λ v. rest_by (wants v)) (final_shut code mark n)
+
+    -- it is seen by what is left
+    pub gives_rest : (replied : Replied) → has_begun replied ≡ true
+        → rest_by (wants (gives_data count (up octet more replied mark n))) ≡ rest_left (drop count (octet ∷ more))
+    gives_rest replied begun =
+        ap (λ v. rest_by (wants v)) (gives_some count octet more replied mark n) ∙ by (drop count (octet ∷ more))
+      where
+        by : (left : List ℕ) → rest_by (wants (leaving left replied mark n)) ≡ rest_left left
+        by [] = is_none replied begun
+        by (first ∷ left) = ap (λ v. rest_by (wants v)) (goes_open op all first left replied mark n) ∙ is_more first left replied begun
+
+    -- whatever is so of one that gave all, or has octets to give
+    pub gives_is : (P : View → Type 0) → P (shut Replies.Begun mark n) → ((first : ℕ) (left : List ℕ) → P (up first left Replies.Begun mark n))
+        → P (gives_data count (up octet more Replies.Begun mark n))
+    gives_is P all_given some = subst P (sym (gives_some count octet more Replies.Begun mark n)) (by (drop count (octet ∷ more)))
+      where
+        by : (left : List ℕ) → P (leaving left Replies.Begun mark n)
+        by [] = all_given
+        by (first ∷ left) = subst P (sym (goes_open op all first left Replies.Begun mark n)) (some first left)
 
 pub uploads_give_late : UploadsGiveLate
 uploads_give_late op all octet more mark n heard count sends =

@@ -74,11 +74,11 @@ gone_same : (old new : Stand client_side) → new ≡ with_owner new.owner old �
 gone_same old new is end = ap gone is ∙ ap (λ e. with_owner (record { end = e; lane = no_lane None }) old) end
 
 -- it has no more to give
-abbrev is_send : Wants → Bool
+abbrev pub is_send : Wants → Bool
 is_send Want.Send = true
 is_send other = false
 
-seen_none : (q : Wants) → is_send q ≡ false → no_lane None ≡ seen q (no_lane None)
+pub seen_none : (q : Wants) → is_send q ≡ false → no_lane None ≡ seen q (no_lane None)
 seen_none Want.Send e = absurd (true≢false e)
 seen_none Want.Nothing e = refl
 seen_none Want.Listen e = refl
@@ -99,7 +99,7 @@ giving_open Data.Ready e = absurd (true≢false (sym e))
 giving_open (Data.Opening transfer way) e = absurd (true≢false (sym e))
 
 -- what stands is not left by its port
-shut_stands : (stands : Bool) (left written : Option (List ℕ)) (unwritten : List ℕ) → stands ≡ true → IsEnded stands left written unwritten Shut → ⊥
+pub shut_stands : (stands : Bool) (left written : Option (List ℕ)) (unwritten : List ℕ) → stands ≡ true → IsEnded stands left written unwritten Shut → ⊥
 shut_stands true left written unwritten e (inl ended) = true≢false (ap is_shut ended.1)
   where
     is_shut : Asked → Bool

@@ -2,19 +2,20 @@
 use Rattle.std.proofs.Common.{◌≡◌, ◌⊎◌, inl, inr, ℕ, List, [], ◌++◌, option_to_list, refl, sym, ap, ap₂, subst, ◌∙◌}
 use Rattle.ftp_control.specs.Deeds.{Deed, Stand}
 use Rattle.ftp_client_drive.specs.Side.{client_side}
-use Rattle.ftp_client_model.specs.Calls.{data_closed, report_of, reports}
+use Rattle.ftp_client_model.specs.Calls.{data_closed, data_fault, report_of, reports}
 use Rattle.ftp_client_model.specs.View.{View as Near}
 use Rattle.ftp_server_drive.specs.Side.{server_side}
 use Rattle.ftp_server_model.specs.Calls.{break_step, clock_step}
 use Rattle.ftp_server_model.specs.View.{View as Far}
 use Rattle.ftp_pair_world.specs.Claims.{world_of}
-use Rattle.ftp_pair_world.specs.World.{Mark}
+use Rattle.ftp_pair_world.specs.World.{Broken, Mark, marked_last}
 use Rattle.ftp_pair_drives.specs.Between.{Between, server_deeds}
 use Rattle.ftp_pair_drives.proofs.Taken.{reports_is, taken}
 use Rattle.ftp_pair_drives.proofs.Worlds.{LeadsOn}
 use Rattle.ftp_pair_deeds.specs.Deeds.{listened_in}
 use Rattle.ftp_pair_transfers.specs.Deeds.{begun_at}
-use Rattle.ftp_pair_breaks.specs.Claims.{AreSame, IsClientFirst, IsServerFirst, ReportAlike}
+use Rattle.ftp_pair_deeds.proofs.Plain.{Whatever}
+use Rattle.ftp_pair_breaks.specs.Claims.{ReportAlike}
 use Rattle.ftp_pair_breaks.proofs.BothBroken.{broke, broke_step}
 use Rattle.ftp_pair_breaks.proofs.Drained.{dried}
 use Rattle.ftp_pair_breaks.proofs.Lagging.{OfMarks, beside, unbroken}
@@ -24,11 +25,14 @@ use Rattle.ftp_pair_breaks.proofs.Steps.{At}
 use Rattle.ftp_pair_breaks.proofs.Unaware.{steady_alike}
 use Rattle.ftp_pair_breaks.proofs.Unsent.{AskAll}
 use Rattle.ftp_pair_breaks.proofs.Untold.{fault_told, told_alike}
-use Rattle.ftp_pair_cuts.specs.Claims.{CutIsOfWorld, CutsAreOfWorlds}
+use Rattle.ftp_pair_cuts.specs.Claims.{CutIsOfWorld, CutsAreOfWorlds, IsBeside}
 use Rattle.ftp_pair_cuts.specs.Deeds.{AreMarks}
 use Rattle.ftp_pair_cuts.proofs.Leaving.{gone, lost}
 use Rattle.ftp_pair_cuts.proofs.Lifting.{closes_alike, gives_fault, lifts_alike, lifts_none, lifts_taken, was_none, was_taken}
 use Rattle.ftp_pair_cuts.proofs.Marking.{marking, same_begun, same_reports}
+use Rattle.ftp_pair_cuts.proofs.Outliving.{Outlives, come_now}
+use Rattle.ftp_pair_cuts.proofs.TakerTold.{told_world}
+use Rattle.ftp_pair_cuts.proofs.ToldLast.{left_so, lost_plain, lost_remains, lost_sound, taker_alike}
 use Rattle.ftp_pair_cuts.proofs.UpLagging.{UpLags}
 use Rattle.ftp_pair_cuts.proofs.Simulating.{Cut, asked, reaches}
 
@@ -36,7 +40,7 @@ use Rattle.ftp_pair_cuts.proofs.Simulating.{Cut, asked, reaches}
 pub cuts_are_of_worlds : CutsAreOfWorlds
 cuts_are_of_worlds read reads b fair moments timed turns between server client did =
     let stood = reaches read reads moments timed b fair turns between did.happened did.server_start server did.client_start client did.begins did.untold
-    did.unwritten did.server_unwritten did.client_untold did.server_led did.client_led did.takes did.gives did.ports did.told did.late in
+    did.unwritten did.server_unwritten did.client_untold did.server_led did.client_led did.takes did.gives did.ports did.told did.cut_at in
     by stood.view stood.cut
   where
     deeds : List (Deed client_side)
@@ -54,7 +58,7 @@ cuts_are_of_worlds read reads b fair moments timed turns between server client d
     puts = asked read reads moments timed b fair turns did.server_start server did.server_led did.client_start client did.client_led did.gives
 
     of_world : (were : Stand server_side) (was held : Stand client_side) (m : Between)
-        → AreSame server were client was ⊎ (IsClientFirst server were client was ⊎ IsServerFirst server were client was)
+        → IsBeside server were client was
         → ReportAlike client.owner.end.view was.owner.end.view → server.owner.end.server.view.session.table ≡ were.owner.end.server.view.session.table
         → (o : At read reads moments timed b fair deeds m count were held) (marks : List (List Mark)) → Are marks
         → o.world.marks ≡ marks → data_closed (taken held.owner.end.view) ≡ data_closed (taken was.owner.end.view)
@@ -115,7 +119,7 @@ cuts_are_of_worlds read reads b fair moments timed turns between server client d
         let front = heard_front p.queue p.said p.heard (client.unheard ++ m.control.to_client) p.split p.late in
         let was : Stand client_side = unaware p.refusals p.near p.queue client.owner.lane in
         of_world p.were was was (behind m)
-        (inr (inr (record {
+        (inr (inr (inl (record {
           moment = p.moment;
           said = p.said;
           left = p.left;
@@ -125,7 +129,7 @@ cuts_are_of_worlds read reads b fair moments timed turns between server client d
           more = front.0;
           front = front.1;
           near = p.view;
-        })))
+        }))))
         (steady_alike loads.op loads.decoder loads.mark client.owner.end.view p.near
         (steady_now read reads moments timed b fair deeds puts m count server client p)
         (steady_here read reads moments timed b fair deeds puts m count server client p))
@@ -135,6 +139,22 @@ cuts_are_of_worlds read reads b fair moments timed turns between server client d
             → (more : List ℕ) × (said ≡ heard ++ more)
         heard_front queue said heard rest split (inl none) = (said, ap (λ o. o ++ said) (sym none))
         heard_front queue said heard rest split (inr empty) = (rest, ap (λ o. o ++ said) (sym empty) ∙ split)
+
+    -- so was one that took octets
+    taker : (m : Between) → Outlives read reads moments timed b fair Are deeds m count server client
+        → CutIsOfWorld read b moments turns between server client did
+    taker m l =
+        let before = server_deeds turns in
+        let was : Stand client_side = left_so read reads moments timed b fair deeds puts before did.ports m server client l in
+        let told = told_world read reads moments timed b fair deeds puts before did.ports m server l.taker l.refusals l.near l.queue client.owner.lane l.at
+        (data_fault l.near) (lost_remains read reads moments timed b fair deeds puts before did.ports m server client l)
+        (lost_sound read reads moments timed b fair deeds puts before did.ports m server client l)
+        (lost_plain read reads moments timed b fair deeds puts before did.ports m server client l Whatever l.at.plain) in
+        let came : ℕ = l.at.world.came in
+        of_world (dried server) was was _ (inr (inr (inr (record { same = refl; before = l.near; told = refl; heard = l.heard; near = l.view }))))
+        (taker_alike read reads moments timed b fair deeds puts before did.ports m server client l) refl told.0 (marked_last (Broken came) l.marks)
+        (l.are_broken came (come_now read reads moments timed b fair deeds puts m count server client l))
+        (told.1 ∙ ap (marked_last (Broken came)) l.marked) refl refl
 
     by_suffered : (m : Between) → breaking.Suffered read reads moments timed b fair Are deeds m count server client
         → CutIsOfWorld read b moments turns between server client did
@@ -149,6 +169,7 @@ cuts_are_of_worlds read reads b fair moments timed turns between server client d
     by : (m : Between) → Cut read reads moments timed b fair Are deeds m count server client → CutIsOfWorld read b moments turns between server client did
     by m (inl o) = by_suffered o.middle o.suffered
     by m (inr (inl l)) = by_lag m l
-    by m (inr (inr l)) =
+    by m (inr (inr (inr l))) = taker m l
+    by m (inr (inr (inl l))) =
         let w = l.whole in
         of_world (dried server) client (gone client) (lost m) (inl (refl, refl)) (refl, refl) refl w.at w.marks w.are_marks w.marked refl refl

@@ -1,7 +1,6 @@
 -- A server that takes octets of an upload is told of the break of its data connection, which the client has left: an event of a world, by which it installs
 -- what came, and which tells a client of a world that still gives, too.
-use Rattle.std.proofs.Common.{◌≡◌, ℕ, true, false, true≢false, not, List, [], ◌++◌, Option, Some, None, option_to_list, refl, sym, ap, ap₂, subst, ◌∙◌}
-use Rattle.std.specs.Prelude.{if◌then◌else◌}
+use Rattle.std.proofs.Common.{◌≡◌, ℕ, true, false, true≢false, not, List, [], ◌++◌, None, option_to_list, refl, sym, ap, ap₂, subst, ◌∙◌}
 use Rattle.ftp_control.specs.Deeds.{Calls, Stand}
 use Rattle.ftp_control.specs.Lane.{Lane, with_fate}
 use Rattle.ftp_control.specs.Machine.{Break}
@@ -10,22 +9,14 @@ use Rattle.ftp_client_drive.specs.Side.{client_side}
 use Rattle.ftp_client_model.specs.Calls as near
 use Rattle.ftp_client_model.specs.Calls.{data_closed, report_of}
 use Rattle.ftp_client_model.specs.View.{View as Near}
-use Rattle.ftp_direct.specs.declared.refusal.Refusal.{Refusal}
 use Rattle.ftp_ends.specs.declared.link.Wants.TheVariants as Want
 use Rattle.ftp_operation.specs.Answer.{Said}
-use Rattle.ftp_path.specs.Path.{Names}
 use Rattle.ftp_server_drive.specs.Side.{server_side}
 use Rattle.ftp_server_model.specs.Calls as far
-use Rattle.ftp_server_model.specs.Calls.{break_step, breaks, clock_step, is_upload}
-use Rattle.ftp_server_model.specs.Machine.{Reading, at_break, end_refusal, ends_by, later}
-use Rattle.ftp_server_model.specs.View.{Session, Transfer, View as Far}
-use Rattle.ftp_server_model.specs.declared.reply.FixedReply.{FixedReply}
-use Rattle.ftp_server_model.specs.declared.reply.FixedReply.TheVariants as Texts
-use Rattle.ftp_server_model.specs.declared.session.Keep.{Keep}
-use Rattle.ftp_server_model.specs.declared.session.ServerLink.{ServerLink}
+use Rattle.ftp_server_model.specs.Calls.{break_step, clock_step, is_upload}
+use Rattle.ftp_server_model.specs.Machine.{Reading, later}
+use Rattle.ftp_server_model.specs.View.{View as Far}
 use Rattle.ftp_server_model.specs.declared.session.ServerLink.TheVariants as Data
-use Rattle.ftp_server_model.specs.declared.session.Transfer.TheVariants as Transfers
-use Rattle.ftp_wire.specs.Decoder.{broken}
 use Rattle.ftp_pair_world.specs.Agreement.{Order}
 use Rattle.ftp_pair_world.specs.Events.{Break as Breaks, broken_by, is_gone, lends_none, link_breaks}
 use Rattle.ftp_pair_world.specs.Serving.{after_event}
@@ -47,48 +38,7 @@ use Rattle.ftp_pair_transfers.proofs.Beside.{GoesTo, Takes, Together, is_taking}
 use Rattle.ftp_pair_transfers.proofs.FarForms.{Takes as TakesUpload, is_receive, receives_upload, upload_takes}
 use Rattle.ftp_pair_transfers.proofs.Known.{is_near_held}
 use Rattle.ftp_pair_transfers.proofs.Settling.{far_held}
-
--- ---- what a break leaves
-
--- what came is installed or refused: no other data connection is had, and the session runs as before
-ends_shut : (why : Option Refusal) (moment : ℕ) (path : Names) (keep : Keep) (octets : List ℕ) (text : FixedReply) (s : Session)
-    → ((ends_by why moment path keep octets text s).0.connection ≡ s.connection) × ((ends_by why moment path keep octets text s).0.life ≡ s.life)
-ends_shut (Some why) moment path keep octets text s = (refl, refl)
-ends_shut None moment path keep octets text s = (refl, refl)
-
-pub transfer_shut : (moment : ℕ) (transfer : Transfer) (s : Session)
-    → ((at_break moment transfer s).0.connection ≡ s.connection) × ((at_break moment transfer s).0.life ≡ s.life)
-transfer_shut moment (Transfers.Upload path keep d) s =
-    ends_shut (end_refusal path keep (broken d).content s) moment path keep (broken d).content Texts.Broken s
-transfer_shut moment Transfers.OverLimit s = (refl, refl)
-transfer_shut moment (Transfers.Download rest) s = (refl, refl)
-transfer_shut moment (Transfers.Listing rest) s = (refl, refl)
-
--- it is let go, no line comes to wait, and the session runs as before
-record LetsGo (old new : Far) : Type 0 where
-  free : new.session.connection ≡ Data.Free
-  waiting : new.waiting ≡ old.waiting
-  life : new.session.life ≡ old.session.life
-
--- of a server that takes octets, and wants no close
-break_lets : (v : Far) → v.session.closing ≡ false → is_upload v.session.connection ≡ true → LetsGo v (break_step v)
-break_lets v unclosed takes = by v.session.connection refl takes
-  where
-    by : (link : ServerLink Transfer) → v.session.connection ≡ link → is_upload link ≡ true → LetsGo v (break_step v)
-    by (Data.Transferring transfer) is e =
-        let step : break_step v ≡ breaks (Data.Transferring transfer) v = ap₂ (λ c l. breaks (if c then Data.Free else l) v) unclosed is in
-        let shut = transfer_shut v.footing.moment transfer (record v.session { connection = Data.Free }) in
-        record {
-          free = ap (λ (f : Far). f.session.connection) step ∙ shut.0;
-          waiting = ap (λ (f : Far). f.waiting) step;
-          life = ap (λ (f : Far). f.session.life) step ∙ shut.1;
-        }
-    by Data.Free is e = absurd (true≢false (sym e))
-    by (Data.Asked verb) is e = absurd (true≢false (sym e))
-    by (Data.Active endpoint) is e = absurd (true≢false (sym e))
-    by Data.Passive is e = absurd (true≢false (sym e))
-    by Data.Ready is e = absurd (true≢false (sym e))
-    by (Data.Opening transfer way) is e = absurd (true≢false (sym e))
+use Rattle.ftp_pair_cuts.proofs.Concluded.{LetsGo, break_lets}
 
 -- ---- the client that is left beside
 

@@ -5,9 +5,10 @@ use Rattle.ftp_control.specs.Machine.{Break}
 use Rattle.ftp_client_drive.specs.Side.{client_side}
 use Rattle.ftp_client_model.specs.Calls as near
 use Rattle.ftp_client_model.specs.Calls.{data_closed, is_sound, report_of}
-use Rattle.ftp_client_model.specs.View.{Job, View as Near}
+use Rattle.ftp_client_model.specs.View.{Job, Transfer as Running, Transferring, View as Near}
 use Rattle.ftp_ends.specs.declared.link.Wants.TheVariants as Want
 use Rattle.ftp_operation.specs.Answer.{Said}
+use Rattle.ftp_operation.specs.declared.op.Op.{Op}
 use Rattle.ftp_server_drive.specs.Side.{server_side}
 use Rattle.ftp_server_model.specs.Calls as far
 use Rattle.ftp_server_model.specs.Calls.{clock_step, is_upload}
@@ -21,15 +22,16 @@ use Rattle.ftp_pair_world.specs.Agreement.{Order}
 use Rattle.ftp_pair_world.specs.Claims.{Beginning, IsFair, state_of, world_of}
 use Rattle.ftp_pair_world.specs.Events.{broken_by, is_gone, lends_none}
 use Rattle.ftp_pair_world.specs.World.{Broken, ClosedByNear, Mark, Opened, World, marked_last}
+use Rattle.ftp_pair_agreement.specs.Rising.{sending}
 use Rattle.ftp_pair_drives.specs.Alone.{ServerIsCalm, reports_in}
-use Rattle.ftp_pair_drives.specs.Between.{Between, Can, Far as TheServer, Has, Has_ended, Has_lost, Hold}
+use Rattle.ftp_pair_drives.specs.Between.{Between, Can, Far as TheServer, Has, Has_lost}
 use Rattle.ftp_pair_drives.specs.Touches.{ToldBreak}
 use Rattle.ftp_pair_drives.proofs.Taken.{taken, taken_none}
 use Rattle.ftp_pair_drives.proofs.Worlds.{LeadsOn, leads_then}
 use Rattle.ftp_pair_data.proofs.Ahead.{closed_is}
 use Rattle.ftp_pair_data.proofs.Served.{far_wants, rests}
 use Rattle.ftp_pair_deeds.proofs.FarForms.{no_close, told_passive}
-use Rattle.ftp_pair_deeds.proofs.Holding.{both, is_called, is_false, is_had, unclosed}
+use Rattle.ftp_pair_deeds.proofs.Holding.{both, is_called, unclosed}
 use Rattle.ftp_pair_deeds.proofs.Plain.{IsPlainBy, IsPlainly}
 use Rattle.ftp_pair_deeds.proofs.Stands.{ServerServes}
 use Rattle.ftp_pair_transfers.specs.Ahead.{Ahead, Fits, Level, Listens, Opens, Parted, far_ahead}
@@ -45,9 +47,9 @@ use Rattle.ftp_pair_breaks.proofs.Lagging.{Lags, OfMarks, Whole, beside, feeds, 
 use Rattle.ftp_pair_breaks.proofs.Steps.{Again, At, idle_again}
 use Rattle.ftp_pair_breaks.proofs.Unsent.{AskAll, Unsent, all_carried}
 use Rattle.ftp_pair_cuts.specs.Coming.{CameOver, HasCome}
-use Rattle.ftp_pair_cuts.specs.Deeds.{IsOut, cut_marks}
-use Rattle.ftp_pair_cuts.proofs.Climbing.{Climbing, world_climbs}
-use Rattle.ftp_pair_cuts.proofs.Coming.{came_idle}
+use Rattle.ftp_pair_cuts.specs.Deeds.{cut_marks}
+use Rattle.ftp_pair_cuts.proofs.Climbing.{ClimbsLast, IsLast, same_last, world_climbs}
+use Rattle.ftp_pair_cuts.proofs.Coming.{came_any, came_idle}
 use Rattle.ftp_pair_cuts.proofs.Leaving.{gone, lost}
 use Rattle.ftp_pair_cuts.proofs.Lifting.{IsClosing, StillGives, closes_alike, gives_fault, lifts_none, lifts_plain, lifts_rest, lifts_sound, lifts_taken, was_none}
 use Rattle.ftp_pair_cuts.proofs.Seen.{dry}
@@ -145,12 +147,6 @@ module _ (client : Stand client_side) (p q : Between) (can : Can TheServer ToldB
     lost = ap (λ (m : Between). m.far) can.1;
   }
 
--- it has it no more
-out_lost : (hold : Hold) → IsOut hold → is_had hold ≡ false
-out_lost Has_ended out = refl
-out_lost Has_lost out = refl
-out_lost hold out = absurd out
-
 module _ (read : Reading) (reads : IsReading read) (moments : ℕ → ℕ) (timed : AreMoments moments) (b : Beginning) (fair : IsFair b) where
   -- a world is beside a server that did something and a client, with these marks
   again_cut : (deeds : List (Deed client_side)) {between : Between} {count : ℕ} {server : Stand server_side} {old : Stand client_side}
@@ -188,16 +184,22 @@ module _ (read : Reading) (reads : IsReading read) (moments : ℕ → ℕ) (time
     module _ (next : Between) (after : Stand client_side) (did : Calls {side = server_side} Break old new)
         (wants : far.wants old.owner.end.server.view ≡ Want.Receive) (told : did.0.0.0 ≡ last_of moments (number_in deeds)) (r : Remains w client after p next)
         (untold : old.owner.lane.untold ≡ []) (unwritten : old.owner.lane.unwritten ≡ []) where
-      -- a world is beside both again, and its link is broken; a break marks
-      pub cut_again : is_sound after.owner.end.view.standing ≡ true → IsPlainly after.owner.end.view → StaysFresh next after
-          → Again read reads moments timed b fair (Other Break ∷ deeds) next count new after (marked_last (Broken w.came) w.marks)
-      cut_again sound plain fresh =
+      -- a world is beside both again, and its link is broken
+      pub cut_there : is_sound after.owner.end.view.standing ≡ true → IsPlainly after.owner.end.view → StaysFresh next after
+          → Again read reads moments timed b fair deeds next count new after (marked_last (Broken w.came) w.marks)
+      cut_there sound plain fresh =
           let t = o.together in
           let went = cut_at read (begun_at moments deeds) old new client after (reports_in deeds) w calm o.serves o.last o.ahead p next count did wants
           (λ takes. world_timed read reads (state_of b) moments deeds carried w
           (runs read reads moments timed b fair deeds p count old client (reports_in deeds) o carried)
           t.beside.control t.beside.unready takes ∙ sym told) t r untold unwritten in
-          let got = again_cut deeds o (marked_last (Broken w.came) w.marks) next new after went.0 went.1 sound plain fresh in
+          again_cut deeds o (marked_last (Broken w.came) w.marks) next new after went.0 went.1 sound plain fresh
+
+      -- a break marks
+      pub cut_again : is_sound after.owner.end.view.standing ≡ true → IsPlainly after.owner.end.view → StaysFresh next after
+          → Again read reads moments timed b fair (Other Break ∷ deeds) next count new after (marked_last (Broken w.came) w.marks)
+      cut_again sound plain fresh =
+          let got = cut_there sound plain fresh in
           let idle = idle_again read reads moments timed b fair (Other Break) deeds got.0 refl refl in
           (idle.0, idle.1 ∙ got.1)
 
@@ -206,26 +208,47 @@ module _ (read : Reading) (reads : IsReading read) (moments : ℕ → ℕ) (time
   module _ (deeds : List (Deed client_side)) (puts : AskAll (begun_at moments deeds)) (p q : Between) (count : ℕ) (old new : Stand server_side)
       (client : Stand client_side) (calm : ServerIsCalm old.owner new.owner) (wants : far.wants old.owner.end.server.view ≡ Want.Receive) where
     -- so has its world's server an upload under way
-    world_upload : {m : Between} {c : Stand client_side} (o : At read reads moments timed b fair deeds m count old c)
+    pub world_upload : {m : Between} {c : Stand client_side} (o : At read reads moments timed b fair deeds m count old c)
         → is_upload o.world.far.session.connection ≡ true
     world_upload o =
         ap (λ (f : Far). is_upload f.session.connection) o.together.beside.far
         ∙ ahead_upload o.ahead o.last old.owner.end.server.view o.together.beside.fits (wants_upload old.owner.end.server.view o.serves.running wants)
 
-    -- as many octets came to it as that world counts
-    has_come : {m : Between} {c : Stand client_side} (o : At read reads moments timed b fair deeds m count old c) → HasCome old.owner c.owner o.world.came
-    has_come {m} {c} o =
-        let v : Far = old.owner.end.server.view in
-        let t = o.together.beside in
-        let carried = all_carried (begun_at moments deeds) puts in
-        let climbing : Climbing o.world = world_climbs read reads (state_of b) (begun_at moments deeds) carried o.world
-        (runs read reads moments timed b fair deeds m count old c _ o carried) t.control t.unready (world_upload o) in
-        let far_is : o.world.far ≡ clock_step o.last v =
-        t.far ∙ ap (clock_step o.last)
-        (ahead_none o.ahead v (no_close v Want.Receive wants refl) t.fits (wants_upload v o.serves.running wants)) in
-        came_idle v.session.connection (direct_of v.session) c.owner.end.view.job o.world.came
-        (subst (λ (n : Near). CameOver v.session.connection (direct_of v.session) n.job o.world.came) t.near
-        (subst (λ (f : Far). CameOver f.session.connection (direct_of f.session) o.world.near.job o.world.came) far_is climbing.came))
+    -- as many octets came to it as that world counts, of the operation that was begun last
+    module _ {m : Between} {c : Stand client_side} (o : At read reads moments timed b fair deeds m count old c) where
+      abbrev v : Far
+      v = old.owner.end.server.view
+
+      pub world_last : ClimbsLast (begun_at moments deeds) o.world
+      world_last =
+          let carried = all_carried (begun_at moments deeds) puts in
+          world_climbs read reads (state_of b) (begun_at moments deeds) carried o.world
+          (runs read reads moments timed b fair deeds m count old c _ o carried) o.together.beside.control o.together.beside.unready (world_upload o)
+
+      counts : CameOver v.session.connection (direct_of v.session) o.world.near.job o.world.came
+      counts =
+          let t = o.together.beside in
+          let far_is : o.world.far ≡ clock_step o.last v =
+          t.far ∙ ap (clock_step o.last)
+          (ahead_none o.ahead v (no_close v Want.Receive wants refl) t.fits (wants_upload v o.serves.running wants)) in
+          subst (λ (f : Far). CameOver f.session.connection (direct_of f.session) o.world.near.job o.world.came) far_is world_last.climbing.came
+
+      pub has_come : HasCome old.owner c.owner o.world.came
+      has_come =
+          came_idle v.session.connection (direct_of v.session) c.owner.end.view.job o.world.came
+          (subst (λ (n : Near). CameOver v.session.connection (direct_of v.session) n.job o.world.came) o.together.beside.near counts)
+
+      -- however far its transfer is
+      pub last_come : (op : Op (List ℕ)) (transfer : Running) → IsLast (begun_at moments deeds) op
+          → CameOver v.session.connection (direct_of v.session) (Transferring op transfer) o.world.came
+      last_come op transfer last =
+          let l = world_last in
+          let job : Job = sending l.op l.climbing.replied l.climbing.left l.climbing.mark in
+          let came : CameOver v.session.connection (direct_of v.session) job o.world.came =
+          subst (λ j. CameOver v.session.connection (direct_of v.session) j o.world.came) l.climbing.job counts in
+          came_any v.session.connection (direct_of v.session) op _ transfer o.world.came
+          (subst (λ other. CameOver v.session.connection (direct_of v.session) (sending other l.climbing.replied l.climbing.left l.climbing.mark)
+          o.world.came) (same_last (begun_at moments deeds) l.op op l.last last) came)
 
     -- then no world's client takes octets of a download that broke
     pub lags_never : {Are : OfMarks} → Lags read reads moments timed b fair Are deeds p count old client → ⊥
@@ -251,18 +274,13 @@ module _ (read : Reading) (reads : IsReading read) (moments : ℕ → ℕ) (time
       sound_then sound = ap (λ (n : Near). is_sound n.standing) out.view ∙ sound
 
       -- where a world is beside both: its client alone has closed the link
-      pub whole_cut : {Are : OfMarks} → Whole read reads moments timed b fair Are deeds p count old client
-          → IsOut p.near ⊎ (client.owner.end.view.closing ≡ true)
+      pub whole_cut : {Are : OfMarks} → (o : Whole read reads moments timed b fair Are deeds p count old client) → is_near_held o.at.world.link ≡ false
           → Whole read reads moments timed b fair (cut_marks Want.Receive (HasCome old.owner client.owner) Are) (Other Break ∷ deeds) next count new after
-      whole_cut {Are} o is_out =
+      whole_cut {Are} o not_held =
           let w : World = o.at.world in
           let t = o.at.together in
           let carried = all_carried (begun_at moments deeds) puts in
           let known_now : Known w = known read reads moments timed b fair deeds p count old client _ o.at carried in
-          let not_held : is_near_held w.link ≡ false = elim is_out [
-            | inl left ↦ is_false (is_near_held w.link) (λ e. both (t.keeping.had e) (out_lost p.near left))
-            | inr closing ↦ t.keeping.shut closing
-          ] in
           let link : w.link ≡ ClosedByNear = known_now.takes (world_upload o.at) not_held in
           let open_near : w.near.closing ≡ false = ap (λ (n : Near). n.closing) t.beside.near in
           let r : Remains w client after p next = record {
@@ -349,7 +367,8 @@ module _ (read : Reading) (reads : IsReading read) (moments : ℕ → ℕ) (time
             let link : there.link ≡ ClosedByNear = link_closed read reads moments timed b fair deeds puts p count old client l closes in
             remains there.near (ap (λ k. broken_by k (lends_none there)) link) (ap is_gone link) (near_there ∙ closes_alike n u l.lifts closes)
 
-        pub lag_cut : Whole read reads moments timed b fair (cut_marks Want.Receive (HasCome old.owner client.owner) Are) (Other Break ∷ deeds) next count new after
+        pub lag_cut : Whole read reads moments timed b fair (cut_marks Want.Receive (HasCome old.owner client.owner) Are) (Other Break ∷ deeds) next count
+            new after
         lag_cut =
             let got = cut_again deeds puts (unbroken p) count old new (beside l.was client) calm l.at next after did wants told
             (elim l.lifts.kind [

@@ -17,14 +17,15 @@ use Rattle.ftp_server_model.specs.Calls.{break_step, clock_step}
 use Rattle.ftp_server_model.specs.Machine.{IsReading, Reading}
 use Rattle.ftp_pair_world.specs.Claims.{Beginning, IsFair}
 use Rattle.ftp_pair_drives.specs.Alone.{ServerIsCalm, reports_in}
-use Rattle.ftp_pair_drives.specs.Between.{Between, Can, CanTurn, Client, Far as TheServer, Happened, Has_ended, Has_lost, Hold, Near as TheClient, Server, Turn, client_deeds, nothing_yet, server_deeds}
+use Rattle.ftp_pair_drives.specs.Between.{Between, Can, CanTurn, Client, Far as TheServer, Happened, Has, Has_lost, Hold, Is_called, Near as TheClient, Server, Turn, client_deeds, nothing_yet, server_deeds}
 use Rattle.ftp_pair_drives.specs.Claims.{Begins}
 use Rattle.ftp_pair_drives.specs.Touches.{ToldBreak, touch_in}
 use Rattle.ftp_pair_deeds.specs.Deeds.{ArePorts, listened_in}
 use Rattle.ftp_pair_data.proofs.Known.{is_receive}
-use Rattle.ftp_pair_deeds.proofs.Holding.{both, is_had}
+use Rattle.ftp_pair_deeds.proofs.Holding.{both, is_called, is_had}
 use Rattle.ftp_pair_deeds.proofs.Plain.{IsPlainBy}
 use Rattle.ftp_pair_transfers.specs.Deeds.{AreMoments, AreToldAt, IsToldAt, begun_at, last_of, number_in}
+use Rattle.ftp_pair_transfers.proofs.Known.{is_near_held}
 use Rattle.ftp_pair_transfers.proofs.Lost.{IsSeen, far_done, near_done, seen_itself}
 use Rattle.ftp_pair_transfers.proofs.Reaching.{earlier, starts_so}
 use Rattle.ftp_pair_breaks.specs.Deeds.{IsSuffering, IsYielding}
@@ -39,21 +40,26 @@ use Rattle.ftp_pair_breaks.proofs.Seen.{IsTold, Sees, far_sees, sees_fresh}
 use Rattle.ftp_pair_breaks.proofs.Unbroken.{sees_unbroken}
 use Rattle.ftp_pair_breaks.proofs.Unsent.{AskAll, Unsent, all_carried}
 use Rattle.ftp_pair_cuts.specs.Coming.{HasCome}
-use Rattle.ftp_pair_cuts.specs.Deeds.{AreMarks, AreToldLate, ClientGives, GivesAlong, IsOut, IsToldLate, LosesAlong, ServerLoses, cut_marks}
+use Rattle.ftp_pair_cuts.specs.Deeds.{AreCutAt, AreMarks, ClientGives, GivesAlong, IsCutAt, LosesAlong, ServerLoses, cut_marks}
 use Rattle.ftp_pair_cuts.proofs.ClientTold.{told_closing, told_giving}
+use Rattle.ftp_pair_cuts.proofs.Holding.{Holding, holding}
 use Rattle.ftp_pair_cuts.proofs.Leaving.{Leaves, gone, leave_step, lost}
 use Rattle.ftp_pair_cuts.proofs.LeavingServed.{leave_served}
 use Rattle.ftp_pair_cuts.proofs.Marking.{in_all, marking, same_begun, same_number, takes_none, with_cut}
+use Rattle.ftp_pair_cuts.proofs.Outliving.{Outlives}
 use Rattle.ftp_pair_cuts.proofs.Seen.{Seen, dry, is_left, lost_dry, near_seen, seen_far, seen_held, seen_whole, sees_seen}
 use Rattle.ftp_pair_cuts.proofs.Serving.{giving_takes, lag_cut, lags_never, out_gone, out_left, shut_takes, whole_cut}
+use Rattle.ftp_pair_cuts.proofs.Speaking.{outlive_turn}
+use Rattle.ftp_pair_cuts.proofs.TakerTold.{told_taking}
+use Rattle.ftp_pair_cuts.proofs.ToldLast.{outlast}
 use Rattle.ftp_pair_cuts.proofs.UpLagging.{UpLags, takes_up, up_lag_step}
 use Rattle.ftp_pair_cuts.proofs.Written.{IsWritten, deed_written, is_break, is_broken}
 
--- the client has left: no data connection of it is had or dialled
-out_left_hold : (hold : Hold) → IsOut hold → is_left hold ≡ true
-out_left_hold Has_ended out = refl
-out_left_hold Has_lost out = refl
-out_left_hold hold out = absurd out
+-- one that has none, and was not dialled, has left it
+left_hold : (hold : Hold) → (is_had hold ≡ true → ⊥) → is_called hold ≡ false → is_left hold ≡ true
+left_hold Has none uncalled = absurd (none refl)
+left_hold Is_called none uncalled = absurd (true≢false uncalled)
+left_hold hold none uncalled = refl
 
 -- it has lost it
 abbrev is_lost : Hold → Bool
@@ -77,12 +83,14 @@ module _ (read : Reading) (reads : IsReading read) (moments : ℕ → ℕ) (time
     pub written : IsWritten client.owner.lane
     pub suffered : Suffered Are deeds middle count server client
 
-  -- or it is beside a client that was not told of the break of an upload, or beside one that has left its data connection
+  -- or it is beside a client that was not told of the break of an upload, or beside one that has left its data connection; or beside a server that was not
+  -- told, while its client still gives
   abbrev pub Cut : (Are : OfMarks) (deeds : List (Deed client_side)) (between : Between) (count : ℕ) (server : Stand server_side) (client : Stand client_side)
       → Type 0
   Cut Are deeds between count server client =
       Beside Are deeds between count server client ⊎ (UpLags read reads moments timed b fair Are deeds between count (dried server) client
-      ⊎ Leaves read reads moments timed b fair Are deeds between count (dried server) client)
+      ⊎ (Leaves read reads moments timed b fair Are deeds between count (dried server) client
+      ⊎ Outlives read reads moments timed b fair Are deeds between count server client))
 
   -- ---- a deed of the client
 
@@ -156,9 +164,14 @@ module _ (read : Reading) (reads : IsReading read) (moments : ℕ → ℕ) (time
       beside_step deeds puts before ports p q server old new o deed is can did
   client_turn {Are} deed deeds puts before ports p q server old new (inr (inl l)) is can did =
       inr (inl (up_lag_step read reads moments timed b fair deeds puts p (listened_in before) (dried server) old l deed q new is can did))
-  client_turn {Are} deed deeds puts before ports p q server old new (inr (inr l)) is can did =
+  client_turn {Are} deed deeds puts before ports p q server old new (inr (inr (inr l))) is can did =
+      elim (outlast read reads moments timed b fair deeds puts before ports p server old l deed q new is can did) [
+        | inl on ↦ inr (inr (inr on))
+        | inr left ↦ inr (inr (inl left))
+      ]
+  client_turn {Are} deed deeds puts before ports p q server old new (inr (inr (inl l))) is can did =
       elim (leave_step read reads moments timed b fair deeds puts p q (listened_in before) (dried server) old new l deed is can did) [
-        | inl on ↦ inr (inr on)
+        | inl on ↦ inr (inr (inl on))
         | inr left ↦ inl (record {
           middle = dry q;
           seen = inr (refl, record { near = left.near; far = left.far });
@@ -236,7 +249,7 @@ module _ (read : Reading) (reads : IsReading read) (moments : ℕ → ℕ) (time
     -- it is told of the break
     module _ (calm : ServerIsCalm old.owner new.owner) (wants : far.wants old.owner.end.server.view ≡ Want.Receive)
         (did : Calls {side = server_side} Break old new) (untold : old.owner.lane.untold ≡ []) (unwritten : old.owner.lane.unwritten ≡ [])
-        (can : Can TheServer ToldBreak p q) (told : did.0.0.0 ≡ last_of moments (number_in deeds)) where
+        (can : Can TheServer ToldBreak p q) (told : did.0.0.0 ≡ last_of moments (number_in deeds)) (h : Holding p client) where
       -- as many octets of the upload as came
       abbrev came_now : ℕ → Type 0
       came_now = HasCome old.owner client.owner
@@ -268,34 +281,33 @@ module _ (read : Reading) (reads : IsReading read) (moments : ℕ → ℕ) (time
       -- or is beside one that has left
       beside_gone : {Are : OfMarks} → client.owner.lane.stands ≡ true → W Are (Other Break ∷ deeds) (lost q) told_ports new (gone client)
           → Cut Are (Other Break ∷ deeds) q told_ports new client
-      beside_gone {Are} stands w = inr (inr (record {
+      beside_gone {Are} stands w = inr (inr (inl (record {
         whole = subst (λ (s : Stand server_side). W Are (Other Break ∷ deeds) (lost q) told_ports s (gone client))
             (sym new_dried) w;
         stands = stands;
         far = ap is_left lost_now;
-      }))
+      })))
 
-      -- where it was beside both
-      by_whole : {Are : OfMarks} → W Are deeds p told_ports old client
-          → IsOut p.near ⊎ ((client.owner.end.view.closing ≡ true) × (client.owner.lane.stands ≡ true))
-          → Cut (cut_marks Want.Receive came_now Are) (Other Break ∷ deeds) q told_ports new client
-      by_whole {Are} w late = by client.owner.lane.stands refl late
+      -- where it was beside both: the client has the link open still, or has left it
+      by_whole : {Are : OfMarks} → W Are deeds p told_ports old client → Cut (cut_marks Want.Receive came_now Are) (Other Break ∷ deeds) q told_ports new client
+      by_whole {Are} w = by (is_near_held w.at.world.link) refl
         where
-          gone_on : client.owner.lane.stands ≡ true → IsOut p.near ⊎ (client.owner.end.view.closing ≡ true)
+          closed : (stands : Bool) → client.owner.lane.stands ≡ stands → is_near_held w.at.world.link ≡ false
               → Cut (cut_marks Want.Receive came_now Are) (Other Break ∷ deeds) q told_ports new client
-          gone_on stands out =
-              beside_gone stands
+          closed true is unheld =
+              beside_gone is
               (whole_cut read reads moments timed b fair deeds puts p q told_ports old new client calm wants did told untold unwritten (gone client)
-              (lost q) (out_gone client p q can) w out)
-
-          by : (stands : Bool) → client.owner.lane.stands ≡ stands → IsOut p.near ⊎ ((client.owner.end.view.closing ≡ true) × (client.owner.lane.stands ≡ true))
-              → Cut (cut_marks Want.Receive came_now Are) (Other Break ∷ deeds) q told_ports new client
-          by stands is (inr closing) = gone_on closing.1 (inr closing.0)
-          by true is (inl out) = gone_on is (inl out)
-          by false is (inl out) =
-              beside_dry (out_left_hold p.near out) (λ e. w.at.together.gives.bare is)
+              (lost q) (out_gone client p q can) w unheld)
+          closed false is unheld =
+              beside_dry (left_hold p.near (λ had. both (h.had had) is) h.uncalled) (λ e. w.at.together.gives.bare is)
               (whole_cut read reads moments timed b fair deeds puts p q told_ports old new client calm wants did told untold unwritten client (dry q)
-              (out_left client p q can is w.at.together.takes (w.at.together.gives.bare is)) w (inl out))
+              (out_left client p q can is w.at.together.takes (w.at.together.gives.bare is)) w unheld)
+
+          by : (held : Bool) → is_near_held w.at.world.link ≡ held → Cut (cut_marks Want.Receive came_now Are) (Other Break ∷ deeds) q told_ports new client
+          by true held =
+              inr (inr (inr (told_taking read reads moments timed b fair deeds puts p q told_ports old new client calm wants did told untold unwritten can
+              w held (h.had (w.at.together.keeping.had held)))))
+          by false unheld = closed client.owner.lane.stands refl unheld
 
       -- where it was beside one that was not told
       by_lag : {Are : OfMarks} → UpLags read reads moments timed b fair Are deeds p told_ports old client
@@ -312,41 +324,42 @@ module _ (read : Reading) (reads : IsReading read) (moments : ℕ → ℕ) (time
               (lag_cut read reads moments timed b fair deeds puts p q told_ports old new client calm wants did told untold unwritten client (dry q)
               (out_left client p q can is l.lane.takes (l.lane.bare is)) l)
 
-      by_suffered : {Are : OfMarks} → Suffered Are deeds p told_ports old client → IsOut p.near ⊎
-          ((client.owner.end.view.closing ≡ true) × (client.owner.lane.stands ≡ true))
+      by_suffered : {Are : OfMarks} → Suffered Are deeds p told_ports old client
           → Cut (cut_marks Want.Receive came_now Are) (Other Break ∷ deeds) q told_ports new client
-      by_suffered {Are} (inl (inl w)) late =
-          by_whole (subst (λ (s : Stand server_side). W Are deeds p told_ports s client) old_dried w) late
-      by_suffered {Are} (inl (inr l)) late =
+      by_suffered {Are} (inl (inl w)) =
+          by_whole (subst (λ (s : Stand server_side). W Are deeds p told_ports s client) old_dried w)
+      by_suffered {Are} (inl (inr l)) =
           absurd (lags_never read reads moments timed b fair deeds puts p q told_ports old new client calm wants
           (subst (λ (s : Stand server_side). Lags read reads moments timed b fair Are deeds p told_ports s client) old_dried l))
-      by_suffered {Are} (inr l) late =
+      by_suffered {Are} (inr l) =
           absurd (true≢false (ap is_receive (sym wants ∙ far_nothing read reads moments timed b fair deeds puts p told_ports old client l)))
 
-      cut_on : {Are : OfMarks} → IsOut p.near ⊎ ((client.owner.end.view.closing ≡ true) × (client.owner.lane.stands ≡ true))
-          → Cut Are deeds p told_ports old client
+      cut_on : {Are : OfMarks} → Cut Are deeds p told_ports old client
           → Cut (cut_marks Want.Receive came_now Are) (Other Break ∷ deeds) q told_ports new client
-      cut_on {Are} late (inl o) =
-          by_suffered (subst (λ (m : Between). Suffered Are deeds m told_ports old client) (seen_whole p o.middle o.seen can.0) o.suffered) late
-      cut_on {Are} late (inr (inl l)) =
+      cut_on {Are} (inl o) =
+          by_suffered (subst (λ (m : Between). Suffered Are deeds m told_ports old client) (seen_whole p o.middle o.seen can.0) o.suffered)
+      cut_on {Are} (inr (inl l)) =
           by_lag (subst (λ (s : Stand server_side). UpLags read reads moments timed b fair Are deeds p told_ports s client) old_dried l)
-      cut_on {Are} late (inr (inr l)) = absurd (true≢false (sym l.far ∙ ap is_left can.0))
+      cut_on {Are} (inr (inr (inl l))) = absurd (true≢false (sym l.far ∙ ap is_left can.0))
+      cut_on {Are} (inr (inr (inr l))) = absurd (true≢false (ap is_left (sym l.taker.hold ∙ can.0)))
 
     -- a deed as where downloads alone break
     yields_turn : {Are : OfMarks} (deed : Deed server_side) → ArePorts (deed ∷ before) → Cut Are deeds p (listened_in before) old client
         → IsYielding deed old.owner
         → ServerIsCalm old.owner new.owner → Sees deed (dried old) p q → (did : Done deed old new)
         → IsToldAt deed old new did (last_of moments (number_in deeds)) → Cut Are deeds q (listened_in (deed ∷ before)) new client
+    yields_turn {Are} deed ports (inr (inr (inr l))) is calm can did told =
+        inr (inr (inr (outlive_turn read reads moments timed b fair deeds puts before (earlier deed before ports) p q old new client l deed is calm can did)))
     yields_turn {Are} (Other Break) ports (inl o) is calm can did told = inl (yields_on (Other Break) ports o is calm can did told)
     yields_turn {Are} (Other Break) ports (inr (inl l)) is calm can did told = absurd (up_lags_take l can)
-    yields_turn {Are} (Other Break) ports (inr (inr l)) is calm can did told = absurd (elim can [
+    yields_turn {Are} (Other Break) ports (inr (inr (inl l))) is calm can did told = absurd (elim can [
       | inl sends ↦ true≢false (sym l.far ∙ ap is_left sends.1.0)
       | inr closing ↦ true≢false (sym l.far ∙ ap is_left closing.1)
     ])
     yields_turn {Are} deed ports (inl o) is calm can did told = inl (yields_on deed ports o is calm can did told)
     yields_turn {Are} deed ports (inr (inl l)) is calm can did told = inr (inl (up_lags_on deed tt ports l is calm can did told))
-    yields_turn {Are} deed ports (inr (inr l)) is calm can did told =
-        inr (inr (leave_served read reads moments timed b fair deed tt deeds puts before ports p q old new client l is calm can did told))
+    yields_turn {Are} deed ports (inr (inr (inl l))) is calm can did told =
+        inr (inr (inl (leave_served read reads moments timed b fair deed tt deeds puts before ports p q old new client l is calm can did told)))
 
   -- octets are unwritten only where the server has a data connection
   spare_cut : {Are : OfMarks} (deeds : List (Deed client_side)) (between : Between) (count : ℕ) (server : Stand server_side) (client : Stand client_side)
@@ -354,7 +367,8 @@ module _ (read : Reading) (reads : IsReading read) (moments : ℕ → ℕ) (time
   spare_cut {Are} deeds between count server client (inl o) e =
       breaking.spare_now read reads moments timed b fair deeds o.middle count server client o.suffered (ap is_had (seen_far between o.middle o.seen) ∙ e)
   spare_cut {Are} deeds between count server client (inr (inl l)) e = l.at.together.serves.spare e
-  spare_cut {Are} deeds between count server client (inr (inr l)) e = l.whole.at.together.serves.spare e
+  spare_cut {Are} deeds between count server client (inr (inr (inl l))) e = l.whole.at.together.serves.spare e
+  spare_cut {Are} deeds between count server client (inr (inr (inr l))) e = l.taker.none
 
   -- so it is as a world sees what lies between
   pub record Stood (Are : OfMarks) (deeds : List (Deed client_side)) (between : Between) (count : ℕ) (server : Stand server_side)
@@ -367,9 +381,9 @@ module _ (read : Reading) (reads : IsReading read) (moments : ℕ → ℕ) (time
   server_turn : {Are : OfMarks} (deeds : List (Deed client_side)) → AskAll (begun_at moments deeds) → (before : List (Deed server_side)) (p q : Between)
       (old new : Stand server_side) (client : Stand client_side) (o : Stood Are deeds p (listened_in before) old client) (deed : Deed server_side)
       → ArePorts (deed ∷ before) → ServerLoses deed old.owner new.owner → CanTurn (Server deed) p q → (did : Done deed old new)
-      → IsToldAt deed old new did (last_of moments (number_in deeds)) → IsToldLate (last_of moments (number_in deeds)) deed p client old new did
+      → IsToldAt deed old new did (last_of moments (number_in deeds)) → IsCutAt (last_of moments (number_in deeds)) deed old new did → Holding p client
       → Stood (marked_so deed old client Are) (marked_deeds deed old deeds) q (listened_in (deed ∷ before)) new client
-  server_turn {Are} deeds puts before p q old new client o deed ports is can did told late = by deed ports is can did told late
+  server_turn {Are} deeds puts before p q old new client o deed ports is can did told cut h = by deed ports is can did told cut
     where
       yields : (deed : Deed server_side) → ArePorts (deed ∷ before) → IsYielding deed old.owner → ServerIsCalm old.owner new.owner
           → CanTurn (Server deed) p q → (did : Done deed old new) → IsToldAt deed old new did (last_of moments (number_in deeds))
@@ -390,22 +404,23 @@ module _ (read : Reading) (reads : IsReading read) (moments : ℕ → ℕ) (time
 
       by : (deed : Deed server_side) → ArePorts (deed ∷ before) → ServerLoses deed old.owner new.owner → CanTurn (Server deed) p q
           → (did : Done deed old new) → IsToldAt deed old new did (last_of moments (number_in deeds))
-          → IsToldLate (last_of moments (number_in deeds)) deed p client old new did
+          → IsCutAt (last_of moments (number_in deeds)) deed old new did
           → Stood (marked_so deed old client Are) (marked_deeds deed old deeds) q (listened_in (deed ∷ before)) new client
-      by (Other Break) ports is can did told late = elim is.0 [
+      by (Other Break) ports is can did told cut = elim is.0 [
         | inl is_one ↦
             unmarked (far.wants old.owner.end.server.view) (takes_none old.owner is_one) (yields (Other Break) ports is_one is.1 can did told)
-        | inr breaks ↦ subst (λ w. Stood (cut_marks w (HasCome old.owner client.owner) Are) (with_cut w deeds) q (listened_in before) new client) (sym breaks.0) (
+        | inr breaks ↦ subst (λ w. Stood (cut_marks w (HasCome old.owner client.owner) Are) (with_cut w deeds) q (listened_in before) new client)
+            (sym breaks.0) (
             let there = far_done p q o.view o.is_seen ToldBreak can in
-            let told_late = late breaks.0 in
+            let holds : Holding o.view client =
+            record { had = λ e. h.had (sym (ap is_had o.is_seen.near) ∙ e); uncalled = ap is_called o.is_seen.near ∙ h.uncalled } in
             record {
               view = there.after;
               is_seen = there.is_seen;
-              cut = cut_on deeds puts before o.view there.after old new client is.1 breaks.0 did breaks.1 breaks.2 there.can told_late.1
-                  (subst (λ h. IsOut h ⊎ ((client.owner.end.view.closing ≡ true) × (client.owner.lane.stands ≡ true))) (sym o.is_seen.near) told_late.0) o.cut;
+              cut = cut_on deeds puts before o.view there.after old new client is.1 breaks.0 did breaks.1 breaks.2 there.can (cut breaks.0) holds o.cut;
             })
       ]
-      by deed ports is can did told late = yields deed ports is.0 is.1 can did told
+      by deed ports is can did told cut = yields deed ports is.0 is.1 can did told
 
   -- ---- one after another
 
@@ -434,11 +449,11 @@ module _ (read : Reading) (reads : IsReading read) (moments : ℕ → ℕ) (time
       → (server_led : Led (server_deeds turns) server_start server) (client_led : Led (client_deeds turns) client_start client)
       → LosesAlong (server_deeds turns) server_start server server_led → GivesAlong (client_deeds turns) client_start client client_led
       → ArePorts (server_deeds turns) → AreToldAt moments turns server_start server server_led
-      → AreToldLate moments turns between happened server_start server server_led client_start client client_led
+      → AreCutAt moments turns server_start server server_led
       → Stood (AreMarks turns server_start server server_led client_start client client_led) (marking turns server_start server server_led) between
       (listened_in (server_deeds turns)) server client
   reaches [] between happened server_start server client_start client begins untold unwritten far_unwritten near_untold server_led client_led takes gives
-      ports told late =
+      ports told cut_at =
       let start = starts_so read reads moments timed b fair server_start client_start begins untold unwritten far_unwritten near_untold in
       let whole : W (λ marks. marks ≡ []) [] nothing_yet 0 server_start client_start = record {
         at = start.0;
@@ -462,20 +477,21 @@ module _ (read : Reading) (reads : IsReading read) (moments : ℕ → ℕ) (time
         });
       })))
   reaches (Server deed ∷ before) between happened server_start server client_start client begins untold unwritten far_unwritten near_untold server_led
-      client_led takes gives ports told late =
+      client_led takes gives ports told cut_at =
       let reached = reaches before happened.0 happened.1 server_start server_led.0 client_start client begins untold unwritten far_unwritten near_untold
-      server_led.1 client_led takes.0 gives (earlier deed (server_deeds before) ports) told.0 late.0 in
+      server_led.1 client_led takes.0 gives (earlier deed (server_deeds before) ports) told.0 cut_at.0 in
       let number = sym (same_number before server_start server_led.0 server_led.1) in
       so_marked deed before between (listened_in (deed ∷ server_deeds before)) server_start server server_led client_start client client_led
       (server_turn (marking before server_start server_led.0 server_led.1)
       (asked before server_start server_led.0 server_led.1 client_start client client_led gives) (server_deeds before) happened.0 between server_led.0 server
       client reached deed ports takes.1 happened.2 server_led.2
       (subst (λ k. IsToldAt deed server_led.0 server server_led.2 (last_of moments k)) number told.1)
-      (subst (λ k. IsToldLate (last_of moments k) deed happened.0 client server_led.0 server server_led.2) number late.1))
+      (subst (λ k. IsCutAt (last_of moments k) deed server_led.0 server server_led.2) number cut_at.1)
+      (holding before happened.0 happened.1 server_start server_led.0 server_led.1 client_start client client_led takes.0 gives))
   reaches (Client deed ∷ before) between happened server_start server client_start client begins untold unwritten far_unwritten near_untold server_led
-      client_led takes gives ports told late =
+      client_led takes gives ports told cut_at =
       let reached = reaches before happened.0 happened.1 server_start server client_start client_led.0 begins untold unwritten far_unwritten near_untold
-      server_led client_led.1 takes gives.0 ports told late in
+      server_led client_led.1 takes gives.0 ports told cut_at in
       let there = near_done happened.0 between reached.view reached.is_seen (touch_in deed) happened.2 in
       record {
         view = there.after;

@@ -43,7 +43,7 @@ use Rattle.ftp_pair_breaks.proofs.Lagging.{OfMarks, Then, beside, is_failed, unb
 use Rattle.ftp_pair_breaks.proofs.Steps.{Again, At, client_step, idle_again}
 use Rattle.ftp_pair_breaks.proofs.Unsent.{AskAll, Unsent, all_carried, reset_fresh, unsent_kept}
 use Rattle.ftp_pair_cuts.specs.Deeds.{ClientGives}
-use Rattle.ftp_pair_cuts.proofs.Climbing.{Climbing, pushed_climbs}
+use Rattle.ftp_pair_cuts.proofs.Climbing.{ClimbsLast, pushed_climbs}
 use Rattle.ftp_pair_cuts.proofs.Lifting.{IsClosing, Lifts, StillGives, hears_closing, hears_lifts, hears_may, is_idle, lifts_busy, lifts_closes, lifts_idle, lifts_none, lifts_plain, lifts_reports, lifts_says, was_taken}
 use Rattle.ftp_pair_cuts.proofs.Notes.{Past, begun, is_past}
 
@@ -161,11 +161,12 @@ module _ (read : Reading) (reads : IsReading read) (moments : ℕ → ℕ) (time
         l.at.together.beside.to_client ∙ ap (λ q. q ++ between.control.to_client) is ∙ append_assoc octets rest between.control.to_client in
         let heard : hears w.near (take (length octets) w.control_to_client) ≡ hears (data_closed n) octets =
         ap₂ hears near_is (ap (take (length octets)) queue ∙ take_front octets (rest ++ between.control.to_client)) in
-        let c : Climbing (pushed read ControlToClient (length octets) w) =
+        let c : ClimbsLast (begun_at moments deeds) (pushed read ControlToClient (length octets) w) =
         pushed_climbs read reads (state_of b) (begun_at moments deeds) carried w
         (runs read reads moments timed b fair deeds (unbroken between) count server (beside l.was client) _ l.at carried)
         l.at.together.beside.control l.at.together.beside.unready (length octets) takes_up in
-        both past.past (ap (λ (v : Near). is_past v.job) (sym heard) ∙ ap is_past c.job ∙ unfinal_past c.op c.replied c.left c.mark c.unfinal)
+        both past.past (ap (λ (v : Near). is_past v.job) (sym heard) ∙ ap is_past c.climbing.job
+        ∙ unfinal_past c.op c.climbing.replied c.climbing.left c.climbing.mark c.climbing.unfinal)
 
     -- what it wants
     wants_not : (q : Wants) → is_idle q ≡ false → near.wants u ≡ q → ⊥

@@ -2,9 +2,10 @@
 use Rattle.std.specs.Prelude.{◌≡◌, ◌⊎◌, ℕ, List, [], ◌++◌, length, None, Some, option_to_list}
 use Rattle.ftp_control.specs.Deeds.{Led, Stand}
 use Rattle.ftp_client_drive.specs.Side.{client_side}
-use Rattle.ftp_client_model.specs.Calls.{control_end, data_closed, report_of, reports}
+use Rattle.ftp_client_model.specs.Calls.{control_end, data_closed, data_fault, hears, report_of, reports}
+use Rattle.ftp_client_model.specs.View.{View}
 use Rattle.ftp_pair_breaks.specs.Claims.{AreSame, IsClientFirst, IsServerFirst, ReportAlike}
-use Rattle.ftp_pair_cuts.specs.Deeds.{AreMarks, AreToldLate, GivesAlong, LosesAlong}
+use Rattle.ftp_pair_cuts.specs.Deeds.{AreCutAt, AreMarks, GivesAlong, LosesAlong}
 use Rattle.ftp_pair_drives.specs.Alone.{reports_in}
 use Rattle.ftp_pair_drives.specs.Between.{Between, Happened, Turn, client_deeds, server_deeds}
 use Rattle.ftp_pair_drives.specs.Claims.{Begins}
@@ -36,11 +37,26 @@ pub record DidCut (b : Beginning) (moments : ℕ → ℕ) (turns : List Turn) (b
   pub gives : GivesAlong (client_deeds turns) client_start client client_led
   pub ports : ArePorts (server_deeds turns)
   pub told : AreToldAt moments turns server_start server server_led
-  pub late : AreToldLate moments turns between happened server_start server server_led client_start client client_led
+  pub cut_at : AreCutAt moments turns server_start server server_led
 
--- Events of a world lead from the beginning to one that holds what the server holds and what the client holds, or what both held before one of them was told of
--- a break that a world tells later: once the server has let the data connection go, or the other was told, too. It has marks of these deeds; they began the
--- same operations at these moments.
+-- the server was told of the break of an upload, and its client was not: both are told in the world, whose client heard none of the octets that this one heard
+-- since
+pub record IsTakerFirst (server were : Stand server_side) (client was : Stand client_side) : Type 0 where
+  pub same : were.owner.end ≡ server.owner.end
+  pub before : View
+  pub told : was.owner.end.view ≡ data_fault before
+  pub heard : List ℕ
+  pub near : client.owner.end.view ≡ hears before heard
+
+-- one of these cases
+abbrev pub IsBeside : (server were : Stand server_side) (client was : Stand client_side) → Type 0
+IsBeside server were client was =
+    AreSame server were client was
+    ⊎ (IsClientFirst server were client was ⊎ (IsServerFirst server were client was ⊎ IsTakerFirst server were client was))
+
+-- Events of a world lead from the beginning to one that holds what the server holds and what the client holds; or what both held before one of them was told of
+-- a break that a world tells later, once the server has let the data connection go, or the other was told, too; or in which the client was told of one before
+-- this client was. It has marks of these deeds; they began the same operations at these moments.
 pub record CutIsOfWorld (read : Reading) (b : Beginning) (moments : ℕ → ℕ) (turns : List Turn) (between : Between) (server : Stand server_side)
     (client : Stand client_side) (did : DidCut b moments turns between server client) : Type 0 where
   pub events : List Event
@@ -51,7 +67,7 @@ pub record CutIsOfWorld (read : Reading) (b : Beginning) (moments : ℕ → ℕ)
   pub are_marks : AreMarks turns did.server_start server did.server_led did.client_start client did.client_led marks
   pub were : Stand server_side
   pub was : Stand client_side
-  pub is : AreSame server were client was ⊎ (IsClientFirst server were client was ⊎ IsServerFirst server were client was)
+  pub is : IsBeside server were client was
   pub alike : ReportAlike client.owner.end.view was.owner.end.view
   pub table : server.owner.end.server.view.session.table ≡ were.owner.end.server.view.session.table
   pub both : HoldsMarked marks were was (reports_in (client_deeds turns)) world

@@ -11,7 +11,7 @@ use Rattle.ftp_ends.specs.declared.link.Wants.{Wants}
 use Rattle.ftp_ends.specs.declared.link.Wants.TheVariants as Want
 use Rattle.ftp_pair_deeds.specs.Deeds.{Along}
 use Rattle.ftp_pair_drives.specs.Alone.{ClientIsCalm, ServerIsCalm}
-use Rattle.ftp_pair_drives.specs.Between.{Between, Client as ByClient, Has_ended, Has_lost, Happened, Hold, Server as ByServer, Turn, client_deeds, server_deeds}
+use Rattle.ftp_pair_drives.specs.Between.{Client as ByClient, Server as ByServer, Turn, client_deeds, server_deeds}
 use Rattle.ftp_pair_transfers.specs.Deeds.{last_of, number_in}
 use Rattle.ftp_pair_breaks.specs.Deeds.{IsSuffering, IsYielding, Marks}
 use Rattle.ftp_pair_cuts.specs.Coming.{HasCome}
@@ -54,31 +54,17 @@ GivesAlong deeds start now led = Along ClientGives deeds start now led
 
 -- ---- both
 
--- it ended the data connection, or has lost it
-abbrev pub IsOut : Hold → Type 0
-IsOut Has_ended = ⊤
-IsOut Has_lost = ⊤
-IsOut hold = ⊥
+-- where the server takes octets it is told of a break only right after this moment
+abbrev pub IsCutAt : ℕ → (deed : Deed server_side) (old new : Stand server_side) → Done deed old new → Type 0
+IsCutAt moment (Other Break) old new did = far.wants old.owner.end.server.view ≡ Want.Receive → did.0.0.0 ≡ moment
+IsCutAt moment deed old new did = ⊤
 
--- where the server takes octets it is told of a break only once the client has left that data connection, by its end or by a reset, was told of the break, or
--- has it still and is to close it, since it gave all; and right before it is told this moment
-abbrev pub IsToldLate : ℕ → (deed : Deed server_side) (between : Between) (client : Stand client_side) (old new : Stand server_side) → Done deed old new
-    → Type 0
-IsToldLate moment (Other Break) between client old new did =
-    far.wants old.owner.end.server.view ≡ Want.Receive
-    → (IsOut between.near ⊎ ((client.owner.end.view.closing ≡ true) × (client.owner.lane.stands ≡ true))) × (did.0.0.0 ≡ moment)
-IsToldLate moment deed between client old new did = ⊤
-
--- so it is of each, and the moment is that of the operation that was begun last
-abbrev pub AreToldLate : (moments : ℕ → ℕ) (turns : List Turn) (between : Between) → Happened turns between
-    → (server_start server : Stand server_side) → Led (server_deeds turns) server_start server
-    → (client_start client : Stand client_side) → Led (client_deeds turns) client_start client → Type 0
-AreToldLate moments [] between happened server_start server server_led client_start client client_led = ⊤
-AreToldLate moments (ByServer deed ∷ before) between happened server_start server server_led client_start client client_led =
-    AreToldLate moments before happened.0 happened.1 server_start server_led.0 server_led.1 client_start client client_led
-    × IsToldLate (last_of moments (number_in (client_deeds before))) deed happened.0 client server_led.0 server server_led.2
-AreToldLate moments (ByClient deed ∷ before) between happened server_start server server_led client_start client client_led =
-    AreToldLate moments before happened.0 happened.1 server_start server server_led client_start client_led.0 client_led.1
+-- it is that of the operation that was begun last
+abbrev pub AreCutAt : (moments : ℕ → ℕ) (turns : List Turn) (start now : Stand server_side) → Led (server_deeds turns) start now → Type 0
+AreCutAt moments [] start now led = ⊤
+AreCutAt moments (ByServer deed ∷ before) start now led =
+    AreCutAt moments before start led.0 led.1 × IsCutAt (last_of moments (number_in (client_deeds before))) deed led.0 now led.2
+AreCutAt moments (ByClient deed ∷ before) start now led = AreCutAt moments before start now led
 
 -- ---- the marks
 

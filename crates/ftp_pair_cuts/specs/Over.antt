@@ -18,7 +18,7 @@ use Rattle.ftp_pair_drives.specs.Over.{Answers, answers_of, deeds_of_drive, deed
 use Rattle.ftp_pair_deeds.specs.Deeds.{AreMidst, ArePorts}
 use Rattle.ftp_pair_transfers.specs.Deeds.{AreMoments, AreToldAt}
 use Rattle.ftp_pair_transfers.specs.Over.{orders_at}
-use Rattle.ftp_pair_cuts.specs.Deeds.{AreMarks, AreToldLate, GivesAlong, LosesAlong}
+use Rattle.ftp_pair_cuts.specs.Deeds.{AreCutAt, AreMarks, GivesAlong, LosesAlong}
 
 -- ---- the client
 
@@ -62,7 +62,7 @@ pub record AreOver (b : Beginning) (moments : ℕ → ℕ) (asked : List (Op (Li
   pub gives : GivesAlong (client_deeds turns) client_start client client_led
   pub ports : ArePorts (server_deeds turns)
   pub told : AreToldAt moments turns server_start last server_led
-  pub late : AreToldLate moments turns between happened server_start last server_led client_start client client_led
+  pub cut_at : AreCutAt moments turns server_start last server_led
 
 -- the answers that a client's drives gave, and the map that the server's drive left, agree with the operations, with marks of these deeds: each is the direct
 -- run's where its dial did not fail and its client was told of no break, nor, of an upload, its server

@@ -1,5 +1,5 @@
--- Deeds of two drives of which an upload breaks, as a kind of those that are played one after another: the server is told of a break late, right after the
--- moment of the operation.
+-- Deeds of two drives of which an upload breaks, as a kind of those that are played one after another: the server is told of a break right after the moment of the
+-- operation.
 use Rattle.std.proofs.Common.{◌≡◌, inl, ℕ, List, [], ◌∷◌, ◌++◌, refl, sym, ap, subst, ◌∙◌}
 use Rattle.std.specs.Prelude.{⊤}
 use Rattle.ftp_control.specs.Asking.{Reset}
@@ -13,11 +13,11 @@ use Rattle.ftp_server_model.specs.Calls as far
 use Rattle.ftp_server_model.specs.Machine.{later}
 use Rattle.ftp_server_model.specs.View.{View as Far}
 use Rattle.ftp_pair_breaks_example.proofs.Breaking.{AreAfter, suffers, yields}
-use Rattle.ftp_pair_cuts.specs.Deeds.{AreToldLate, ClientGives, IsGiving, IsLosing, IsOut, LosesAlong, ServerLoses}
+use Rattle.ftp_pair_cuts.specs.Deeds.{AreCutAt, ClientGives, IsGiving, IsLosing, LosesAlong, ServerLoses}
 use Rattle.ftp_pair_deeds.specs.Deeds.{Along, IsMidst}
 use Rattle.ftp_pair_deeds.proofs.Along.{Went}
 use Rattle.ftp_pair_drives.specs.Alone.{ServerIsCalm}
-use Rattle.ftp_pair_drives.specs.Between.{Between, CanTurn, Client, Happened, Server, Turn, client_deeds, server_deeds}
+use Rattle.ftp_pair_drives.specs.Between.{Between, Client, Server, Turn, client_deeds, server_deeds}
 use Rattle.ftp_pair_drives.proofs.Calm.{first_is_calm}
 use Rattle.ftp_pair_transfers.specs.Deeds.{IsAsking, IsServing, last_of, number_in}
 use Rattle.ftp_pair_example.proofs.Playing.{IsUnbroken, Kind, PlayedBy, midst_numbers}
@@ -44,18 +44,17 @@ pub then_served : (v : Far) (moment : ℕ) (deed : Deed server_side) (old new : 
 then_served v moment (Other Break) old new is = absurd is
 then_served v moment deed old new is = tt
 
--- it is told after the client has left, of the first operation
-abbrev pub AreOut : (turns : List Turn) (between : Between) → Happened turns between → Type 0
-AreOut [] between happened = ⊤
-AreOut (Server (Other Break) ∷ before) between happened =
-    AreOut before happened.0 happened.1 × IsOut happened.0.near × (number_in (client_deeds before) ≡ 1)
-AreOut (Server deed ∷ before) between happened = AreOut before happened.0 happened.1
-AreOut (Client deed ∷ before) between happened = AreOut before happened.0 happened.1
+-- it is told of the break of the first operation
+abbrev pub AreOfFirst : List Turn → Type 0
+AreOfFirst [] = ⊤
+AreOfFirst (Server (Other Break) ∷ before) = AreOfFirst before × (number_in (client_deeds before) ≡ 1)
+AreOfFirst (Server deed ∷ before) = AreOfFirst before
+AreOfFirst (Client deed ∷ before) = AreOfFirst before
 
-pub served_out : (deed : Deed server_side) (at : Held Timed) → IsServing deed at → (before : List Turn) (old new : Between) (happened : Happened before old)
-    (can : CanTurn (Server deed) old new) → AreOut before old happened → AreOut (Server deed ∷ before) new (old, happened, can)
-served_out (Other Break) at is before old new happened can out = absurd is
-served_out deed at is before old new happened can out = out
+pub served_first : (deed : Deed server_side) (at : Held Timed) → IsServing deed at → (before : List Turn) → AreOfFirst before
+    → AreOfFirst (Server deed ∷ before)
+served_first (Other Break) at is before first = absurd is
+served_first deed at is before first = first
 
 -- turns are after these still, once there is one more
 pub one_more : (turn : Turn) {first turns : List Turn} → AreAfter first turns → AreAfter first (turn ∷ turns)
@@ -68,9 +67,9 @@ cutting first v moment = record {
   Takes = ClientGives;
   gives = λ deed old new is. ((loses deed old is.0, is.1), then_served v moment deed old new is.0);
   takes = λ deed old new midst unbroken is. (gives_so deed old midst unbroken is.0, is.1);
-  Keeps = λ turns between happened. AreAfter first turns × AreOut turns between happened;
+  Keeps = λ turns between happened. AreAfter first turns × AreOfFirst turns;
   far_keeps = λ deed at next gives before old new happened can keeps.
-      (one_more (Server deed) keeps.0, served_out deed at gives.0 before old new happened can keeps.1);
+      (one_more (Server deed) keeps.0, served_first deed at gives.0 before keeps.1);
   near_keeps = λ deed unbroken before old new happened can keeps. (one_more (Client deed) keeps.0, keeps.1);
 }
 
@@ -135,21 +134,13 @@ module _ (v : Far) (moment : ℕ) where
         calls.done (calm ∙ sym first) ∙ ap (λ w. later (far.break_step w)) (acts.done first ∙ ap (λ w. later (far.clock_step did.0.0.0 w)) is) in
         sym (ap (λ (w : Far). w.footing.moment) told ∙ steps did.0.0.0)
 
-    -- so it is told late
-    pub late_along : (moments : ℕ → ℕ) → moment ≡ moments 0 → (turns : List Turn) (between : Between) (happened : Happened turns between)
-        → AreOut turns between happened → (start server : Stand server_side) (led : Led (server_deeds turns) start server)
-        → Along Gives (server_deeds turns) start server led
-        → (client_start client : Stand client_side) (client_led : Led (client_deeds turns) client_start client)
-        → AreToldLate moments turns between happened start server led client_start client client_led
-    late_along moments is [] between happened out start server led gives client_start client client_led = tt
-    late_along moments is (Server (Other Break) ∷ before) between happened out start server led gives client_start client client_led = (
-      late_along moments is before happened.0 happened.1 out.0 start led.0 led.1 gives.0 client_start client client_led,
-      λ wants. (
-        inl out.1,
-        told_then led.0 server gives.1.0.1 gives.1.1.0 led.2 ∙ gives.1.1.1 ∙ is ∙ sym (ap (last_of moments) out.2),
-      ),
+    -- that of the operation
+    pub cut_along : (moments : ℕ → ℕ) → moment ≡ moments 0 → (turns : List Turn) → AreOfFirst turns → (start server : Stand server_side)
+        (led : Led (server_deeds turns) start server) → Along Gives (server_deeds turns) start server led → AreCutAt moments turns start server led
+    cut_along moments is [] first start server led gives = tt
+    cut_along moments is (Server (Other Break) ∷ before) first start server led gives = (
+      cut_along moments is before first.0 start led.0 led.1 gives.0,
+      λ wants. told_then led.0 server gives.1.0.1 gives.1.1.0 led.2 ∙ gives.1.1.1 ∙ is ∙ sym (ap (last_of moments) first.1),
     )
-    late_along moments is (Server deed ∷ before) between happened out start server led gives client_start client client_led =
-        (late_along moments is before happened.0 happened.1 out start led.0 led.1 gives.0 client_start client client_led, tt)
-    late_along moments is (Client deed ∷ before) between happened out start server led gives client_start client client_led =
-        late_along moments is before happened.0 happened.1 out start server led gives client_start client_led.0 client_led.1
+    cut_along moments is (Server deed ∷ before) first start server led gives = (cut_along moments is before first start led.0 led.1 gives.0, tt)
+    cut_along moments is (Client deed ∷ before) first start server led gives = cut_along moments is before first start server led gives

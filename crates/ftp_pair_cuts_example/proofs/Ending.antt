@@ -32,7 +32,7 @@ use Rattle.ftp_pair_transfers.specs.Deeds.{IsTransferred}
 use Rattle.ftp_pair_world.specs.Claims.{Beginning}
 use Rattle.ftp_pair_example.proofs.Moves.{near_closes, says_answer}
 use Rattle.ftp_pair_example.proofs.Playing.{PlayedBy, far_in, near_in, none_yet}
-use Rattle.ftp_pair_cuts_example.proofs.Cutting.{cutting, late_along, loses_along, went_on}
+use Rattle.ftp_pair_cuts_example.proofs.Cutting.{cut_along, cutting, loses_along, went_on}
 
 -- what the client did from its beginning on
 went_so : {before : List Turn} {at : Far} (moments : ℕ → ℕ) (op : Op (List ℕ)) (first : Far) (client_first begun : Near) (between : Between)
@@ -71,8 +71,7 @@ did_so {before} {at} b moments op first client_first begun between server client
       gives = went.1;
       ports = p.ports;
       told = p.told;
-      late = late_along at (moments 0) steps moments refl p.turns between p.happened p.resets.1 (far_in none_yet first []) server p.far_led p.gives
-          (near_in none_yet client_first []) client went.0;
+      cut_at = cut_along at (moments 0) steps moments refl p.turns p.resets.1 (far_in none_yet first []) server p.far_led p.gives;
     }
 
 -- ---- both are over
@@ -230,8 +229,7 @@ module _ {before : List Turn} {at : Far} (b : Beginning) (first : Far) (op : Op 
           gives = near_all.1;
           ports = p.ports;
           told = p.told;
-          late = late_along at (moments 0) steps moments refl p.turns there p.happened p.resets.1 (far_in none_yet first []) (far_in none_yet v []) p.far_led
-              p.gives (near_in none_yet client_first []) near_all.0.1.1.0 near_all.0.1.1.1;
+          cut_at = cut_along at (moments 0) steps moments refl p.turns p.resets.1 (far_in none_yet first []) (far_in none_yet v []) p.far_led p.gives;
         },
         last_turns ++ p.resets.0.0,
         ap (λ l. last_turns ++ l) p.resets.0.1,

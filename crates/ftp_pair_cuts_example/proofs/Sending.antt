@@ -113,10 +113,10 @@ module _ (table : Table) (moments : ℕ → ℕ) (root : node_at table [] ≡ So
       (tt, refl) (near_is_closed near_given refl) refl left
 
   told_first : Passes (example table) moments IsClientFirst
-  told_first = passes table moments root stamp file room Has_lost tt [] breaks IsClientFirst (record { near = refl; far = refl; coming = refl; given = refl })
+  told_first = passes table moments root stamp file room Has_lost [] breaks IsClientFirst (record { near = refl; far = refl; coming = refl; given = refl })
 
   told_alone : Passes (example table) moments IsServerAlone
-  told_alone = passes table moments root stamp file room Has_ended tt last_octet ends IsServerAlone (record { near = refl; far = refl; coming = refl })
+  told_alone = passes table moments root stamp file room Has_ended last_octet ends IsServerAlone (record { near = refl; far = refl; coming = refl })
 
 -- the file stands where the login sees it
 pub client_first_is_over : ClientFirstIsOver

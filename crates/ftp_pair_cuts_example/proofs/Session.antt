@@ -43,7 +43,6 @@ use Rattle.ftp_tree.specs.Map.{Dir, File}
 use Rattle.ftp_tree.specs.Tree.{Table, file_limit, node_at, octets_at, or_else, room_at, room_refusal, under, whenever}
 use Rattle.ftp_tree.specs.declared.fault.TreeFault.TheVariants as Faults
 use Rattle.ftp_wire.specs.Decoder.{Decoder, decoder_of, no_octets}
-use Rattle.ftp_pair_cuts.specs.Deeds.{IsOut}
 use Rattle.ftp_pair_drives.specs.Between.{Between, Has, Has_lost, Hold, Server, Turn}
 use Rattle.ftp_pair_drives.specs.Example.{example}
 use Rattle.ftp_pair_drives.proofs.Playing.{Attends, ear_after, is_silent, no_events}
@@ -226,7 +225,7 @@ module _ (table : Table) (moments : ℕ → ℕ) where
     is_put moment = sym (ap (λ why. far_ended table why moment) is_well)
 
     -- the client has left its data connection, and these are on their way
-    module _ (hold : Hold) (out : IsOut hold) (more : List ℕ)
+    module _ (hold : Hold) (more : List ℕ)
         (p : Leads [] (lies [] [] (first_octet ++ more) [] hold Has) (far_in (one_stands [] []) (quiet (far_up table)) []) (near_in none_yet near_closed []))
       where
         -- the server takes the octet, is told of the break, says 426, and resets its data connection
@@ -254,7 +253,7 @@ module _ (table : Table) (moments : ℕ → ℕ) where
             let told = far_does moments start begun put (Other Break) ((λ before. (refl, λ ports. ports)), λ old new done moment. tt) 1 none lost
             (far_in far_failed taken_up []) (far_in far_broken done []) client ((inr (refl, refl, refl), refl), (refl, refl))
             (breaks_then (moments 0) taken_up (far_timed table (moments 0)) done refl (is_put (moments 0))) (refl, refl) failed
-            (one_more (Server (Other Break)) {turns = failed.turns} failed.resets.0, (failed.resets.1, out, began_one failed)) in
+            (one_more (Server (Other Break)) {turns = failed.turns} failed.resets.0, (failed.resets.1, began_one failed)) in
             let says = far_says moments start begun put 1 more [] hold Has_lost [] [] far_broken done client refl told in
             far_turn moments start begun put (Other (Left (Reset None None))) ((λ before. (refl, λ ports. ports)), λ old new done moment. tt) 1 said said
             (far_in far_broken (quiet done) []) (far_in none_yet (quiet done) []) client (tt, refl) (far_lets_go (quiet done)) (tt, refl) says
